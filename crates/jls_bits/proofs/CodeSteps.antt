@@ -1,8 +1,10 @@
 -- What one more bit makes of a Golomb code that is read bit by bit.
-use Rattle.std.proofs.Common.{◌≡◌, ℕ, ◌+◌, ◌-◌, ◌*◌, ◌/◌, ◌%◌, ◌^◌, ◌<◌, ◌≤◌, Bool, true, false, eqb, leb, List, [], ◌∷◌, ◌++◌, replicate, refl, sym, ap, ◌∙◌, subst, arith, inl, inr, append_assoc}
+use Rattle.std.proofs.Common.{◌≡◌, ℕ, ◌+◌, ◌-◌, ◌*◌, ◌/◌, ◌%◌, ◌^◌, ◌<◌, ◌≤◌, Bool, true, false, eqb, leb, List, [], ◌∷◌, ◌++◌, replicate}
+use Rattle.std.proofs.Common.{refl, sym, ap, ◌∙◌, subst, arith, inl, inr, append_assoc}
 use mir.Val.{bool_byte}
 use Rattle.std.proofs.lemmas.List.{append-nil}
-use Rattle.std.proofs.lemmas.Nat.{shl_below, shr_high, mod_low, shl-shr, le-div, pow_pos, pow-add, div_below, shr_below, div-add-mod', mod_below, mul-le, shl_whole}
+use Rattle.std.proofs.lemmas.Nat.{shl_below, shr_high, mod_low, shl-shr, le-div, pow_pos, pow-add, div_below, shr_below, div-add-mod'}
+use Rattle.std.proofs.lemmas.Nat.{mod_below, mul-le, shl_whole}
 use Rattle.std.proofs.Math.Pow.{pow_mono}
 use Rattle.std.proofs.Math.Nat.{mod-eq_of_lt}
 use Rattle.std.proofs.lemmas.Bool.{cases_lt, ltb-false, lt-ltb, le-ltb, le-leb, and_from}
@@ -13,7 +15,8 @@ use Rattle.jls_bits.specs.declared.code_state.CodeState.{CodeState}
 use Rattle.jls_bits.specs.declared.code_state.CodeState.TheVariants.{Zeros, Remainder, Escape}
 use Rattle.jls_bits.specs.declared.code_state.CodeStep.TheVariants.{More, Done}
 use Rattle.jls_bits.proofs.NumberBits.{bits_none, bits_more, bits_split, bits_same, bits_cong, bits_push_bool}
-use Rattle.jls_bits.proofs.Codes.{golomb_short, golomb_long, golomb_same, escape_range, many_zeros, escape_after_zeros, short_code, escape_code, zeros_push, zeros_then_one}
+use Rattle.jls_bits.proofs.Codes.{golomb_short, golomb_long, golomb_same, escape_range, many_zeros, escape_after_zeros, short_code}
+use Rattle.jls_bits.proofs.Codes.{escape_code, zeros_push, zeros_then_one}
 
 -- the power of a sum
 power_of_rest : (c n : ℕ) → c ≤ n → 2 ^ n ≡ 2 ^ c * 2 ^ (n - c)

@@ -1,5 +1,6 @@
 -- Which codes the bits of a state begin, and that bits begin a code, are one or begin none.
-use Rattle.std.proofs.Common.{◌≡◌, ◌↔◌, ℕ, ◌+◌, ◌-◌, ◌*◌, ◌/◌, ◌%◌, ◌^◌, ◌<◌, ◌≤◌, Bool, true, false, List, [], ◌∷◌, ◌++◌, replicate, refl, sym, ap, ◌∙◌, Decides, eqb, leb, arith, inl, inr, append_assoc}
+use Rattle.std.proofs.Common.{◌≡◌, ◌↔◌, ℕ, ◌+◌, ◌-◌, ◌*◌, ◌/◌, ◌%◌, ◌^◌, ◌<◌, ◌≤◌, Bool, true, false, List, [], ◌∷◌, ◌++◌, replicate, refl}
+use Rattle.std.proofs.Common.{sym, ap, ◌∙◌, Decides, eqb, leb, arith, inl, inr, append_assoc}
 use Rattle.std.proofs.lemmas.List.{append-nil, replicate-append-replicate}
 use Rattle.std.proofs.lemmas.Nat.{pow_pos, shr_high, mod_low, shr-shr, div-add-mod', shr_below}
 use Rattle.std.proofs.Math.Nat.{mod-eq_of_lt}

@@ -1,5 +1,6 @@
 -- Where the data bits of bytes end: at the first byte of 0x80 or more after 0xFF.
-use Rattle.std.proofs.Common.{◌≡◌, ℕ, ◌<◌, ◌≤◌, true, false, eqb, leb, List, [], ◌∷◌, ◌++◌, get_or, refl, sym, ap, subst, ◌∙◌, arith, inl, inr, append_assoc}
+use Rattle.std.proofs.Common.{◌≡◌, ℕ, ◌<◌, ◌≤◌, true, false, eqb, leb, List, [], ◌∷◌, ◌++◌, get_or, refl, sym, ap, subst, ◌∙◌, arith, inl}
+use Rattle.std.proofs.Common.{inr, append_assoc}
 use Rattle.std.proofs.lemmas.List.{append-nil}
 use Rattle.std.proofs.lemmas.Bool.{cases_Bool, leb-false, lt-leb, le-leb, eqb-true}
 use Rattle.jls_bits.specs.Bits.{ends_data, bits_read_after, is_whole_after, bits_read, is_whole, BelowMarkers}

@@ -1,6 +1,7 @@
 //! Golomb codes of a limited length, LG(k, g) (ITU-T T.87, A.5.3).
 
-ghost use Rattle.std.specs.Prelude.{◌≡◌, ℕ, ◌+◌, ◌^◌, ◌<◌, ◌≤◌, true, false, List, Bool, ◌++◌, replicate, length, IfSome, IfNone, OnOk, OnErr};
+ghost use Rattle.std.specs.Prelude.{◌≡◌, ℕ, ◌+◌, ◌^◌, ◌<◌, ◌≤◌, true, false, List, Bool, ◌++◌, replicate, length, IfSome, IfNone, OnOk};
+ghost use Rattle.std.specs.Prelude.{OnErr};
 ghost use Rattle.jls_bits.specs.Bits.{bits};
 ghost use Rattle.jls_bits.specs.Golomb.{golomb, has_golomb, NoCodeBegins};
 

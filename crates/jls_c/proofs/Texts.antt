@@ -5,7 +5,8 @@ use Rattle.jls_partial.specs.Text.{IsTextOf}
 use Rattle.jls_partial.specs.TextReading.{Fails, read_text}
 use Rattle.jls_partial.specs.TextMerging.{MergesText, HasOtherShape}
 use Rattle.jls_partial.specs.declared.text_fault.TextFault.{TextFault}
-use Rattle.jls_partial.specs.declared.text_fault.TextFault.TheVariants.{Magic, BadShape, Truncated, Place, Count, Order, Sample, Trailing, OutOfMemory}
+use Rattle.jls_partial.specs.declared.text_fault.TextFault.TheVariants.{Magic, BadShape, Truncated, Place, Count, Order, Sample, Trailing}
+use Rattle.jls_partial.specs.declared.text_fault.TextFault.TheVariants.{OutOfMemory}
 use Rattle.jls_c.specs.Info.{info_of_partial}
 use Rattle.jls_c.specs.PartialAnswers.{IsTextPut, IsTextLonger, IsJoined, IsJoinLonger, AreOfTwoShapes, HasNoPartial, HasNoSecond}
 use Rattle.jls_c.specs.PartialAnswers.{AreLinesShown, AreLinesMore, AreLinesOfText, AreLinesOfTextMore}

@@ -85,7 +85,8 @@ pub record HasNoSecond (first second : List ℕ) (info : JlsInfo) : Type 0 where
 -- ---- the lines of a partial picture
 
 -- they are shown: what is reported of each, and the samples
-pub record AreLinesShown (p : PartialPicture) (info : JlsInfo) (old_samples new_samples : List ℕ) (old_lines new_lines : List JlsLine) : Type 0 where
+pub record AreLinesShown (p : PartialPicture) (info : JlsInfo) (old_samples new_samples : List ℕ)
+    (old_lines new_lines : List JlsLine) : Type 0 where
   pub info_is : info ≡ info_of_partial p
   pub samples_fit : sample_count p.shape ≤ length old_samples
   pub lines_fit : line_count p.shape ≤ length old_lines
@@ -93,7 +94,8 @@ pub record AreLinesShown (p : PartialPicture) (info : JlsInfo) (old_samples new_
   pub lines_are : BeginsWith (lines_of p) old_lines new_lines
 
 -- the lines of the partial picture that has this text
-pub record AreLinesOfText (bytes : List ℕ) (info : JlsInfo) (old_samples new_samples : List ℕ) (old_lines new_lines : List JlsLine) : Type 0 where
+pub record AreLinesOfText (bytes : List ℕ) (info : JlsInfo) (old_samples new_samples : List ℕ)
+    (old_lines new_lines : List JlsLine) : Type 0 where
   pub p : PartialPicture
   pub is_text : IsTextOf bytes p
   pub shown : AreLinesShown p info old_samples new_samples old_lines new_lines

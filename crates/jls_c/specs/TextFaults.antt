@@ -1,7 +1,8 @@
 -- What a caller learns of bytes that are no partial picture.
 use Rattle.std.specs.Prelude.{ℕ}
 use Rattle.jls_partial.specs.declared.text_fault.TextFault.{TextFault}
-use Rattle.jls_partial.specs.declared.text_fault.TextFault.TheVariants.{Magic, BadShape, Truncated, Place, Count, Order, Sample, Trailing, OutOfMemory}
+use Rattle.jls_partial.specs.declared.text_fault.TextFault.TheVariants.{Magic, BadShape, Truncated, Place, Count, Order, Sample, Trailing}
+use Rattle.jls_partial.specs.declared.text_fault.TextFault.TheVariants.{OutOfMemory}
 use Rattle.jls_c.specs.Info.{info_of_fault}
 use Rattle.jls_c.specs.declared.info.JlsInfo.{JlsInfo}
 

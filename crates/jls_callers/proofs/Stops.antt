@@ -1,12 +1,15 @@
 -- What the events of a reading show of how it stopped.
-use Rattle.std.proofs.Common.{◌≡◌, ◌≤◌, ◌<◌, ◌⊎◌, inl, inr, ℕ, true, false, List, [], ◌∷◌, ◌++◌, Option, length, refl, sym, ap, ◌∙◌, subst, arith}
+use Rattle.std.proofs.Common.{◌≡◌, ◌≤◌, ◌<◌, ◌⊎◌, inl, inr, ℕ, true, false, List, [], ◌∷◌, ◌++◌, Option, length, refl, sym, ap, ◌∙◌, subst}
+use Rattle.std.proofs.Common.{arith}
 use Rattle.std.proofs.lemmas.Bool.{false≢true}
 use Rattle.std.proofs.lemmas.List.{append-nil, length-append}
 use Rattle.std.specs.List.{list_any}
-use Rattle.jls_io.specs.Event.{Event, opened, not_opened, gave, read_failed, created, not_created, took, write_failed, is_failed_read, bytes_given}
+use Rattle.jls_io.specs.Event.{Event, opened, not_opened, gave, read_failed, created, not_created, took, write_failed, is_failed_read}
+use Rattle.jls_io.specs.Event.{bytes_given}
 use Rattle.jls_partial.specs.Partial.{PartialPicture}
 use Rattle.jls_station.specs.Given.{Given, Gives, by_text, by_copy, CopyReport, FoundCopy}
-use Rattle.jls_station.specs.Inputs.{IsEnough, IsCopyDone, IsRefused, no_text, text_not_read, no_picture, copy_not_read, ReadsRefuse, for_fault, for_memory}
+use Rattle.jls_station.specs.Inputs.{IsEnough, IsCopyDone, IsRefused, no_text, text_not_read, no_picture, copy_not_read, ReadsRefuse}
+use Rattle.jls_station.specs.Inputs.{for_fault, for_memory}
 use Rattle.jls_station.specs.KnownInputs.{CountsWithin}
 use Rattle.jls_station.specs.Reading.{GoesOn, StopsWith, IsRead}
 use Rattle.jls_station.specs.TakingCopies as taking

@@ -4,7 +4,8 @@ use Rattle.std.specs.Prelude.{◌⊎◌, codes, false, option_map, option_and_th
 use Rattle.std.specs.Str.{bytes_eq}
 use Rattle.clap.specs.declared.error.kind.ErrorKind.{ErrorKind}
 use Rattle.std.specs.Prelude.{IfOk, IfErr}
-use Rattle.clap.specs.Words.{App, FailsBy, HasKind, IsAmong, Kinds, Row, Text, all_of, fault_of, first_of, is_simple_and_free, kind_of, takes}
+use Rattle.clap.specs.Words.{App, FailsBy, HasKind, IsAmong, Kinds, Row, Text, all_of, fault_of, first_of, is_simple_and_free, kind_of}
+use Rattle.clap.specs.Words.{takes}
 use Rattle.clap.specs.Matches.{subcommand_name_of}
 use Rattle.clap.specs.Simple.{HasMatchesOf, subcommand_of, subcommand_rows, subcommand_rows_of}
 use Rattle.clap.specs.declared.parser.matches.ArgMatches.{ArgMatches}

@@ -2,7 +2,8 @@
 use Rattle.std.proofs.Common.{◌≡◌, ◌∙◌, ap, sym, subst, true, inl, inr, refl, List, [], Result, Ok, Err}
 use Rattle.std.specs.Prelude.{◌⊎◌, IfOk, IfErr}
 use Rattle.clap.specs.declared.error.kind.ErrorKind.{ErrorKind}
-use Rattle.clap.specs.Words.{App, FailsBy, HasKind, IsAmong, Kinds, Text, fault_of, found_of, is_simple_and_free, kind_of, matches_of, rows_of, takes}
+use Rattle.clap.specs.Words.{App, FailsBy, HasKind, IsAmong, Kinds, Text, fault_of, found_of, is_simple_and_free, kind_of, matches_of}
+use Rattle.clap.specs.Words.{rows_of, takes}
 use Rattle.clap.specs.Simple.{HasMatchesOf}
 use Rattle.clap.specs.declared.error.Error.{Error}
 use Rattle.clap.specs.declared.error.kind.ErrorKind.TheVariants as kind

@@ -4,7 +4,8 @@ use Rattle.std.specs.Prelude.{ℤ, pos, ◌-ℤ◌, unsigned_abs}
 use Rattle.std.proofs.lemmas.Int.{ints}
 use Rattle.jls_values.specs.Params.{CodingParameters}
 use Rattle.jls_context.specs.declared.mode.Neighbours.{Neighbours}
-use Rattle.jls_context.specs.Mode.{with_sign, quantized_gradient, quantized_gradients, is_negative, weighed, context, signed_gradients, ContextsAreApart, IsStep}
+use Rattle.jls_context.specs.Mode.{with_sign, quantized_gradient, quantized_gradients, is_negative, weighed, context, signed_gradients}
+use Rattle.jls_context.specs.Mode.{ContextsAreApart, IsStep}
 use Rattle.jls_context.proofs.Gradients.{gradient_range, sign_is, size_is}
 
 signed_step : (negative : Bool) (q : ℤ) → IsStep q → IsStep (with_sign negative q)

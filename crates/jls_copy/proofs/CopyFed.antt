@@ -14,7 +14,8 @@ use Rattle.jls_copy.specs.Conclusion.{SaysNone, is_final}
 use Rattle.jls_copy.specs.CopyReads.{CopyGivesNone, IsDone, is_final_end, no_picture}
 use Rattle.std.specs.Prelude.{Bool, true, false}
 use Rattle.jls_marker.specs.HeaderState.{HeaderState}
-use Rattle.jls_copy.specs.Course.{EndsHere, at_eoi, at_eoi_before_a_frame, at_no_marker, at_unknown_code, at_short_length, at_refused_segment}
+use Rattle.jls_copy.specs.Course.{EndsHere, at_eoi, at_eoi_before_a_frame, at_no_marker, at_unknown_code, at_short_length}
+use Rattle.jls_copy.specs.Course.{at_refused_segment}
 use Rattle.jls_copy.specs.ReaderState.{end_at}
 use Rattle.jls_copy.specs.Tells.{Tells, EndedAt, ended, without_soi, without_ff}
 use Rattle.jls_copy.specs.declared.end.End.{End}

@@ -1,5 +1,6 @@
 -- What a reader's place tells is the course of the bytes, and its pieces are those of the course.
-use Rattle.std.proofs.Common.{◌≡◌, ℕ, suc, ◌+◌, ◌/◌, ◌%◌, Bool, true, false, List, [], ◌∷◌, ◌++◌, length, refl, sym, ◌∙◌, ap, subst, append_assoc, add-zero, length-append}
+use Rattle.std.proofs.Common.{◌≡◌, ℕ, suc, ◌+◌, ◌/◌, ◌%◌, Bool, true, false, List, [], ◌∷◌, ◌++◌, length, refl, sym, ◌∙◌, ap, subst}
+use Rattle.std.proofs.Common.{append_assoc, add-zero, length-append}
 use Rattle.std.proofs.lemmas.List.{append-nil}
 use Rattle.jls_copy.proofs.HeaderFacts.{scans_none, scans_one}
 use Rattle.jls_copy.specs.ScanData.{fill_bytes, ClosedPiece}
@@ -7,12 +8,15 @@ use Rattle.jls_copy.specs.Numbers.{PieceNumber, Interval}
 use Rattle.jls_marker.specs.HeaderState.{HeaderState}
 use Rattle.jls_marker.specs.Scan.{Scan}
 use Rattle.jls_copy.specs.Pieces.{FoundPiece, piece_begun}
-use Rattle.jls_copy.specs.Course.{by_input, by_marker, CopyUnit, segment, scan, segment_unit_bytes, unit_bytes, AreUnits, Ends, for_good, with_the_input, in_a_unit, fill_alone, marker_alone, half_a_length, short_payload, IsCourse, with_soi, with_another_marker, with_no_marker, with_fill_alone}
+use Rattle.jls_copy.specs.Course.{by_input, by_marker, CopyUnit, segment, scan, segment_unit_bytes, unit_bytes, AreUnits, Ends, for_good}
+use Rattle.jls_copy.specs.Course.{with_the_input, in_a_unit, fill_alone, marker_alone, half_a_length, short_payload, IsCourse, with_soi}
+use Rattle.jls_copy.specs.Course.{with_another_marker, with_no_marker, with_fill_alone}
 use Rattle.jls_copy.specs.Pieces.{pieces_in, pieces_from, unit_pieces, scans_in}
 use Rattle.jls_copy.specs.CutPieces.{is_cut, closed_by_input, last_piece}
 use Rattle.std.specs.Prelude.{if◌then◌else◌}
 use Rattle.jls_copy.specs.ReaderState.{reading, found, number_of, end_at, closed_at_end}
-use Rattle.jls_copy.specs.Tells.{AlikePieces, Passed, passed_soi, passed_segment, passed_scan, Follows, EndedAt, ended, without_soi, without_ff, Tells}
+use Rattle.jls_copy.specs.Tells.{AlikePieces, Passed, passed_soi, passed_segment, passed_scan, Follows, EndedAt, ended, without_soi}
+use Rattle.jls_copy.specs.Tells.{without_ff, Tells}
 use Rattle.jls_copy.specs.ReaderLaws.{CourseFed, CourseIs}
 use Rattle.jls_marker.specs.declared.fault.MarkerFault.TheVariants as fault
 use Rattle.jls_copy.specs.declared.end.End.{End}

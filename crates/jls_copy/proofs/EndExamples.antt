@@ -4,7 +4,8 @@ use Rattle.jls_marker.specs.Faults.{fault_number}
 use Rattle.jls_marker.specs.HeaderState.{no_headers}
 use Rattle.jls_marker.specs.MarkerCodes.{has_segment}
 use Rattle.jls_marker.specs.declared.fault.MarkerFault.TheVariants.{UnknownMarker, NoMarker, NoSoi, Ended}
-use Rattle.jls_copy.specs.Course.{at_no_marker, at_unknown_code, for_good, with_the_input, without_units, IsCourse, with_soi, with_another_marker, with_fill_alone}
+use Rattle.jls_copy.specs.Course.{at_no_marker, at_unknown_code, for_good, with_the_input, without_units, IsCourse, with_soi}
+use Rattle.jls_copy.specs.Course.{with_another_marker, with_fill_alone}
 use Rattle.jls_copy.specs.declared.end.End.TheVariants.{Input, Header}
 
 -- FF D8 00: no marker, at 2

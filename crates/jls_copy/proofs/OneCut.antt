@@ -1,10 +1,12 @@
 -- A list of bytes has one cut at most.
-use Rattle.std.proofs.Common.{◌≡◌, ℕ, zero, suc, ◌+◌, ◌-◌, ◌<◌, true, false, ◌≢◌, List, [], ◌∷◌, ◌++◌, refl, sym, ◌∙◌, ap, subst, append_assoc, arith, ◌⊎◌, inl, inr}
+use Rattle.std.proofs.Common.{◌≡◌, ℕ, zero, suc, ◌+◌, ◌-◌, ◌<◌, true, false, ◌≢◌, List, [], ◌∷◌, ◌++◌, refl, sym, ◌∙◌, ap, subst}
+use Rattle.std.proofs.Common.{append_assoc, arith, ◌⊎◌, inl, inr}
 use Rattle.std.proofs.lemmas.List.{append-nil}
 use Rattle.std.proofs.lemmas.Bool.{cases_eq, cases_Bool}
 use Rattle.std.proofs.lemmas.Bool.Decides.{nat_tests}
 use Rattle.std.specs.List.{flat_map, AllByRecursion}
-use Rattle.jls_copy.specs.ScanData.{is_restart_code, ends_scan_data, closes_piece, IsPiece, ClosedPiece, ScanEnd, at_input, at_marker, ScanCut, fill_bytes, closed_bytes, end_bytes, IsClosedPiece, IsScanEnd, IsCut}
+use Rattle.jls_copy.specs.ScanData.{is_restart_code, ends_scan_data, closes_piece, IsPiece, ClosedPiece, ScanEnd, at_input, at_marker}
+use Rattle.jls_copy.specs.ScanData.{ScanCut, fill_bytes, closed_bytes, end_bytes, IsClosedPiece, IsScanEnd, IsCut}
 use Rattle.jls_copy.proofs.OneMoreByte.{open_cut, ended_cut, cut_none, cut_fill, cut_more, cut_mark, cut_end, cut_after}
 use Rattle.jls_copy.specs.CutLaws.{OneCut}
 

@@ -3,7 +3,8 @@ use Rattle.std.proofs.Common.{◌≡◌, ℕ, zero, suc, ◌+◌, ◌<◌, true,
 use Rattle.std.proofs.lemmas.List.{append-nil}
 use Rattle.std.proofs.lemmas.Grind.{flat_map-append}
 use Rattle.std.specs.List.{flat_map, AllByRecursion}
-use Rattle.jls_copy.specs.ScanData.{ends_scan_data, closes_piece, IsPiece, ClosedPiece, at_input, at_marker, ScanCut, fill_bytes, closed_bytes, IsClosedPiece, IsCut}
+use Rattle.jls_copy.specs.ScanData.{ends_scan_data, closes_piece, IsPiece, ClosedPiece, at_input, at_marker, ScanCut, fill_bytes}
+use Rattle.jls_copy.specs.ScanData.{closed_bytes, IsClosedPiece, IsCut}
 
 -- one more fill byte at the end
 pub fills_more : (n : ℕ) (rest : List ℕ) → fill_bytes n ++ (255 ∷ rest) ≡ fill_bytes (suc n) ++ rest

@@ -2,7 +2,8 @@
 use Rattle.std.proofs.Common.{◌≡◌, ℕ, true, false, List, length, refl, sym, ap, ◌∙◌, arith, length-append}
 use Rattle.jls_copy.specs.CopyReads.{is_final_end}
 use Rattle.jls_copy.specs.CopyLaws.{OtherEndsChange}
-use Rattle.jls_copy.specs.TellingLaws.{is_of_segment, EndStands, eoi, input, eoi_before_a_frame, refused_segment, unknown_marker, no_marker, another_marker, no_marker_first, too_early}
+use Rattle.jls_copy.specs.TellingLaws.{is_of_segment, EndStands, eoi, input, eoi_before_a_frame, refused_segment, unknown_marker, no_marker}
+use Rattle.jls_copy.specs.TellingLaws.{another_marker, no_marker_first, too_early}
 use Rattle.jls_copy.specs.declared.end.End.{End}
 use Rattle.jls_copy.specs.declared.end.End.TheVariants.{Eoi, Input, Header}
 use Rattle.jls_marker.specs.declared.fault.MarkerFault.{MarkerFault}

@@ -1,5 +1,6 @@
 -- What the bytes so far give, each longer list of bytes gives whose pieces all read as lines.
-use Rattle.std.proofs.Common.{◌≡◌, ℕ, ◌+◌, ◌*◌, ◌<◌, ◌≤◌, Bool, true, List, [], ◌∷◌, ◌++◌, length, take, drop, sym, ap, ◌∙◌, subst, append_assoc, length-append, arith, inl, inr}
+use Rattle.std.proofs.Common.{◌≡◌, ℕ, ◌+◌, ◌*◌, ◌<◌, ◌≤◌, Bool, true, List, [], ◌∷◌, ◌++◌, length, take, drop, sym, ap, ◌∙◌, subst}
+use Rattle.std.proofs.Common.{append_assoc, length-append, arith, inl, inr}
 use Rattle.std.specs.Prelude.{◌==◌, get_or, if◌then◌else◌}
 use Rattle.std.specs.List.{AllByRecursion, Contains}
 use Rattle.std.proofs.lemmas.List.{take-append-drop, length-take-le}
@@ -26,7 +27,8 @@ use Rattle.jls_copy.specs.Reader.{all_pieces}
 use Rattle.jls_copy.specs.ReaderState.{reading, closed_at_end}
 use Rattle.jls_copy.specs.Tells.{FedAs, AlikePiece}
 use Rattle.jls_copy.proofs.CourseFed.{course_fed}
-use Rattle.jls_copy.proofs.Prefixes.{is_first, in_rest, none_in, first_or_rest, alike_of, of_alike, at_once, Stands, stands_from, from_append, among_all}
+use Rattle.jls_copy.proofs.Prefixes.{is_first, in_rest, none_in, first_or_rest, alike_of, of_alike, at_once, Stands, stands_from}
+use Rattle.jls_copy.proofs.Prefixes.{from_append, among_all}
 use Rattle.jls_copy.proofs.OneCourse.{one_course}
 use Rattle.jls_copy.proofs.ScansOfCourse.{HasScan, byte_parts, course_has}
 

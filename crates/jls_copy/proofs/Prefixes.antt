@@ -1,5 +1,6 @@
 -- A piece that reads as no lines whatever follows is one in each longer list of bytes.
-use Rattle.std.proofs.Common.{◌≡◌, ℕ, zero, suc, ◌*◌, ◌<◌, false, List, [], ◌∷◌, ◌++◌, length, Option, Some, None, refl, sym, ap, ◌∙◌, subst, append_assoc, arith, ◌⊎◌, inl, inr}
+use Rattle.std.proofs.Common.{◌≡◌, ℕ, zero, suc, ◌*◌, ◌<◌, false, List, [], ◌∷◌, ◌++◌, length, Option, Some, None, refl, sym, ap, ◌∙◌}
+use Rattle.std.proofs.Common.{subst, append_assoc, arith, ◌⊎◌, inl, inr}
 use Rattle.std.specs.Prelude.{IfSome}
 use Rattle.std.specs.Option.{option_map}
 use Rattle.std.specs.List.{AllByRecursion, Contains}
@@ -17,7 +18,8 @@ use Rattle.jls_copy.specs.Numbers.{PieceNumber, Interval, BeyondLast}
 use Rattle.jls_copy.specs.Pieces.{FoundPiece, Lines, IsOutcomeAt, pieces}
 use Rattle.jls_copy.specs.CutPieces.{cut_pieces}
 use Rattle.jls_copy.specs.Prefixes.{NeverReads, IsPieceBroken, PrefixesStayBroken, OpenReadsNoMore, PlaceReadsNoMore}
-use Rattle.jls_copy.specs.ReaderState.{reading, Reading, reading_with, reading_from, number_of, bytes_of, fed, found, piece_with, held_bytes, class_of, closed_by, closed_at, closed_at_end, step_from, from_scan}
+use Rattle.jls_copy.specs.ReaderState.{reading, Reading, reading_with, reading_from, number_of, bytes_of, fed, found, piece_with}
+use Rattle.jls_copy.specs.ReaderState.{held_bytes, class_of, closed_by, closed_at, closed_at_end, step_from, from_scan}
 use Rattle.jls_copy.specs.Reader.{all_pieces}
 use Rattle.jls_copy.specs.Sound.{IsOpenPiece, IsPlace}
 use Rattle.jls_copy.specs.Tells.{FedAs, AlikePiece, AlikePieces}

@@ -9,7 +9,8 @@ use Rattle.jls_marker.proofs.HeadersKept.{headers_kept, no_headers_kept}
 use Rattle.jls_copy.specs.ScanData.{fill_bytes, ClosedPiece, closed_bytes}
 use Rattle.jls_copy.specs.Numbers.{PieceNumber, number_after, given_last}
 use Rattle.jls_copy.specs.Pieces.{FoundPiece, pieces_from, pieces_in, pieces, piece_begun}
-use Rattle.jls_copy.specs.Course.{CopyUnit, segment, scan, segment_unit_bytes, scan_data_bytes, AreUnits, Course, IsCourse, with_soi, with_another_marker, with_no_marker, with_fill_alone}
+use Rattle.jls_copy.specs.Course.{CopyUnit, segment, scan, segment_unit_bytes, scan_data_bytes, AreUnits, Course, IsCourse, with_soi}
+use Rattle.jls_copy.specs.Course.{with_another_marker, with_no_marker, with_fill_alone}
 use Rattle.jls_copy.specs.declared.end.End.{End}
 
 -- the piece is of a scan in its ranges

@@ -1,5 +1,6 @@
 -- What stands at the offsets that are reported of a copy, and which pieces have records.
-use Rattle.std.proofs.Common.{◌≡◌, ℕ, ◌+◌, ◌/◌, ◌%◌, List, [], ◌∷◌, ◌++◌, length, refl, sym, ap, ◌∙◌, subst, append_assoc, arith, length-append}
+use Rattle.std.proofs.Common.{◌≡◌, ℕ, ◌+◌, ◌/◌, ◌%◌, List, [], ◌∷◌, ◌++◌, length, refl, sym, ap, ◌∙◌, subst, append_assoc, arith}
+use Rattle.std.proofs.Common.{length-append}
 use Rattle.std.proofs.lemmas.List.{length-replicate}
 use Rattle.std.specs.List.{flat_map, AllByRecursion}
 use Rattle.jls_marker.specs.HeaderState.{HeaderState, no_headers}
@@ -7,9 +8,14 @@ use Rattle.jls_marker.specs.Scan.{Scan, intervals}
 use Rattle.jls_marker.specs.declared.fault.MarkerFault.TheVariants as fault
 use Rattle.jls_copy.specs.ScanData.{fill_bytes, ClosedPiece, closed_bytes}
 use Rattle.jls_copy.specs.Numbers.{PieceNumber, Interval, number_after, given_last}
-use Rattle.jls_copy.specs.Pieces.{FoundPiece, pieces_from, pieces_in, pieces, PieceOutcome, Lines, Fault, AreOutcomes, value_of, records, piece_begun}
-use Rattle.jls_copy.specs.Course.{CopyUnit, segment, scan, segment_unit_bytes, scan_data_bytes, unit_bytes, dropped_bytes, EndsHere, at_eoi, at_eoi_before_a_frame, at_no_marker, at_unknown_code, at_short_length, at_refused_segment, Ends, for_good, with_the_input, in_a_unit, AreUnits, with_soi, with_another_marker, with_no_marker, with_fill_alone}
-use Rattle.jls_copy.specs.TellingLaws.{StandsAt, PiecesStandAtTheirOffsets, EndStands, eoi, input, eoi_before_a_frame, refused_segment, unknown_marker, no_marker, another_marker, no_marker_first, too_early, EndsStandAtTheirOffsets, AreRecordsOf, of_none, reads, faulty, RecordsAreOfFaultyPieces}
+use Rattle.jls_copy.specs.Pieces.{FoundPiece, pieces_from, pieces_in, pieces, PieceOutcome, Lines, Fault, AreOutcomes, value_of, records}
+use Rattle.jls_copy.specs.Pieces.{piece_begun}
+use Rattle.jls_copy.specs.Course.{CopyUnit, segment, scan, segment_unit_bytes, scan_data_bytes, unit_bytes, dropped_bytes, EndsHere, at_eoi}
+use Rattle.jls_copy.specs.Course.{at_eoi_before_a_frame, at_no_marker, at_unknown_code, at_short_length, at_refused_segment, Ends, for_good}
+use Rattle.jls_copy.specs.Course.{with_the_input, in_a_unit, AreUnits, with_soi, with_another_marker, with_no_marker, with_fill_alone}
+use Rattle.jls_copy.specs.TellingLaws.{StandsAt, PiecesStandAtTheirOffsets, EndStands, eoi, input, eoi_before_a_frame, refused_segment}
+use Rattle.jls_copy.specs.TellingLaws.{unknown_marker, no_marker, another_marker, no_marker_first, too_early, EndsStandAtTheirOffsets}
+use Rattle.jls_copy.specs.TellingLaws.{AreRecordsOf, of_none, reads, faulty, RecordsAreOfFaultyPieces}
 use Rattle.jls_copy.specs.declared.end.End.{End}
 use Rattle.jls_copy.proofs.SegmentFaults.{segment_fault}
 

@@ -1,5 +1,6 @@
 -- A byte of scan data, over what a reader's place tells.
-use Rattle.std.proofs.Common.{◌≡◌, ℕ, zero, suc, ◌+◌, ◌-◌, ◌<◌, ◌≢◌, true, false, List, [], ◌∷◌, ◌++◌, length, refl, sym, ◌∙◌, ap, subst, append_assoc, add-zero, arith, ◌⊎◌, inl, inr, length-append}
+use Rattle.std.proofs.Common.{◌≡◌, ℕ, zero, suc, ◌+◌, ◌-◌, ◌<◌, ◌≢◌, true, false, List, [], ◌∷◌, ◌++◌, length, refl, sym, ◌∙◌, ap, subst}
+use Rattle.std.proofs.Common.{append_assoc, add-zero, arith, ◌⊎◌, inl, inr, length-append}
 use Rattle.std.specs.Prelude.{is_some, ◌==◌}
 use Rattle.std.proofs.lemmas.List.{append-nil}
 use Rattle.std.proofs.lemmas.Grind.{flat_map-append}
@@ -16,8 +17,10 @@ use Rattle.jls_copy.specs.Pieces.{FoundPiece, piece_begun}
 use Rattle.jls_copy.specs.Course.{by_marker, CopyUnit, scan, segment_unit_bytes, unit_bytes}
 use Rattle.jls_copy.specs.Pieces.{pieces_from}
 use Rattle.jls_copy.specs.ReaderState as state
-use Rattle.jls_copy.specs.ReaderState.{class_of, one_more, held_bytes, piece_with, piece_opened, number_of, bytes_of, found, scan_with, scan_after}
-use Rattle.jls_copy.specs.Tells.{SameBytes, HeldIs, FedAs, IsFed, AlikePiece, AlikePieces, Passed, passed_scan, InScanData, given_after, Tells}
+use Rattle.jls_copy.specs.ReaderState.{class_of, one_more, held_bytes, piece_with, piece_opened, number_of, bytes_of, found, scan_with}
+use Rattle.jls_copy.specs.ReaderState.{scan_after}
+use Rattle.jls_copy.specs.Tells.{SameBytes, HeldIs, FedAs, IsFed, AlikePiece, AlikePieces, Passed, passed_scan, InScanData, given_after}
+use Rattle.jls_copy.specs.Tells.{Tells}
 use Rattle.jls_copy.specs.declared.piece.OpenPiece.{OpenPiece}
 use Rattle.jls_copy.specs.declared.piece.OpenPiece.TheVariants as open_piece
 use Rattle.jls_copy.specs.declared.scan.Held.{Held}

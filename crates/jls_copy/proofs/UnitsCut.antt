@@ -2,7 +2,8 @@
 use Rattle.std.proofs.Common.{◌≡◌, ℕ, List, ◌∷◌, ◌++◌, refl, append_assoc}
 use Rattle.std.proofs.lemmas.List.{append-nil}
 use Rattle.std.specs.List.{flat_map, AllByRecursion}
-use Rattle.jls_copy.specs.ScanData.{fill_bytes, ClosedPiece, closed_bytes, IsClosedPiece, IsPiece, ScanCut, ScanEnd, IsCut, at_input, at_marker}
+use Rattle.jls_copy.specs.ScanData.{fill_bytes, ClosedPiece, closed_bytes, IsClosedPiece, IsPiece, ScanCut, ScanEnd, IsCut, at_input}
+use Rattle.jls_copy.specs.ScanData.{at_marker}
 use Rattle.jls_copy.specs.Course.{LastClosed, by_input, by_marker, scan_data_bytes, IsClosing}
 use Rattle.jls_copy.specs.CutLaws.{UnitsAreCut}
 use Rattle.jls_copy.proofs.OneCut.{same_cut}

@@ -1,5 +1,5 @@
--- The laws of what is reported of a copy beside its readings: offsets, and records of faulty pieces. Each is the contract of a function with
--- an empty body.
+-- The laws of what is reported of a copy beside its readings: offsets, and records of faulty pieces. Each is the contract of a function
+-- with an empty body.
 use Rattle.std.specs.Prelude.{◌≡◌, ℕ, ◌≢◌, Bool, true, false, List, [], ◌∷◌, ◌++◌, length, take}
 use Rattle.std.specs.List.{AllByRecursion}
 use Rattle.jls_copy.specs.Course.{Course, IsCourse}

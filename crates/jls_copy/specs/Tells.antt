@@ -67,7 +67,8 @@ Follows following tail = following ≡ true
 -- SOI and whole units: their bytes, the headers that they leave, the pieces that were found, and whether scan data was last
 pub data Passed : List ℕ → HeaderState → List CopyUnit → List FoundPiece → Bool → Type 0 where
   passed_soi : (n : ℕ) (x : List ℕ) → x ≡ fill_bytes n ++ (0xFF ∷ 0xD8 ∷ []) → Passed x no_headers [] [] false
-  passed_segment : (x : List ℕ) (h : HeaderState) (us : List CopyUnit) (ps : List FoundPiece) (following : Bool) → Passed x h us ps following
+  passed_segment : (x : List ℕ) (h : HeaderState) (us : List CopyUnit) (ps : List FoundPiece) (following : Bool)
+      → Passed x h us ps following
       → (n code : ℕ) (payload : List ℕ) (after : HeaderState) (y : List ℕ) → has_segment code ≡ true → length payload + 2 < 2 ^ 16
       → (following ≡ true → ends_scan_data code ≡ true) → headers_after h code payload ≡ Ok (after, None)
       → y ≡ x ++ segment_unit_bytes n code payload → Passed y after (us ++ segment n code payload ∷ []) ps false

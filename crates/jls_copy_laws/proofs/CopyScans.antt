@@ -1,5 +1,6 @@
 -- The scans of a copy are those of its course.
-use Rattle.std.proofs.Common.{◌≡◌, ℕ, zero, suc, ◌+◌, ◌≢◌, true, List, [], ◌∷◌, ◌++◌, length, Option, Some, None, refl, sym, ◌∙◌, ap, subst, arith}
+use Rattle.std.proofs.Common.{◌≡◌, ℕ, zero, suc, ◌+◌, ◌≢◌, true, List, [], ◌∷◌, ◌++◌, length, Option, Some, None, refl, sym, ◌∙◌, ap, subst}
+use Rattle.std.proofs.Common.{arith}
 use Rattle.std.specs.Prelude.{◌==◌}
 use Rattle.std.specs.List.{flat_map}
 use Rattle.std.proofs.lemmas.Bool.{or_right}
@@ -10,7 +11,8 @@ use Rattle.jls_marker.specs.Scan.{Scan}
 use Rattle.jls_marker.specs.SegmentLaws.{AreBytes}
 use Rattle.jls_marker.proofs.HeadersKept.{headers_kept, no_headers_kept}
 use Rattle.jls_copy.specs.ScanData.{fill_bytes}
-use Rattle.jls_copy.specs.Course.{CopyUnit, segment, scan, segment_unit_bytes, scan_data_bytes, unit_bytes, IsUnit, AreUnits, Course, IsCourse, with_soi, with_another_marker, with_no_marker, with_fill_alone}
+use Rattle.jls_copy.specs.Course.{CopyUnit, segment, scan, segment_unit_bytes, scan_data_bytes, unit_bytes, IsUnit, AreUnits, Course}
+use Rattle.jls_copy.specs.Course.{IsCourse, with_soi, with_another_marker, with_no_marker, with_fill_alone}
 use Rattle.jls_copy.specs.CourseLaws.{SomeCourse}
 use Rattle.jls_copy.specs.declared.end.End.{End}
 use Rattle.jls_copy.proofs.OneCourse.{one_unit, no_unit_at_end}

@@ -1,5 +1,6 @@
 -- The piece that the input's end closes, found among the units of its course.
-use Rattle.std.proofs.Common.{◌≡◌, ℕ, ◌+◌, ◌/◌, ◌%◌, ◌≤◌, Bool, true, false, List, [], ◌∷◌, ◌++◌, length, refl, sym, ap, ◌∙◌, subst, arith, length-append, inl, inr}
+use Rattle.std.proofs.Common.{◌≡◌, ℕ, ◌+◌, ◌/◌, ◌%◌, ◌≤◌, Bool, true, false, List, [], ◌∷◌, ◌++◌, length, refl, sym, ap, ◌∙◌, subst, arith}
+use Rattle.std.proofs.Common.{length-append, inl, inr}
 use Rattle.std.specs.Prelude.{if◌then◌else◌}
 use Rattle.std.specs.List.{AllByRecursion, Contains}
 use Rattle.std.proofs.lemmas.List.{append-nil}
@@ -8,7 +9,8 @@ use Rattle.jls_marker.specs.HeaderState.{HeaderState, no_headers}
 use Rattle.jls_marker.specs.Scan.{Scan}
 use Rattle.jls_copy.specs.ScanData.{ClosedPiece, fill_bytes}
 use Rattle.jls_copy.specs.Numbers.{PieceNumber, Interval}
-use Rattle.jls_copy.specs.Course.{by_input, by_marker, CopyUnit, segment, scan, segment_unit_bytes, scan_data_bytes, unit_bytes, IsUnit, AreUnits, Course, IsCourse, with_soi, with_another_marker, with_no_marker, with_fill_alone}
+use Rattle.jls_copy.specs.Course.{by_input, by_marker, CopyUnit, segment, scan, segment_unit_bytes, scan_data_bytes, unit_bytes, IsUnit}
+use Rattle.jls_copy.specs.Course.{AreUnits, Course, IsCourse, with_soi, with_another_marker, with_no_marker, with_fill_alone}
 use Rattle.jls_copy.specs.CutPieces.{is_cut, closed_by_input, last_piece}
 use Rattle.jls_copy.specs.Pieces.{FoundPiece, pieces_from, unit_pieces, scans_in, pieces_in, piece_begun}
 use Rattle.jls_copy.specs.declared.end.End.{End}

@@ -1,5 +1,6 @@
 -- The payloads of a frame header and of a scan header, field by field, are those of the layouts that are read.
-use Rattle.std.proofs.Common.{◌≡◌, ℕ, ◌*◌, ◌/◌, ◌<◌, Bool, true, false, List, [], ◌∷◌, ◌++◌, map, length, ◌⊎◌, refl, sym, ◌∙◌, ap, subst, arith, inl, inr}
+use Rattle.std.proofs.Common.{◌≡◌, ℕ, ◌*◌, ◌/◌, ◌<◌, Bool, true, false, List, [], ◌∷◌, ◌++◌, map, length, ◌⊎◌, refl, sym, ◌∙◌, ap, subst}
+use Rattle.std.proofs.Common.{arith, inl, inr}
 use Rattle.std.specs.Prelude.{◌==◌, if◌then◌else◌}
 use Rattle.std.specs.List.{AllByRecursion, flat_map, zip}
 use Rattle.std.specs.Int.{w16, to_be_bytes}
@@ -8,7 +9,8 @@ use Rattle.std.proofs.lemmas.List.{length-map}
 use Rattle.std.proofs.lemmas.List.Folds.{flat_map-map}
 use Rattle.std.proofs.lemmas.Slice.Zip.{firsts-zip}
 use Rattle.jls_values.specs.Shape.{PictureShape}
-use Rattle.jls_marker.specs.Layouts.{FrameComponent, FrameHeader, HasFrameLayout, frame_component_bytes, frame_header_bytes, ScanComponent, ScanHeader, HasScanLayout, scan_component_bytes, scan_header_bytes}
+use Rattle.jls_marker.specs.Layouts.{FrameComponent, FrameHeader, HasFrameLayout, frame_component_bytes, frame_header_bytes, ScanComponent}
+use Rattle.jls_marker.specs.Layouts.{ScanHeader, HasScanLayout, scan_component_bytes, scan_header_bytes}
 use Rattle.jls_marker.specs.Payloads.{IsFrameHeaderOf, IsScanHeaderOf}
 use Rattle.jls_marker.specs.ScanSelection.{ScanSelection, IsScanSelection}
 use Rattle.jls_marker.specs.SegmentLaws.{AreBytes}

@@ -1,5 +1,6 @@
 -- What a marker segment without fault sets: a relation between the headers before it and after it (T.81 B.2; T.87 C.2).
-use Rattle.std.specs.Prelude.{◌≡◌, ℕ, ◌*◌, ◌-◌, ◌<◌, ◌≤◌, ◌^◌, ◌+◌, true, false, List, [], ◌∷◌, ◌++◌, length, map, get_or, Option, Some, None, ◌⊎◌, replicate}
+use Rattle.std.specs.Prelude.{◌≡◌, ℕ, ◌*◌, ◌-◌, ◌<◌, ◌≤◌, ◌^◌, ◌+◌, true, false, List, [], ◌∷◌, ◌++◌, length, map, get_or, Option, Some}
+use Rattle.std.specs.Prelude.{None, ◌⊎◌, replicate}
 use Rattle.std.specs.List.{AllByRecursion, flat_map, zip}
 use Rattle.std.specs.Int.{to_be_bytes, from_be_bytes, w16, w32}
 use Rattle.jls_values.specs.Params.{AreCodingParameters}
@@ -49,8 +50,8 @@ abbrev pub preset_values : PresetParameters → List ℕ
 preset_values p = p.maxval ∷ p.t1 ∷ p.t2 ∷ p.t3 ∷ p.reset ∷ []
 
 -- After the headers named first, the marker segment of this code and payload has no fault. It leaves the headers named second, and an SOS
--- begins a scan. LSE of ID 2 or 3, which is a mapping table (T.87 C.2.4.1.2, C.2.4.1.3), changes nothing. Nor do COM and APPn (T.81 B.2.4.5,
--- B.2.4.6). Every other segment is a fault, and so is a second frame header. DRI has two to four bytes (T.87 C.2.5)
+-- begins a scan. LSE of ID 2 or 3, which is a mapping table (T.87 C.2.4.1.2, C.2.4.1.3), changes nothing. Nor do COM and APPn
+-- (T.81 B.2.4.5, B.2.4.6). Every other segment is a fault, and so is a second frame header. DRI has two to four bytes (T.87 C.2.5)
 pub data Sets : HeaderState → ℕ → List ℕ → HeaderState → Option Scan → Type 0 where
   frame : (h : HeaderState) (shape : PictureShape) (payload : List ℕ) → h.frame ≡ None → IsFramePayload shape payload
       → Sets h sof55 payload (record h { frame = Some shape }) None

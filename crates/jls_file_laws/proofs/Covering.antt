@@ -1,5 +1,6 @@
 -- The intervals of all scans of a written file are the picture's lines, each component and line once.
-use Rattle.std.proofs.Common.{◌≡◌, ℕ, zero, suc, ◌+◌, ◌-◌, ◌*◌, ◌/◌, ◌<◌, ◌≤◌, ◌≢◌, Bool, true, false, List, [], ◌∷◌, ◌++◌, map, length, refl, sym, ◌∙◌, ap, subst, append_assoc, arith, ◌⊎◌, inl, inr, length-append}
+use Rattle.std.proofs.Common.{◌≡◌, ℕ, zero, suc, ◌+◌, ◌-◌, ◌*◌, ◌/◌, ◌<◌, ◌≤◌, ◌≢◌, Bool, true, false, List, [], ◌∷◌, ◌++◌, map, length}
+use Rattle.std.proofs.Common.{refl, sym, ◌∙◌, ap, subst, append_assoc, arith, ◌⊎◌, inl, inr, length-append}
 use Rattle.std.specs.Prelude.{◌==◌, min, get_or, if◌then◌else◌}
 use Rattle.std.proofs.lemmas.List.{append-nil}
 use Rattle.std.proofs.lemmas.Grind.{flat_map-append}
@@ -15,7 +16,8 @@ use Rattle.jls_copy.specs.Pieces.{placed}
 use Rattle.jls_write.specs.Picture.{WholePicture, line_of}
 use Rattle.jls_write.specs.Options.{WriteOptions}
 use Rattle.jls_write.specs.WrittenFile.{row_lines, scan_of}
-use Rattle.jls_file_laws.specs.Covering.{row_readings, interval_readings, scan_readings, written_readings, count_at, IsLineOf, AreThePicture, ContainsThePicture, IntervalsAreRows, IntervalsCover}
+use Rattle.jls_file_laws.specs.Covering.{row_readings, interval_readings, scan_readings, written_readings, count_at, IsLineOf}
+use Rattle.jls_file_laws.specs.Covering.{AreThePicture, ContainsThePicture, IntervalsAreRows, IntervalsCover}
 
 abbrev pub rows_from : WholePicture → List ℕ → ℕ → ℕ → List (List ℕ)
 rows_from pic components row n = flat_map (row_lines pic components) (range_with_len row n)

@@ -1,5 +1,6 @@
 -- The course of a written file, where its segments are taken.
-use Rattle.std.proofs.Common.{◌≡◌, ℕ, zero, suc, ◌+◌, ◌-◌, ◌/◌, ◌%◌, ◌^◌, ◌<◌, ◌≤◌, true, false, List, [], ◌∷◌, ◌++◌, map, length, Some, None, Ok, refl, sym, ◌∙◌, ap, subst, append_assoc, get_or, arith}
+use Rattle.std.proofs.Common.{◌≡◌, ℕ, zero, suc, ◌+◌, ◌-◌, ◌/◌, ◌%◌, ◌^◌, ◌<◌, ◌≤◌, true, false, List, [], ◌∷◌, ◌++◌, map, length, Some}
+use Rattle.std.proofs.Common.{None, Ok, refl, sym, ◌∙◌, ap, subst, append_assoc, get_or, arith}
 use Rattle.std.specs.Prelude.{is_some}
 use Rattle.std.specs.Int.{w16, to_be_bytes}
 use Rattle.std.proofs.lemmas.Nat.{be_bytes_2}
@@ -15,17 +16,20 @@ use Rattle.jls_marker.proofs.Intervals as marker
 use Rattle.jls_copy.specs.ScanData.{closed_bytes}
 use Rattle.jls_copy.specs.Numbers.{Interval}
 use Rattle.jls_copy.specs.Pieces.{pieces_from, pieces_in, piece_begun}
-use Rattle.jls_copy.specs.Course.{CopyUnit, segment, scan, by_marker, segment_unit_bytes, unit_bytes, IsWholeSegment, IsClosing, at_eoi, for_good, AreUnits, with_soi}
+use Rattle.jls_copy.specs.Course.{CopyUnit, segment, scan, by_marker, segment_unit_bytes, unit_bytes, IsWholeSegment, IsClosing, at_eoi}
+use Rattle.jls_copy.specs.Course.{for_good, AreUnits, with_soi}
 use Rattle.jls_copy.specs.CutPieces.{is_cut, closed_by_input, cut_pieces}
 use Rattle.jls_copy.specs.declared.end.End.{End}
 use Rattle.jls_copy.specs.declared.end.End.TheVariants.{Eoi}
 use Rattle.jls_write.specs.Picture.{WholePicture}
 use Rattle.jls_write.specs.Options.{WriteOptions}
-use Rattle.jls_write.specs.WrittenFile.{bytes_of, header_segments, components_of_scans, scan_of, scan_segment, interval_code, marked_interval, scan_bytes, written_file}
+use Rattle.jls_write.specs.WrittenFile.{bytes_of, header_segments, components_of_scans, scan_of, scan_segment, interval_code}
+use Rattle.jls_write.specs.WrittenFile.{marked_interval, scan_bytes, written_file}
 use Rattle.jls_file_laws.specs.Covering.{interval_readings, scan_readings, written_readings}
 use Rattle.jls_file_laws.specs.FileLaw.{IsWritable, ReadsBack}
 use Rattle.jls_file_laws.proofs.Covering.{IsScanOf, scans_of}
-use Rattle.jls_file_laws.proofs.WrittenScans.{closed_from, last_from, bytes_are, each_closed, last_piece, GivesLines, lines_of, all_give, some_outcomes, pieces_give, pieces_lines}
+use Rattle.jls_file_laws.proofs.WrittenScans.{closed_from, last_from, bytes_are, each_closed, last_piece, GivesLines, lines_of, all_give}
+use Rattle.jls_file_laws.proofs.WrittenScans.{some_outcomes, pieces_give, pieces_lines}
 
 all_append : {X : Type 0} (P : X → Type 0) (xs ys : List X) → AllByRecursion P xs → AllByRecursion P ys → AllByRecursion P (xs ++ ys)
 all_append P [] ys h k = k

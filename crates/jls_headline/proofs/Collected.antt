@@ -31,13 +31,16 @@ use Rattle.jls_salvage_run.proofs.InputBytes.{all_reads}
 use Rattle.jls_headline.specs.Stations.{HasShape, ReadingsOf}
 use Rattle.jls_headline.specs.Sources.{SourcedCopy, copies_of}
 use Rattle.jls_headline.specs.Sources.{sourced_copy}
-use Rattle.jls_headline.specs.Collected.{HoldsEntry, Collected, new_station, reader_finished, copy_input, text_input, text_back, same_again, copy_taken, copy_refused, copy_ran_out, partial_taken, partial_ran_out, text_taken, text_ran_out, text_cut_short}
+use Rattle.jls_headline.specs.Collected.{HoldsEntry, Collected, new_station, reader_finished, copy_input, text_input, text_back, same_again}
+use Rattle.jls_headline.specs.Collected.{copy_taken, copy_refused, copy_ran_out, partial_taken, partial_ran_out, text_taken, text_ran_out}
+use Rattle.jls_headline.specs.Collected.{text_cut_short}
 use Rattle.jls_headline.specs.CollectedLaws.{CollectedHoldsExactly, CollectedHoldsExactlyUnder}
 use Rattle.jls_headline.proofs.Held.{either, or_first, item_of_any}
 use Rattle.jls_headline.proofs.SameCopies.{among_gives}
 use Rattle.jls_headline.proofs.Stations.{is_read, union_read}
 use Rattle.jls_headline.proofs.SourcedStations.{Mark, GivesMark, is_marked, union_marked, copy_holds_under, among_mark, among_aside}
-use Rattle.jls_headline.proofs.Unions.{GivenBy, Holds, at_first, both_collected, part_collected, between_keeps, between_only, over_more, in_the_end}
+use Rattle.jls_headline.proofs.Unions.{GivenBy, Holds, at_first, both_collected, part_collected, between_keeps, between_only, over_more}
+use Rattle.jls_headline.proofs.Unions.{in_the_end}
 
 -- By induction over the calls ------------------------------------------------------------------------------------
 

@@ -18,7 +18,8 @@ use Rattle.jls_headline.proofs.SourcedStations.{copy_holds_under}
 use Rattle.jls_headline.specs.Collected.{new_station, reader_finished, partial_taken, CollectedFrom, CollectedUnder}
 use Rattle.jls_headline.proofs.Collected.{collected_holds, collected_holds_under}
 use Rattle.jls_headline.proofs.CollectedPictures.{damaged_copies_write_the_picture}
-use Rattle.jls_headline.proofs.TwoLineCopies.{shape, pic, is_picture, first, second, first_data, second_data, first_scans, second_scans, bytes_of_test}
+use Rattle.jls_headline.proofs.TwoLineCopies.{shape, pic, is_picture, first, second, first_data, second_data, first_scans, second_scans}
+use Rattle.jls_headline.proofs.TwoLineCopies.{bytes_of_test}
 use Rattle.jls_headline.proofs.TwoLineExamples.{shape_read, line_0, both_are_damaged, each_line_survives}
 
 -- a new station takes what `finish` gives of both

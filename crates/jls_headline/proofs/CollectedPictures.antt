@@ -14,7 +14,8 @@ use Rattle.jls_write.specs.WrittenFile.{written_file}
 use Rattle.jls_report.specs.ReportText.{report_text}
 use Rattle.jls_headline.specs.Sources.{copies_of}
 use Rattle.jls_headline.specs.ReadsAs.{ReadsAsOnly}
-use Rattle.jls_headline.specs.Headline.{SinkCall, HandedOutBy, TookBytes, TookTheSame, SameCopiesHoldTheSame, SameSourcesAreOneStation, SameCopiesWriteTheSame, DamagedCopiesWriteThePicture}
+use Rattle.jls_headline.specs.Headline.{SinkCall, HandedOutBy, TookBytes, TookTheSame, SameCopiesHoldTheSame, SameSourcesAreOneStation}
+use Rattle.jls_headline.specs.Headline.{SameCopiesWriteTheSame, DamagedCopiesWriteThePicture}
 use Rattle.jls_headline.specs.HeadlineLaws.{SameCopiesSayTheSame, SameSourcesSameText}
 use Rattle.jls_headline.specs.LineLaws.{NeverAnotherPicture}
 use Rattle.jls_headline.proofs.Collected.{collected_holds, collected_holds_under}

@@ -1,5 +1,6 @@
 -- A text that is cut short: the readings that stand in it are those of its partial picture.
-use Rattle.std.proofs.Common.{◌≡◌, ℕ, zero, suc, ◌≤◌, Bool, true, false, cond, ltb, eqb, List, [], ◌∷◌, ◌++◌, map, length, take, drop, Option, Some, None, Result, Ok, Err, refl, sym, subst, ◌∙◌, arith, length-append, inl, inr}
+use Rattle.std.proofs.Common.{◌≡◌, ℕ, zero, suc, ◌≤◌, Bool, true, false, cond, ltb, eqb, List, [], ◌∷◌, ◌++◌, map, length, take, drop}
+use Rattle.std.proofs.Common.{Option, Some, None, Result, Ok, Err, refl, sym, subst, ◌∙◌, arith, length-append, inl, inr}
 use Rattle.std.specs.Int.{Width, w16, w32, w64, byte_len, from_be_bytes}
 use Rattle.std.specs.List.{Contains}
 use Rattle.std.proofs.lemmas.Bool.{cases_Bool, ltb-false, le-ltb}
@@ -22,7 +23,10 @@ use Rattle.jls_partial.specs.ReadingOrder.{reading_total, reading_exact, marks_t
 use Rattle.jls_partial.specs.Text.{IsTextOf, magic}
 use Rattle.jls_partial.specs.TextPrefix.{unless_fault, readings_prefix, entry_prefix, entries_prefix, text_prefix}
 use Rattle.jls_partial.specs.TextInto.{head_fields}
-use Rattle.jls_partial.specs.TextReading.{◌>>=◌, offset, byte_field, bytes_field, number_field, magic_field, version_field, unless_bad_shape, shape_or_fault, shape_fields, sample_field, samples_fields, is_above, reading_fields, is_source_above, source_field, sources_fields, own_sources_fields, kept_fields, readings_fields, place_fields, count_field, entry_fields}
+use Rattle.jls_partial.specs.TextReading.{◌>>=◌, offset, byte_field, bytes_field, number_field, magic_field, version_field}
+use Rattle.jls_partial.specs.TextReading.{unless_bad_shape, shape_or_fault, shape_fields, sample_field, samples_fields, is_above}
+use Rattle.jls_partial.specs.TextReading.{reading_fields, is_source_above, source_field, sources_fields, own_sources_fields, kept_fields}
+use Rattle.jls_partial.specs.TextReading.{readings_fields, place_fields, count_field, entry_fields}
 use Rattle.jls_partial.proofs.TextMerges.{text_between}
 use Rattle.jls_copy_laws.proofs.Members.{in_rest, none_in, first_or_rest, in_map, of_map, all_from}
 use Rattle.jls_headline.specs.Collected.{HoldsEntry}

@@ -1,6 +1,7 @@
 -- Each statement that the headline names holds of something here and of something else doesn't: so none is always true or always false.
 -- Those with an example of each kind beside their copies (`TwoLineExamples`, `HeadExamples`, `PremiseExamples`) are not repeated.
-use Rattle.std.proofs.Common.{◌≡◌, ℕ, zero, suc, ◌≤◌, true, false, List, [], ◌∷◌, length, Option, Some, None, refl, sym, ap, subst, ◌∙◌, lit<, lit≤, arith, inl}
+use Rattle.std.proofs.Common.{◌≡◌, ℕ, zero, suc, ◌≤◌, true, false, List, [], ◌∷◌, length, Option, Some, None, refl, sym, ap, subst, ◌∙◌}
+use Rattle.std.proofs.Common.{lit<, lit≤, arith, inl}
 use Rattle.std.specs.Prelude.{get_or, All}
 use Rattle.std.specs.List.{AllByRecursion, Contains}
 use Rattle.jls_values.specs.OrderedSet as set
@@ -15,7 +16,8 @@ use Rattle.jls_copy.specs.Numbers.{Interval, numbers_after}
 use Rattle.jls_copy.specs.Pieces.{placed}
 use Rattle.jls_copy_laws.specs.Gives.{ScanGives, GivesReading}
 use Rattle.jls_copy_laws.proofs.CopyScans.{one_list_of_scans}
-use Rattle.jls_headline.specs.Damaged.{AreNumbers, numbered_pieces, HasPictureLines, DamagedScan, Damaged, SurvivesInScan, picture_reading, Survives, EachLineSurvives}
+use Rattle.jls_headline.specs.Damaged.{AreNumbers, numbered_pieces, HasPictureLines, DamagedScan, Damaged, SurvivesInScan, picture_reading}
+use Rattle.jls_headline.specs.Damaged.{Survives, EachLineSurvives}
 use Rattle.jls_headline.specs.Stations.{ReadingsOf, HasShape, HoldsExactly, IsSameCopy, AreAmong, SameCopies}
 use Rattle.jls_headline.specs.Collected.{Collected, new_station, CollectedFrom, CollectedUnder}
 use Rattle.jls_headline.specs.ReadsAs.{GivesPicture, ReadsAs, ReadsAsOnly, FilesReadAs}
@@ -32,8 +34,10 @@ use Rattle.jls_headline.proofs.StationPictures.{exactly_gives_the_picture}
 use Rattle.jls_headline.proofs.FileExamples.{options, options_fit}
 use Rattle.jls_headline.proofs.PremiseExamples.{longer, same_lines, longer_is_another, taller, new_read_none, shapes_differ, known}
 use Rattle.jls_headline.proofs.SameCopyExamples.{taken, taken_under}
-use Rattle.jls_headline.proofs.TwoLineCopies.{shape, parameters_8, plan, pic, is_picture, first, second, third, piece_of, first_data, second_data, third_data, first_scans, second_scans, pieces_read}
-use Rattle.jls_headline.proofs.TwoLineExamples.{both_are_damaged, line_0, line_1, each_line_survives, third_gives_another, another_is_not_of_it, line_1_is_lost}
+use Rattle.jls_headline.proofs.TwoLineCopies.{shape, parameters_8, plan, pic, is_picture, first, second, third, piece_of, first_data}
+use Rattle.jls_headline.proofs.TwoLineCopies.{second_data, third_data, first_scans, second_scans, pieces_read}
+use Rattle.jls_headline.proofs.TwoLineExamples.{both_are_damaged, line_0, line_1, each_line_survives, third_gives_another}
+use Rattle.jls_headline.proofs.TwoLineExamples.{another_is_not_of_it, line_1_is_lost}
 
 -- Values ---------------------------------------------------------------------------------------------------------
 

@@ -1,6 +1,7 @@
 -- A run of `join` over the two copies, and one of `write` after it, event by event: the premises of the laws on written joins are met, and
 -- the text of the join stands for both copies. So does a run of `join` over that text.
-use Rattle.std.proofs.Common.{◌≡◌, ℕ, zero, suc, ◌<◌, true, false, List, [], ◌∷◌, ◌++◌, length, Option, None, refl, sym, ap, ◌∙◌, subst, lit<, lit≤, arith, inr}
+use Rattle.std.proofs.Common.{◌≡◌, ℕ, zero, suc, ◌<◌, true, false, List, [], ◌∷◌, ◌++◌, length, Option, None, refl, sym, ap, ◌∙◌, subst}
+use Rattle.std.proofs.Common.{lit<, lit≤, arith, inr}
 use Rattle.std.specs.Prelude.{All}
 use Rattle.std.specs.List.{Contains}
 use Rattle.std.proofs.lemmas.List.{append-nil}
@@ -49,7 +50,8 @@ use Rattle.jls_headline.proofs.Held.{is_at_line, or_first, or_second}
 use Rattle.jls_copy_laws.proofs.Members.{in_rest, is_first, none_in}
 use Rattle.jls_headline.proofs.StationPictures.{exactly_gives_the_picture}
 use Rattle.jls_headline.proofs.Stations.{copy_holds}
-use Rattle.jls_headline.proofs.TwoLineCopies.{shape, pic, is_picture, first, second, first_course, second_course, course_with, lost_first, bytes_of_test, first_data, second_data, first_scans, second_scans}
+use Rattle.jls_headline.proofs.TwoLineCopies.{shape, pic, is_picture, first, second, first_course, second_course, course_with, lost_first}
+use Rattle.jls_headline.proofs.TwoLineCopies.{bytes_of_test, first_data, second_data, first_scans, second_scans}
 use Rattle.jls_headline.proofs.TwoLineExamples.{shape_read, both_are_damaged, line_0, line_1, each_line_survives}
 
 -- One input that is a copy ---------------------------------------------------------------------------------------

@@ -18,7 +18,9 @@ use Rattle.jls_headline.specs.Damaged.{Damaged}
 use Rattle.jls_headline.specs.Stations.{HasShape, HoldsExactly, IsSameCopy, AreAmong}
 use Rattle.jls_headline.specs.Sources.{SourcedCopy, copies_of, IsSameUnder}
 use Rattle.jls_headline.specs.Sources.{sourced_copy}
-use Rattle.jls_headline.specs.RunLaws.{AreNoTexts, InputsStandFor, InputsStandUnder, RunsHoldExactly, RunsWithTextsHoldExactly, RunsSayTheSame, RunsWithTextsSayTheSame, RunsGiveThePicture, RunsWithTextsGiveThePicture, RunsHoldExactlyUnder, RunsUnderSourcesHandOutTheSame}
+use Rattle.jls_headline.specs.RunLaws.{AreNoTexts, InputsStandFor, InputsStandUnder, RunsHoldExactly, RunsWithTextsHoldExactly}
+use Rattle.jls_headline.specs.RunLaws.{RunsSayTheSame, RunsWithTextsSayTheSame, RunsGiveThePicture, RunsWithTextsGiveThePicture}
+use Rattle.jls_headline.specs.RunLaws.{RunsHoldExactlyUnder, RunsUnderSourcesHandOutTheSame}
 use Rattle.jls_partial.specs.Reading.{Reading}
 use Rattle.jls_copy_laws.proofs.Members.{is_first, all_at, all_map, in_map, of_map}
 use Rattle.jls_headline.proofs.SameCopies.{same_copy_has_shape}

@@ -1,5 +1,6 @@
 -- What comes of a `write` whose input gives what a `join` of damaged copies handed to its output: the picture, read again.
-use Rattle.std.proofs.Common.{◌≡◌, ℕ, ◌-◌, ◌<◌, ◌≤◌, ◌^◌, ◌||◌, Bool, false, List, [], ◌∷◌, max, Option, Some, None, Ok, Err, refl, sym, ap, ◌∙◌, subst, arith}
+use Rattle.std.proofs.Common.{◌≡◌, ℕ, ◌-◌, ◌<◌, ◌≤◌, ◌^◌, ◌||◌, Bool, false, List, [], ◌∷◌, max, Option, Some, None, Ok, Err, refl, sym, ap}
+use Rattle.std.proofs.Common.{◌∙◌, subst, arith}
 use Rattle.std.specs.Borrow.{Bor}
 use Rattle.std.specs.Prelude.{nat_lt}
 use Rattle.std.proofs.lemmas.Bool.Decides.{nat_tests}
@@ -36,10 +37,13 @@ use Rattle.jls_headline.specs.Damaged.{Damaged}
 use Rattle.jls_headline.specs.ReadsAs.{GivesPicture, ReadsAsOnly}
 use Rattle.jls_headline.specs.RunLaws.{AreNoTexts}
 use Rattle.jls_headline.specs.Sources.{copies_of}
-use Rattle.jls_headline.specs.JoinThenWrite.{JoinsDamagedCopies, JoinsForDamagedCopies, WritesWhatWasJoined, WrittenJoinsAreThePicture, WrittenJoinsReadAsThePicture, WrittenJoinsAreSettled, WrittenTextJoinsAreThePicture, WrittenTextJoinsReadAsThePicture, WrittenTextJoinsAreSettled}
+use Rattle.jls_headline.specs.JoinThenWrite.{JoinsDamagedCopies, JoinsForDamagedCopies, WritesWhatWasJoined, WrittenJoinsAreThePicture}
+use Rattle.jls_headline.specs.JoinThenWrite.{WrittenJoinsReadAsThePicture, WrittenJoinsAreSettled, WrittenTextJoinsAreThePicture}
+use Rattle.jls_headline.specs.JoinThenWrite.{WrittenTextJoinsReadAsThePicture, WrittenTextJoinsAreSettled}
 use Rattle.jls_copy_laws.proofs.Members.{all_map}
 use Rattle.jls_salvage_run.proofs.InputBytes.{ReadsNone, one_input, handed_out, inputs_of_join, output_of_join}
-use Rattle.jls_headline.proofs.JoinRuns.{scans_are_no_text, marks_of_run, runs_hold_exactly, runs_with_texts_hold_exactly, runs_give_the_picture, runs_with_texts_give_the_picture}
+use Rattle.jls_headline.proofs.JoinRuns.{scans_are_no_text, marks_of_run, runs_hold_exactly, runs_with_texts_hold_exactly}
+use Rattle.jls_headline.proofs.JoinRuns.{runs_give_the_picture, runs_with_texts_give_the_picture}
 use Rattle.jls_headline.proofs.JoinedTexts.{held_are_lines, its_text, text_given}
 use Rattle.jls_headline.proofs.InputMarks.{marks_of_inputs}
 use Rattle.jls_headline.proofs.WrittenFiles.{files_read_back}

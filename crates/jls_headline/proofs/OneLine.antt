@@ -23,7 +23,9 @@ use Rattle.jls_headline.specs.Damaged.{numbered_pieces, picture_reading, Damaged
 use Rattle.jls_headline.specs.ScanLaws.{IsScanUnder}
 use Rattle.jls_headline.specs.Stations.{HasShape, HoldsExactly}
 use Rattle.jls_headline.specs.Sources.{copies_of}
-use Rattle.jls_headline.specs.LineLaws.{SaysNoOther, TellsOfLine, StationsTellOfLines, RunsTellOfLines, UnnamedLinesHaveOneReading, UnnamedLinesAreThePicture, HasPictureLine, DamagedScanAt, DamagedAtSaysNoOther, DamagedIsDamagedAtEach}
+use Rattle.jls_headline.specs.LineLaws.{SaysNoOther, TellsOfLine, StationsTellOfLines, RunsTellOfLines, UnnamedLinesHaveOneReading}
+use Rattle.jls_headline.specs.LineLaws.{UnnamedLinesAreThePicture, HasPictureLine, DamagedScanAt, DamagedAtSaysNoOther}
+use Rattle.jls_headline.specs.LineLaws.{DamagedIsDamagedAtEach}
 use Rattle.jls_headline.proofs.Held.{set_holds_items, is_there, there_is, one_reading, is_at_line}
 use Rattle.jls_headline.proofs.ScanNumbers.{numbered_pieces_give}
 use Rattle.jls_headline.proofs.ScansInRange.{scans_are_of_the_frame}

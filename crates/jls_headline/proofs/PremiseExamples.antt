@@ -1,5 +1,6 @@
 -- What there is where a premise of the laws on stations and files is not met. `TwoLineExamples` has those on marks, refusal and survival.
-use Rattle.std.proofs.Common.{◌≡◌, ℕ, zero, suc, ◌<◌, ◌≤◌, Bool, true, false, List, [], None, ◌∷◌, ◌++◌, length, map, replicate, refl, sym, ap, subst, ◌∙◌, lit<, lit≤, arith, inl, inr}
+use Rattle.std.proofs.Common.{◌≡◌, ℕ, zero, suc, ◌<◌, ◌≤◌, Bool, true, false, List, [], None, ◌∷◌, ◌++◌, length, map, replicate, refl, sym}
+use Rattle.std.proofs.Common.{ap, subst, ◌∙◌, lit<, lit≤, arith, inl, inr}
 use Rattle.std.specs.Prelude.{get_or}
 use Rattle.std.specs.List.{range_with_len}
 use Rattle.std.proofs.lemmas.List.FromFn.{length-map-range_with_len}
@@ -41,7 +42,8 @@ use Rattle.jls_headline.specs.ReadsAs.{GivesPicture, ReadsAs}
 use Rattle.jls_copy_laws.proofs.Members.{none_in}
 use Rattle.jls_headline.proofs.CopyGives.{copy_gives}
 use Rattle.jls_headline.proofs.LostIntervals.{surviving_lines_are_given}
-use Rattle.jls_headline.proofs.TwoLineCopies.{shape, bits_8, parameters_8, pic_and, pic, first, bytes_of_test, piece_of, first_data, first_scans}
+use Rattle.jls_headline.proofs.TwoLineCopies.{shape, bits_8, parameters_8, pic_and, pic, first, bytes_of_test, piece_of, first_data}
+use Rattle.jls_headline.proofs.TwoLineCopies.{first_scans}
 use Rattle.jls_headline.proofs.TwoLineExamples.{shape_read, line_0}
 
 -- A picture has no more lines than its shape ---------------------------------------------------------------------

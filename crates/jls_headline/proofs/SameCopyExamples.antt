@@ -9,7 +9,8 @@ use Rattle.jls_salvage_run.specs.CommandLaws.{HaveSameMembers}
 use Rattle.jls_headline.specs.Stations.{IsSameCopy, AreAmong, SameCopies}
 use Rattle.jls_headline.specs.Sources.{SourcedCopy, IsSameUnder, SameCopiesUnder}
 use Rattle.jls_headline.specs.Sources.{sourced_copy}
-use Rattle.jls_headline.proofs.TwoLineCopies.{shape, first, second, lost_first, course_with, second_course, bytes_of_test, second_data, second_scans}
+use Rattle.jls_headline.proofs.TwoLineCopies.{shape, first, second, lost_first, course_with, second_course, bytes_of_test, second_data}
+use Rattle.jls_headline.proofs.TwoLineCopies.{second_scans}
 
 -- the second copy, with bytes after EOI
 abbrev second_and_more : List ℕ

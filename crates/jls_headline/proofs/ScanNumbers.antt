@@ -4,7 +4,8 @@ use Rattle.std.specs.Prelude.{nat_lt}
 use Rattle.std.specs.List.{AllByRecursion, Contains, zip}
 use Rattle.std.proofs.lemmas.Bool.Decides.{nat_tests}
 use Rattle.jls_marker.specs.Scan.{intervals}
-use Rattle.jls_copy.specs.Numbers.{PieceNumber, Interval, next_number, number_after, given_last, RiseByEightAtMost, mark_before, numbers_after}
+use Rattle.jls_copy.specs.Numbers.{PieceNumber, Interval, next_number, number_after, given_last, RiseByEightAtMost, mark_before}
+use Rattle.jls_copy.specs.Numbers.{numbers_after}
 use Rattle.jls_copy.specs.Pieces.{value_of}
 use Rattle.jls_copy_laws.specs.CopyScans.{ScanPiece, ScanWithData}
 use Rattle.jls_headline.specs.Damaged.{AreNumbers, numbered_pieces}

@@ -1,5 +1,6 @@
 -- A trimmed piece reads as the picture's lines or as none, and its head is the picture's first lines.
-use Rattle.std.proofs.Common.{◌≡◌, ℕ, zero, suc, ◌*◌, ◌<◌, ◌≤◌, Bool, true, List, [], ◌∷◌, ◌++◌, length, take, refl, sym, ap, subst, ◌∙◌, append_assoc, length-append, arith, ◌⊎◌, inl, inr}
+use Rattle.std.proofs.Common.{◌≡◌, ℕ, zero, suc, ◌*◌, ◌<◌, ◌≤◌, Bool, true, List, [], ◌∷◌, ◌++◌, length, take, refl, sym, ap, subst, ◌∙◌}
+use Rattle.std.proofs.Common.{append_assoc, length-append, arith, ◌⊎◌, inl, inr}
 use Rattle.std.specs.List.{AllByRecursion}
 use Rattle.std.proofs.lemmas.List.{append-nil}
 use Rattle.jls_values.specs.Params.{CodingParameters, AreCodingParameters}
@@ -23,7 +24,8 @@ use Rattle.jls_copy_laws.proofs.Members.{all_map}
 use Rattle.jls_headline.specs.Damaged.{numbered_pieces, HasPictureLines, DamagedScan}
 use Rattle.jls_headline.specs.Trimmed.{Trimmed, whole, prefix, longer, IsTrimmed, TrimmedScan}
 use Rattle.jls_headline.specs.ScanLaws.{IsScanUnder}
-use Rattle.jls_headline.specs.LostIntervalLaws.{TrimmedPiecesAreHarmless, TrimmedPiecesHaveHeads, TrimmedPiecesHavePictureLines, TrimmedCopiesAreDamaged}
+use Rattle.jls_headline.specs.LostIntervalLaws.{TrimmedPiecesAreHarmless, TrimmedPiecesHaveHeads, TrimmedPiecesHavePictureLines}
+use Rattle.jls_headline.specs.LostIntervalLaws.{TrimmedCopiesAreDamaged}
 use Rattle.jls_headline.proofs.ScansInRange.{scans_are_of_the_frame}
 
 nothing_is : (xs : List Bool) (y : Bool) (ys : List Bool) → xs ++ y ∷ ys ≡ [] → ⊥

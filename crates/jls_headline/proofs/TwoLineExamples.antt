@@ -20,7 +20,8 @@ use Rattle.jls_copy_laws.proofs.Members.{none_in, first_or_rest}
 use Rattle.jls_headline.proofs.CopyGives.{copy_has_shape}
 use Rattle.jls_headline.proofs.LostIntervals.{given_by_scan, surviving_lines_are_given}
 use Rattle.jls_headline.proofs.Trims.{trimmed_copies_are_damaged}
-use Rattle.jls_headline.proofs.TwoLineCopies.{shape, pic_and, pic, bits_8, parameters_8, plan, first, second, third, piece_of, first_data, second_data, third_data, first_scans, second_scans, third_scans, pieces_read}
+use Rattle.jls_headline.proofs.TwoLineCopies.{shape, pic_and, pic, bits_8, parameters_8, plan, first, second, third, piece_of, first_data}
+use Rattle.jls_headline.proofs.TwoLineCopies.{second_data, third_data, first_scans, second_scans, third_scans, pieces_read}
 
 -- The premises are met -------------------------------------------------------------------------------------------
 

@@ -20,7 +20,8 @@ use Rattle.jls_headline.specs.ReadsAs.{ReadsAs}
 -- Bytes after the end of a copy change nothing: copies that differ there alone are one copy
 abbrev pub BytesAfterTheEndChangeNothing : Type 0
 BytesAfterTheEndChangeNothing = (prefix following following' : List ℕ) (shape : PictureShape) → IsDone prefix true
-    → HasShape shape (prefix ++ following) → AllByRecursion (λ b. b < 256) following' → IsSameCopy (prefix ++ following) (prefix ++ following')
+    → HasShape shape (prefix ++ following) → AllByRecursion (λ b. b < 256) following'
+    → IsSameCopy (prefix ++ following) (prefix ++ following')
 
 -- A file reads as one picture at most
 abbrev pub FilesReadAsOne : Type 0

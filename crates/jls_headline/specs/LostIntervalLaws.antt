@@ -13,7 +13,8 @@ use Rattle.jls_write.specs.WrittenFile.{interval_lines}
 use Rattle.jls_file_laws.specs.Covering.{IsLineOf}
 use Rattle.jls_copy_laws.specs.CopyScans.{ScanPiece, ScanWithData, HasScans}
 use Rattle.jls_copy_laws.specs.Gives.{PieceGives, ScanGives, GivesReading}
-use Rattle.jls_headline.specs.Damaged.{AreNumbers, numbered_pieces, HasPictureLines, DamagedScan, Damaged, SurvivesInScan, picture_reading, Survives}
+use Rattle.jls_headline.specs.Damaged.{AreNumbers, numbered_pieces, HasPictureLines, DamagedScan, Damaged, SurvivesInScan, picture_reading}
+use Rattle.jls_headline.specs.Damaged.{Survives}
 use Rattle.jls_headline.specs.Trimmed.{IsTrimmed, LacksABit, TrimmedCopy}
 
 -- Numbers ------------------------------------------------------------------------------------------------------

@@ -1,5 +1,6 @@
 -- One event more: what a coder carries is what the earlier events and that one leave.
-use Rattle.std.proofs.Common.{◌≡◌, ℕ, ◌<◌, ◌≤◌, Bool, true, false, cond, not, List, [], ◌∷◌, ◌++◌, length, get_or, set, replicate, zero, suc, refl, sym, ap, ◌∙◌, subst, inl, inr}
+use Rattle.std.proofs.Common.{◌≡◌, ℕ, ◌<◌, ◌≤◌, Bool, true, false, cond, not, List, [], ◌∷◌, ◌++◌, length, get_or, set, replicate, zero}
+use Rattle.std.proofs.Common.{suc, refl, sym, ap, ◌∙◌, subst, inl, inr}
 use Rattle.std.specs.Prelude.{ℤ}
 use Rattle.std.proofs.lemmas.List.{get_or-set_same, get_or-set_other}
 use Rattle.std.proofs.lemmas.Bool.{cases_eq, eq-eqb, ne_eqb}
@@ -16,7 +17,8 @@ use Rattle.jls_interval.specs.Runs.{blocks, is_run_of, run_index_before, run_ind
 use Rattle.jls_interval.specs.Code.{regular_bits, event_bits}
 use Rattle.jls_interval.specs.Reading.{NoSample}
 use Rattle.jls_interval.specs.After.{IsAfter}
-use Rattle.jls_interval.proofs.FoldedEvents.{cell_used, cell_unused, run_cell_more, run_cell_learned, index_end, index_interrupted, index_other}
+use Rattle.jls_interval.proofs.FoldedEvents.{cell_used, cell_unused, run_cell_more, run_cell_learned, index_end, index_interrupted}
+use Rattle.jls_interval.proofs.FoldedEvents.{index_other}
 
 -- the other variables leave a cell as it was
 cell_kept : (cells cells' : Variables) → cells'.regular ≡ cells.regular → cells'.parameters ≡ cells.parameters → (q : ℕ)

@@ -1,5 +1,6 @@
 -- Bits that cut an event that can come next, case by case.
-use Rattle.std.proofs.Common.{◌≡◌, ◌↔◌, ◌⊎◌, ℕ, zero, suc, ◌+◌, ◌-◌, ◌*◌, ◌/◌, ◌%◌, ◌^◌, ◌<◌, ◌≤◌, Bool, true, false, eqb, ltb, List, [], ◌∷◌, ◌++◌, length, replicate, refl, sym, ap, ◌∙◌, subst, arith, inl, inr, append_assoc, length-append}
+use Rattle.std.proofs.Common.{◌≡◌, ◌↔◌, ◌⊎◌, ℕ, zero, suc, ◌+◌, ◌-◌, ◌*◌, ◌/◌, ◌%◌, ◌^◌, ◌<◌, ◌≤◌, Bool, true, false, eqb, ltb, List, []}
+use Rattle.std.proofs.Common.{◌∷◌, ◌++◌, length, replicate, refl, sym, ap, ◌∙◌, subst, arith, inl, inr, append_assoc, length-append}
 use Rattle.std.specs.Prelude.{ℤ, pos, negsuc, ◌+ℤ◌, ◌≤ℤ◌, neg_ℤ}
 use Rattle.std.specs.List.{AllByRecursion}
 use Rattle.std.proofs.lemmas.List.{append-nil, replicate-append-replicate}
@@ -23,7 +24,8 @@ use Rattle.jls_interval.specs.Cells.{is_same, cell_before, run_cell_before, regu
 use Rattle.jls_interval.specs.Runs.{run_order, run_index_raised, block_columns, full_blocks, Blocks, blocks, run_index_before}
 use Rattle.jls_interval.specs.Code.{event_bits, run_to_end_bits, interrupting_bits}
 use Rattle.jls_interval.specs.Growth.{Position, here, IsNext, HasSamples}
-use Rattle.jls_interval.specs.CutEvents.{IsProperPrefix, CutsNextEvent, CutsSample, CutsBlocks, CutsCount, after_run, CutsInterruption, CutsByCases}
+use Rattle.jls_interval.specs.CutEvents.{IsProperPrefix, CutsNextEvent, CutsSample, CutsBlocks, CutsCount, after_run, CutsInterruption}
+use Rattle.jls_interval.specs.CutEvents.{CutsByCases}
 use Rattle.jls_interval.proofs.StepwiseCodes.{one_begins}
 use Rattle.jls_interval.proofs.Runs.{full_fit, full_only}
 use Rattle.jls_interval.proofs.EventsApart.{predicted_small, b_small, small_back}

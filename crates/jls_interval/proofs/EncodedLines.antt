@@ -1,5 +1,6 @@
 -- Lines that were written, column by column and line by line.
-use Rattle.std.proofs.Common.{◌≡◌, ℕ, zero, suc, ◌+◌, ◌-◌, ◌%◌, ◌<◌, ◌≤◌, Bool, true, false, ltb, List, [], ◌∷◌, ◌++◌, length, take, drop, get_or, refl, sym, ap, ◌∙◌, subst, arith, inl, inr, append_assoc, add-one}
+use Rattle.std.proofs.Common.{◌≡◌, ℕ, zero, suc, ◌+◌, ◌-◌, ◌%◌, ◌<◌, ◌≤◌, Bool, true, false, ltb, List, [], ◌∷◌, ◌++◌, length, take, drop}
+use Rattle.std.proofs.Common.{get_or, refl, sym, ap, ◌∙◌, subst, arith, inl, inr, append_assoc, add-one}
 use Rattle.std.specs.List.{AllByRecursion}
 use Rattle.std.proofs.lemmas.List.{append-nil, take_more, take_all, length-take-le, get_or-take, take-append-drop}
 use Rattle.std.proofs.lemmas.Bool.{cases_lt, lt-ltb, le-ltb}
@@ -8,7 +9,8 @@ use Rattle.jls_context.specs.declared.mode.Neighbours.{Neighbours}
 use Rattle.jls_context.specs.Mode.{is_run_mode}
 use Rattle.jls_context.specs.Variables.{Variables, initial_variables}
 use Rattle.jls_interval.specs.Lines.{IsLine}
-use Rattle.jls_interval.specs.Events.{Above, above, line_back, neighbours, regular, Stretch, stretch, events_from, line_events, events_after, events}
+use Rattle.jls_interval.specs.Events.{Above, above, line_back, neighbours, regular, Stretch, stretch, events_from, line_events}
+use Rattle.jls_interval.specs.Events.{events_after, events}
 use Rattle.jls_interval.specs.Code.{bits_of_events, code}
 use Rattle.jls_interval.specs.After.{IsAfter}
 use Rattle.jls_interval.specs.Encoding.{Written, Writes, WritesColumns, AreWritten}

@@ -8,7 +8,8 @@ use Rattle.jls_context.specs.Interruption.{run_updated, initial_run_cell}
 use Rattle.jls_context.specs.declared.mode.Neighbours.{Neighbours}
 use Rattle.jls_context.specs.declared.interruption.RunCell.{RunCell}
 use Rattle.jls_interval.specs.Events.{Event, run_to_end, interrupted_run}
-use Rattle.jls_interval.specs.Cells.{uses_cell, cell_after, cell_before, uses_run_cell, run_cell_after, run_cell_before, is_same, interruption_error, equal}
+use Rattle.jls_interval.specs.Cells.{uses_cell, cell_after, cell_before, uses_run_cell, run_cell_after, run_cell_before, is_same}
+use Rattle.jls_interval.specs.Cells.{interruption_error, equal}
 use Rattle.jls_interval.specs.Runs.{is_run_of, run_index_after, run_index_before, blocks, run_index_lowered}
 
 -- a fold over the elements that pass, and one element more

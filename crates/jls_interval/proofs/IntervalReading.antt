@@ -1,5 +1,6 @@
 -- What a reader of an interval keeps, from what an event made of its line.
-use Rattle.std.proofs.Common.{◌≡◌, ℕ, ◌<◌, ◌≤◌, Bool, true, List, [], ◌∷◌, ◌++◌, length, get_or, map, Vec, Global, ◌%◌, refl, sym, ap, ◌∙◌, subst, arith, append_assoc, length-append}
+use Rattle.std.proofs.Common.{◌≡◌, ℕ, ◌<◌, ◌≤◌, Bool, true, List, [], ◌∷◌, ◌++◌, length, get_or, map, Vec, Global, ◌%◌, refl, sym, ap, ◌∙◌}
+use Rattle.std.proofs.Common.{subst, arith, append_assoc, length-append}
 use Rattle.std.proofs.lemmas.List.{append-nil}
 use Rattle.jls_values.specs.Params.{CodingParameters}
 use Rattle.jls_values.specs.Params.{AreCodingParameters}
@@ -7,7 +8,8 @@ use Rattle.jls_context.specs.Variables.{Variables}
 use Rattle.jls_interval.specs.Events.{Event, Above, above}
 use Rattle.jls_interval.specs.After.{IsAfter}
 use Rattle.jls_interval.specs.OpenEvents.{NoEvent, OpenEventAt, Holds, EventDone, EventPushed}
-use Rattle.jls_interval.specs.Decoding.{IsWorking, BeginsNoCode, StateIs, HaveWidth, IsReading, TakesAll, Taken, TakesFirst, TakesEvent, HasShape}
+use Rattle.jls_interval.specs.Decoding.{IsWorking, BeginsNoCode, StateIs, HaveWidth, IsReading, TakesAll, Taken, TakesFirst, TakesEvent}
+use Rattle.jls_interval.specs.Decoding.{HasShape}
 use Rattle.jls_interval.specs.LineSamples.{Works, TakesInLine}
 use Rattle.jls_interval.specs.declared.line_reader.OpenEvent.{OpenEvent}
 use Rattle.jls_interval.specs.declared.line_reader.OpenEvent.TheVariants.{NotBegun}

@@ -1,5 +1,6 @@
 -- Finished lines are parted into events that lead to them.
-use Rattle.std.proofs.Common.{◌≡◌, ℕ, zero, suc, ◌+◌, ◌%◌, ◌<◌, ◌≤◌, true, List, [], ◌∷◌, ◌++◌, length, replicate, refl, sym, ap, ◌∙◌, subst, arith, inl, inr, append_assoc, length-append}
+use Rattle.std.proofs.Common.{◌≡◌, ℕ, zero, suc, ◌+◌, ◌%◌, ◌<◌, ◌≤◌, true, List, [], ◌∷◌, ◌++◌, length, replicate, refl, sym, ap, ◌∙◌}
+use Rattle.std.proofs.Common.{subst, arith, inl, inr, append_assoc, length-append}
 use Rattle.std.specs.List.{AllByRecursion}
 use Rattle.std.proofs.lemmas.List.{append-nil, length-replicate, nil_from_length, append_cancel_left}
 use Rattle.std.proofs.Math.Nat.{le_antisymm}
@@ -11,7 +12,8 @@ use Rattle.jls_interval.specs.Lines.{IsLine, AreLines}
 use Rattle.jls_interval.specs.Stepwise.{StepwiseCode, Leads}
 use Rattle.jls_interval.specs.Growth.{Fits, added, Position, IsNext, grown, moved, interval_steps, start, finish}
 use Rattle.jls_interval.proofs.Stretches.{regroup}
-use Rattle.jls_interval.proofs.GrownLines.{line_events_from, Small, events_from_last, events_from_next, grown_full, grown_part, added_fits, m}
+use Rattle.jls_interval.proofs.GrownLines.{line_events_from, Small, events_from_last, events_from_next, grown_full, grown_part, added_fits}
+use Rattle.jls_interval.proofs.GrownLines.{m}
 
 abbrev Stops : ℕ → List ℕ → Type 0
 Stops v [] = Unit {0}

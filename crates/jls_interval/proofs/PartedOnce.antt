@@ -1,5 +1,6 @@
 -- Finished lines are parted into events in exactly one way, and `events` computes it.
-use Rattle.std.proofs.Common.{◌≡◌, ℕ, zero, suc, ◌+◌, ◌-◌, ◌/◌, ◌%◌, ◌<◌, ◌≤◌, true, false, eqb, List, [], ◌∷◌, ◌++◌, length, take, drop, get_or, refl, sym, ap, ◌∙◌, subst, arith, inl, inr}
+use Rattle.std.proofs.Common.{◌≡◌, ℕ, zero, suc, ◌+◌, ◌-◌, ◌/◌, ◌%◌, ◌<◌, ◌≤◌, true, false, eqb, List, [], ◌∷◌, ◌++◌, length, take, drop}
+use Rattle.std.proofs.Common.{get_or, refl, sym, ap, ◌∙◌, subst, arith, inl, inr}
 use Rattle.std.specs.Prelude.{pos}
 use Rattle.std.specs.List.{prefix_len, AllByRecursion}
 use Rattle.std.proofs.lemmas.List.{get_or-drop, length-drop, drop_more, drop_all, take_more, length-take-le}
@@ -9,7 +10,8 @@ use Rattle.jls_values.specs.Params.{CodingParameters}
 use Rattle.jls_context.specs.declared.mode.Neighbours.{Neighbours}
 use Rattle.jls_context.specs.Mode.{is_run_mode}
 use Rattle.jls_interval.specs.Lines.{IsLine, sample_at, neighbours_at}
-use Rattle.jls_interval.specs.Events.{Event, regular, run_to_end, interrupted_run, HoldRun, StandsIn, IsParted, AreParted, AreEvents, Above, neighbours, above, run_stop, Stretch, stretch, events_from, line_events, events_after, events}
+use Rattle.jls_interval.specs.Events.{Event, regular, run_to_end, interrupted_run, HoldRun, StandsIn, IsParted, AreParted, AreEvents, Above}
+use Rattle.jls_interval.specs.Events.{neighbours, above, run_stop, Stretch, stretch, events_from, line_events, events_after, events}
 use Rattle.jls_interval.proofs.Stretches.{to, stretch_same, past, more, at_regular, at_end, at_stop}
 use Rattle.jls_interval.proofs.GrownLines.{stretch_moves, fuel_same}
 use Rattle.jls_interval.proofs.NeighboursAgree.{sample_is, neighbours_are}

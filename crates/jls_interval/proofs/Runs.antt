@@ -1,5 +1,6 @@
 -- The full blocks of a run: how many there are, and that no run's bits begin another's.
-use Rattle.std.proofs.Common.{◌≡◌, ℕ, zero, suc, ◌+◌, ◌-◌, ◌*◌, ◌/◌, ◌^◌, ◌<◌, ◌≤◌, Bool, true, false, eqb, ltb, List, [], ◌∷◌, ◌++◌, refl, sym, ap, ◌∙◌, subst, arith, inl, inr}
+use Rattle.std.proofs.Common.{◌≡◌, ℕ, zero, suc, ◌+◌, ◌-◌, ◌*◌, ◌/◌, ◌^◌, ◌<◌, ◌≤◌, Bool, true, false, eqb, ltb, List, [], ◌∷◌, ◌++◌, refl}
+use Rattle.std.proofs.Common.{sym, ap, ◌∙◌, subst, arith, inl, inr}
 use Rattle.std.specs.List.{filter, fold}
 use Rattle.std.proofs.Math.Nat.{mod-eq_of_lt, suc-mul}
 use Rattle.std.proofs.lemmas.Nat.{pow_pos}
@@ -7,7 +8,8 @@ use Rattle.std.proofs.lemmas.Bool.{lt-ltb, ltb-true, ltb-false, cases_lt, cases_
 use Rattle.jls_bits.specs.Bits.{bits}
 use Rattle.jls_values.specs.Params.{least_from}
 use Rattle.jls_interval.specs.Events.{Event, regular, run_to_end, interrupted_run}
-use Rattle.jls_interval.specs.Runs.{run_order, run_index_raised, block_columns, full_blocks, Blocks, blocks, is_run_of, run_index_after, run_index_before}
+use Rattle.jls_interval.specs.Runs.{run_order, run_index_raised, block_columns, full_blocks, Blocks, blocks, is_run_of, run_index_after}
+use Rattle.jls_interval.specs.Runs.{run_index_before}
 use Rattle.jls_interval.specs.Code.{run_to_end_bits, interrupted_run_bits}
 use Rattle.jls_bits.proofs.NumberBits.{bits_same}
 use Rattle.jls_interval.proofs.LeastPassing.{least_passes, least_before}

@@ -1,5 +1,6 @@
 -- The columns of a finished line are parted in one way, by the events that can come next.
-use Rattle.std.proofs.Common.{◌≡◌, ℕ, zero, suc, ◌+◌, ◌-◌, ◌<◌, ◌≤◌, true, false, eqb, ltb, List, [], ◌∷◌, ◌++◌, length, replicate, drop, get_or, refl, sym, ap, ◌∙◌, arith, append_assoc, length-append}
+use Rattle.std.proofs.Common.{◌≡◌, ℕ, zero, suc, ◌+◌, ◌-◌, ◌<◌, ◌≤◌, true, false, eqb, ltb, List, [], ◌∷◌, ◌++◌, length, replicate, drop}
+use Rattle.std.proofs.Common.{get_or, refl, sym, ap, ◌∙◌, arith, append_assoc, length-append}
 use Rattle.std.specs.List.{prefix_len}
 use Rattle.std.proofs.lemmas.List.{append-nil, drop_at, get_or_at, get_or_append_left, length-replicate, nil_from_length}
 use Rattle.std.proofs.Math.Numerals.{one-add}
@@ -7,7 +8,8 @@ use Rattle.std.proofs.lemmas.Bool.{lt-ltb, le-ltb, eq-eqb, ne_eqb}
 use Rattle.jls_values.specs.Params.{CodingParameters}
 use Rattle.jls_context.specs.Mode.{is_run_mode}
 use Rattle.jls_context.specs.declared.mode.Neighbours.{Neighbours}
-use Rattle.jls_interval.specs.Events.{Event, regular, run_to_end, interrupted_run, Above, neighbours, events_from, run_stop, Stretch, stretch}
+use Rattle.jls_interval.specs.Events.{Event, regular, run_to_end, interrupted_run, Above, neighbours, events_from, run_stop, Stretch}
+use Rattle.jls_interval.specs.Events.{stretch}
 use Rattle.jls_interval.specs.Growth.{Fits, added}
 
 -- an event, and the column after it

@@ -1,5 +1,6 @@
 -- The events of an interval: the columns of its finished lines, parted into stretches (T.87 A.3.2 and A.7).
-use Rattle.std.specs.Prelude.{◌≡◌, ℕ, zero, suc, ◌+◌, ◌-◌, ◌*◌, ◌/◌, ◌%◌, ◌<◌, true, false, nat_lt, ◌==◌, if◌then◌else◌, List, [], ◌∷◌, ◌++◌, length, drop, get_or, pos}
+use Rattle.std.specs.Prelude.{◌≡◌, ℕ, zero, suc, ◌+◌, ◌-◌, ◌*◌, ◌/◌, ◌%◌, ◌<◌, true, false, nat_lt, ◌==◌, if◌then◌else◌, List, [], ◌∷◌}
+use Rattle.std.specs.Prelude.{◌++◌, length, drop, get_or, pos}
 use Rattle.std.specs.List.{prefix_len}
 use Rattle.jls_context.specs.declared.mode.Neighbours.{Neighbours}
 use Rattle.jls_context.specs.Mode.{is_run_mode}

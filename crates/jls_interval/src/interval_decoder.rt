@@ -1,6 +1,7 @@
 //! The lines of an interval, from bytes that come a few at a time.
 
-ghost use Rattle.std.specs.Prelude.{◌≡◌, ℕ, ◌*◌, ◌^◌, ◌<◌, ◌≤◌, ◌++◌, ◌+◌, true, false, [], ◌∷◌, Bool, List, length, Some, None, IsSome, IsErr, map, OnOk, OnErr, IfOk, IfSome, IfNone, MatchOption, MatchResult};
+ghost use Rattle.std.specs.Prelude.{◌≡◌, ℕ, ◌*◌, ◌^◌, ◌<◌, ◌≤◌, ◌++◌, ◌+◌, true, false, [], ◌∷◌, Bool, List, length, Some, None, IsSome};
+ghost use Rattle.std.specs.Prelude.{IsErr, map, OnOk, OnErr, IfOk, IfSome, IfNone, MatchOption, MatchResult};
 ghost use Rattle.std.specs.Option.{option_map};
 ghost use Rattle.jls_bits.specs.Bits.{bits_read, is_whole};
 ghost use Rattle.std.specs.List.{AllByRecursion};

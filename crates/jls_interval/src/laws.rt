@@ -1,6 +1,7 @@
 //! The laws of an interval's code. Each is a function that does nothing and whose contract is the law.
 
-ghost use Rattle.jls_interval.specs.Laws.{PartedOnce, NeighboursAgree, FullBlocksFit, GrowthEndsInLines, LinesGrow, EventsAreApart, EventsHaveBits, CodesAreApart, PiecesReadOnce, BrokenBeginsWithNone, CutsAreExact};
+ghost use Rattle.jls_interval.specs.Laws.{PartedOnce, NeighboursAgree, FullBlocksFit, GrowthEndsInLines, LinesGrow, EventsAreApart};
+ghost use Rattle.jls_interval.specs.Laws.{EventsHaveBits, CodesAreApart, PiecesReadOnce, BrokenBeginsWithNone, CutsAreExact};
 
 /// The columns of finished lines are parted into events in exactly one way.
 pub fn lines_are_parted_once()

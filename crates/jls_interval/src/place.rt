@@ -50,8 +50,8 @@ impl<'a> Place<'a> {
     pub(crate) fn neighbours_after(&self, near: Neighbours, value: u16, x: usize) -> Neighbours
         requires { x < 2 ^ 16 }
         ensures rolled { (result.rb ≡ near.rd) × (result.rc ≡ near.rb) }
-        ensures following { (width : ℕ) (line : List ℕ) → x ≡ length line → near ≡ neighbours width (above_of self.now) line x → x + 2 < width
-            → result ≡ neighbours width (above_of self.now) (line ++ value ∷ []) (x + 1) }
+        ensures following { (width : ℕ) (line : List ℕ) → x ≡ length line → near ≡ neighbours width (above_of self.now) line x
+            → x + 2 < width → result ≡ neighbours width (above_of self.now) (line ++ value ∷ []) (x + 1) }
     {
         Neighbours {
             ra: value,

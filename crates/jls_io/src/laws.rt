@@ -31,7 +31,8 @@ pub fn reads_give_the_content<S: Source>(
         → HasGiven content (S.history source.new) (S.remaining source.new) }
     ensures end { (content : List ℕ) → HasGiven content (S.history source.old) (S.remaining source.old)
         → IfOk result (λ n. n ≡ 0 → 0 < length into.new → bytes_given (S.history source.new) ≡ content) }
-    ensures reported { MatchResult result (λ n. S.history source.new ≡ S.history source.old ++ gave (length into.new) (take n into.new) ∷ [])
+    ensures reported { MatchResult result
+        (λ n. S.history source.new ≡ S.history source.old ++ gave (length into.new) (take n into.new) ∷ [])
         (λ _. S.history source.new ≡ S.history source.old ++ read_failed ∷ []) }
 {
     source.read_some(into)

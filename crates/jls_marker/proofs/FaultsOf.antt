@@ -11,7 +11,8 @@ use Rattle.jls_marker.specs.MarkerCodes.{sof55, sos, lse, dri, is_skipped, has_s
 use Rattle.jls_values.specs.PresetParameters.{PresetParameters}
 use Rattle.jls_marker.specs.Scan.{Scan}
 use Rattle.jls_marker.specs.ScanSelection.{ScanSelection}
-use Rattle.jls_marker.specs.Segments.{frame_tests, frame_of, shape_in, scan_tests, scan_of, selection_in, preset_of, lse_of, restart_of, segment_of}
+use Rattle.jls_marker.specs.Segments.{frame_tests, frame_of, shape_in, scan_tests, scan_of, selection_in, preset_of, lse_of, restart_of}
+use Rattle.jls_marker.specs.Segments.{segment_of}
 use Rattle.jls_marker.specs.declared.fault.MarkerFault.{MarkerFault}
 use Rattle.jls_marker.specs.declared.fault.MarkerFault.TheVariants.{UnknownMarker, Ended}
 use Rattle.jls_marker.specs.declared.fault.MarkerFault.TheVariants as fault

@@ -1,5 +1,7 @@
 -- Each layout and what reads it agree.
-use Rattle.std.proofs.Common.{◌≡◌, ℕ, zero, suc, ◌+◌, ◌*◌, ◌/◌, ◌%◌, ◌<◌, ◌≤◌, ◌^◌, Bool, true, false, cond, eqb, List, [], ◌∷◌, ◌++◌, length, take, drop, get_or, Option, Some, None, Ok, inl, inr, refl, sym, ap, subst, ◌∙◌, arith, length-append, length-drop}
+use Rattle.std.proofs.Common.{◌≡◌, ℕ, zero, suc, ◌+◌, ◌*◌, ◌/◌, ◌%◌, ◌<◌, ◌≤◌, ◌^◌, Bool, true, false, cond, eqb, List, [], ◌∷◌, ◌++◌}
+use Rattle.std.proofs.Common.{length, take, drop, get_or, Option, Some, None, Ok, inl, inr, refl, sym, ap, subst, ◌∙◌, arith, length-append}
+use Rattle.std.proofs.Common.{length-drop}
 use Rattle.std.specs.Prelude.{◌&&◌, nat_le, nat_lt}
 use Rattle.std.specs.List.{flat_map}
 use Rattle.std.specs.Int.{w16, w32, to_be_bytes, from_be_bytes}
@@ -8,7 +10,10 @@ use Rattle.std.proofs.lemmas.Bool.{eqb-true, eq-eqb, leb-true, le-leb, le-ltb, l
 use Rattle.std.proofs.lemmas.List.{get_or-append-add, get_or-drop, take-append-drop, length-take}
 use Rattle.std.proofs.lemmas.Nat.{be_bytes_2, be_bytes_4, from_be_bytes-to_be_bytes_2, from_be_bytes-to_be_bytes_4}
 use Rattle.jls_values.specs.PresetParameters.{PresetParameters, ArePresetParameters}
-use Rattle.jls_marker.specs.Layouts.{FrameComponent, FrameHeader, frame_component_bytes, frame_header_bytes, HasFrameLayout, frame_components, frame_header, ScanComponent, ScanHeader, scan_component_bytes, scan_header_bytes, HasScanLayout, scan_components, scan_header, preset_bytes, HasPresetLayout, preset_parameters, HasRestartLayout, restart_interval}
+use Rattle.jls_marker.specs.Layouts.{FrameComponent, FrameHeader, frame_component_bytes, frame_header_bytes, HasFrameLayout}
+use Rattle.jls_marker.specs.Layouts.{frame_components, frame_header, ScanComponent, ScanHeader, scan_component_bytes, scan_header_bytes}
+use Rattle.jls_marker.specs.Layouts.{HasScanLayout, scan_components, scan_header, preset_bytes, HasPresetLayout, preset_parameters}
+use Rattle.jls_marker.specs.Layouts.{HasRestartLayout, restart_interval}
 use Rattle.jls_marker.specs.MarkerCodes.{lse, dri}
 use Rattle.jls_marker.specs.SegmentLaws.{AreBytes}
 use Rattle.jls_marker.specs.Segments.{preset_of, restart_of, segment_of}

@@ -1,5 +1,6 @@
 -- What is written of a frame and of a scan is read as the same.
-use Rattle.std.proofs.Common.{◌≡◌, ℕ, ◌<◌, Bool, true, false, List, [], ◌∷◌, ◌++◌, length, map, Result, Ok, refl, sym, ap, ◌∙◌, arith, inl, inr}
+use Rattle.std.proofs.Common.{◌≡◌, ℕ, ◌<◌, Bool, true, false, List, [], ◌∷◌, ◌++◌, length, map, Result, Ok, refl, sym, ap, ◌∙◌, arith, inl}
+use Rattle.std.proofs.Common.{inr}
 use Rattle.std.specs.Prelude.{◌&&◌, ◌||◌, ◌==◌, not, nat_le, is_ok, if◌then◌else◌}
 use Rattle.std.specs.List.{flat_map, list_all}
 use Rattle.std.specs.Int.{w16, to_be_bytes}
@@ -10,7 +11,8 @@ use Rattle.std.proofs.lemmas.List.Folds.{flat_map-map}
 use Rattle.jls_values.specs.Shape.{PictureShape, IsShape, has_repeat}
 use Rattle.jls_values.specs.ShapeOf.{shape_of}
 use Rattle.jls_marker.specs.MarkerCodes.{sof55, sos}
-use Rattle.jls_marker.specs.Layouts.{FrameComponent, FrameHeader, frame_component_bytes, frame_header_bytes, frame_header, ScanComponent, ScanHeader, scan_component_bytes, scan_header_bytes, scan_header}
+use Rattle.jls_marker.specs.Layouts.{FrameComponent, FrameHeader, frame_component_bytes, frame_header_bytes, frame_header, ScanComponent}
+use Rattle.jls_marker.specs.Layouts.{ScanHeader, scan_component_bytes, scan_header_bytes, scan_header}
 use Rattle.jls_marker.specs.ScanSelection.{ScanSelection, IsScanSelection}
 use Rattle.jls_marker.specs.Segments.{frame_tests, frame_of, shape_in, frame_ids, scan_tests, scan_of, selection_in, scan_ids, segment_of}
 use Rattle.jls_marker.specs.Written.{frame_payload, scan_payload}

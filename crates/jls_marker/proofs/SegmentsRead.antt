@@ -1,5 +1,6 @@
 -- A payload is read as a segment exactly where it is a payload of this segment.
-use Rattle.std.proofs.Common.{◌≡◌, ℕ, zero, suc, ◌<◌, ◌≤◌, Bool, true, false, cond, eqb, List, [], ◌∷◌, ◌++◌, length, map, Option, Some, None, Ok, Err, ◌⊎◌, refl, sym, ap, subst, ◌∙◌, arith, inl, inr}
+use Rattle.std.proofs.Common.{◌≡◌, ℕ, zero, suc, ◌<◌, ◌≤◌, Bool, true, false, cond, eqb, List, [], ◌∷◌, ◌++◌, length, map, Option, Some}
+use Rattle.std.proofs.Common.{None, Ok, Err, ◌⊎◌, refl, sym, ap, subst, ◌∙◌, arith, inl, inr}
 use Rattle.std.specs.Prelude.{◌&&◌, ◌||◌, ◌==◌, not, nat_le, is_ok, if◌then◌else◌}
 use Rattle.std.specs.List.{list_all, flat_map, AllByRecursion}
 use Rattle.std.proofs.lemmas.Bool.{eqb-true, eq-eqb, ne_eqb, leb-true, lt-leb, and_parts, and_from, cases_Bool}
@@ -9,16 +10,19 @@ use Rattle.jls_values.specs.ShapeOf.{shape_of}
 use Rattle.jls_marker.specs.MarkerCodes.{sof55, sos, lse, dri, is_skipped}
 use Rattle.jls_values.specs.PresetParameters.{PresetParameters}
 use Rattle.jls_marker.specs.ScanSelection.{ScanSelection}
-use Rattle.jls_marker.specs.Layouts.{FrameComponent, FrameHeader, HasFrameLayout, frame_component_bytes, frame_header, ScanComponent, ScanHeader, HasScanLayout, scan_component_bytes, scan_header, preset_parameters, restart_interval}
+use Rattle.jls_marker.specs.Layouts.{FrameComponent, FrameHeader, HasFrameLayout, frame_component_bytes, frame_header, ScanComponent}
+use Rattle.jls_marker.specs.Layouts.{ScanHeader, HasScanLayout, scan_component_bytes, scan_header, preset_parameters, restart_interval}
 use Rattle.jls_marker.specs.Payloads.{IsFrameHeaderOf, IsScanHeaderOf, HasLseId, IsPayload}
 use Rattle.jls_marker.specs.SegmentLaws.{AreBytes}
-use Rattle.jls_marker.specs.Segments.{frame_ids, shape_in, frame_tests, frame_of, scan_ids, selection_in, scan_tests, scan_of, preset_of, lse_of, restart_of, segment_of}
+use Rattle.jls_marker.specs.Segments.{frame_ids, shape_in, frame_tests, frame_of, scan_ids, selection_in, scan_tests, scan_of, preset_of}
+use Rattle.jls_marker.specs.Segments.{lse_of, restart_of, segment_of}
 use Rattle.jls_marker.specs.declared.fault.MarkerFault.TheVariants as fault
 use Rattle.jls_marker.specs.declared.segment.Segment.{Segment}
 use Rattle.jls_marker.specs.declared.segment.Segment.TheVariants.{Frame, Scan, Preset, Restart, Skipped}
 use Rattle.jls_marker.specs.Faults.{first_failing}
 use Rattle.jls_marker.proofs.FirstFailing.{all_pass, none_fails, fine, fine_is}
-use Rattle.jls_marker.proofs.Layouts.{frame_header_there, frame_header_of, scan_header_there, scan_header_of, preset_there, preset_of_layout, restart_there, restart_of_layout}
+use Rattle.jls_marker.proofs.Layouts.{frame_header_there, frame_header_of, scan_header_there, scan_header_of, preset_there}
+use Rattle.jls_marker.proofs.Layouts.{preset_of_layout, restart_there, restart_of_layout}
 use Rattle.jls_marker.proofs.ReadsBack.{interleaved, line_again}
 use Rattle.jls_marker.proofs.Shapes.{shape_there, shape_in_range}
 

@@ -1,5 +1,6 @@
 -- The shape of four values: there is one exactly where they are in range.
-use Rattle.std.proofs.Common.{◌≡◌, ℕ, zero, suc, ◌<◌, ◌≤◌, ◌^◌, Bool, true, false, cond, eqb, List, length, Option, Some, None, Ok, Err, refl, arith}
+use Rattle.std.proofs.Common.{◌≡◌, ℕ, zero, suc, ◌<◌, ◌≤◌, ◌^◌, Bool, true, false, cond, eqb, List, length, Option, Some, None, Ok, Err}
+use Rattle.std.proofs.Common.{refl, arith}
 use Rattle.std.specs.Prelude.{◌||◌, nat_lt, is_ok}
 use Rattle.std.specs.List.{AllByRecursion}
 use Rattle.std.proofs.lemmas.Bool.{ltb-false, ne_eqb, le-ltb, or_parts, or_from}

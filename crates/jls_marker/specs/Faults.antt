@@ -1,7 +1,10 @@
 -- Faults of markers: their numbers, and the first of several.
 use Rattle.std.specs.Prelude.{ℕ, Bool, List, [], ◌∷◌, Result, Ok, Err, if◌then◌else◌}
 use Rattle.jls_marker.specs.declared.fault.MarkerFault.{MarkerFault}
-use Rattle.jls_marker.specs.declared.fault.MarkerFault.TheVariants.{Length, BadShape, Sampling, NoFrame, SecondFrame, Lossy, Interleave, MappingTable, PointTransform, UnknownComponent, RepeatedComponent, BadParams, LseId, UnknownMarker, IntervalTooLarge, TooManyScans, NoMarker, NoSoi, Ended}
+use Rattle.jls_marker.specs.declared.fault.MarkerFault.TheVariants.{Length, BadShape, Sampling, NoFrame, SecondFrame, Lossy, Interleave}
+use Rattle.jls_marker.specs.declared.fault.MarkerFault.TheVariants.{MappingTable, PointTransform, UnknownComponent, RepeatedComponent}
+use Rattle.jls_marker.specs.declared.fault.MarkerFault.TheVariants.{BadParams, LseId, UnknownMarker, IntervalTooLarge, TooManyScans}
+use Rattle.jls_marker.specs.declared.fault.MarkerFault.TheVariants.{NoMarker, NoSoi, Ended}
 
 -- the number of a fault, 1 to 19, that reports print
 abbrev pub fault_number : MarkerFault → ℕ

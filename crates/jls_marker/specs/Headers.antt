@@ -1,5 +1,6 @@
 -- What the headers so far have set, and the scan that an SOS begins.
-use Rattle.std.specs.Prelude.{ℕ, ◌+◌, ◌*◌, ◌^◌, Bool, nat_le, nat_lt, List, [], ◌∷◌, map, length, is_ok, is_none, Option, Some, None, Result, Ok, Err}
+use Rattle.std.specs.Prelude.{ℕ, ◌+◌, ◌*◌, ◌^◌, Bool, nat_le, nat_lt, List, [], ◌∷◌, map, length, is_ok, is_none, Option, Some, None}
+use Rattle.std.specs.Prelude.{Result, Ok, Err}
 use Rattle.std.specs.List.{list_all}
 use Rattle.jls_values.specs.Shape.{PictureShape}
 use Rattle.jls_values.specs.ParamsOf.{in_force, params_of}

@@ -3,7 +3,8 @@ use Rattle.std.specs.Prelude.{◌≡◌, ℕ, ◌<◌, false, List, Some, Ok, Er
 use Rattle.std.specs.List.{AllByRecursion}
 use Rattle.jls_marker.specs.MarkerCodes.{has_segment}
 use Rattle.jls_values.specs.PresetParameters.{PresetParameters}
-use Rattle.jls_marker.specs.Layouts.{FrameHeader, HasFrameLayout, frame_header, ScanHeader, HasScanLayout, scan_header, HasPresetLayout, preset_parameters, HasRestartLayout, restart_interval}
+use Rattle.jls_marker.specs.Layouts.{FrameHeader, HasFrameLayout, frame_header, ScanHeader, HasScanLayout, scan_header, HasPresetLayout}
+use Rattle.jls_marker.specs.Layouts.{preset_parameters, HasRestartLayout, restart_interval}
 use Rattle.jls_marker.specs.Segments.{segment_of}
 use Rattle.jls_marker.specs.Payloads.{IsPayload}
 use Rattle.jls_marker.specs.Written.{payload_of, code_of, CanBeWritten, IsSegment}

@@ -1,6 +1,7 @@
 //! The laws of marker segments and of the state of the headers. Each is a function that does nothing and whose contract is the law.
 
-ghost use Rattle.jls_marker.specs.HeaderLaws.{FrameStays, HeadersStayInRange, ScansBegin, ScansAreInRange, OthersCountNone, NeverEnded, IntervalsPartTheLines, SegmentsSetTheirOwn, ScansHaveWhatIsInForce};
+ghost use Rattle.jls_marker.specs.HeaderLaws.{FrameStays, HeadersStayInRange, ScansBegin, ScansAreInRange, OthersCountNone, NeverEnded};
+ghost use Rattle.jls_marker.specs.HeaderLaws.{IntervalsPartTheLines, SegmentsSetTheirOwn, ScansHaveWhatIsInForce};
 ghost use Rattle.jls_marker.specs.SegmentLaws.{LayoutsAreRead, PayloadsAreRead, WrittenReadsBack, UnknownCodes};
 
 /// A payload has one layout of its segment at most, and that is the one that is read.

@@ -2,7 +2,8 @@
 
 ghost use Rattle.std.specs.Prelude.{◌≡◌, ◌≤◌, ◌==◌, length, map, Some};
 ghost use Rattle.std.specs.List.{list_all};
-ghost use Rattle.jls_marker.specs.Layouts.{frame_components, frame_header, scan_components, scan_header, preset_parameters, restart_interval};
+ghost use Rattle.jls_marker.specs.Layouts.{frame_components, frame_header, scan_components, scan_header, preset_parameters};
+ghost use Rattle.jls_marker.specs.Layouts.{restart_interval};
 ghost use Rattle.jls_marker.specs.Segments.{frame_of, scan_of, preset_of, lse_of, restart_of, segment_of};
 
 use crate::codes::{APP0, APP15, COM, DRI, LSE, SOF55, SOS};

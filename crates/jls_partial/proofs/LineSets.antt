@@ -1,5 +1,6 @@
 -- Sets of lines: what is kept, what one line more leaves, and lines taken one after the other.
-use Rattle.std.proofs.Common.{◌≡◌, ℕ, zero, suc, ◌+◌, ◌<◌, ◌≤◌, Bool, true, false, not, cond, eqb, ◌&&◌, ◌||◌, List, [], ◌∷◌, ◌++◌, length, get_or, set, take, drop, map, Option, Some, None, refl, ap, sym, subst, ◌∙◌, append_assoc, arith}
+use Rattle.std.proofs.Common.{◌≡◌, ℕ, zero, suc, ◌+◌, ◌<◌, ◌≤◌, Bool, true, false, not, cond, eqb, ◌&&◌, ◌||◌, List, [], ◌∷◌, ◌++◌, length}
+use Rattle.std.proofs.Common.{get_or, set, take, drop, map, Option, Some, None, refl, ap, sym, subst, ◌∙◌, append_assoc, arith}
 use Rattle.std.specs.Prelude.{IfSome, IsTrue, ◌↔◌, slice_get}
 use Rattle.std.specs.declared.cmp.Ordering.{Ordering}
 use Rattle.std.specs.declared.cmp.Ordering.TheVariants.{Less}
@@ -15,18 +16,21 @@ use Rattle.std.proofs.lemmas.List.{map-set, map-append, length-map, length-set, 
 use Rattle.std.proofs.lemmas.Map.Lookups.{CmpEqualImpliesEq, exact_unsigned}
 use Rattle.jls_values.specs.Join.{IsBelow}
 use Rattle.jls_values.specs.OrderedSet as sets
-use Rattle.jls_values.specs.OrderedSetLaws.{items-from_list, same_set, contains-insert, contains-insert_all, contains-from_list, contains-items, contains-union, contains-empty, insert_all-append}
+use Rattle.jls_values.specs.OrderedSetLaws.{items-from_list, same_set, contains-insert, contains-insert_all, contains-from_list}
+use Rattle.jls_values.specs.OrderedSetLaws.{contains-items, contains-union, contains-empty, insert_all-append}
 use Rattle.jls_partial.specs.declared.slots.Slot.{Slot}
 use Rattle.jls_partial.specs.declared.insert_fault.InsertFault.{InsertFault}
 use Rattle.jls_partial.specs.InsertFaults.{samples_fault}
-use Rattle.jls_partial.specs.LineSet.{PictureLines, with_lines, line_sources, union_of_lines, has_same_line_shape, AreLineMarksHeld, kept_lines as kept_lines_of}
+use Rattle.jls_partial.specs.LineSet.{PictureLines, with_lines, line_sources, union_of_lines, has_same_line_shape, AreLineMarksHeld}
+use Rattle.jls_partial.specs.LineSet.{kept_lines as kept_lines_of}
 use Rattle.jls_partial.specs.LineSetLaws.{lines_total, lines_exact, line_marks_total, line_marks_exact}
 use Rattle.jls_partial.specs.Marks.{mark_cmp, marks_of}
 use Rattle.jls_partial.specs.MarkLaws.{contains-sources_of}
 use Rattle.jls_partial.specs.Packed.{Kept, kept_of, lines_of, IsGap}
 use Rattle.jls_partial.specs.PackedLines.{seen_lines, IsLineSet}
 use Rattle.jls_partial.specs.ReadingOrder.{same_samples}
-use Rattle.jls_partial.proofs.PackedLines.{kept_more, lines_more, packed_more, all-insert, from_list-insert, gap-new, there-held, kept_lines, length-kept, inside_at, line_at}
+use Rattle.jls_partial.proofs.PackedLines.{kept_more, lines_more, packed_more, all-insert, from_list-insert, gap-new, there-held}
+use Rattle.jls_partial.proofs.PackedLines.{kept_lines, length-kept, inside_at, line_at}
 use Rattle.jls_partial.proofs.LineMarks.{has_mark, any_marks, marks_hold, or_none, marks-insert, marks-set}
 
 abbrev S : List ℕ → List ℕ → Ordering

@@ -1,5 +1,6 @@
 -- Rows in pages: what is found in its rows, that they rise, and what a page that is changed leaves.
-use Rattle.std.proofs.Common.{◌≡◌, ℕ, ◌<◌, ◌/◌, Bool, true, false, cond, List, [], ◌∷◌, ◌++◌, map, Option, Some, None, refl, ap, sym, subst, ◌∙◌, arith}
+use Rattle.std.proofs.Common.{◌≡◌, ℕ, ◌<◌, ◌/◌, Bool, true, false, cond, List, [], ◌∷◌, ◌++◌, map, Option, Some, None, refl, ap, sym, subst}
+use Rattle.std.proofs.Common.{◌∙◌, arith}
 use Rattle.std.specs.Prelude.{IfSome, IsSome, unwrap_or}
 use Rattle.std.specs.declared.alloc.Global.{Global}
 use Rattle.std.specs.declared.cmp.Ordering.TheVariants.{Less, Equal, Greater}
@@ -23,7 +24,8 @@ use Rattle.jls_partial.specs.PackedLines.{IsLineSet}
 use Rattle.jls_partial.specs.Pages.{Row, Pages, page_cmp, page_of, pages_seen, rows_of, IsPage, IsPageOf, ArePages, ArePagesOf}
 use Rattle.jls_partial.specs.LinePlace.{place_cmp}
 use Rattle.jls_partial.specs.ReadingOrder.{place_total, same_place}
-use Rattle.jls_partial.specs.Stored.{LineSlots, StoredLines, slots_of_entries, entries_in, rows_seen, stored_at, AreRowsOf, ChangesAt, Extends, lines_in}
+use Rattle.jls_partial.specs.Stored.{LineSlots, StoredLines, slots_of_entries, entries_in, rows_seen, stored_at, AreRowsOf, ChangesAt}
+use Rattle.jls_partial.specs.Stored.{Extends, lines_in}
 use Rattle.jls_partial.proofs.KeyedLists.{each_by, lookup_by}
 use Rattle.jls_partial.proofs.StoredLines.{UpdatedBy, all_stay, still_packed, lookup_seen}
 

@@ -1,5 +1,6 @@
 -- Two lists gone through side by side, and two shapes that a test finds no different.
-use Rattle.std.proofs.Common.{◌≡◌, Bool, true, false, not, ◌<◌, ◌+◌, List, [], ◌∷◌, ◌++◌, length, drop, map, Option, Some, None, ℕ, refl, ap, sym, ◌∙◌, append_assoc}
+use Rattle.std.proofs.Common.{◌≡◌, Bool, true, false, not, ◌<◌, ◌+◌, List, [], ◌∷◌, ◌++◌, length, drop, map, Option, Some, None, ℕ, refl}
+use Rattle.std.proofs.Common.{ap, sym, ◌∙◌, append_assoc}
 use Rattle.std.specs.Prelude.{nat_eq, slice_get, is_some, IfSome, MatchOption, ◌&&◌, ◌==◌, ◌↔◌}
 use Rattle.std.specs.Cmp.Lexicographic.{pointwise}
 use Rattle.std.proofs.lemmas.List.{append_cancel_left}

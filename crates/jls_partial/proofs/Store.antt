@@ -1,5 +1,6 @@
 -- What the store keeps, as entries and as a partial picture; and what one reading more leaves.
-use Rattle.std.proofs.Common.{◌≡◌, ℕ, ◌<◌, ◌≤◌, ◌^◌, Bool, true, false, cond, ◌&&◌, ◌||◌, List, [], ◌∷◌, length, get_or, map, suc, Option, Some, None, refl, ap, sym, subst, ◌∙◌, arith}
+use Rattle.std.proofs.Common.{◌≡◌, ℕ, ◌<◌, ◌≤◌, ◌^◌, Bool, true, false, cond, ◌&&◌, ◌||◌, List, [], ◌∷◌, length, get_or, map, suc, Option}
+use Rattle.std.proofs.Common.{Some, None, refl, ap, sym, subst, ◌∙◌, arith}
 use Rattle.std.specs.Prelude.{IfSome, unwrap_or}
 use Rattle.std.specs.declared.cmp.Ordering.{Ordering}
 use Rattle.std.specs.declared.cmp.Ordering.TheVariants.{Less, Equal, Greater}
@@ -26,10 +27,12 @@ use Rattle.jls_partial.specs.LineSetLaws.{lines_total, lines_exact, line_marks_t
 use Rattle.jls_partial.specs.Marks.{mark_cmp, marks_of, sources_of}
 use Rattle.jls_partial.specs.MarkLaws.{contains-sources_of}
 use Rattle.jls_partial.specs.Packed.{Kept}
-use Rattle.jls_partial.specs.Partial.{PartialPicture, holds, readings_at, sources_at, with_all, IsFitting, IsCountable, AreMarksHeld, AreSourcesSmall}
+use Rattle.jls_partial.specs.Partial.{PartialPicture, holds, readings_at, sources_at, with_all, IsFitting, IsCountable, AreMarksHeld}
+use Rattle.jls_partial.specs.Partial.{AreSourcesSmall}
 use Rattle.jls_partial.specs.LinePlace.{place, place_cmp, place_of}
 use Rattle.jls_partial.specs.Reading.{Reading, reading_of, reading_cmp}
-use Rattle.jls_partial.specs.ReadingOrder.{place_total, reading_total, reading_exact, marks_total, marks_exact, eq_reading, same_place, same_samples}
+use Rattle.jls_partial.specs.ReadingOrder.{place_total, reading_total, reading_exact, marks_total, marks_exact, eq_reading, same_place}
+use Rattle.jls_partial.specs.ReadingOrder.{same_samples}
 use Rattle.jls_partial.specs.Text.{entries}
 use Rattle.jls_partial.proofs.BareEntries.{items_rise, all_members}
 use Rattle.jls_partial.proofs.Entries.{S, samples_at, each_from_lookup, lookup_from_each, holds_kept, fits_kept, countable_at, any_all}

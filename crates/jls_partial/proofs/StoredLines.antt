@@ -1,5 +1,6 @@
 -- The store of all lines of a picture: what stays where samples are put after those that it has, and what one line more leaves.
-use Rattle.std.proofs.Common.{◌≡◌, ℕ, ◌+◌, ◌≤◌, ◌<◌, ◌^◌, Bool, true, false, cond, List, [], ◌∷◌, ◌++◌, length, map, Option, Some, None, refl, ap, sym, subst, ◌∙◌, arith}
+use Rattle.std.proofs.Common.{◌≡◌, ℕ, ◌+◌, ◌≤◌, ◌<◌, ◌^◌, Bool, true, false, cond, List, [], ◌∷◌, ◌++◌, length, map, Option, Some, None}
+use Rattle.std.proofs.Common.{refl, ap, sym, subst, ◌∙◌, arith}
 use Rattle.std.specs.Prelude.{IfSome, unwrap_or}
 use Rattle.std.specs.declared.cmp.Ordering.{Ordering}
 use Rattle.std.specs.BTreeMap.{is_at}
@@ -25,7 +26,8 @@ use Rattle.jls_partial.specs.Packed.{Kept, lines_of, IsGap}
 use Rattle.jls_partial.specs.PackedLines.{seen_lines, IsLineSet}
 use Rattle.jls_partial.specs.LinePlace.{place_cmp}
 use Rattle.jls_partial.specs.ReadingOrder.{place_total, same_place}
-use Rattle.jls_partial.specs.Stored.{LineSlots, slots_of_entries, seen_entries, stored, stored_at, AreSlotsPacked, ChangesAt, Extends, lines_in}
+use Rattle.jls_partial.specs.Stored.{LineSlots, slots_of_entries, seen_entries, stored, stored_at, AreSlotsPacked, ChangesAt, Extends}
+use Rattle.jls_partial.specs.Stored.{lines_in}
 use Rattle.jls_partial.proofs.KeyedLists.{lookup-map, each_by, lookup_by}
 use Rattle.jls_partial.proofs.LineSets.{none_kept, put_kept, put_seen, with_own, fitting_length, length_kept, marks_held}
 use Rattle.jls_partial.proofs.PackedLines.{lines_stay, kept_lines, inside_more}

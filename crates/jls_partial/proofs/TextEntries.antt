@@ -1,5 +1,6 @@
 -- The entries of a text: what is read has these bytes as its text, and each entry that was written is read again.
-use Rattle.std.proofs.Common.{◌≡◌, ℕ, zero, suc, ◌^◌, ◌<◌, ◌≤◌, true, false, cond, eqb, ◌&&◌, List, [], ◌∷◌, ◌++◌, length, map, Option, Some, None, Result, Ok, Err, refl, sym, ap, subst, ◌∙◌, append_assoc, arith}
+use Rattle.std.proofs.Common.{◌≡◌, ℕ, zero, suc, ◌^◌, ◌<◌, ◌≤◌, true, false, cond, eqb, ◌&&◌, List, [], ◌∷◌, ◌++◌, length, map, Option}
+use Rattle.std.proofs.Common.{Some, None, Result, Ok, Err, refl, sym, ap, subst, ◌∙◌, append_assoc, arith}
 use Rattle.std.specs.Prelude.{nat_lt, nat_le}
 use Rattle.std.specs.Int.{w16, w64, to_be_bytes}
 use Rattle.std.specs.Ordering.{is_lt}
@@ -22,9 +23,11 @@ use Rattle.jls_partial.specs.Packed.{Kept}
 use Rattle.jls_partial.specs.LinePlace.{place, place_cmp}
 use Rattle.jls_partial.specs.ReadingOrder.{place_total}
 use Rattle.jls_partial.specs.Text.{reading_text, entry_text}
-use Rattle.jls_partial.specs.TextReading.{◌>>=◌, offset, byte_field, number_field, readings_fields, may_follow, place_fields, count_field, entry_fields, entries_fields}
+use Rattle.jls_partial.specs.TextReading.{◌>>=◌, offset, byte_field, number_field, readings_fields, may_follow, place_fields, count_field}
+use Rattle.jls_partial.specs.TextReading.{entry_fields, entries_fields}
 use Rattle.jls_partial.proofs.BareEntries.{first_none, line_of_entry}
-use Rattle.jls_partial.proofs.TextFields.{IsBytes, bind_ok, guard_ok, passed_ok, ok_is, Takes, Takes-then, wide16, wide64, number_takes, number_again, byte_takes, byte_again}
+use Rattle.jls_partial.proofs.TextFields.{IsBytes, bind_ok, guard_ok, passed_ok, ok_is, Takes, Takes-then, wide16, wide64, number_takes}
+use Rattle.jls_partial.proofs.TextFields.{number_again, byte_takes, byte_again}
 use Rattle.jls_partial.proofs.TextReadings.{less_from_lt, sorted_from_rise, rise_from_sorted, IsSaid, readings_take, readings_again}
 
 -- ---- the place of an entry

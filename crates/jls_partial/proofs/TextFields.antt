@@ -1,11 +1,13 @@
 -- A field that is read is the field that was written, and what was written is read again.
-use Rattle.std.proofs.Common.{◌≡◌, ℕ, zero, suc, ◌+◌, ◌^◌, ◌<◌, ◌≤◌, Bool, true, false, cond, ltb, eqb, List, [], ◌∷◌, ◌++◌, length, get_or, take, drop, Option, Some, None, Result, Ok, Err, refl, sym, ap, subst, ◌∙◌, append_assoc, arith, inl, inr}
+use Rattle.std.proofs.Common.{◌≡◌, ℕ, zero, suc, ◌+◌, ◌^◌, ◌<◌, ◌≤◌, Bool, true, false, cond, ltb, eqb, List, [], ◌∷◌, ◌++◌, length, get_or}
+use Rattle.std.proofs.Common.{take, drop, Option, Some, None, Result, Ok, Err, refl, sym, ap, subst, ◌∙◌, append_assoc, arith, inl, inr}
 use Rattle.std.specs.Prelude.{◌||◌, nat_lt}
 use Rattle.std.specs.Int.{Width, w16, w32, w64, byte_len, from_be_bytes, to_be_bytes}
 use Rattle.std.specs.List.{AllByRecursion}
 use Rattle.std.proofs.lemmas.Bool.{cases_lt, ltb-false, eqb-true, eq-eqb, ne_eqb, le-ltb, or_parts, or_from}
 use Rattle.std.proofs.lemmas.List.{take_at, drop_at, take-append-drop, length-append, length-take, get_or-drop, get_or-take, get_or_past}
-use Rattle.std.proofs.lemmas.Nat.{be_bytes_2, be_bytes_4, be_bytes_8, from_be_bytes-to_be_bytes_2, from_be_bytes-to_be_bytes_4, from_be_bytes-to_be_bytes_8}
+use Rattle.std.proofs.lemmas.Nat.{be_bytes_2, be_bytes_4, be_bytes_8, from_be_bytes-to_be_bytes_2, from_be_bytes-to_be_bytes_4}
+use Rattle.std.proofs.lemmas.Nat.{from_be_bytes-to_be_bytes_8}
 use Rattle.jls_values.specs.Shape.{PictureShape, IsShape, has_repeat}
 use Rattle.jls_values.specs.ShapeOf.{size_fault, unless_fault, shape_of}
 use Rattle.jls_values.specs.declared.shape.ShapeFault.{ShapeFault}
@@ -15,7 +17,8 @@ use Rattle.jls_partial.specs.declared.text_fault.TextFault.TheVariants as fault
 use Rattle.jls_partial.specs.declared.version.Version.{Version}
 use Rattle.jls_partial.specs.declared.version.Version.TheVariants.{One, Two}
 use Rattle.jls_partial.specs.Text.{version_byte, shape_text}
-use Rattle.jls_partial.specs.TextReading.{◌>>=◌, offset, byte_field, bytes_field, number_field, magic_field, version_field, unless_bad_shape, shape_or_fault, shape_fields}
+use Rattle.jls_partial.specs.TextReading.{◌>>=◌, offset, byte_field, bytes_field, number_field, magic_field, version_field}
+use Rattle.jls_partial.specs.TextReading.{unless_bad_shape, shape_or_fault, shape_fields}
 
 abbrev pub IsBytes : List ℕ → Type 0
 IsBytes bytes = (i : ℕ) → get_or bytes i 0 < 256

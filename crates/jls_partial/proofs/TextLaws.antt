@@ -1,5 +1,6 @@
 -- The two laws of texts: what is read has these bytes as its text, and each text is read.
-use Rattle.std.proofs.Common.{◌≡◌, ℕ, ◌^◌, ◌<◌, Bool, true, false, cond, eqb, ◌&&◌, ◌||◌, List, [], ◌∷◌, ◌++◌, length, map, None, Result, Ok, Err, refl, sym, ap, subst, ◌∙◌, append_assoc, arith}
+use Rattle.std.proofs.Common.{◌≡◌, ℕ, ◌^◌, ◌<◌, Bool, true, false, cond, eqb, ◌&&◌, ◌||◌, List, [], ◌∷◌, ◌++◌, length, map, None, Result}
+use Rattle.std.proofs.Common.{Ok, Err, refl, sym, ap, subst, ◌∙◌, append_assoc, arith}
 use Rattle.std.specs.Prelude.{IfOk}
 use Rattle.std.specs.Int.{w32, to_be_bytes}
 use Rattle.std.specs.Ordering.{nat_cmp, eq_by_cmp}
@@ -27,15 +28,19 @@ use Rattle.jls_partial.specs.Partial.{PartialPicture, sources_at}
 use Rattle.jls_partial.specs.LinePlace.{place, place_cmp}
 use Rattle.jls_partial.specs.Reading.{Reading, reading_cmp}
 use Rattle.jls_partial.specs.ReadingOrder.{marks_total, marks_exact}
-use Rattle.jls_partial.specs.Text.{magic, version_byte, shape_text, entry_text, head_text, text_of, with_own_sources, bare_entries, entries, IsPartial, SaysAll, IsTextOf}
-use Rattle.jls_partial.specs.TextReading.{◌>>=◌, GivesText, offset, number_field, magic_field, version_field, shape_fields, entries_fields, text_fields, read_text}
+use Rattle.jls_partial.specs.Text.{magic, version_byte, shape_text, entry_text, head_text, text_of, with_own_sources, bare_entries, entries}
+use Rattle.jls_partial.specs.Text.{IsPartial, SaysAll, IsTextOf}
+use Rattle.jls_partial.specs.TextReading.{◌>>=◌, GivesText, offset, number_field, magic_field, version_field, shape_fields, entries_fields}
+use Rattle.jls_partial.specs.TextReading.{text_fields, read_text}
 use Rattle.jls_partial.proofs.BareEntries.{items_rise, entries_are, few_entries}
 use Rattle.jls_partial.proofs.Entries.{holds_kept, fits_kept, countable_at}
-use Rattle.jls_partial.proofs.KeptEntries.{SourcesRise, readings_are, holds_reading, holds_mark, entries_again, bare_entries_are, partial_again}
+use Rattle.jls_partial.proofs.KeptEntries.{SourcesRise, readings_are, holds_reading, holds_mark, entries_again, bare_entries_are}
+use Rattle.jls_partial.proofs.KeptEntries.{partial_again}
 use Rattle.jls_partial.proofs.MarkSets.{has_item, has_mark, sources_again}
 use Rattle.jls_partial.proofs.ReadBack.{readings_kept}
 use Rattle.jls_partial.proofs.Store.{either, all_items, small_of as small_in}
-use Rattle.jls_partial.proofs.TextFields.{IsBytes, bind_ok, passed_ok, ok_is, Takes-then, wide32, number_takes, number_again, magic_takes, magic_again, version_takes, version_again, shape_takes, shape_again}
+use Rattle.jls_partial.proofs.TextFields.{IsBytes, bind_ok, passed_ok, ok_is, Takes-then, wide32, number_takes, number_again, magic_takes}
+use Rattle.jls_partial.proofs.TextFields.{magic_again, version_takes, version_again, shape_takes, shape_again}
 use Rattle.jls_partial.proofs.TextReadings.{SaysSources, IsSaid}
 use Rattle.jls_partial.proofs.TextEntries.{IsSaidEntry, Follow, sorted_from_follow, follow_from_sorted, entries_take, entries_read}
 

@@ -1,5 +1,6 @@
 -- Reading one thing after the other, as a loop does.
-use Rattle.std.proofs.Common.{◌≡◌, ℕ, suc, ◌-◌, ◌+◌, ◌≤◌, ◌<◌, List, [], ◌∷◌, ◌++◌, map, length, take, drop, cond, leb, ltb, Option, Some, None, Result, Ok, Err, refl, sym, ap, subst, ◌∙◌, append_assoc, arith}
+use Rattle.std.proofs.Common.{◌≡◌, ℕ, suc, ◌-◌, ◌+◌, ◌≤◌, ◌<◌, List, [], ◌∷◌, ◌++◌, map, length, take, drop, cond, leb, ltb, Option, Some}
+use Rattle.std.proofs.Common.{None, Result, Ok, Err, refl, sym, ap, subst, ◌∙◌, append_assoc, arith}
 use Rattle.std.proofs.lemmas.Bool.{eq-eqb, ltb-false, ne_eqb}
 use Rattle.std.proofs.lemmas.List.{append-nil, length-drop}
 use Rattle.std.specs.Int.{w16, from_be_bytes}
@@ -15,7 +16,9 @@ use Rattle.jls_partial.specs.Packed.{Kept}
 use Rattle.jls_partial.specs.Partial.{PartialPicture, with_all}
 use Rattle.jls_partial.specs.Reading.{Reading}
 use Rattle.jls_partial.specs.TextInto.{with_readings, with_entry, with_entries}
-use Rattle.jls_partial.specs.TextReading.{◌>>=◌, Fails, offset, byte_field, number_field, magic_field, sample_field, samples_fields, source_field, sources_fields, reading_fields, own_sources_fields, kept_fields, readings_fields, entry_fields, entries_fields}
+use Rattle.jls_partial.specs.TextReading.{◌>>=◌, Fails, offset, byte_field, number_field, magic_field, sample_field, samples_fields}
+use Rattle.jls_partial.specs.TextReading.{source_field, sources_fields, reading_fields, own_sources_fields, kept_fields, readings_fields}
+use Rattle.jls_partial.specs.TextReading.{entry_fields, entries_fields}
 use Rattle.jls_partial.proofs.Growth.{with_all-append}
 use Rattle.jls_partial.proofs.TextFields.{bind_ok, guard_ok, ok_is, magic_then}
 use Rattle.jls_partial.proofs.TextReadings.{reading_fits}

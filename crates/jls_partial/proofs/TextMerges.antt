@@ -1,5 +1,6 @@
 -- Texts as their heads and what stands after these, and what reading one into a partial picture gives.
-use Rattle.std.proofs.Common.{◌≡◌, ℕ, Bool, true, false, cond, eqb, List, ◌∷◌, ◌++◌, None, Result, Ok, Err, refl, ap, sym, subst, ◌∙◌, length, append_assoc}
+use Rattle.std.proofs.Common.{◌≡◌, ℕ, Bool, true, false, cond, eqb, List, ◌∷◌, ◌++◌, None, Result, Ok, Err, refl, ap, sym, subst, ◌∙◌}
+use Rattle.std.proofs.Common.{length, append_assoc}
 use Rattle.std.specs.Int.{w32}
 use Rattle.jls_values.specs.Join.{IsBetween}
 use Rattle.jls_values.specs.SameShape.{same_shape}
@@ -15,7 +16,8 @@ use Rattle.jls_partial.specs.Text.{magic, version_byte, shape_text, head_text, I
 use Rattle.jls_partial.specs.TextPrefix.{unless_fault, entries_prefix, text_prefix}
 use Rattle.jls_partial.specs.TextInto.{head_fields, with_entries, with_rest}
 use Rattle.jls_partial.specs.TextMerging.{MergesText, HasOtherShape, HasOtherHead}
-use Rattle.jls_partial.specs.TextReading.{◌>>=◌, Fails, offset, number_field, magic_field, version_field, shape_fields, entries_fields, text_fields, read_text}
+use Rattle.jls_partial.specs.TextReading.{◌>>=◌, Fails, offset, number_field, magic_field, version_field, shape_fields, entries_fields}
+use Rattle.jls_partial.specs.TextReading.{text_fields, read_text}
 use Rattle.jls_partial.proofs.Growth.{entries_union, between_of}
 use Rattle.jls_partial.proofs.TextFields.{IsBytes, bind_ok, passed_ok, ok_is, magic_again, version_again, shape_again}
 use Rattle.jls_partial.proofs.TextPrefixes.{all_taken, whole_entries}

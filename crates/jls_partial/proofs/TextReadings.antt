@@ -1,5 +1,6 @@
 -- Readings that are read are those that were written, and readings that were written are read again.
-use Rattle.std.proofs.Common.{◌≡◌, ℕ, zero, suc, ◌+◌, map, ◌^◌, ◌<◌, ◌≤◌, Bool, true, false, cond, leb, eqb, List, [], ◌∷◌, ◌++◌, length, Option, Some, None, Ok, Err, refl, sym, ap, subst, ◌∙◌, append_assoc, arith}
+use Rattle.std.proofs.Common.{◌≡◌, ℕ, zero, suc, ◌+◌, map, ◌^◌, ◌<◌, ◌≤◌, Bool, true, false, cond, leb, eqb, List, [], ◌∷◌, ◌++◌, length}
+use Rattle.std.proofs.Common.{Option, Some, None, Ok, Err, refl, sym, ap, subst, ◌∙◌, append_assoc, arith}
 use Rattle.std.specs.Prelude.{nat_le, nat_lt, not}
 use Rattle.std.specs.Cmp.{nat_cmp_is}
 use Rattle.std.specs.Int.{w16, w32, w64, to_be_bytes}
@@ -20,9 +21,11 @@ use Rattle.jls_partial.specs.declared.text_fault.TextFault.TheVariants as fault
 use Rattle.jls_partial.specs.declared.insert_fault.InsertFault.{InsertFault}
 use Rattle.jls_partial.specs.InsertFaults.{samples_fault}
 use Rattle.jls_partial.specs.Text.{samples_text, sources_text, reading_text}
-use Rattle.jls_partial.specs.TextReading.{◌>>=◌, offset, number_field, sample_field, samples_fields, is_above, reading_fields, is_source_above, source_field, sources_fields, own_sources_fields, kept_fields, readings_fields}
+use Rattle.jls_partial.specs.TextReading.{◌>>=◌, offset, number_field, sample_field, samples_fields, is_above, reading_fields}
+use Rattle.jls_partial.specs.TextReading.{is_source_above, source_field, sources_fields, own_sources_fields, kept_fields, readings_fields}
 use Rattle.jls_partial.proofs.Entries.{S}
-use Rattle.jls_partial.proofs.TextFields.{IsBytes, bind_ok, guard_ok, passed_ok, ok_is, Takes, Takes-then, wide16, wide32, wide64, number_takes, number_again}
+use Rattle.jls_partial.proofs.TextFields.{IsBytes, bind_ok, guard_ok, passed_ok, ok_is, Takes, Takes-then, wide16, wide32, wide64}
+use Rattle.jls_partial.proofs.TextFields.{number_takes, number_again}
 
 -- ---- samples
 

@@ -9,7 +9,9 @@ use Rattle.jls_partial.specs.declared.version.Version.TheVariants.{One, Two}
 use Rattle.jls_partial.specs.Entries.{Entry, partial_of}
 use Rattle.jls_partial.specs.Held.{AreEntries}
 use Rattle.jls_partial.specs.Text.{text_of, text}
-use Rattle.jls_partial.specs.TextReading.{read_text, text_fields, magic_field, version_field, byte_field, bytes_field, shape_fields, sample_field, samples_fields, reading_fields, source_field, sources_fields, own_sources_fields, kept_fields, readings_fields, place_fields, count_field, entry_fields, entries_fields}
+use Rattle.jls_partial.specs.TextReading.{read_text, text_fields, magic_field, version_field, byte_field, bytes_field, shape_fields}
+use Rattle.jls_partial.specs.TextReading.{sample_field, samples_fields, reading_fields, source_field, sources_fields, own_sources_fields}
+use Rattle.jls_partial.specs.TextReading.{kept_fields, readings_fields, place_fields, count_field, entry_fields, entries_fields}
 use Rattle.jls_partial.proofs.KeptEntries.{entries_again}
 
 -- one sample of 8 bits, component 1

@@ -1,5 +1,6 @@
 -- The numbers of missing and of disputed lines are those that the entries say.
-use Rattle.std.proofs.Common.{◌≡◌, ℕ, zero, suc, ◌+◌, ◌-◌, ◌<◌, ◌≤◌, Bool, true, false, cond, ◌&&◌, ◌||◌, List, [], ◌∷◌, refl, ap, sym, ◌∙◌, arith, add-zero}
+use Rattle.std.proofs.Common.{◌≡◌, ℕ, zero, suc, ◌+◌, ◌-◌, ◌<◌, ◌≤◌, Bool, true, false, cond, ◌&&◌, ◌||◌, List, [], ◌∷◌, refl, ap, sym, ◌∙◌}
+use Rattle.std.proofs.Common.{arith, add-zero}
 use Rattle.std.specs.Prelude.{◌==◌, nat_lt, not}
 use Rattle.std.specs.List.{range_with_len, prefix_len, flat_map, sum_by}
 use Rattle.std.proofs.lemmas.Bool.{and_parts}

@@ -1,6 +1,7 @@
 //! What the entries of a report say of each line. Each law is a function that does nothing and whose contract is the law.
 
-ghost use Rattle.jls_report.specs.Ranges.{RangesAreLongest, DisputedAreListed, EachLineOnce, CountsAreAllLines, CountsAreOfEntries, FullCountIsSettled};
+ghost use Rattle.jls_report.specs.Ranges.{RangesAreLongest, DisputedAreListed, EachLineOnce, CountsAreAllLines, CountsAreOfEntries};
+ghost use Rattle.jls_report.specs.Ranges.{FullCountIsSettled};
 
 /// The ranges of missing lines in a report are the longest ones, and no others.
 pub fn ranges_are_longest()

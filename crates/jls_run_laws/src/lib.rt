@@ -2,8 +2,8 @@
 //! function that changes nothing and whose contract is the law.
 //!
 //! One law is of two runs of the program: a `join`, and a `write` of what that `join` handed to OUT. The other has *never another picture*
-//! for each run. The first has two further premises: a source has 32 bits, and for `reads` a restart interval has 32 bits. By the definition
-//! of `asked_in`, words ask for no larger ones. Definitions: `RunToRun`.
+//! for each run. The first has two further premises: a source has 32 bits, and for `reads` a restart interval has 32 bits. By the
+//! definition of `asked_in`, words ask for no larger ones. Definitions: `RunToRun`.
 #![tactic(auto)]
 
 mod laws;

@@ -1,5 +1,6 @@
 -- What causes status 4 where nothing failed but reads; and the greatest status.
-use Rattle.std.proofs.Common.{Ok, Err, ◌≡◌, ◌≤◌, ◌⊎◌, inl, inr, ℕ, Bool, true, false, List, [], ◌∷◌, ◌++◌, length, Option, None, sym, subst, ◌∙◌, refl, lit≤, arith}
+use Rattle.std.proofs.Common.{Ok, Err, ◌≡◌, ◌≤◌, ◌⊎◌, inl, inr, ℕ, Bool, true, false, List, [], ◌∷◌, ◌++◌, length, Option, None, sym, subst}
+use Rattle.std.proofs.Common.{◌∙◌, refl, lit≤, arith}
 use Rattle.std.specs.Prelude.{◌||◌}
 use Rattle.std.specs.List.{list_any}
 use Rattle.std.proofs.lemmas.List.Folds.{list_any-append}
@@ -7,7 +8,8 @@ use Rattle.jls_write.specs.Picture.{picture_of}
 use Rattle.jls_io.specs.Event.{Event, opened, write_failed}
 use Rattle.jls_io.specs.Writing.{WrotePrefix}
 use Rattle.jls_station.specs.Given.{Given}
-use Rattle.jls_station.specs.Inputs.{IsRefused, no_text, no_picture, text_not_read, copy_not_read, IsEnough, ReadsRefuse, for_fault, for_memory}
+use Rattle.jls_station.specs.Inputs.{IsRefused, no_text, no_picture, text_not_read, copy_not_read, IsEnough, ReadsRefuse, for_fault}
+use Rattle.jls_station.specs.Inputs.{for_memory}
 use Rattle.jls_salvage_run.specs.AllInputs.{StopsAt, not_there, refused, other_shape, no_memory}
 use Rattle.jls_salvage_run.specs.Joining as joining
 use Rattle.jls_salvage_run.specs.Joining.{JoinIsDone, Joins}
@@ -27,7 +29,8 @@ use Rattle.jls_salvage_run.specs.WritingFiles.{WritesFile, StopsAtFile, FitsForm
 use Rattle.jls_salvage_run.specs.declared.writing.Format.{Format}
 use Rattle.jls_salvage_run.specs.declared.writing.Format.TheVariants.{Pnm, Jls}
 use Rattle.jls_cli.specs.SalvageAsking.{Asked, check, join, show, write_pnm, write_jls, AskFor}
-use Rattle.jls_salvage_run.specs.BrokenReads.{StatusesAreAtMost5, is_other_failure, NothingElseFailed, TellsInPart, JoinsInPart, WritesInPart, DoneInPart, IsUnread, EndsAtUnread, BrokenReadsCauseStatus4}
+use Rattle.jls_salvage_run.specs.BrokenReads.{StatusesAreAtMost5, is_other_failure, NothingElseFailed, TellsInPart, JoinsInPart}
+use Rattle.jls_salvage_run.specs.BrokenReads.{WritesInPart, DoneInPart, IsUnread, EndsAtUnread, BrokenReadsCauseStatus4}
 use Rattle.jls_salvage_run.specs.Runs.{CameOf, Run, came_of, misused, helped, help_cut, nothing_begun, nothing_asked}
 use Rattle.jls_salvage_run.specs.Statuses.{source_of, inputs_of}
 use Rattle.jls_salvage_run.proofs.Finished.{status_of_unsettled}

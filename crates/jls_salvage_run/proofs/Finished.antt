@@ -1,12 +1,14 @@
 -- Runs that end with 0 or 1, by what the words ask for.
-use Rattle.std.proofs.Common.{◌≡◌, ◌≤◌, ℕ, Bool, true, false, inl, inr, List, [], ◌∷◌, ◌++◌, Option, Some, None, sym, subst, ap, ◌∙◌, refl, arith}
+use Rattle.std.proofs.Common.{◌≡◌, ◌≤◌, ℕ, Bool, true, false, inl, inr, List, [], ◌∷◌, ◌++◌, Option, Some, None, sym, subst, ap, ◌∙◌, refl}
+use Rattle.std.proofs.Common.{arith}
 use Rattle.std.specs.Borrow.{Bor}
 use Rattle.std.specs.Prelude.{◌↔◌, IsTrue}
 use Rattle.std.proofs.lemmas.List.{append-nil}
 use Rattle.clap.specs.Words.{Text}
 use Rattle.jls_partial.specs.Partial.{PartialPicture}
 use Rattle.jls_partial.specs.Status.{IsSettled}
-use Rattle.jls_io.specs.Event.{Event, History, GrewBy, opened, not_opened, gave, read_failed, created, not_created, took, write_failed, bytes_taken}
+use Rattle.jls_io.specs.Event.{Event, History, GrewBy, opened, not_opened, gave, read_failed, created, not_created, took, write_failed}
+use Rattle.jls_io.specs.Event.{bytes_taken}
 use Rattle.jls_io.specs.Writing.{Printed, AreWrites}
 use Rattle.jls_station.specs.Given.{Given}
 use Rattle.jls_salvage_run.specs.AllInputs.{IsTaken, StopsAt, not_there, refused, other_shape, no_memory}
@@ -31,7 +33,8 @@ use Rattle.jls_salvage_run.specs.declared.writing.Format.TheVariants.{Pnm, Jls}
 use Rattle.jls_cli.specs.SalvageAsking.{Asked, AskFor}
 use Rattle.jls_salvage_run.specs.FaultLines.{fault_line}
 use Rattle.jls_salvage_run.specs.Runs.{CameOf, Run, came_of, misused, helped, help_cut, nothing_begun, nothing_asked}
-use Rattle.jls_salvage_run.specs.RunLaws.{JoinRan, DoneJoinsRan, TellRan, DoneChecksRan, DoneShowsRan, WriteRan, DoneWritesRan, UnsettledWritesStop, written_as}
+use Rattle.jls_salvage_run.specs.RunLaws.{JoinRan, DoneJoinsRan, TellRan, DoneChecksRan, DoneShowsRan, WriteRan, DoneWritesRan}
+use Rattle.jls_salvage_run.specs.RunLaws.{UnsettledWritesStop, written_as}
 
 -- ---- what stops a command
 

@@ -1,5 +1,6 @@
 -- Inputs taken one after the other.
-use Rattle.std.proofs.Common.{◌≡◌, ℕ, ◌+◌, ◌<◌, Bool, true, false, List, [], ◌∷◌, ◌++◌, Option, length, get_or, map, take, drop, refl, sym, subst, ap, ◌∙◌, append_assoc, arith}
+use Rattle.std.proofs.Common.{◌≡◌, ℕ, ◌+◌, ◌<◌, Bool, true, false, List, [], ◌∷◌, ◌++◌, Option, length, get_or, map, take, drop, refl, sym}
+use Rattle.std.proofs.Common.{subst, ap, ◌∙◌, append_assoc, arith}
 use Rattle.std.specs.Borrow.{Bor}
 use Rattle.std.specs.Prelude.{◌↔◌, ◌&&◌, IsTrue, All}
 use Rattle.std.proofs.Math.Seq.{get_or-append_seam}
@@ -14,7 +15,8 @@ use Rattle.jls_io.specs.Event.{Event, History, GrewBy, opened, not_opened}
 use Rattle.jls_io.proofs.Growing.{grew_twice}
 use Rattle.jls_station.specs.Given.{Given}
 use Rattle.jls_station.specs.Inputs.{ReadsGive, ReadsRefuse}
-use Rattle.jls_salvage_run.specs.AllInputs.{partials, AreOfOneShape, IsOfOtherShape, IsUnionOf, IsTaken, TakesInTurn, TakesUnion, StopsAt, not_there, refused, StopsAtInput}
+use Rattle.jls_salvage_run.specs.AllInputs.{partials, AreOfOneShape, IsOfOtherShape, IsUnionOf, IsTaken, TakesInTurn, TakesUnion, StopsAt}
+use Rattle.jls_salvage_run.specs.AllInputs.{not_there, refused, StopsAtInput}
 use Rattle.jls_station.specs.declared.input.ReadStop.TheVariants.{Whole}
 use Rattle.jls_station.specs.declared.input.InputFault.{InputFault}
 use Rattle.jls_salvage_run.specs.Outcomes.{name_of}

@@ -5,7 +5,8 @@ use Rattle.std.proofs.lemmas.Grind.{flat_map-append}
 use Rattle.std.proofs.lemmas.List.{append-nil}
 use Rattle.jls_partial.specs.Partial.{PartialPicture}
 use Rattle.jls_partial.specs.Text.{text}
-use Rattle.jls_io.specs.Event.{Event, opened, not_opened, gave, read_failed, created, not_created, took, write_failed, is_read, is_opening, is_creation, bytes_given, bytes_given_by, bytes_taken}
+use Rattle.jls_io.specs.Event.{Event, opened, not_opened, gave, read_failed, created, not_created, took, write_failed, is_read, is_opening}
+use Rattle.jls_io.specs.Event.{is_creation, bytes_given, bytes_given_by, bytes_taken}
 use Rattle.jls_io.specs.Writing.{AreWrites}
 use Rattle.jls_station.specs.Given.{Given, GivesPartial}
 use Rattle.jls_station.specs.Reading.{AreBytes, GoesOn, StopsWith, IsRead}

@@ -11,11 +11,13 @@ use Rattle.jls_station.specs.Inputs.{ReadsGive}
 use Rattle.jls_station.specs.declared.input.InputForm.TheVariants.{Text}
 use Rattle.jls_station.specs.declared.input.ReadStop.TheVariants.{Whole}
 use Rattle.jls_station.proofs.OneInput.{all_read, text_gives, refused_by}
-use Rattle.jls_salvage_run.specs.AllInputs.{CantJoin, differs, runs_out, CantJoinText, refused_text, other_text, IsHeld, IsTaken, JoinsInput, JoinsText, JoinsWith, partials, StopsAt, other_shape, no_memory, TakesUnion}
+use Rattle.jls_salvage_run.specs.AllInputs.{CantJoin, differs, runs_out, CantJoinText, refused_text, other_text, IsHeld, IsTaken}
+use Rattle.jls_salvage_run.specs.AllInputs.{JoinsInput, JoinsText, JoinsWith, partials, StopsAt, other_shape, no_memory, TakesUnion}
 use Rattle.jls_salvage_run.specs.Outcomes.{name_of}
 use Rattle.jls_salvage_run.specs.declared.outcome.Refusal.{Refusal}
 use Rattle.jls_salvage_run.specs.declared.outcome.Refusal.TheVariants as refusal
-use Rattle.jls_salvage_run.proofs.InTurn.{opened_and_given, opened_and_refused, other_shape_than_union, same_shape_as_union, union_of_first, union_of_next}
+use Rattle.jls_salvage_run.proofs.InTurn.{opened_and_given, opened_and_refused, other_shape_than_union, same_shape_as_union, union_of_first}
+use Rattle.jls_salvage_run.proofs.InTurn.{union_of_next}
 
 module _ (source : Option ℕ) (old mid new : History) (name : List ℕ) (is_opened : mid ≡ old ++ opened name ∷ []) where
   pub given_joined : (held : Option PartialPicture) (joined : PartialPicture) (whole : Bool) (g : Given) → GrewBy (ReadsGive source g) mid new

@@ -24,7 +24,8 @@ use Rattle.jls_cli.specs.SalvageAsking.{Asked, AskFor, AskForNothing, check, joi
 use Rattle.jls_salvage_run.specs.RunLaws.{written_as}
 use Rattle.jls_salvage_run.specs.Runs.{CameOf, Run, came_of, misused, helped, help_cut, nothing_begun, nothing_asked}
 use Rattle.jls_salvage_run.specs.Statuses as statuses
-use Rattle.jls_salvage_run.specs.Statuses.{AreMisused, AskForTooMuch, EndsAtUnfit, InputsCauseStatus3, IsUnfit, WordsCauseStatus2, inputs_of, source_of}
+use Rattle.jls_salvage_run.specs.Statuses.{AreMisused, AskForTooMuch, EndsAtUnfit, InputsCauseStatus3, IsUnfit, WordsCauseStatus2}
+use Rattle.jls_salvage_run.specs.Statuses.{inputs_of, source_of}
 use Rattle.jls_salvage_run.proofs.Finished.{status_of_unsettled}
 
 -- ---- neither is done, nor stopped by an output

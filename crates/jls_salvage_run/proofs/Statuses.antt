@@ -1,5 +1,6 @@
 -- What causes the exit statuses 2 to 5 of a run.
-use Rattle.std.proofs.Common.{◌≡◌, ◌≤◌, ◌+◌, ◌⊎◌, inl, inr, ℕ, Bool, true, false, List, [], ◌∷◌, ◌++◌, Option, None, Ok, Err, length, filter, sym, subst, ap, ◌∙◌, refl, arith}
+use Rattle.std.proofs.Common.{◌≡◌, ◌≤◌, ◌+◌, ◌⊎◌, inl, inr, ℕ, Bool, true, false, List, [], ◌∷◌, ◌++◌, Option, None, Ok, Err, length}
+use Rattle.std.proofs.Common.{filter, sym, subst, ap, ◌∙◌, refl, arith}
 use Rattle.std.specs.Prelude.{◌||◌, All}
 use Rattle.std.specs.List.{list_any}
 use Rattle.std.proofs.lemmas.List.{append-nil, length-append}
@@ -9,7 +10,8 @@ use Rattle.jls_io.specs.Event.{Event, opened, not_opened, gave, read_failed, cre
 use Rattle.jls_io.specs.Writing.{WrotePrefix, Printed}
 use Rattle.jls_station.specs.Given.{Given}
 use Rattle.jls_station.specs.Reading.{GoesOn, StopsWith, IsRead}
-use Rattle.jls_station.specs.Inputs.{IsEnough, IsRefused, no_text, no_picture, text_not_read, copy_not_read, between_reads, after_the_last, ReadsRefuse, for_fault, for_memory}
+use Rattle.jls_station.specs.Inputs.{IsEnough, IsRefused, no_text, no_picture, text_not_read, copy_not_read, between_reads, after_the_last}
+use Rattle.jls_station.specs.Inputs.{ReadsRefuse, for_fault, for_memory}
 use Rattle.jls_salvage_run.specs.AllInputs.{IsTaken, TakesInTurn, StopsAt, not_there, refused, other_shape, no_memory}
 use Rattle.jls_salvage_run.specs.Joining as joining
 use Rattle.jls_salvage_run.specs.Joining.{Joins}

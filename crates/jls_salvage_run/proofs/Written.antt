@@ -27,7 +27,8 @@ use Rattle.jls_salvage_run.specs.declared.outcome.Refusal.TheVariants as refusal
 use Rattle.jls_salvage_run.proofs.InTurn.{grew_after}
 use Rattle.jls_salvage_run.proofs.JoinSteps.{created_and_cut}
 use Rattle.jls_salvage_run.specs.Reporting.{Says}
-use Rattle.jls_salvage_run.specs.WritingFiles.{cut_refusal, file, FitsFormat, IsTooLarge, options_for, takes_memory, StopsAtFile, too_large, at_output, no_memory, unsettled_refusal, WritesFile, done, at_input, unsettled, at_file}
+use Rattle.jls_salvage_run.specs.WritingFiles.{cut_refusal, file, FitsFormat, IsTooLarge, options_for, takes_memory, StopsAtFile, too_large}
+use Rattle.jls_salvage_run.specs.WritingFiles.{at_output, no_memory, unsettled_refusal, WritesFile, done, at_input, unsettled, at_file}
 use Rattle.jls_salvage_run.specs.declared.writing.Format.{Format}
 use Rattle.jls_salvage_run.specs.declared.writing.Format.TheVariants.{Pnm, Jls}
 use Rattle.jls_salvage_run.proofs.TooLarge.{only_too_large}

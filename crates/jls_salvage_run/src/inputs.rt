@@ -4,7 +4,8 @@ ghost use Rattle.std.specs.Prelude.{◌≡◌, ◌++◌, ◌∷◌, [], List, On
 ghost use Rattle.jls_io.specs.Event.{GrewBy, opened, not_opened};
 ghost use Rattle.jls_station.specs.Given.{Given};
 ghost use Rattle.jls_salvage_run.specs.Outcomes.{name_of};
-ghost use Rattle.jls_salvage_run.specs.AllInputs.{names_of, partials, IsHeld, IsTaken, JoinsInput, JoinsText, JoinsWith, CantJoin, CantJoinText, TakesUnion, StopsAt, StopsAtInput};
+ghost use Rattle.jls_salvage_run.specs.AllInputs.{names_of, partials, IsHeld, IsTaken, JoinsInput, JoinsText, JoinsWith, CantJoin};
+ghost use Rattle.jls_salvage_run.specs.AllInputs.{CantJoinText, TakesUnion, StopsAt, StopsAtInput};
 
 use crate::outcome::Refusal;
 use jls_io::Desk;

@@ -35,8 +35,8 @@
 //! - As PNM, `write` can't run out of memory once the input is taken. As JPEG-LS it can while the file goes out. Then OUT was handed its
 //!   first bytes, not all, and no write failed.
 //!
-//! Definitions of runs: `Runs` (which runs there are), `FaultLines`, `RunLaws`, `Statuses`, `BrokenReads`. Its tests run it over files in memory
-//! (`jls_program_tests/src/program/memory.rt`).
+//! Definitions of runs: `Runs` (which runs there are), `FaultLines`, `RunLaws`, `Statuses`, `BrokenReads`. Its tests run it over files in
+//! memory (`jls_program_tests/src/program/memory.rt`).
 //!
 //! # What a run does
 //!

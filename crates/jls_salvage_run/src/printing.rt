@@ -5,7 +5,8 @@ ghost use Rattle.jls_io.specs.Event.{GrewBy};
 ghost use Rattle.jls_marker.specs.Faults.{fault_number};
 ghost use Rattle.jls_io.specs.Writing.{Printed};
 ghost use Rattle.jls_io.specs.FaultLines.{line_with_number, no_picture_line};
-ghost use Rattle.jls_salvage_run.specs.FaultLines.{fault_line, input_fault_line, not_created_line, not_replaced_line, program, refusal_line, text_fault_line, unknown_value_line, unsettled_line};
+ghost use Rattle.jls_salvage_run.specs.FaultLines.{fault_line, input_fault_line, not_created_line, not_replaced_line, program};
+ghost use Rattle.jls_salvage_run.specs.FaultLines.{refusal_line, text_fault_line, unknown_value_line, unsettled_line};
 
 use crate::outcome::{Done, Refusal};
 use jls_io::{
@@ -50,7 +51,8 @@ fn print_unsettled<E: Sink>(faults: &mut E, id: u8, line: u16, disputed: bool)
 
 /// Prints the line of a copy in which no frame was taken.
 fn print_no_frame<E: Sink>(faults: &mut E, name: &str, fault: MarkerFault, offset: u64)
-    ensures { GrewBy (Printed (no_picture_line program name.now (fault_number fault) offset)) (E.history faults.old) (E.history faults.new) }
+    ensures { GrewBy (Printed (no_picture_line program name.now (fault_number fault) offset))
+        (E.history faults.old) (E.history faults.new) }
 {
     let number = u64::from(fault.number());
     print_no_picture(faults, PROGRAM, name, number, offset);

@@ -2,7 +2,8 @@
 
 ghost use Rattle.jls_salvage_run.specs.BrokenReads.{BrokenReadsCauseStatus4, StatusesAreAtMost5};
 ghost use Rattle.jls_salvage_run.specs.RunLaws.{DoneChecksRan, DoneJoinsRan, DoneShowsRan, DoneWritesRan, UnsettledWritesStop};
-ghost use Rattle.jls_salvage_run.specs.Statuses.{FailuresCauseStatus4, InputsCauseStatus3, RefusedRunsCreateNothing, WantOfMemoryIsReported, WordsCauseStatus2};
+ghost use Rattle.jls_salvage_run.specs.Statuses.{FailuresCauseStatus4, InputsCauseStatus3, RefusedRunsCreateNothing};
+ghost use Rattle.jls_salvage_run.specs.Statuses.{WantOfMemoryIsReported, WordsCauseStatus2};
 
 /// The words of a run ask for a join, and the run ends with status 0 or 1. Then the join is done under the source that the words name, or
 /// under none. The status is 0 if and only if each line of the union is settled. Nothing was reported or printed as a fault.

@@ -9,7 +9,8 @@ ghost use Rattle.jls_write.specs.Unsettled.{NamesFirstUnsettled};
 ghost use Rattle.jls_write.specs.WrittenFile.{written_file};
 ghost use Rattle.jls_write.specs.Options.{OptionsFit};
 ghost use Rattle.jls_write.specs.Pnm.{pnm};
-ghost use Rattle.jls_salvage_run.specs.WritingFiles.{file, cut_refusal, FitsFormat, IsTooLarge, options_for, StopsAtFile, takes_memory, unsettled_refusal, WritesFile};
+ghost use Rattle.jls_salvage_run.specs.WritingFiles.{file, cut_refusal, FitsFormat, IsTooLarge, options_for, StopsAtFile, takes_memory};
+ghost use Rattle.jls_salvage_run.specs.WritingFiles.{unsettled_refusal, WritesFile};
 
 use crate::inputs::open_and_read;
 use crate::outcome::{Done, Refusal};

@@ -1,7 +1,8 @@
 -- Two copies of the file of two lines: the first lacks what follows line 0, up to EOI; the second has another first byte, and is cut off
 -- after line 0. The choices of 0xFF and of the bytes after it are the only ones that are not dead. What they make is the cut file: the
 -- undamaged file begins with it, and it gives line 0.
-use Rattle.std.proofs.Common.{◌≡◌, ℕ, zero, suc, ◌<◌, List, [], ◌∷◌, ◌++◌, Some, None, length, take, refl, sym, ap, ◌∙◌, subst, lit<, arith, inl, inr}
+use Rattle.std.proofs.Common.{◌≡◌, ℕ, zero, suc, ◌<◌, List, [], ◌∷◌, ◌++◌, Some, None, length, take, refl, sym, ap, ◌∙◌, subst, lit<, arith}
+use Rattle.std.proofs.Common.{inl, inr}
 use Rattle.std.specs.Prelude.{get_or}
 use Rattle.std.specs.List.{AllByRecursion, Contains}
 use Rattle.jls_values.specs.Shape.{PictureShape}
@@ -26,7 +27,8 @@ use Rattle.jls_copy_laws.specs.Gives.{GivesReading}
 use Rattle.jls_copy_laws.proofs.Gives.{readings_are_of_the_course}
 use Rattle.jls_copy_laws.proofs.Members.{none_in, first_or_rest, all_at}
 use Rattle.jls_headline.specs.Damaged.{picture_reading}
-use Rattle.jls_headline.proofs.TwoLineCopies.{shape, pic, plan, frame_payload, scan_payload, pieces_read, first, first_course, course_with, bytes_of_test}
+use Rattle.jls_headline.proofs.TwoLineCopies.{shape, pic, plan, frame_payload, scan_payload, pieces_read, first, first_course, course_with}
+use Rattle.jls_headline.proofs.TwoLineCopies.{bytes_of_test}
 use Rattle.jls_diff.specs.Parts.{Part, Same, Differ, made, AreParts, IsSplice}
 use Rattle.jls_search.specs.Choices.{IsPath, prefix_of}
 use Rattle.jls_search.specs.Faultless.{IsDead, IsFaultless, IsSought}

@@ -13,7 +13,8 @@ use Rattle.jls_marker.specs.declared.fault.MarkerFault.TheVariants as fault
 use Rattle.jls_copy.specs.Numbers.{Interval}
 use Rattle.jls_copy.specs.Pieces.{FoundPiece}
 use Rattle.jls_copy.specs.ScanData.{ClosedPiece}
-use Rattle.jls_copy.specs.Course.{by_marker, CopyUnit, segment, scan, Course, IsCourse, with_soi, with_no_marker, without_units, at_eoi, for_good}
+use Rattle.jls_copy.specs.Course.{by_marker, CopyUnit, segment, scan, Course, IsCourse, with_soi, with_no_marker, without_units, at_eoi}
+use Rattle.jls_copy.specs.Course.{for_good}
 use Rattle.jls_copy.specs.declared.end.End.TheVariants.{Eoi, Header}
 use Rattle.jls_copy.proofs.OneCourse.{one_course}
 use Rattle.jls_copy_laws.proofs.Members.{none_in}

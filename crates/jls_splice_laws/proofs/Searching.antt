@@ -14,7 +14,8 @@ use Rattle.jls_diff.specs.Parts.{Part, Same, Differ, HasWays, IsSplice, splices}
 use Rattle.jls_diff.specs.SpliceLaws.{SplicesAreListed}
 use Rattle.jls_copy.specs.Prefixes.{HasLines}
 use Rattle.jls_search.specs.Faultless.{GivesEachLine, EndsWell, IsFaultless}
-use Rattle.jls_splice_laws.specs.Searches.{CanBeGivenUp, broken, done, Searched, found, has_fault, along, no_way, last_way, way_again, given_up}
+use Rattle.jls_splice_laws.specs.Searches.{CanBeGivenUp, broken, done, Searched, found, has_fault, along, no_way, last_way, way_again}
+use Rattle.jls_splice_laws.specs.Searches.{given_up}
 use Rattle.jls_splice_laws.specs.Searches.{SearchesFindSplices, SearchesLoseNothing}
 
 -- the bytes of a way, and after them those of a splice of the parts after it

@@ -13,7 +13,8 @@ use Rattle.jls_diff.specs.Parts.{Part, HasWays, IsSplice}
 use Rattle.jls_search.specs.Faultless.{IsSought}
 use Rattle.jls_search.specs.Search.{HasEachSplice, files_of}
 use Rattle.jls_search.specs.SearchLaws.{SearchesComeToEachSplice}
-use Rattle.jls_splice_laws.specs.SpliceLaws.{FaultlessSplicesAreTaken, SearchedFilesAreTaken, SearchedSplicesGiveNoOther, SplicesGiveNoOther, WholeSplicesGiveNoOther}
+use Rattle.jls_splice_laws.specs.SpliceLaws.{FaultlessSplicesAreTaken, SearchedFilesAreTaken, SearchedSplicesGiveNoOther}
+use Rattle.jls_splice_laws.specs.SpliceLaws.{SplicesGiveNoOther, WholeSplicesGiveNoOther}
 use Rattle.jls_splice_laws.specs.Taken.{HasFrame, FilesTaken, SearchTaken, AreOfShape, none_left, taken, passed_over}
 use Rattle.jls_splice_laws.proofs.WholeFiles.{whole_files_are_faultless, whole_files_survive}
 

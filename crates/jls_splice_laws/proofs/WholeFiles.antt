@@ -9,7 +9,8 @@ use Rattle.jls_marker.specs.HeaderState.{HeaderState, no_headers}
 use Rattle.jls_marker.specs.Scan.{Scan, intervals}
 use Rattle.jls_copy.specs.ScanData.{ClosedPiece, IsClosedPiece, closed_bytes}
 use Rattle.jls_copy.specs.Numbers.{PieceNumber, Interval, BeyondLast, next_number, number_after, given_last, RiseByEightAtMost, mark_before}
-use Rattle.jls_copy.specs.Course.{CopyUnit, segment, scan, segment_unit_bytes, unit_bytes, IsUnit, AreUnits, Course, IsCourse, with_soi, with_another_marker, with_no_marker, with_fill_alone}
+use Rattle.jls_copy.specs.Course.{CopyUnit, segment, scan, segment_unit_bytes, unit_bytes, IsUnit, AreUnits, Course, IsCourse, with_soi}
+use Rattle.jls_copy.specs.Course.{with_another_marker, with_no_marker, with_fill_alone}
 use Rattle.jls_copy.specs.Pieces.{FoundPiece, pieces_from, unit_pieces, pieces, piece_begun}
 use Rattle.jls_copy.specs.declared.end.End.{End}
 use Rattle.jls_write.specs.Picture.{line_of}

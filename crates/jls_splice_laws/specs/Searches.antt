@@ -13,8 +13,8 @@ pub data CanBeGivenUp : List ℕ → Type 0 where
   broken : (prefix : List ℕ) → IsPieceBroken prefix → CanBeGivenUp prefix
   done : (prefix : List ℕ) → IsDone prefix true → (IsFaultless prefix → ⊥) → CanBeGivenUp prefix
 
--- The files that a search finds from a prefix on, through these parts, depth first: at a part each of its ways in turn, in their order. Ways
--- that stand there before can be passed over, and prefixes that can be given up can be
+-- The files that a search finds from a prefix on, through these parts, depth first: at a part each of its ways in turn, in their order.
+-- Ways that stand there before can be passed over, and prefixes that can be given up can be
 pub data Searched : List ℕ → List Part → List (List ℕ) → Type 0 where
   found : (file : List ℕ) → IsFaultless file → Searched file [] (file ∷ [])
   has_fault : (file : List ℕ) → (IsFaultless file → ⊥) → Searched file [] []

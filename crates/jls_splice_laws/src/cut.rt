@@ -1,6 +1,7 @@
 //! The law of the cut file. It is a function that does nothing and whose contract is the law.
 
-ghost use Rattle.jls_splice_laws.specs.CutLaws.{CutLinesAreThePicture, CutsAreHeld, SoughtFilesBeginWithTheCut, WholeFilesBeginWithTheirLines};
+ghost use Rattle.jls_splice_laws.specs.CutLaws.{CutLinesAreThePicture, CutsAreHeld, SoughtFilesBeginWithTheCut};
+ghost use Rattle.jls_splice_laws.specs.CutLaws.{WholeFilesBeginWithTheirLines};
 
 use crate::settled::whole_files_survive;
 use jls_copy::prefixes_keep_readings;

@@ -1,7 +1,8 @@
 //! What survives in an undamaged file, and what the files taken settle. Each law is a function that does nothing and whose contract is the
 //! law.
 
-ghost use Rattle.jls_splice_laws.specs.SpliceLaws.{FaultlessSplicesAreTaken, SearchedFilesAreTaken, SearchedSplicesGiveNoOther, SplicesGiveNoOther, WholeSplicesGiveNoOther};
+ghost use Rattle.jls_splice_laws.specs.SpliceLaws.{FaultlessSplicesAreTaken, SearchedFilesAreTaken, SearchedSplicesGiveNoOther};
+ghost use Rattle.jls_splice_laws.specs.SpliceLaws.{SplicesGiveNoOther, WholeSplicesGiveNoOther};
 ghost use Rattle.jls_splice_laws.specs.WholeFiles.{WholeFilesAreFaultless, WholeFilesSurvive};
 
 use jls_headline::{never_another_picture, same_copies_give_the_picture};

@@ -6,7 +6,8 @@ use Rattle.jls_io.specs.Writing.{Wrote}
 use Rattle.jls_io.proofs.Growing.{grew_on, grew_twice}
 use Rattle.jls_io.specs.Outputs.{HandsOut}
 use Rattle.jls_splice_run.specs.declared.outcome.Refusal.{Refusal}
-use Rattle.jls_splice_run.specs.Handing.{HandsAll, HandsFile, HandsFiles, StopsAtFile, StopsAtFiles, StopsAtOutput, StopsAtReport, StopsInHanding, Texts, at_file, at_files, at_output, at_report}
+use Rattle.jls_splice_run.specs.Handing.{HandsAll, HandsFile, HandsFiles, StopsAtFile, StopsAtFiles, StopsAtOutput, StopsAtReport}
+use Rattle.jls_splice_run.specs.Handing.{StopsInHanding, Texts, at_file, at_files, at_output, at_report}
 use Rattle.jls_splice_run.specs.Runs.{GrewBoth}
 
 -- one event, and then others

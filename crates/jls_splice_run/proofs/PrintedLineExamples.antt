@@ -4,7 +4,8 @@ use Rattle.std.specs.Prelude.{codes, decimal}
 use Rattle.std.proofs.lemmas.Fmt.{decimal_digit, decimal-digits_of}
 use Rattle.jls_diff.specs.Parts.{Part, Same, Differ}
 use Rattle.jls_splice_run.specs.Differences.{differences}
-use Rattle.jls_splice_run.specs.Lines.{before_line, differ_lines, files_line, found_text, groups_line, limit_line, more_line, progress_line, promise_line, single_line, splices_line, used_up_line}
+use Rattle.jls_splice_run.specs.Lines.{before_line, differ_lines, files_line, found_text, groups_line, limit_line, more_line, progress_line}
+use Rattle.jls_splice_run.specs.Lines.{promise_line, single_line, splices_line, used_up_line}
 use Rattle.jls_splice_run.specs.declared.differences.Difference.{Difference}
 use Rattle.jls_splice_run.specs.declared.found.Promise.TheVariants.{Picture, Lines}
 use Rattle.jls_splice_run.specs.declared.found.SearchReport.{SearchReport}

@@ -15,7 +15,8 @@ use Rattle.jls_io.specs.FaultLines.{out_of_memory_line}
 use Rattle.jls_splice_run.specs.FaultLines.{fault_line, named_twice_line, not_understood_line, numbered_out_line, program}
 use Rattle.jls_splice_run.specs.Outcomes.{exit_status}
 use Rattle.jls_splice_run.specs.declared.outcome.Outcome.{Outcome}
-use Rattle.jls_splice_run.specs.Runs.{GrewAll, IsFileOut, IsNumberedOut, Performs, Ran, Run, Splices, came_of, no_names, performed, named_twice, numbered_out, misused, helped, help_cut, nothing_begun, nothing_asked}
+use Rattle.jls_splice_run.specs.Runs.{GrewAll, IsFileOut, IsNumberedOut, Performs, Ran, Run, Splices, came_of, no_names, performed}
+use Rattle.jls_splice_run.specs.Runs.{named_twice, numbered_out, misused, helped, help_cut, nothing_begun, nothing_asked}
 
 -- an answer is a run, where the kind is one of those that clap has for the words
 run_of_answer : (words : List Text) (k : ErrorKind) (status : ℕ) (report faults : List Event)

@@ -1,11 +1,13 @@
 -- Searches under limits in turn, one more at a time.
-use Rattle.std.proofs.Common.{◌≡◌, ℕ, ◌+◌, ◌*◌, ◌<◌, ◌≤◌, Bool, true, false, List, [], ◌∷◌, ◌++◌, length, drop, take, get_or, Option, Some, None, refl, sym, ap, ◌∙◌, subst, arith, inl, inr}
+use Rattle.std.proofs.Common.{◌≡◌, ℕ, ◌+◌, ◌*◌, ◌<◌, ◌≤◌, Bool, true, false, List, [], ◌∷◌, ◌++◌, length, drop, take, get_or, Option, Some}
+use Rattle.std.proofs.Common.{None, refl, sym, ap, ◌∙◌, subst, arith, inl, inr}
 use Rattle.std.specs.Prelude.{◌⊎◌, IsSome, is_some, min, max, if◌then◌else◌}
 use Rattle.std.specs.List.{AllByRecursion}
 use Rattle.std.proofs.lemmas.List.{append-nil, append_assoc, drop_more, take-append-drop}
 use Rattle.jls_io.specs.Event.{Event}
 use Rattle.jls_diff.specs.Parts.{Part}
-use Rattle.jls_splice_run.specs.Limits.{AreInTurn, IsSearchMade, SearchMade, WentThrough, counting, counting_of, cut_limit, has_some, last_or, limit_or, limits, none, one_more, through_all, tries_after, next_tries, up_to}
+use Rattle.jls_splice_run.specs.Limits.{AreInTurn, IsSearchMade, SearchMade, WentThrough, counting, counting_of, cut_limit, has_some}
+use Rattle.jls_splice_run.specs.Limits.{last_or, limit_or, limits, none, one_more, through_all, tries_after, next_tries, up_to}
 use Rattle.jls_splice_run.specs.Telling.{AreReported, HasSearched, HasTurned, IsReported, ReportedSome, ReportedUpTo, TookTurns}
 use Rattle.jls_splice_run.specs.declared.limits.Turned.{Turned}
 use Rattle.jls_splice_run.specs.declared.options.SearchOptions.{SearchOptions}

@@ -1,5 +1,6 @@
 -- The lines that are printed of what was found: ASCII, each with a newline at its end, and numbers in decimal.
-use Rattle.std.specs.Prelude.{ℕ, ◌-◌, Bool, true, false, List, [], ◌∷◌, ◌++◌, Option, Some, None, codes, decimal, length, take, nat_eq, nat_lt, if◌then◌else◌}
+use Rattle.std.specs.Prelude.{ℕ, ◌-◌, Bool, true, false, List, [], ◌∷◌, ◌++◌, Option, Some, None, codes, decimal, length, take, nat_eq}
+use Rattle.std.specs.Prelude.{nat_lt, if◌then◌else◌}
 use Rattle.std.specs.List.{flat_map}
 use Rattle.jls_splice_run.specs.declared.differences.Difference.{Difference}
 use Rattle.jls_splice_run.specs.declared.found.GroupSearch.{GroupSearch}

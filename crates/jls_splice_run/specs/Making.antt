@@ -1,5 +1,6 @@
 -- What is made of the copies.
-use Rattle.std.specs.Prelude.{◌≡◌, ◌↔◌, ◌⊎◌, ℕ, Bool, true, false, IsTrue, List, [], ◌∷◌, ◌++◌, Option, Some, None, IfSome, IfNone, codes, get_or, length, option_map, if◌then◌else◌}
+use Rattle.std.specs.Prelude.{◌≡◌, ◌↔◌, ◌⊎◌, ℕ, Bool, true, false, IsTrue, List, [], ◌∷◌, ◌++◌, Option, Some, None, IfSome, IfNone, codes}
+use Rattle.std.specs.Prelude.{get_or, length, option_map, if◌then◌else◌}
 use Rattle.std.specs.Str.{bytes_eq}
 use Rattle.std.specs.declared.vec.Vec.{Vec}
 use Rattle.std.specs.declared.alloc.Global.{Global}
@@ -97,8 +98,8 @@ pub record Made : Type 0 where
 abbrev pub search_of : Option ℕ → Found → ℕ → SearchMade
 search_of ceiling f tries = record { ceiling = ceiling; tries = tries; choices = f.choices; is_used_up = f.is_used_up }
 
--- these are the searches of what was asked, over the parts that were found, and this one counts. If groups were searched, each was with each
--- of the copies outside of it, and has as many tries of its own
+-- these are the searches of what was asked, over the parts that were found, and this one counts. If groups were searched, each was with
+-- each of the copies outside of it, and has as many tries of its own
 pub record IsCounted (a : Asked) (copies : List (List ℕ)) (w : Searches) (ceiling : Option ℕ) (f : Found) (tries : ℕ) : Type 0 where
   pub are_searches : AreSearches a.options.ceiling a.options.tries f.parts w
   pub counts : counting w.first w.more ≡ search_of ceiling f tries

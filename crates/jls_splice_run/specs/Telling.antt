@@ -6,7 +6,8 @@ use Rattle.jls_io.specs.Writing.{Printed}
 use Rattle.jls_search.specs.Search.{CanGoOn, IsBegun, IsSearch, Tried, lists_of}
 use Rattle.jls_diff.specs.Parts.{Part}
 use Rattle.jls_search.specs.declared.whole_search.WholeSearch.{WholeSearch}
-use Rattle.jls_splice_run.specs.Limits.{AreInTurn, AreSearches, SearchMade, Searches, WentThrough, counting, cut_limit, last_or, limit_or, tries_after}
+use Rattle.jls_splice_run.specs.Limits.{AreInTurn, AreSearches, SearchMade, Searches, WentThrough, counting, cut_limit, last_or, limit_or}
+use Rattle.jls_splice_run.specs.Limits.{tries_after}
 use Rattle.jls_splice_run.specs.Lines.{progress_line}
 use Rattle.jls_splice_run.specs.declared.limits.Turned.{Turned}
 use Rattle.jls_splice_run.specs.declared.options.SearchOptions.{SearchOptions}
@@ -75,7 +76,8 @@ abbrev pub WasBegun : Option ℕ → List Part → WholeSearch → Type 0
 WasBegun ceiling parts walk =
     (begun : WholeSearch) × IsBegun begun × IsSearch parts begun × Tried parts begun walk × (begun.judge.ceiling ≡ ceiling)
 
--- searches under these limits in turn, none of which was cut off: how many tries the next one has, what they came to, and what they reported
+-- searches under these limits in turn, none of which was cut off: how many tries the next one has, what they came to, and what they
+-- reported
 pub record HasTurned (parts : List Part) (options : SearchOptions) (limits : List ℕ) (turned : Turned) (events : List Event) : Type 0 where
   pub searches : List SearchMade
   pub through : WentThrough parts options.tries limits searches

@@ -5,7 +5,8 @@ ghost use Rattle.std.specs.String.{string_bytes};
 ghost use Rattle.jls_io.specs.Event.{GrewBy};
 ghost use Rattle.jls_io.specs.Writing.{Printed, Wrote};
 ghost use Rattle.jls_io.specs.Outputs.{HandsOut};
-ghost use Rattle.jls_splice_run.specs.Handing.{HandsFile, HandsFiles, StopsAtFile, StopsAtFiles, StopsAtNumber, StopsAtOutput, StopsAtReport};
+ghost use Rattle.jls_splice_run.specs.Handing.{HandsFile, HandsFiles, StopsAtFile, StopsAtFiles, StopsAtNumber, StopsAtOutput};
+ghost use Rattle.jls_splice_run.specs.Handing.{StopsAtReport};
 ghost use Rattle.jls_splice_run.specs.Listing.{named_file, named_files};
 
 use crate::listing::NumberedFile;

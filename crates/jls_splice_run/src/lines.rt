@@ -2,7 +2,9 @@
 
 ghost use Rattle.std.specs.Prelude.{◌≡◌, ◌++◌, codes, decimal, OnOk, take};
 ghost use Rattle.std.specs.List.{flat_map};
-ghost use Rattle.jls_splice_run.specs.Lines.{before_line, differ_line, differ_lines, files_line, found_text, groups_end as spec_groups_end, groups_line, limit_line, more_line, outcome_lines, progress_line, promise_line, samples_end, search_lines, single_line, splices_line, used_up_line};
+ghost use Rattle.jls_splice_run.specs.Lines.{before_line, differ_line, differ_lines, files_line, found_text, groups_end as spec_groups_end};
+ghost use Rattle.jls_splice_run.specs.Lines.{groups_line, limit_line, more_line, outcome_lines, progress_line, promise_line, samples_end};
+ghost use Rattle.jls_splice_run.specs.Lines.{search_lines, single_line, splices_line, used_up_line};
 
 use crate::differences::Difference;
 use crate::found::{CutEnd, GroupSearch, Promise, SearchReport};

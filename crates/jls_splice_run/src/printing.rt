@@ -4,7 +4,8 @@ ghost use Rattle.jls_io.specs.Event.{GrewBy};
 ghost use Rattle.jls_io.specs.Writing.{Printed};
 ghost use Rattle.jls_marker.specs.Faults.{fault_number};
 ghost use Rattle.jls_io.specs.FaultLines.{no_picture_line};
-ghost use Rattle.jls_splice_run.specs.FaultLines.{cause_line, fault_line, file_not_created_line, file_not_written_line, named_twice_line, not_replaced_line, not_understood_line, numbered_out_line, program};
+ghost use Rattle.jls_splice_run.specs.FaultLines.{cause_line, fault_line, file_not_created_line, file_not_written_line, named_twice_line};
+ghost use Rattle.jls_splice_run.specs.FaultLines.{not_replaced_line, not_understood_line, numbered_out_line, program};
 
 use crate::outcome::{Cause, Outcome, Refusal};
 use jls_io::{
@@ -58,7 +59,8 @@ pub fn print_not_understood<E: Sink>(faults: &mut E)
 
 /// Prints the line of copies that have no picture.
 fn print_no_frame<E: Sink>(faults: &mut E, name: &str, fault: MarkerFault, offset: u64)
-    ensures { GrewBy (Printed (no_picture_line program name.now (fault_number fault) offset)) (E.history faults.old) (E.history faults.new) }
+    ensures { GrewBy (Printed (no_picture_line program name.now (fault_number fault) offset))
+        (E.history faults.old) (E.history faults.new) }
 {
     let number = u64::from(fault.number());
     print_no_picture(faults, PROGRAM, name, number, offset);

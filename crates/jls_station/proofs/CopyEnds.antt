@@ -15,7 +15,8 @@ use Rattle.jls_station.specs.Given.{Given, CopyReport, by_copy, given_by_copy, g
 use Rattle.jls_station.specs.InputFaults.{input_fault_of_copy, IsCopyRefused}
 use Rattle.jls_station.specs.Inputs.{IsCopyDone, ReadsGive, ReadsRefuse}
 use Rattle.jls_station.specs.Reading.{IsRead}
-use Rattle.jls_station.specs.TakingCopies.{IsTakenFor, no_frame, unread, for_memory, CopyGives, CopyStops, no_picture, not_read, after_the_last}
+use Rattle.jls_station.specs.TakingCopies.{IsTakenFor, no_frame, unread, for_memory, CopyGives, CopyStops, no_picture, not_read}
+use Rattle.jls_station.specs.TakingCopies.{after_the_last}
 use Rattle.jls_station.specs.Texts.{is_text}
 use Rattle.jls_station.specs.declared.input.ReadStop.{ReadStop}
 use Rattle.jls_station.specs.declared.input.ReadStop.TheVariants.{Whole, Failed, Turns}

@@ -1,5 +1,6 @@
 -- Reads of one input, one after the other.
-use Rattle.std.proofs.Common.{◌≡◌, ◌<◌, ◌≤◌, ℕ, zero, suc, ◌+◌, get_or, take, true, false, List, [], ◌∷◌, ◌++◌, Option, Some, None, Result, Ok, Err, length, refl, sym, subst, ap, ◌∙◌, append_assoc, arith}
+use Rattle.std.proofs.Common.{◌≡◌, ◌<◌, ◌≤◌, ℕ, zero, suc, ◌+◌, get_or, take, true, false, List, [], ◌∷◌, ◌++◌, Option, Some, None, Result}
+use Rattle.std.proofs.Common.{Ok, Err, length, refl, sym, subst, ap, ◌∙◌, append_assoc, arith}
 use Rattle.std.proofs.lemmas.Bool.{false≢true}
 use Rattle.std.proofs.lemmas.List.{append-nil, length-append}
 use Rattle.std.specs.Prelude.{IfSome, OnErr}
@@ -15,11 +16,13 @@ use Rattle.jls_copy.specs.CourseLaws.{OneCourse}
 use Rattle.jls_copy.specs.declared.end.End.TheVariants.{Header}
 use Rattle.jls_copy.specs.declared.reader.CopyFault.{CopyFault}
 use Rattle.jls_copy.specs.declared.reader.CopyFault.TheVariants as copy
-use Rattle.jls_io.specs.Event.{Event, History, GrewBy, opened, not_opened, gave, read_failed, created, not_created, took, write_failed, bytes_given}
+use Rattle.jls_io.specs.Event.{Event, History, GrewBy, opened, not_opened, gave, read_failed, created, not_created, took, write_failed}
+use Rattle.jls_io.specs.Event.{bytes_given}
 use Rattle.jls_io.proofs.Growing.{grew_as, grew_twice}
 use Rattle.jls_station.specs.Forms.{IsForm}
 use Rattle.jls_station.specs.Given.{Given, Gives, by_text, given_by_text}
-use Rattle.jls_station.specs.Inputs.{IsCopyDone, IsEnough, IsRefused, no_text, no_picture, copy_not_read, between_reads, after_the_last, ReadsGive, ReadsRefuse, for_fault, for_memory}
+use Rattle.jls_station.specs.Inputs.{IsCopyDone, IsEnough, IsRefused, no_text, no_picture, copy_not_read, between_reads, after_the_last}
+use Rattle.jls_station.specs.Inputs.{ReadsGive, ReadsRefuse, for_fault, for_memory}
 use Rattle.jls_station.specs.Reading.{AreBytes, GoesOn, StopsWith, IsRead, IsReadInPart, ReadSoFar}
 use Rattle.jls_station.specs.Texts.{is_text, IsTextOf, IsNoText}
 use Rattle.jls_station.specs.InputFaults.{input_fault_of, input_fault_of_copy}

@@ -11,8 +11,8 @@ use Rattle.jls_station.specs.declared.input.ReadStop.TheVariants.{Whole}
 use Rattle.jls_station.specs.declared.take_copy.TakeFault.{TakeFault}
 use Rattle.jls_station.specs.declared.take_copy.TakeFault.TheVariants as fault
 
--- Of these bytes, `prefix` was read until the reading stopped so. If it stopped as whole, no byte more changes what the prefix gives, or the
--- prefix is all there is
+-- Of these bytes, `prefix` was read until the reading stopped so. If it stopped as whole, no byte more changes what the prefix gives, or
+-- the prefix is all there is
 pub record IsPrefixOf (bytes prefix : List ℕ) (stop : ReadStop) : Type 0 where
   pub following : List ℕ
   pub bytes_are : bytes ≡ prefix ++ following

@@ -1,6 +1,7 @@
 //! The loops that read an input: a text to its end, and a copy as long as more bytes can change what it gives.
 
-ghost use Rattle.std.specs.Prelude.{◌≡◌, ◌≤◌, ◌<◌, ◌*◌, ◌↔◌, ℕ, List, Option, Some, true, IsTrue, length, IfOk, OnErr, IfSome, IsSomeAnd, take};
+ghost use Rattle.std.specs.Prelude.{◌≡◌, ◌≤◌, ◌<◌, ◌*◌, ◌↔◌, ℕ, List, Option, Some, true, IsTrue, length, IfOk, OnErr, IfSome, IsSomeAnd};
+ghost use Rattle.std.specs.Prelude.{take};
 ghost use Rattle.std.specs.Io.KnownBytes.{Consumes, IsAtEnd};
 ghost use Rattle.jls_io.specs.Event.{History, GrewBy};
 ghost use Rattle.jls_station.specs.Inputs.{IsEnough, IsCopyDone};

@@ -1,5 +1,6 @@
 -- Lists of numbers in ascending order, and the sets that they are seen as.
-use Rattle.std.proofs.Common.{◌≡◌, ℕ, zero, suc, ◌^◌, ◌<◌, ◌≤◌, Bool, true, false, ◌||◌, List, [], ◌∷◌, ◌++◌, length, get_or, Ok, Err, refl, ap, sym, subst, ◌∙◌, arith, inl, inr}
+use Rattle.std.proofs.Common.{◌≡◌, ℕ, zero, suc, ◌^◌, ◌<◌, ◌≤◌, Bool, true, false, ◌||◌, List, [], ◌∷◌, ◌++◌, length, get_or, Ok, Err, refl}
+use Rattle.std.proofs.Common.{ap, sym, subst, ◌∙◌, arith, inl, inr}
 use Rattle.std.specs.declared.cmp.Ordering.{Ordering}
 use Rattle.std.specs.declared.cmp.Ordering.TheVariants.{Less, Equal, Greater}
 use Rattle.std.specs.Cmp.{nat_cmp_is}
@@ -14,7 +15,8 @@ use Rattle.std.proofs.lemmas.Map.Lookups.{exact_unsigned}
 use Rattle.jls_values.specs.Join.{IsBelow}
 use Rattle.jls_values.specs.SourceList.{IsSourceList}
 use Rattle.jls_values.specs.OrderedSet as set
-use Rattle.jls_values.specs.OrderedSetLaws.{same_set, contains-insert, contains-insert_all, contains-from_list, contains-union, insert_all-append}
+use Rattle.jls_values.specs.OrderedSetLaws.{same_set, contains-insert, contains-insert_all, contains-from_list, contains-union}
+use Rattle.jls_values.specs.OrderedSetLaws.{insert_all-append}
 
 -- a list in ascending order
 abbrev pub Rises : List ℕ → Type 0

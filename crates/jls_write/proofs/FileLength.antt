@@ -1,5 +1,6 @@
 -- How many bytes the parts of a file have, at most.
-use Rattle.std.proofs.Common.{◌≡◌, ℕ, zero, suc, ◌+◌, ◌*◌, ◌≤◌, ◌^◌, Bool, true, false, cond, List, [], ◌∷◌, ◌++◌, length, map, get_or, refl, sym, ap, subst, ◌∙◌, arith}
+use Rattle.std.proofs.Common.{◌≡◌, ℕ, zero, suc, ◌+◌, ◌*◌, ◌≤◌, ◌^◌, Bool, true, false, cond, List, [], ◌∷◌, ◌++◌, length, map, get_or}
+use Rattle.std.proofs.Common.{refl, sym, ap, subst, ◌∙◌, arith}
 use Rattle.std.specs.Prelude.{nat_lt, if◌then◌else◌}
 use Rattle.std.specs.Int.{w32, to_be_bytes}
 use Rattle.std.specs.List.{flat_map, range_with_len}
@@ -15,7 +16,8 @@ use Rattle.jls_marker.proofs.Intervals.{count_at_most}
 use Rattle.jls_write.specs.Picture.{WholePicture}
 use Rattle.jls_write.specs.Options.{WriteOptions, OptionsFit, components_of_scan}
 use Rattle.jls_write.proofs.OneMore.{length-flat_map-le}
-use Rattle.jls_write.specs.WrittenFile.{bytes_of, are_defaults, preset_segments, restart_segments, header_segments, header_bytes, before_interval, interval_lines, interval_code, marked_interval, scan_bytes, scans_bytes}
+use Rattle.jls_write.specs.WrittenFile.{bytes_of, are_defaults, preset_segments, restart_segments, header_segments, header_bytes}
+use Rattle.jls_write.specs.WrittenFile.{before_interval, interval_lines, interval_code, marked_interval, scan_bytes, scans_bytes}
 use Rattle.jls_write.specs.Parts.{scan_from, scan_count}
 use Rattle.jls_write.proofs.CopiedLines.{length_range, samples_most}
 use Rattle.jls_write.proofs.Scans.{scans_are}

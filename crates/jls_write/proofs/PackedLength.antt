@@ -1,5 +1,6 @@
 -- How many bytes the code of an interval has, at most: the bits of an event are bounded, and there are no more events than samples.
-use Rattle.std.proofs.Common.{◌≡◌, ℕ, zero, suc, ◌+◌, ◌-◌, ◌*◌, ◌/◌, ◌^◌, ◌≤◌, ◌<◌, Bool, true, false, eqb, leb, ltb, cond, List, [], ◌∷◌, ◌++◌, length, replicate, sym, ap, ◌∙◌, ◌%◌, inl, inr, arith, length-append}
+use Rattle.std.proofs.Common.{◌≡◌, ℕ, zero, suc, ◌+◌, ◌-◌, ◌*◌, ◌/◌, ◌^◌, ◌≤◌, ◌<◌, Bool, true, false, eqb, leb, ltb, cond, List, [], ◌∷◌}
+use Rattle.std.proofs.Common.{◌++◌, length, replicate, sym, ap, ◌∙◌, ◌%◌, inl, inr, arith, length-append}
 use Rattle.std.specs.Prelude.{ℤ, unsigned_abs}
 use Rattle.std.specs.List.{AllByRecursion, fold, filter}
 use Rattle.std.proofs.lemmas.Bool.{cases_Bool, cases_eq, ltb-true, le-leb}
@@ -15,13 +16,16 @@ use Rattle.jls_context.specs.declared.regular.Cell.{Cell}
 use Rattle.jls_context.specs.declared.interruption.RunCell.{RunCell}
 use Rattle.jls_context.specs.Errors.{IsError}
 use Rattle.jls_context.specs.Mode.{context, is_negative, is_run_mode}
-use Rattle.jls_context.specs.Regular.{golomb_k, with_error, halved, counted, bias_computed, updated, initial_cell, regular_k, regular_mapped}
+use Rattle.jls_context.specs.Regular.{golomb_k, with_error, halved, counted, bias_computed, updated, initial_cell, regular_k}
+use Rattle.jls_context.specs.Regular.{regular_mapped}
 use Rattle.jls_context.specs.Interruption.{run_updated, initial_run_cell, interruption_magnitudes, run_k, interruption_mapped}
 use Rattle.jls_context.proofs.BiasSteps.{by_steps}
 use Rattle.jls_context.proofs.Samples.{error_range}
 use Rattle.jls_context.proofs.Sizes.{maxval_small, interruption_mapped_at_most}
-use Rattle.jls_interval.specs.Events.{Event, regular, run_to_end, interrupted_run, Above, neighbours, run_stop, stretch, events_from, events_after, above, line_events}
-use Rattle.jls_interval.specs.Cells.{regular_error, regular_prediction, cell_after, cell_before, uses_cell, run_cell_after, run_cell_before, uses_run_cell, is_same, interruption_error}
+use Rattle.jls_interval.specs.Events.{Event, regular, run_to_end, interrupted_run, Above, neighbours, run_stop, stretch, events_from}
+use Rattle.jls_interval.specs.Events.{events_after, above, line_events}
+use Rattle.jls_interval.specs.Cells.{regular_error, regular_prediction, cell_after, cell_before, uses_cell, run_cell_after, run_cell_before}
+use Rattle.jls_interval.specs.Cells.{uses_run_cell, is_same, interruption_error}
 use Rattle.jls_interval.specs.Runs.{run_order, block_columns, full_blocks, blocks, run_index_before}
 use Rattle.jls_interval.specs.Code.{event_bits, bits_of_events, code}
 use Rattle.jls_interval.specs.Reads.{packed}

@@ -4,7 +4,8 @@ ghost use Rattle.std.specs.Prelude.{◌≡◌, ◌⊎◌, false, [], IfOk, IfErr
 ghost use Rattle.std.specs.String.{string_bytes};
 ghost use Rattle.clap.specs.Words.{app_of, fault_of, kind_of, new_app, rule_of, subcommand_of, subcommand_rows_of};
 ghost use Rattle.clap.specs.declared.builder.command.Command.TheViews.{out-Command};
-ghost use Rattle.jls_cli.specs.SalvageWords.{as_rule, AreRefused, AreTaken, check_app, files_rule, ilv_rule, join_app, ri_rule, salvage_app, show_app, source_rule, word_rule, write_app, write_options_app};
+ghost use Rattle.jls_cli.specs.SalvageWords.{as_rule, AreRefused, AreTaken, check_app, files_rule, ilv_rule, join_app, ri_rule};
+ghost use Rattle.jls_cli.specs.SalvageWords.{salvage_app, show_app, source_rule, word_rule, write_app, write_options_app};
 
 use crate::salvage::texts;
 use crate::version::VERSION;

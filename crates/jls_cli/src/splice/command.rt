@@ -4,7 +4,8 @@ ghost use Rattle.std.specs.Prelude.{◌≡◌, ◌⊎◌, false, [], IfOk, IfErr
 ghost use Rattle.std.specs.String.{string_bytes};
 ghost use Rattle.clap.specs.Words.{app_of, fault_of, found_of, kind_of, matches_of, rows_of, rule_of};
 ghost use Rattle.clap.specs.declared.builder.command.Command.TheViews.{out-Command};
-ghost use Rattle.jls_cli.specs.SpliceWords.{AreRefused, AreTaken, bare_app, ceiling_rule, file_rule, files_rule, numbers_app, options_app, others_rule, progress_rule, source_rule, splice_app, tries_rule, word_rule};
+ghost use Rattle.jls_cli.specs.SpliceWords.{AreRefused, AreTaken, bare_app, ceiling_rule, file_rule, files_rule, numbers_app, options_app};
+ghost use Rattle.jls_cli.specs.SpliceWords.{others_rule, progress_rule, source_rule, splice_app, tries_rule, word_rule};
 
 use crate::splice::texts;
 use crate::version::VERSION;

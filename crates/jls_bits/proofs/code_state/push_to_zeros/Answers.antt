@@ -1,7 +1,9 @@
 use Rattle.std.proofs.Common.{arith}
-use Rattle.jls_bits.proofs.CodeSteps.{zero_more, zero_too_many, zero_without_escape, one_of_escape, one_of_short, one_alone, escape_shifted, one_shifted}
+use Rattle.jls_bits.proofs.CodeSteps.{zero_more, zero_too_many, zero_without_escape, one_of_escape, one_of_short, one_alone, escape_shifted}
+use Rattle.jls_bits.proofs.CodeSteps.{one_shifted}
 use Rattle.jls_bits.proofs.code_state.push_to_zeros.Goals as goal
-use Rattle.jls_bits.proofs.code_state.push_to_zeros.Goals.{else-zeros-escape-3-via-then-zeros-escape-3+else-qbpp-escape, else-zeros-escape-3-via-else-zeros-escape-3}
+use Rattle.jls_bits.proofs.code_state.push_to_zeros.Goals.{else-zeros-escape-3-via-then-zeros-escape-3+else-qbpp-escape}
+use Rattle.jls_bits.proofs.code_state.push_to_zeros.Goals.{else-zeros-escape-3-via-else-zeros-escape-3}
 
 pub returns-then-zeros-escape : goal.returns-then-zeros-escape
 returns-then-zeros-escape c =

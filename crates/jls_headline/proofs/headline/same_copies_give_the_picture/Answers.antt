@@ -1,4 +1,5 @@
-use Rattle.jls_headline.proofs.CollectedPictures.{same_copies_hold_the_same, same_copies_write_the_same, same_sources_are_one_station, damaged_copies_write_the_picture}
+use Rattle.jls_headline.proofs.CollectedPictures.{same_copies_hold_the_same, same_copies_write_the_same, same_sources_are_one_station}
+use Rattle.jls_headline.proofs.CollectedPictures.{damaged_copies_write_the_picture}
 use Rattle.jls_headline.proofs.headline.same_copies_give_the_picture.Goals as goal
 
 pub returns-clause-same : goal.returns-clause-same

@@ -1,4 +1,5 @@
-use Rattle.jls_headline.proofs.OneLine.{stations_tell_of_lines, runs_tell_of_lines, unnamed_lines_have_one_reading, unnamed_lines_are_the_picture}
+use Rattle.jls_headline.proofs.OneLine.{stations_tell_of_lines, runs_tell_of_lines, unnamed_lines_have_one_reading}
+use Rattle.jls_headline.proofs.OneLine.{unnamed_lines_are_the_picture}
 use Rattle.jls_headline.proofs.lines.lines_are_reported.Goals as goal
 
 pub returns-clause-stations : goal.returns-clause-stations

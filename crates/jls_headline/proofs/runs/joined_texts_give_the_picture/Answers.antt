@@ -1,5 +1,6 @@
 use Rattle.jls_headline.proofs.CollectedRuns.{runs_are_collected, runs_are_collected_under}
-use Rattle.jls_headline.proofs.JoinRuns.{runs_with_texts_hold_exactly, runs_hold_exactly_under, runs_under_sources_hand_out_the_same, runs_with_texts_say_the_same, runs_with_texts_give_the_picture}
+use Rattle.jls_headline.proofs.JoinRuns.{runs_with_texts_hold_exactly, runs_hold_exactly_under, runs_under_sources_hand_out_the_same}
+use Rattle.jls_headline.proofs.JoinRuns.{runs_with_texts_say_the_same, runs_with_texts_give_the_picture}
 use Rattle.jls_headline.proofs.runs.joined_texts_give_the_picture.Goals as goal
 
 pub returns-clause-collected : goal.returns-clause-collected

@@ -1,4 +1,5 @@
-use Rattle.jls_headline.proofs.JoinThenWrite.{written_text_joins_are_the_picture, written_text_joins_read_as_the_picture, written_text_joins_are_settled}
+use Rattle.jls_headline.proofs.JoinThenWrite.{written_text_joins_are_the_picture, written_text_joins_read_as_the_picture}
+use Rattle.jls_headline.proofs.JoinThenWrite.{written_text_joins_are_settled}
 use Rattle.jls_headline.proofs.runs.written_text_joins_read_as_the_picture.Goals as goal
 
 pub returns-clause-written : goal.returns-clause-written

@@ -1,6 +1,7 @@
 use Rattle.std.proofs.Common.{◌≡◌, ℕ, ◌-◌, ◌^◌, ◌<◌, ◌≤◌, ◌∷◌, [], ◌++◌, true, replicate, ap, ◌∙◌, subst}
 use Rattle.jls_interval.specs.Runs.{run_order, Blocks, blocks, run_index_raised}
-use Rattle.jls_interval.proofs.WrittenRuns.{block_written, block_run_index, block_remaining, no_block_written, no_block_run_index, no_block_remaining}
+use Rattle.jls_interval.proofs.WrittenRuns.{block_written, block_run_index, block_remaining, no_block_written, no_block_run_index}
+use Rattle.jls_interval.proofs.WrittenRuns.{no_block_remaining}
 use Rattle.jls_interval.proofs.encode_run.write_full_blocks.Goals as goal
 
 -- what a block leaves, where RUNindex and the columns are computed

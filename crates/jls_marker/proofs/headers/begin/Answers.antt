@@ -2,7 +2,8 @@ use Rattle.std.proofs.Common.{◌<◌, ◌≤◌, ◌^◌, ℕ, length, sym, ap,
 use Rattle.std.specs.Prelude.{is_ok}
 use Rattle.std.specs.List.{AllByRecursion}
 use Rattle.jls_values.specs.PresetParameters.{PresetParameters}
-use Rattle.jls_marker.proofs.Beginning.{known_there, indices_there, indices_below, bytes_below, params_known, bad_params, samples, too_large, too_many, begins, ok_scan}
+use Rattle.jls_marker.proofs.Beginning.{known_there, indices_there, indices_below, bytes_below, params_known, bad_params, samples}
+use Rattle.jls_marker.proofs.Beginning.{too_large, too_many, begins, ok_scan}
 use Rattle.jls_marker.proofs.headers.begin.Goals as goal
 
 pub returns-in-Err-clause-judged : goal.returns-in-Err-clause-judged

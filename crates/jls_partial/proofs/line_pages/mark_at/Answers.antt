@@ -8,7 +8,8 @@ use Rattle.jls_partial.specs.LineEntries.{MarksLine}
 use Rattle.jls_partial.specs.LineSet.{PictureLines}
 use Rattle.jls_partial.specs.Pages.{Row, page_cmp, page_of, pages_seen}
 use Rattle.jls_partial.specs.Stored.{AddsSource, rows_seen, stored_at}
-use Rattle.jls_partial.proofs.Pages.{rows_there, rows_here, page_written, IsPageWritten, lines_there, lines_missed, page_changes, pages_packed, page_same}
+use Rattle.jls_partial.proofs.Pages.{rows_there, rows_here, page_written, IsPageWritten, lines_there, lines_missed, page_changes}
+use Rattle.jls_partial.proofs.Pages.{pages_packed, page_same}
 use Rattle.jls_partial.proofs.Store.{no_items}
 use Rattle.jls_partial.proofs.StoredLines.{itself}
 use Rattle.jls_partial.proofs.line_pages.mark_at.Goals.{In-Some, After-mark_row}

@@ -12,7 +12,8 @@ use Rattle.jls_partial.specs.Stored.{LineSlots, slots_of_entries, seen_entries, 
 use Rattle.jls_partial.proofs.LineSets.{length_kept}
 use Rattle.jls_partial.proofs.PageRows.{written, set_page, row_missing}
 use Rattle.jls_partial.proofs.Store.{no_items}
-use Rattle.jls_partial.proofs.StoredLines.{updated-map, changes_at, more_packed, lines_found, lines_missing, slots_found, entries_same, ordered_slots, itself}
+use Rattle.jls_partial.proofs.StoredLines.{updated-map, changes_at, more_packed, lines_found, lines_missing, slots_found, entries_same}
+use Rattle.jls_partial.proofs.StoredLines.{ordered_slots, itself}
 use Rattle.jls_partial.proofs.line_pages.mark_row.Goals as goal
 
 pub mark-requires-clause-slots : goal.mark-requires-clause-slots

@@ -12,7 +12,8 @@ use Rattle.jls_partial.specs.LineEntries.{PutsLine}
 use Rattle.jls_partial.specs.LineSet.{PictureLines}
 use Rattle.jls_partial.specs.Pages.{Row, page_cmp, page_of, pages_seen}
 use Rattle.jls_partial.specs.Stored.{TakesLine, holds_line, rows_seen, stored_at}
-use Rattle.jls_partial.proofs.Pages.{rows_there, rows_here, page_written, IsPageWritten, lines_there, lines_missed, page_changes, pages_packed, page_same}
+use Rattle.jls_partial.proofs.Pages.{rows_there, rows_here, page_written, IsPageWritten, lines_there, lines_missed, page_changes}
+use Rattle.jls_partial.proofs.Pages.{pages_packed, page_same}
 use Rattle.jls_partial.proofs.line_pages.take_at.Goals.{In-Some, In-None, After-take_row}
 use Rattle.jls_partial.proofs.line_pages.take_at.Goals as goal
 

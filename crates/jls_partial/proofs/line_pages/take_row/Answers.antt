@@ -14,7 +14,8 @@ use Rattle.jls_partial.specs.Pages.{Row, page_of, IsPage}
 use Rattle.jls_partial.specs.LinePlace.{place_cmp}
 use Rattle.jls_partial.specs.Stored.{LineSlots, slots_of_entries, seen_entries, rows_seen, stored_at, holds_line, lines_in, AreSlotsPacked}
 use Rattle.jls_partial.proofs.PageRows.{IsWritten, written, set_page, row_missing, insert_updates, insert_page}
-use Rattle.jls_partial.proofs.StoredLines.{Updated, IsFirst, first_line, updated-map, changes_at, puts_line, more_packed, still_packed, all_stay, lines_found, lines_missing, slots_found, entries_same, ordered_slots}
+use Rattle.jls_partial.proofs.StoredLines.{Updated, IsFirst, first_line, updated-map, changes_at, puts_line, more_packed, still_packed}
+use Rattle.jls_partial.proofs.StoredLines.{all_stay, lines_found, lines_missing, slots_found, entries_same, ordered_slots}
 use Rattle.jls_partial.proofs.line_pages.take_row.Goals.{After-index_mut, In-Err, After-append}
 use Rattle.jls_partial.proofs.line_pages.take_row.Goals as goal
 

@@ -1,4 +1,5 @@
-use Rattle.std.proofs.Common.{◌∷◌, [], ◌++◌, ◌<◌, length, map, take, drop, get_or, List, ℕ, ap, sym, subst, refl, ◌∙◌, ◌+◌, arith, Option, Some}
+use Rattle.std.proofs.Common.{◌∷◌, [], ◌++◌, ◌<◌, length, map, take, drop, get_or, List, ℕ, ap, sym, subst, refl, ◌∙◌, ◌+◌, arith, Option}
+use Rattle.std.proofs.Common.{Some}
 use Rattle.std.proofs.lemmas.Result.{err_from_is_err_and}
 use Rattle.std.specs.Prelude.{◌&&◌}
 use Rattle.std.specs.Borrow.{Bor}

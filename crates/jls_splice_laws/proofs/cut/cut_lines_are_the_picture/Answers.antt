@@ -1,4 +1,5 @@
-use Rattle.jls_splice_laws.proofs.CutFiles.{cut_lines_are_the_picture, cuts_are_held, sought_files_begin_with_the_cut, whole_files_begin_with_their_lines}
+use Rattle.jls_splice_laws.proofs.CutFiles.{cut_lines_are_the_picture, cuts_are_held, sought_files_begin_with_the_cut}
+use Rattle.jls_splice_laws.proofs.CutFiles.{whole_files_begin_with_their_lines}
 use Rattle.jls_splice_laws.proofs.cut.cut_lines_are_the_picture.Goals as goal
 
 pub returns-clause-begins : goal.returns-clause-begins

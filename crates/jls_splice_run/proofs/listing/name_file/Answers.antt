@@ -6,7 +6,8 @@ use Rattle.jls_splice_run.specs.Listing.{AreNamed, NamedFile, is_named, left_out
 use Rattle.jls_splice_run.specs.declared.listing.NumberedFile.{NumberedFile}
 use Rattle.jls_splice_run.proofs.MakingLemmas.{length-map}
 use Rattle.jls_splice_run.proofs.Named.{named_with}
-use Rattle.jls_splice_run.proofs.listing.name_file.Goals.{then-len-ge-MOST_NAMED-via-then-len-ge-MOST_NAMED, then-len-ge-MOST_NAMED-via-else-len-ge-MOST_NAMED+then-has_name}
+use Rattle.jls_splice_run.proofs.listing.name_file.Goals.{then-len-ge-MOST_NAMED-via-then-len-ge-MOST_NAMED}
+use Rattle.jls_splice_run.proofs.listing.name_file.Goals.{then-len-ge-MOST_NAMED-via-else-len-ge-MOST_NAMED+then-has_name}
 use Rattle.jls_splice_run.proofs.listing.name_file.Goals as goal
 
 -- as many names as the code has

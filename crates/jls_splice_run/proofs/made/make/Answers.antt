@@ -13,7 +13,8 @@ use Rattle.jls_search.specs.Search.{files_of, lists_of}
 use Rattle.jls_search.specs.Found.{IsFound, IsGroupSearch, found_of, splices_in}
 use Rattle.jls_splice_run.specs.Telling.{HasSearched, ReportedUpTo}
 use Rattle.jls_splice_run.specs.Copies.{bytes_read}
-use Rattle.jls_splice_run.specs.Making.{AreTextsOf, CantMake, FindsNoCut, HoldsMade, IsCounted, IsCut, IsPictureOf, IsUnsettled, IsWantOfMemory, cut_file, files_taken, made_of, search_of}
+use Rattle.jls_splice_run.specs.Making.{AreTextsOf, CantMake, FindsNoCut, HoldsMade, IsCounted, IsCut, IsPictureOf, IsUnsettled}
+use Rattle.jls_splice_run.specs.Making.{IsWantOfMemory, cut_file, files_taken, made_of, search_of}
 use Rattle.jls_splice_run.specs.Listing.{AreNamedAsked, named_files}
 use Rattle.jls_splice_run.specs.Single.{IsSingleAsked}
 use Rattle.jls_splice_run.specs.Tasks.{task_of}

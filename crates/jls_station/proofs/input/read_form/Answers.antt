@@ -10,7 +10,8 @@ use Rattle.jls_station.specs.declared.input.ReadStop.TheVariants.{Whole, Failed}
 use Rattle.jls_station.specs.declared.input.InputFault.TheVariants as fault
 use Rattle.jls_station.proofs.Mapped.{error_at, value_at}
 use Rattle.jls_station.proofs.KnownInputs.{none_read, empty_refused, text_counted}
-use Rattle.jls_station.proofs.OneInput.{nothing_read, one_read_more, read_to_end, read_to_failure, refused_for, empty_gives_none, empty_goes_on}
+use Rattle.jls_station.proofs.OneInput.{nothing_read, one_read_more, read_to_end, read_to_failure, refused_for, empty_gives_none}
+use Rattle.jls_station.proofs.OneInput.{empty_goes_on}
 use Rattle.jls_station.proofs.input.read_form.Given.{Over}
 use Rattle.jls_station.proofs.input.read_form.Goals.{After-prefix-first}
 use Rattle.jls_station.proofs.input.read_form.Goals as goal

@@ -3,7 +3,8 @@ use Rattle.jls_bits.specs.Bits.{bits}
 use Rattle.jls_bits.specs.Chunk.{NoShortPrefix}
 use Rattle.jls_bits.proofs.ChunkBits.{short_prefix, one_of_64, below_place, no_one, no_short}
 use Rattle.jls_bits.proofs.chunk.Chunk.take_short.Goals as goal
-use Rattle.jls_bits.proofs.chunk.Chunk.take_short.Goals.{then-limit-zeros-via-then-limit-zeros, then-limit-zeros-via-else-limit-zeros+then-first-k}
+use Rattle.jls_bits.proofs.chunk.Chunk.take_short.Goals.{then-limit-zeros-via-then-limit-zeros}
+use Rattle.jls_bits.proofs.chunk.Chunk.take_short.Goals.{then-limit-zeros-via-else-limit-zeros+then-first-k}
 
 pub overflow_sub-zeros : goal.overflow_sub-zeros
 overflow_sub-zeros c = let l = below_place c.self.inside.count c.ilog2-first.result c.self.inside.value c.ilog2-first.ensures.power_le c.self.invariant.1 in omega (arith, l)

@@ -1,7 +1,8 @@
 use Rattle.std.proofs.Common.{ℕ, inl, inr, arith}
 use Rattle.jls_bits.proofs.ChunkSteps.{zeros_left, one_left}
 use Rattle.jls_bits.proofs.code_state.CodeState.of_short.Goals as goal
-use Rattle.jls_bits.proofs.code_state.CodeState.of_short.Goals.{else-quotient-escape-via-then-quotient-escape+else-count-k, else-quotient-escape-via-else-quotient-escape}
+use Rattle.jls_bits.proofs.code_state.CodeState.of_short.Goals.{else-quotient-escape-via-then-quotient-escape+else-count-k}
+use Rattle.jls_bits.proofs.code_state.CodeState.of_short.Goals.{else-quotient-escape-via-else-quotient-escape}
 
 pub returns-else-len-escape-clause-none : goal.returns-else-len-escape-clause-none
 returns-else-len-escape-clause-none c =

@@ -4,7 +4,8 @@ use Rattle.jls_bits.specs.Packing.{bits_put}
 use Rattle.jls_bits.proofs.DataBits.{width_bounds}
 use Rattle.jls_bits.proofs.Padding.{finish_partial, finish_stuffed, finish_whole}
 use Rattle.jls_bits.proofs.packing.Packing.padded.Goals as goal
-use Rattle.jls_bits.proofs.packing.Packing.padded.Goals.{then-count-gt0+in_ok-push, else-count-gt0+then-last+in_ok-push-2, else-count-gt0+else-last}
+use Rattle.jls_bits.proofs.packing.Packing.padded.Goals.{then-count-gt0+in_ok-push, else-count-gt0+then-last+in_ok-push-2}
+use Rattle.jls_bits.proofs.packing.Packing.padded.Goals.{else-count-gt0+else-last}
 
 pub overflow_cast-partial : goal.overflow_cast-partial
 overflow_cast-partial c =

@@ -7,7 +7,8 @@ use Rattle.jls_interval.specs.LineSamples.{TakesInLine}
 use Rattle.jls_interval.specs.declared.interval_reader.IntervalReader.{IntervalReader}
 use Rattle.jls_interval.specs.declared.interval_reader.State.TheVariants.{Working}
 use Rattle.jls_interval.specs.declared.line_reader.LineReader.{LineReader}
-use Rattle.jls_interval.proofs.IntervalReading.{items, working, samples_taken, shape_none, shape_then, taking_none, taking_then, taking_more, taking_all, taking_shorter, taking_fewer}
+use Rattle.jls_interval.proofs.IntervalReading.{items, working, samples_taken, shape_none, shape_then, taking_none, taking_then}
+use Rattle.jls_interval.proofs.IntervalReading.{taking_more, taking_all, taking_shorter, taking_fewer}
 use Rattle.jls_interval.proofs.interval_reader.IntervalReader.push_chunk.Goals as goal
 
 -- samples that were taken into the line in work, of which this is the place, after the bits taken before

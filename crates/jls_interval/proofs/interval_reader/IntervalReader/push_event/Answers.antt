@@ -1,4 +1,5 @@
-use Rattle.std.proofs.Common.{◌≡◌, ℕ, ◌+◌, ◌%◌, ◌^◌, ◌<◌, ◌≤◌, List, Bool, Vec, Global, length, [], ◌∷◌, ◌++◌, refl, sym, ap, ◌∙◌, subst, arith}
+use Rattle.std.proofs.Common.{◌≡◌, ℕ, ◌+◌, ◌%◌, ◌^◌, ◌<◌, ◌≤◌, List, Bool, Vec, Global, length, [], ◌∷◌, ◌++◌, refl, sym, ap, ◌∙◌, subst}
+use Rattle.std.proofs.Common.{arith}
 use Rattle.std.proofs.lemmas.List.{length-map, length-append, map-append}
 use Rattle.jls_values.specs.Params.{CodingParameters, AreCodingParameters}
 use Rattle.jls_interval.specs.Events.{Event, Above, above}
@@ -13,7 +14,8 @@ use Rattle.jls_interval.specs.declared.interval_reader.State.{State}
 use Rattle.jls_interval.specs.declared.interval_reader.State.TheVariants.{Working, Complete, NoCode}
 use Rattle.jls_interval.specs.declared.interval_reader.IntervalReader.{IntervalReader}
 use Rattle.jls_interval.proofs.Decoding.{working_takes, working_on, working_line, working_over}
-use Rattle.jls_interval.proofs.IntervalReading.{items, wide_same, wide_more, line_fits, state_same, working, in_range, more_state, more_same, refused_same, refused_state, moved_taken}
+use Rattle.jls_interval.proofs.IntervalReading.{items, wide_same, wide_more, line_fits, state_same, working, in_range, more_state}
+use Rattle.jls_interval.proofs.IntervalReading.{more_same, refused_same, refused_state, moved_taken}
 use Rattle.jls_interval.proofs.interval_reader.IntervalReader.push_event.Goals as goal
 
 -- what a step says of the line in work, whose place this is

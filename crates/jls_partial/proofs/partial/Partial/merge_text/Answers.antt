@@ -8,7 +8,8 @@ use Rattle.jls_partial.specs.Partial.{union}
 use Rattle.jls_partial.specs.TextPrefix.{text_prefix}
 use Rattle.jls_partial.proofs.SameEntries.{shapes_differ, shapes_from_test}
 use Rattle.jls_partial.proofs.TextPrefixes.{on_error, nothing_taken}
-use Rattle.jls_partial.proofs.TextMerges.{head_fault, fault_after, fault_merged, differs, merged, prefix_merged, text_between, no_other_head}
+use Rattle.jls_partial.proofs.TextMerges.{head_fault, fault_after, fault_merged, differs, merged, prefix_merged, text_between}
+use Rattle.jls_partial.proofs.TextMerges.{no_other_head}
 use Rattle.jls_partial.proofs.partial.Partial.merge_text.Goals as goal
 
 pub returns-in_err-head-clause-refused : goal.returns-in_err-head-clause-refused

@@ -1,6 +1,7 @@
 use Rattle.std.proofs.Common.{arith, length-append}
 use Rattle.jls_partial.proofs.slots.Tree.+add_sources.Goals as goal
-use Rattle.jls_partial.proofs.slots.Tree.+add_sources.Goals.{then-at-before, else-at-before+then-at-before-2, else-at-before+else-at-before-2}
+use Rattle.jls_partial.proofs.slots.Tree.+add_sources.Goals.{then-at-before, else-at-before+then-at-before-2}
+use Rattle.jls_partial.proofs.slots.Tree.+add_sources.Goals.{else-at-before+else-at-before-2}
 
 pub invariant_of-self : goal.invariant_of-self
 invariant_of-self t c =
