@@ -1,4 +1,4 @@
--- Lines in a list of vectors.
+-- Lines in a list of slices.
 use Rattle.std.proofs.Common.{ℕ, zero, suc, ◌<◌, List, [], ◌∷◌, length, get_or, map, arith}
 use Rattle.std.specs.List.{AllByRecursion}
 

@@ -17,12 +17,12 @@ use jls_values::Params;
 use std::alloc::{AllocError, Global};
 
 /// Line j, or an empty one where there is none.
-fn line_at(lines: &[Vec<u16>], j: usize) -> &[u16]
-    ensures { result.now ≡ get_or (map (λ v. v.items) lines.now) j [] }
+fn line_at<'a>(lines: &[&'a [u16]], j: usize) -> &'a [u16]
+    ensures { result.now ≡ get_or (map (λ l. l.now) lines.now) j [] }
 {
     match lines.get(j) {
         None => &[],
-        Some(line) => line.as_slice(),
+        Some(line) => line,
     }
 }
 
@@ -31,12 +31,12 @@ fn write_lines(
     encoder: &mut Encoder,
     width: u16,
     components: u8,
-    lines: &[Vec<u16>],
+    lines: &[&[u16]],
 ) -> Result<(), AllocError>
-    requires lines { FitsInterval encoder.old.coder.cells.parameters width components (map (λ v. v.items) lines.now) }
+    requires lines { FitsInterval encoder.old.coder.cells.parameters width components (map (λ l. l.now) lines.now) }
     requires start { AreWritten encoder.old.coder.cells.parameters width components (map
-        (λ v. v.items) lines.now) 0 (written_by encoder.old) }
-    ensures { OnOk result (encoder.new.writer ≡ code encoder.old.coder.cells.parameters width components (map (λ v. v.items) lines.now)) }
+        (λ l. l.now) lines.now) 0 (written_by encoder.old) }
+    ensures { OnOk result (encoder.new.writer ≡ code encoder.old.coder.cells.parameters width components (map (λ l. l.now) lines.now)) }
 {
     for j in 0..lines.len() {
         let place = Place::after(&lines[..j], usize::from(components));
@@ -53,11 +53,11 @@ pub fn encode_interval(
     params: &Params,
     width: u16,
     components: u8,
-    lines: &[Vec<u16>],
+    lines: &[&[u16]],
 ) -> Result<Vec<u8>, AllocError>
-    requires { FitsInterval params.now width components (map (λ v. v.items) lines.now) }
-    ensures packed { IfOk result (λ bytes. bytes.items ≡ packed params.now width components (map (λ v. v.items) lines.now)) }
-    ensures pad { IfOk result (λ bytes. IsPad (code params.now width components (map (λ v. v.items) lines.now)) bytes.items) }
+    requires { FitsInterval params.now width components (map (λ l. l.now) lines.now) }
+    ensures packed { IfOk result (λ bytes. bytes.items ≡ packed params.now width components (map (λ l. l.now) lines.now)) }
+    ensures pad { IfOk result (λ bytes. IsPad (code params.now width components (map (λ l. l.now) lines.now)) bytes.items) }
 {
     let mut encoder = Encoder {
         writer: BitWriter::new(alloc),

@@ -13,11 +13,11 @@ fn is_line(params: &Params, width: u16, line: &[u16]) -> bool
     line.len() == usize::from(width) && line.iter().all(|&sample| sample <= params.maxval())
 }
 
-fn are_lines(params: &Params, width: u16, lines: &[Vec<u16>]) -> bool
-    ensures { IsTrue result ↔ AllByRecursion (IsLine params.now width) (map (λ v. v.items) lines.now) }
+fn are_lines(params: &Params, width: u16, lines: &[&[u16]]) -> bool
+    ensures { IsTrue result ↔ AllByRecursion (IsLine params.now width) (map (λ l. l.now) lines.now) }
 {
     for line in lines {
-        if !is_line(params, width, line.as_slice()) {
+        if !is_line(params, width, line) {
             return false;
         }
     }
@@ -27,8 +27,8 @@ fn are_lines(params: &Params, width: u16, lines: &[Vec<u16>]) -> bool
 /// Whether these lines can be written as one interval. They stand row by row, and in a row by component (ITU-T T.87, B.2). The width is
 /// that of a line in samples. It is so where the width is at least 1, there are 1 to 4 components, and the lines are a positive multiple
 /// of that. Each line has `width` samples of at most MAXVAL. There are at most 2^28 samples in all, which is this profile's bound.
-pub fn fits(params: &Params, width: u16, components: u8, lines: &[Vec<u16>]) -> bool
-    ensures { IsTrue result ↔ FitsInterval params.now width components (map (λ v. v.items) lines.now) }
+pub fn fits(params: &Params, width: u16, components: u8, lines: &[&[u16]]) -> bool
+    ensures { IsTrue result ↔ FitsInterval params.now width components (map (λ l. l.now) lines.now) }
 {
     width >= 1
         && (1..=4).contains(&components)

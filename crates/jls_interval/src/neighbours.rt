@@ -4,6 +4,7 @@ ghost use Rattle.std.specs.Prelude.{◌≡◌, ◌<◌, get_or, map};
 ghost use Rattle.jls_interval.specs.Events.{line_back};
 
 use jls_context::Neighbours;
+use std::convert::AsSlice;
 
 /// The sample in a column. Where the line isn't there, or ends before, it is 0.
 pub(crate) fn sample_at(line: &[u16], x: usize) -> u16
@@ -45,8 +46,8 @@ pub(crate) fn neighbours_at(
 }
 
 /// The line so many places before the end of these lines, or none.
-pub(crate) fn line_back(lines: &[Vec<u16>], back: usize) -> &[u16]
-    ensures { result.now ≡ line_back (map (λ v. v.items) lines.now) back }
+pub(crate) fn line_back<L: AsSlice<u16>>(lines: &[L], back: usize) -> &[u16]
+    ensures { result.now ≡ line_back (map L.items lines.now) back }
 {
     if lines.len() < back {
         return &[];

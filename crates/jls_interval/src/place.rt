@@ -5,6 +5,7 @@ ghost use Rattle.jls_interval.specs.Events.{above, neighbours};
 
 use crate::neighbours::{line_back, neighbours_at, sample_at};
 use jls_context::Neighbours;
+use std::convert::AsSlice;
 
 /// Where a line stands in its interval: its component, and the two lines of the component above it. One
 /// that isn't there is empty.
@@ -20,11 +21,11 @@ impl<'a> Place<'a> {
     ghost use Rattle.jls_interval.specs.Place.{above_of};
 
     /// The place of the line that follows these lines, where so many components take turns.
-    pub(crate) fn after(lines: &'a [Vec<u16>], components: usize) -> Place<'a>
+    pub(crate) fn after<L: AsSlice<u16>>(lines: &'a [L], components: usize) -> Place<'a>
         requires at_least { 1 ≤ components }
         requires at_most { components ≤ 4 }
         ensures component { result.component ≡ length lines.now % components }
-        ensures above { above_of result ≡ above components (map (λ v. v.items) lines.now) }
+        ensures above { above_of result ≡ above components (map L.items lines.now) }
     {
         Place {
             component: if components == 1 {

@@ -1,4 +1,4 @@
-use Rattle.std.proofs.Common.{◌≡◌, ℕ, Bool, List, Vec, Global, map, sym, ap, subst, ◌∙◌}
+use Rattle.std.proofs.Common.{◌≡◌, ℕ, Bool, List, Vec, Global, Bor, map, sym, ap, subst, ◌∙◌}
 use Rattle.std.proofs.lemmas.Result.{IfOk-weaker}
 use Rattle.jls_values.specs.Params.{CodingParameters}
 use Rattle.jls_bits.specs.Pad.{IsPad, pad}
@@ -9,8 +9,8 @@ use Rattle.jls_interval.specs.Encoding.{AreWritten}
 use Rattle.jls_interval.proofs.EncodedLines.{written_start}
 use Rattle.jls_interval.proofs.encode.encode_interval.Goals as goal
 
-abbrev items : List (Vec ℕ Global) → List (List ℕ)
-items vs = map (λ v. v.items) vs
+abbrev items : List (Bor (List ℕ)) → List (List ℕ)
+items lines = map (λ l. l.now) lines
 
 pub write_lines-requires-clause-start : goal.write_lines-requires-clause-start
 write_lines-requires-clause-start c =
