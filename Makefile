@@ -79,11 +79,11 @@ $(addprefix $(BUILD)/,$(COMMANDS) $(MODULES)): $(BUILD)/%: commands/%
 	cp -p $< $@
 
 proved:
-	interop/prove $(NAMES)
-	interop/dist
+	checks/prove $(NAMES)
+	checks/dist
 
 renew:
-	interop/renew
+	checks/renew
 
 test:
 	./test
@@ -117,13 +117,13 @@ VERSION = $(shell sed -n 's/.*const VERSION: &str = "\([0-9.]*\).*/\1/p' crates/
 
 # Whether dist/ is made of the sources that are here
 current:
-	interop/dist --current
+	checks/dist --current
 
 dist: current
-	interop/pack archive $(VERSION) $(PROCESSORS)
+	checks/pack archive $(VERSION) $(PROCESSORS)
 
 deb: current
-	interop/pack deb $(VERSION) $(PROCESSORS)
+	checks/pack deb $(VERSION) $(PROCESSORS)
 
 # What is given out is made of a commit, and CHANGELOG.md has its version
 release:

@@ -1,5 +1,5 @@
 //! Tests of calls that can want memory: what each promises where one growth is refused. Each test says which refusals it met;
-//! `interop/growth` runs it as often as it has growths, and refuses another one each time. They stand apart, so that the crates below
+//! `tests/growth` runs it as often as it has growths, and refuses another one each time. They stand apart, so that the crates below
 //! are proved once, without them.
 //!
 //! - `met`: the refusals that a test met, counted

@@ -13,7 +13,7 @@
 //! Not proved:
 //!
 //! - What `HostFiles` and `Output` do with files. No contract says what file a name has after a call. `output.rt` shows that OUT is whole
-//!   or not at all. `jls_program_tests` and `interop/faults` test it.
+//!   or not at all. `jls_program_tests` and `tests/faults` test it.
 #![tactic(auto)]
 
 mod choice;
