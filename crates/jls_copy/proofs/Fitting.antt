@@ -111,10 +111,3 @@ lines_fit shape s k n lines ok of_shape within few are = record {
       omega (arith, count, few, all, parts, same);
   each = line_fits shape s.params s.width lines ok.params of_shape.precision of_shape.width are.each;
 }
-
--- what is left of a list, of which each member is seen by f
-pub seen_drop : {A B : Type 0} (f : A → B) (xs : List A) (i : ℕ) (x : A) → x ≡ get_or xs i x → i < length xs
-    → map f (drop i xs) ≡ f x ∷ map f (drop (i + 1) xs)
-seen_drop f xs i x is within =
-    let next : i + 1 ≡ suc i = omega arith in
-    ap (map f) (drop-cons xs i x within) ∙ rw next (ap (λ y. f y ∷ map f (drop (suc i) xs)) (sym is))

@@ -50,21 +50,21 @@ fn take_line(partial: &mut Partial, component: u8, row: u16, line: &[u16]) -> Re
     }
 }
 
-/// Takes the lines of an interval whose first row this is.
+/// Takes the lines of an interval whose first row this is. The memory of each is given back once it is taken.
 fn take_lines(
     partial: &mut Partial,
     components: &[u8],
     first_row: u16,
-    lines: &[Vec<u16>],
+    lines: Vec<Vec<u16>>,
 ) -> Result<(), AllocError>
-    requires { FitFrom partial.old.shape components.now first_row 0 (map (λ line. line.items) lines.now) }
+    requires { FitFrom partial.old.shape components.now first_row 0 (map (λ line. line.items) lines.items) }
     ensures { OnOk result (partial.new
-        ≡ with_readings partial.old (placed components.now first_row 0 (map (λ line. line.items) lines.now))) }
+        ≡ with_readings partial.old (placed components.now first_row 0 (map (λ line. line.items) lines.items))) }
 {
     let mut row = first_row;
     let mut place = 0;
     for line in lines {
-        take_line(partial, components[place], row, line)?;
+        take_line(partial, components[place], row, &line)?;
         place += 1;
         if place == components.len() {
             place = 0;
@@ -125,15 +125,15 @@ impl Findings {
         shape: &Shape,
         plan: &ScanPlan,
         interval: u32,
-        lines: &[Vec<u16>],
+        lines: Vec<Vec<u16>>,
     ) -> Result<(), AllocError>
         requires interval { interval < intervals plan.now }
         requires scan { IsScanOf shape.now plan.now }
         requires lines { (count : ℕ) × (count ≤ row_count plan.now interval * length plan.now.components)
-            × AreLines plan.now.params plan.now.width count (map (λ line. line.items) lines.now) }
+            × AreLines plan.now.params plan.now.width count (map (λ line. line.items) lines.items) }
         requires held { HoldsShape self.old.partial shape.now }
         ensures picture { OnOk result (self.new.partial ≡ Some (with_readings (picture_of shape.now self.old.partial)
-            (placed plan.now.components (first_row plan.now interval) 0 (map (λ line. line.items) lines.now)))) }
+            (placed plan.now.components (first_row plan.now interval) 0 (map (λ line. line.items) lines.items)))) }
         ensures records { OnOk result (self.new.records.items ≡ self.old.records.items) }
         ensures count { OnOk result (self.new.record_count ≡ self.old.record_count) }
     {
@@ -174,7 +174,7 @@ impl Findings {
                 kind: PieceKind::Beyond,
             }),
             OpenPiece::Within(interval, decoder) => match decoder.finish() {
-                Ok(lines) => self.take(alloc, shape, plan, interval, &lines),
+                Ok(lines) => self.take(alloc, shape, plan, interval, lines),
                 Err(PieceFault::Long) => self.note(PieceRecord {
                     scan,
                     interval,
@@ -198,17 +198,17 @@ impl Findings {
         alloc: Global,
         shape: &Shape,
         plan: &ScanPlan,
-        head: &[Vec<u16>],
+        head: Vec<Vec<u16>>,
         entry: PieceRecord,
     ) -> Result<(), AllocError>
         requires count { self.old.record_count < 2 ^ 63 }
         requires interval { entry.interval < intervals plan.now }
         requires scan { IsScanOf shape.now plan.now }
         requires lines { (count : ℕ) × (count ≤ row_count plan.now entry.interval * length plan.now.components)
-            × AreLines plan.now.params plan.now.width count (map (λ line. line.items) head.now) }
+            × AreLines plan.now.params plan.now.width count (map (λ line. line.items) head.items) }
         requires held { HoldsShape self.old.partial shape.now }
         ensures picture { OnOk result (self.new.partial ≡ Some (with_readings (picture_of shape.now self.old.partial)
-            (placed plan.now.components (first_row plan.now entry.interval) 0 (map (λ line. line.items) head.now)))) }
+            (placed plan.now.components (first_row plan.now entry.interval) 0 (map (λ line. line.items) head.items)))) }
         ensures records { OnOk result (self.new.records.items ≡ kept_with self.old.records.items (entry ∷ [])) }
         ensures count { OnOk result (self.new.record_count ≡ self.old.record_count + 1) }
     {
@@ -244,7 +244,7 @@ impl Findings {
                 kind: PieceKind::Beyond,
             }),
             OpenPiece::Within(interval, decoder) => match decoder.finish_cut()? {
-                CutEnd::Whole(lines) => self.take(alloc, shape, plan, interval, &lines),
+                CutEnd::Whole(lines) => self.take(alloc, shape, plan, interval, lines),
                 CutEnd::Head(head, fault) => {
                     let entry = PieceRecord {
                         scan,
@@ -252,7 +252,7 @@ impl Findings {
                         offset,
                         kind: kind_of(fault),
                     };
-                    self.take_head(alloc, shape, plan, &head, entry)
+                    self.take_head(alloc, shape, plan, head, entry)
                 }
             },
         }

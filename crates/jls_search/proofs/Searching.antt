@@ -5,7 +5,7 @@ use Rattle.std.specs.Prelude.{get_or, IfOk, MatchBool}
 use Rattle.std.specs.List.{AllByRecursion, Contains}
 use Rattle.std.specs.declared.alloc.AllocError.{AllocError}
 use Rattle.std.proofs.lemmas.List.Elements.{Contains-append_left, Contains-append_right}
-use Rattle.std.specs.Cmp.Lexicographic.{pointwise, reported_text}
+use Rattle.std.specs.Cmp.Lexicographic.{pointwise, told_text}
 use Rattle.jls_diff.specs.Parts.{Part, Same, Differ, way, HasWays, IsSplice}
 use Rattle.jls_search.specs.Choices.{IsFirstWay, IsPrefix, IsPath, IsWhole, prefix_of}
 use Rattle.jls_search.specs.Order.{IsToCome, IsLater}
@@ -20,7 +20,7 @@ reported true h = inl h
 reported false h = inr h
 
 same : (a b : List ℕ) → (a ≡ b) ⊎ (a ≡ b → ⊥)
-same a b = reported (pointwise nat_eq a b) (reported_text a b (pointwise nat_eq a b) refl)
+same a b = reported (pointwise nat_eq a b) (told_text a b (pointwise nat_eq a b) refl)
 
 none_more : (ways : List (List ℕ)) (x : List ℕ) (n : ℕ) → ((i : ℕ) → i < n → get_or ways i [] ≡ x → ⊥) → (get_or ways n [] ≡ x → ⊥)
     → (i : ℕ) → i < suc n → get_or ways i [] ≡ x → ⊥

@@ -4,7 +4,7 @@ use Rattle.std.proofs.Common.{subst, arith, ◌⊎◌, inl, inr, nat_eq}
 use Rattle.std.specs.Prelude.{get_or, MatchBool}
 use Rattle.std.specs.List.{list_any, AllByRecursion, Contains}
 use Rattle.std.specs.Ordering.{eq_by_cmp}
-use Rattle.std.specs.Cmp.Lexicographic.{pointwise, reported_text}
+use Rattle.std.specs.Cmp.Lexicographic.{pointwise, told_text}
 use Rattle.std.proofs.lemmas.List.Elements.{Contains-append_right}
 use Rattle.jls_values.specs.OrderedSet as set
 use Rattle.jls_partial.specs.Partial.{readings_at}
@@ -39,7 +39,7 @@ reported true h = inl h
 reported false h = inr h
 
 same_or_other : (a b : List ℕ) → (a ≡ b) ⊎ (a ≡ b → ⊥)
-same_or_other a b = reported (pointwise nat_eq a b) (reported_text a b (pointwise nat_eq a b) refl)
+same_or_other a b = reported (pointwise nat_eq a b) (told_text a b (pointwise nat_eq a b) refl)
 
 -- the first way with these bytes
 record FirstWith (ways : List (List ℕ)) (bytes : List ℕ) : Type 0 where

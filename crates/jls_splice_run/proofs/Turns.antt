@@ -159,11 +159,6 @@ one_before most tells s a b within one (xs, done, last, is, all, reported, some)
   some,
 )
 
-pub turned_before : (parts : List Part) (options : SearchOptions) (limits : List ℕ) (turned : Turned) (events : List Event)
-    → HasTurned parts options limits turned events → ReportedUpTo options.tries options.tells events
-turned_before parts options limits turned events h =
-    all_before options.tries options.tells h.searches events (went_within parts options.tries limits h.searches h.through) h.reported
-
 -- a search in turn has no more tries than are allowed
 few_reported : (fewer most : ℕ) (tells : Bool) (events : List Event) → fewer ≤ most → ReportedSome fewer tells events → ReportedSome most tells events
 few_reported fewer most tells events less (tries, files, within, reported) = (tries, files, omega (arith, less, within), reported)

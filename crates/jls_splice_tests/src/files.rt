@@ -180,32 +180,34 @@ pub(crate) fn file_of(alloc: Global, name: &str) -> Result<Option<Vec<u8>>, Allo
     Ok(Some(file))
 }
 
+/// The picture of `eight`.
+const EIGHT: Picture = Picture {
+    precision: 8,
+    values: 256,
+    width: 24,
+    height: 20,
+    components: 1,
+    begin: 1,
+    lines: 20,
+};
+
 fn picture_of(name: &str) -> Option<Picture> {
-    let eight = Picture {
-        precision: 8,
-        values: 256,
-        width: 24,
-        height: 20,
-        components: 1,
-        begin: 1,
-        lines: 20,
-    };
     match name {
-        "eight" | "comment" => Some(eight),
+        "eight" | "comment" => Some(EIGHT),
         "sixteen" => Some(Picture {
             precision: 16,
             values: 65_536,
             width: 16,
             height: 14,
             begin: 2,
-            ..eight
+            ..EIGHT
         }),
         "deep" => Some(Picture {
             precision: 16,
             width: 16,
             height: 14,
             begin: 4,
-            ..eight
+            ..EIGHT
         }),
         "scans" => Some(Picture {
             width: 8,
@@ -213,14 +215,14 @@ fn picture_of(name: &str) -> Option<Picture> {
             components: 3,
             begin: 3,
             lines: 8,
-            ..eight
+            ..EIGHT
         }),
         "restarts" => Some(Picture {
             width: 8,
             height: 12,
             begin: 10,
             lines: 4,
-            ..eight
+            ..EIGHT
         }),
         _ => None,
     }

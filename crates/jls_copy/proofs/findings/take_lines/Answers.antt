@@ -1,19 +1,19 @@
-use Rattle.std.proofs.Common.{ap, ◌∙◌, subst, arith}
+use Rattle.std.proofs.Common.{map, ap, ◌∙◌, subst, arith}
 use Rattle.std.proofs.lemmas.Bool.Decides.{nat_tests}
 use Rattle.jls_copy.specs.Fits.{FitFrom}
-use Rattle.jls_copy.proofs.Fitting.{seen_drop, takes_here, fit_beside, fit_below}
+use Rattle.jls_copy.proofs.Fitting.{takes_here, fit_beside, fit_below}
 use Rattle.jls_copy.proofs.findings.take_lines.Goals as goal
 use Rattle.jls_copy.proofs.findings.take_lines.Goals.{then-place-components, else-place-components}
 
 pub take_line-requires : goal.take_line-requires
 take_line-requires c =
-    let here = seen_drop (λ line. line.items) c.args.lines.now c.loop-line.line-index c.line-item.result c.line-item.is c.loop-line-test.true in
+    let here = ap (map (λ line. line.items)) c.in-Some.ensures.steps.0 in
     let fit = subst (FitFrom c.loop-line.partial.shape c.args.components.now c.loop-line.row c.loop-line.place) here c.loop-line.invariant.fit in
     rw c.deref.ensures.value (takes_here _ _ _ _ _ _ fit)
 
 pub loop-line-preserved : goal.loop-line-preserved
 loop-line-preserved c =
-    let here = seen_drop (λ line. line.items) c.args.lines.now c.loop-line.line-index c.line-item.result c.line-item.is c.loop-line-test.true in
+    let here = ap (map (λ line. line.items)) c.in-Some.ensures.steps.0 in
     let fit = subst (FitFrom c.loop-line.partial.shape c.args.components.now c.loop-line.row c.loop-line.place) here c.loop-line.invariant.fit in
     let took = c.in_ok-take_line.ensures in
     let shape = ap (λ p. p.shape) took in

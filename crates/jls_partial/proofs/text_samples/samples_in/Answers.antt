@@ -37,7 +37,7 @@ loop-preserved c =
     let after = c.split_at.result.1.now in
     let long : 2 ≤ length rest = omega (arith, c.loop.invariant.left, c.loop-test.true) in
     let same : samples_text (xs ++ x ∷ []) ++ after ≡ c.args.bytes.now =
-    one_more xs rest c.args.bytes.now c.split_at.result.0.now after x c.loop.invariant.same long c.loop.invariant.bytes c.split_at.ensures.prefix c.split_at.ensures.back c.from_be_bytes.ensures in
+    one_more xs rest c.args.bytes.now c.split_at.result.0.now after x c.loop.invariant.same long c.loop.invariant.bytes c.split_at.ensures.front c.split_at.ensures.back c.from_be_bytes.ensures in
     record {
       room = omega (arith, c.loop.invariant.room, c.loop-test.true, c.push_reserved.ensures.len, c.push_reserved.ensures.capacity);
       read = ap (λ (t : List ℕ). length t) c.push_reserved.ensures.items ∙ omega (arith, length-append xs (x ∷ []), c.loop.invariant.read);

@@ -10,7 +10,7 @@ returns-in-Beyond c =
 pub returns-in-Ok : goal.returns-in-Ok
 returns-in-Ok c =
     on_ok3 c.take.result (lines_add c.args.shape.now c.args.fed.scan c.args.plan.now c.args.fed.offset c.in-Within.interval c.args.self.now c.take.new.self c.in-Within.decoder c.args.fed.piece c.in-Within.is c.requires.sound c.in-Ok.lines c.in-Ok.ensures.outcome)
-    (rw c.deref.ensures.value at c.take.ensures.picture) c.take.ensures.records c.take.ensures.count
+    c.take.ensures.picture c.take.ensures.records c.take.ensures.count
 
 pub returns-in-Err-Long : goal.returns-in-Err-Long
 returns-in-Err-Long c =

@@ -6,7 +6,7 @@ use Rattle.jls_copy.proofs.findings.Findings.close_cut.Goals as goal
 pub take_head-requires-clause-lines : goal.take_head-requires-clause-lines
 take_head-requires-clause-lines c =
     let said = subst (CutFinishes c.in-Within.decoder) c.in-Head.is c.in_ok-lines-in-Within.ensures.cut_end in
-    rw c.deref-in-Head.ensures.value (cut_lines c.args.plan.now c.in-Within.interval c.in-Within.decoder c.args.fed.piece c.in-Within.is c.requires.sound c.in-Head.head c.in-Head.fault said)
+    cut_lines c.args.plan.now c.in-Within.interval c.in-Within.decoder c.args.fed.piece c.in-Within.is c.requires.sound c.in-Head.head c.in-Head.fault said
 
 pub returns-in-Beyond : goal.returns-in-Beyond
 returns-in-Beyond c =
@@ -17,10 +17,10 @@ pub returns-in-Whole : goal.returns-in-Whole
 returns-in-Whole c =
     let said = subst (CutFinishes c.in-Within.decoder) c.in-Whole.is c.in_ok-lines-in-Within.ensures.cut_end in
     on_ok3 c.take.result (whole_adds c.args.plan.now c.in-Within.interval c.in-Within.decoder c.args.fed.piece c.in-Within.is c.requires.sound c.width-width.ensures.ranges c.args.shape.now c.args.fed.scan c.args.fed.offset c.args.self.now c.take.new.self c.in-Whole.lines said)
-    (rw c.deref.ensures.value at c.take.ensures.picture) c.take.ensures.records c.take.ensures.count
+    c.take.ensures.picture c.take.ensures.records c.take.ensures.count
 
 pub returns-in-Head : goal.returns-in-Head
 returns-in-Head c =
     let said = subst (CutFinishes c.in-Within.decoder) c.in-Head.is c.in_ok-lines-in-Within.ensures.cut_end in
     on_ok3 c.take_head.result (head_adds c.args.plan.now c.in-Within.interval c.in-Within.decoder c.args.fed.piece c.in-Within.is c.requires.sound c.width-width.ensures.ranges c.args.shape.now c.args.fed.scan c.args.fed.offset c.args.self.now c.take_head.new.self c.in-Head.head c.in-Head.fault c.kind_of.result said c.kind_of.ensures)
-    (rw c.deref-in-Head.ensures.value at c.take_head.ensures.picture) c.take_head.ensures.records c.take_head.ensures.count
+    c.take_head.ensures.picture c.take_head.ensures.records c.take_head.ensures.count
