@@ -66,15 +66,18 @@ struct Answer {
     body: Vec<u8>,
 }
 
-fn lines_of(alloc: Global, width: u16, body: &[u8]) -> Result<Vec<Vec<u16>>, AllocError> {
-    let mut lines = Vec::new(alloc);
-    let mut line = Vec::new(alloc);
+fn samples_of(alloc: Global, body: &[u8]) -> Result<Vec<u16>, AllocError> {
+    let mut samples = Vec::new(alloc);
     for sample in body.chunks_exact(2) {
-        line.push(u16::from_be_bytes([sample[0], sample[1]]))?;
-        if line.len() >= usize::from(width) {
-            lines.push(line)?;
-            line = Vec::new(alloc);
-        }
+        samples.push(u16::from_be_bytes([sample[0], sample[1]]))?;
+    }
+    Ok(samples)
+}
+
+fn lines_of(alloc: Global, width: u16, samples: &[u16]) -> Result<Vec<&[u16]>, AllocError> {
+    let mut lines = Vec::new(alloc);
+    for line in samples.chunks_exact(usize::from(width.max(1))) {
+        lines.push(line)?;
     }
     Ok(lines)
 }
@@ -99,7 +102,8 @@ fn refusal(alloc: Global) -> Answer {
 
 fn encode(rt: &HostRuntime, asked: &Interval, body: &[u8]) -> io::Result<Answer> {
     let alloc = rt.alloc();
-    let lines = lines_of(alloc, asked.width, body)?;
+    let samples = samples_of(alloc, body)?;
+    let lines = lines_of(alloc, asked.width, &samples)?;
     if !fits(&asked.params, asked.width, asked.components, &lines) {
         return Ok(refusal(alloc));
     }

@@ -67,14 +67,6 @@ fn are_lines(read: &[Vec<u16>], lines: &[&[u16]]) -> bool {
 }
 
 impl Interval {
-    fn lines(&self, alloc: Global) -> Result<Vec<Vec<u16>>, AllocError> {
-        let mut lines = Vec::new(alloc);
-        for line in self.lines {
-            lines.push(line.to_vec(alloc)?)?;
-        }
-        Ok(lines)
-    }
-
     /// A decoder of no byte.
     fn decoder(&self, alloc: Global) -> Result<IntervalDecoder, Stopped> {
         let params = params()?;
@@ -92,15 +84,15 @@ impl Interval {
 
 fn encode_one(rt: &impl Abort, alloc: Global, interval: &Interval) -> Result<Met, Stopped> {
     let params = params()?;
-    let lines = interval.lines(alloc)?;
-    if !fits(&params, interval.width, 1, &lines) {
+    let &Interval { width, lines, .. } = interval;
+    if !fits(&params, width, 1, lines) {
         return Err(Stopped);
     }
     let mut met = Met::Done;
-    let mut bytes = encode_interval(alloc, &params, interval.width, 1, &lines);
+    let mut bytes = encode_interval(alloc, &params, width, 1, lines);
     if bytes.is_err() {
         met = Met::Refused;
-        bytes = encode_interval(alloc, &params, interval.width, 1, &lines);
+        bytes = encode_interval(alloc, &params, width, 1, lines);
     }
     assert!(rt; bytes?.as_slice() == interval.piece);
     Ok(met)

@@ -19,7 +19,7 @@ use Rattle.jls_write.proofs.OneMore.{length-flat_map-le}
 use Rattle.jls_write.specs.WrittenFile.{bytes_of, are_defaults, preset_segments, restart_segments, header_segments, header_bytes}
 use Rattle.jls_write.specs.WrittenFile.{before_interval, interval_lines, interval_code, marked_interval, scan_bytes, scans_bytes}
 use Rattle.jls_write.specs.Parts.{scan_from, scan_count}
-use Rattle.jls_write.proofs.CopiedLines.{length_range, samples_most}
+use Rattle.jls_write.proofs.IntervalLines.{length_range, samples_most}
 use Rattle.jls_write.proofs.Scans.{scans_are}
 use Rattle.jls_write.proofs.PackedLength.{packed_at_most}
 

@@ -5,7 +5,7 @@ pub mod Lending
 pub mod OneMore
 pub mod Sizes
 pub mod WholePictures
-mod CopiedLines
+mod IntervalLines
 pub mod Defaults
 mod FileLength
 mod FileHanding

@@ -11,7 +11,7 @@ use Rattle.jls_marker.specs.declared.segment.Segment.TheVariants as segment
 use Rattle.jls_marker.proofs.FirstFailing.{all_pass}
 use Rattle.jls_write.specs.Picture.{WholePicture}
 use Rattle.jls_write.specs.WrittenFile.{bytes_of, scan_segment}
-use Rattle.jls_write.proofs.CopiedLines.{length_range}
+use Rattle.jls_write.proofs.IntervalLines.{length_range}
 
 ids_are : (ids : List ℕ) (first count : ℕ) → first + count ≤ length ids
     → map (λ c. get_or ids c 0) (range_with_len first count) ≡ take count (drop first ids)

@@ -13,46 +13,45 @@ use jls_marker::codes::RST0;
 use jls_marker::{ScanHead, Segment, write_segment};
 use std::alloc::{AllocError, Global};
 
-/// Copies the lines of a row.
-fn push_row(
-    alloc: Global,
-    lines: &mut Vec<Vec<u16>>,
-    part: &ScanPart<'_, '_>,
+/// Adds the lines of a row.
+fn push_row<'a>(
+    lines: &mut Vec<&'a [u16]>,
+    part: &ScanPart<'a, '_>,
     row: u16,
 ) -> Result<(), AllocError>
     requires part { IsScanFrom part.now.picture.now part.now.options part.now.first part.now.count }
     requires row { row < part.now.picture.now.shape.height }
-    ensures lines { OnOk result (map (λ v. v.items) lines.new.items
-        ≡ map (λ v. v.items) lines.old.items ++ spec.row_lines part.now.picture.now (range_with_len part.now.first part.now.count) row) }
+    ensures lines { OnOk result (map (λ l. l.now) lines.new.items
+        ≡ map (λ l. l.now) lines.old.items ++ spec.row_lines part.now.picture.now (range_with_len part.now.first part.now.count) row) }
     ensures each { OnOk result (
-        AllByRecursion (IsLine part.now.options.params part.now.picture.now.shape.width) (map (λ v. v.items) lines.old.items)
-        → AllByRecursion (IsLine part.now.options.params part.now.picture.now.shape.width) (map (λ v. v.items) lines.new.items)) }
+        AllByRecursion (IsLine part.now.options.params part.now.picture.now.shape.width) (map (λ l. l.now) lines.old.items)
+        → AllByRecursion (IsLine part.now.options.params part.now.picture.now.shape.width) (map (λ l. l.now) lines.new.items)) }
 {
     for component in part.first..part.first + part.count {
-        lines.push(Vec::from_slice(alloc, part.picture.line(component, row))?)?;
+        lines.push(part.picture.line(component, row))?;
     }
     Ok(())
 }
 
-/// Copies the lines of the rows from one to before another.
-fn copied_rows(
+/// The lines of the rows from one to before another, as the picture lends them.
+fn lines_of_rows<'a>(
     alloc: Global,
-    part: &ScanPart<'_, '_>,
+    part: &ScanPart<'a, '_>,
     first: u16,
     end: u16,
-) -> Result<Vec<Vec<u16>>, AllocError>
+) -> Result<Vec<&'a [u16]>, AllocError>
     requires part { IsScanFrom part.now.picture.now part.now.options part.now.first part.now.count }
     requires order { first ≤ end }
     requires end { end ≤ part.now.picture.now.shape.height }
-    ensures lines { IfOk result (λ lines. map (λ v. v.items) lines.items
+    ensures lines { IfOk result (λ lines. map (λ l. l.now) lines.items
         ≡ flat_map (spec.row_lines part.now.picture.now (range_with_len part.now.first part.now.count))
         (range_with_len first (end - first))) }
     ensures each { IfOk result (λ lines.
-        AllByRecursion (IsLine part.now.options.params part.now.picture.now.shape.width) (map (λ v. v.items) lines.items)) }
+        AllByRecursion (IsLine part.now.options.params part.now.picture.now.shape.width) (map (λ l. l.now) lines.items)) }
 {
     let mut lines = Vec::new(alloc);
     for row in first..end {
-        push_row(alloc, &mut lines, part, row)?;
+        push_row(&mut lines, part, row)?;
     }
     Ok(lines)
 }
@@ -70,7 +69,7 @@ pub(crate) fn interval_code(
         (scan_from part.now.picture.now part.now.options part.now.first part.now.count) interval) }
 {
     let (first, end) = part.rows(interval);
-    let lines = copied_rows(alloc, part, first, end)?;
+    let lines = lines_of_rows(alloc, part, first, end)?;
     let width = part.picture.shape().width();
     encode_interval(alloc, &part.options.params(), width, part.count, &lines)
 }

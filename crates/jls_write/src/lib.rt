@@ -8,7 +8,7 @@
 //! - `write`: `write_jls`: the header segments, then each scan, interval by interval
 //! - `headers`: makes SOI and the segments before the scans
 //! - `scan_part`: a scan in work
-//! - `intervals`: copies the lines of an interval, encodes them, and makes what precedes them
+//! - `intervals`: lends the lines of an interval to its coder, and makes what precedes them
 //!
 //! The code of an interval, and the marker or header before it, are both made before either is handed out. So lack of memory never leaves
 //! half of them. The counts in faults have 64 bits. `proofs/PackedLength.antt` bounds the code of an interval by 2^38 bytes, so they can't
@@ -20,7 +20,8 @@
 //! Not proved:
 //!
 //! - That `write_pnm` lends each line once for its row, and how large its writes are. Its code shows both.
-//! - That `write_jls` holds no more than one interval's lines and bytes beside the picture. Its code shows that.
+//! - That `write_jls` copies no line, and beside the picture holds no more than one interval's bytes and where its lines are. Its code
+//!   shows both.
 #![tactic(auto)]
 
 mod headers;

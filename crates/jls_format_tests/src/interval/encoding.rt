@@ -21,14 +21,15 @@ fn written_as(
     given: Lines<'_>,
     wanted: &[u8],
 ) -> Result<bool, AllocError> {
-    let mut lines = Vec::new(alloc);
-    for line in given.lines {
-        lines.push(line.to_vec(alloc)?)?;
-    }
-    if !fits(params, given.width, given.components, &lines) {
+    let Lines {
+        width,
+        components,
+        lines,
+    } = given;
+    if !fits(params, width, components, lines) {
         return Ok(false);
     }
-    let bytes = encode_interval(alloc, params, given.width, given.components, &lines)?;
+    let bytes = encode_interval(alloc, params, width, components, lines)?;
     Ok(bytes.as_slice() == wanted)
 }
 

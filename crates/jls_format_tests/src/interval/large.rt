@@ -23,10 +23,14 @@ fn lines_of(alloc: Global, width: u16, count: u32, mask: u16) -> Result<Vec<Vec<
 /// Whether the lines are written, and read back from slices of 4,096 bytes as they are.
 fn come_back(alloc: Global, size: &Size, lines: &[Vec<u16>]) -> Result<bool, Fail> {
     let params = Params::new(8, 0, 0, 0, 0, 0)?;
-    if !fits(&params, size.width, size.components, lines) {
+    let mut lent = Vec::new(alloc);
+    for line in lines {
+        lent.push(line.as_slice())?;
+    }
+    if !fits(&params, size.width, size.components, &lent) {
         return Ok(false);
     }
-    let piece = encode_interval(alloc, &params, size.width, size.components, lines)?;
+    let piece = encode_interval(alloc, &params, size.width, size.components, &lent)?;
     let mut decoder = size.decoder(alloc, &params);
     for slice in piece.chunks(4096) {
         decoder.push_all(slice)?;

@@ -6,14 +6,10 @@ use std::alloc::{AllocError, Global};
 use std::test::Fail;
 
 /// So many lines, each of these samples.
-fn lines_of(alloc: Global, count: usize, samples: &[u16]) -> Result<Vec<Vec<u16>>, AllocError> {
+fn lines_of(alloc: Global, count: usize, samples: &[u16]) -> Result<Vec<&[u16]>, AllocError> {
     let mut lines = Vec::new(alloc);
     for _ in 0..count {
-        let mut line = Vec::new(alloc);
-        for &sample in samples {
-            line.push(sample)?;
-        }
-        lines.push(line)?;
+        lines.push(samples)?;
     }
     Ok(lines)
 }

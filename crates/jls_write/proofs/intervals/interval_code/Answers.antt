@@ -7,7 +7,7 @@ use Rattle.jls_marker.specs.Scan.{Scan, first_row, row_count}
 use Rattle.jls_write.specs.Picture.{WholePicture}
 use Rattle.jls_write.specs.WrittenFile as spec
 use Rattle.jls_write.specs.Parts.{scan_from}
-use Rattle.jls_write.proofs.CopiedLines.{lines_fit, length_range}
+use Rattle.jls_write.proofs.IntervalLines.{lines_fit, length_range}
 use Rattle.jls_write.proofs.intervals.interval_code.Goals as goal
 
 -- the rows from one to before another, where these are the interval's
@@ -22,10 +22,10 @@ encode_interval-requires c =
     let part = c.args.part.now in
     let pic = part.picture.now in
     let width_is : c.width-width.result ≡ pic.shape.width = c.width-width.ensures.value ∙ ap (λ shape. shape.width) c.shape.ensures in
-    let deref_is : map (λ v. v.items) c.deref.result.now ≡ map (λ v. v.items) c.in_ok-lines.lines.items = ap (map (λ v. v.items)) c.deref.ensures.value in
-    let lines_are = rows_are pic (scan_from pic part.options part.first part.count) c.args.interval c.rows-first.result.0 c.rows-first.result.1 (map (λ v. v.items) c.in_ok-lines.lines.items)
+    let deref_is : map (λ line. line.now) c.deref.result.now ≡ map (λ line. line.now) c.in_ok-lines.lines.items = ap (map (λ line. line.now)) c.deref.ensures.value in
+    let lines_are = rows_are pic (scan_from pic part.options part.first part.count) c.args.interval c.rows-first.result.0 c.rows-first.result.1 (map (λ line. line.now) c.in_ok-lines.lines.items)
     c.rows-first.ensures.first c.rows-first.ensures.count c.in_ok-lines.ensures.lines in
-    let fit = lines_fit pic part.options part.first part.count c.args.interval (map (λ v. v.items) c.in_ok-lines.lines.items) c.requires.part c.requires.interval lines_are c.in_ok-lines.ensures.each in
+    let fit = lines_fit pic part.options part.first part.count c.args.interval (map (λ line. line.now) c.in_ok-lines.lines.items) c.requires.part c.requires.interval lines_are c.in_ok-lines.ensures.each in
     rw (width_is, c.params.ensures, deref_is) fit
 
 pub returns : goal.returns
@@ -33,13 +33,13 @@ returns c =
     let part = c.args.part.now in
     let pic = part.picture.now in
     let width_is : c.width-width.result ≡ pic.shape.width = c.width-width.ensures.value ∙ ap (λ shape. shape.width) c.shape.ensures in
-    let deref_is : map (λ v. v.items) c.deref.result.now ≡ map (λ v. v.items) c.in_ok-lines.lines.items = ap (map (λ v. v.items)) c.deref.ensures.value in
-    let lines_are = rows_are pic (scan_from pic part.options part.first part.count) c.args.interval c.rows-first.result.0 c.rows-first.result.1 (map (λ v. v.items) c.in_ok-lines.lines.items)
+    let deref_is : map (λ line. line.now) c.deref.result.now ≡ map (λ line. line.now) c.in_ok-lines.lines.items = ap (map (λ line. line.now)) c.deref.ensures.value in
+    let lines_are = rows_are pic (scan_from pic part.options part.first part.count) c.args.interval c.rows-first.result.0 c.rows-first.result.1 (map (λ line. line.now) c.in_ok-lines.lines.items)
     c.rows-first.ensures.first c.rows-first.ensures.count c.in_ok-lines.ensures.lines in
-    let code_is : packed c.params.result c.width-width.result part.count (map (λ v. v.items) c.deref.result.now) ≡ spec.interval_code pic (scan_from pic part.options part.first part.count) c.args.interval =
-    ap (λ (p : CodingParameters). packed p c.width-width.result part.count (map (λ v. v.items) c.deref.result.now)) c.params.ensures
-    ∙ ap (λ w. packed part.options.params w part.count (map (λ v. v.items) c.deref.result.now)) width_is
+    let code_is : packed c.params.result c.width-width.result part.count (map (λ line. line.now) c.deref.result.now) ≡ spec.interval_code pic (scan_from pic part.options part.first part.count) c.args.interval =
+    ap (λ (p : CodingParameters). packed p c.width-width.result part.count (map (λ line. line.now) c.deref.result.now)) c.params.ensures
+    ∙ ap (λ w. packed part.options.params w part.count (map (λ line. line.now) c.deref.result.now)) width_is
     ∙ ap (packed part.options.params pic.shape.width part.count) (deref_is ∙ lines_are)
     ∙ ap (λ n. packed part.options.params pic.shape.width n (spec.interval_lines pic (scan_from pic part.options part.first part.count) c.args.interval)) (sym (length_range part.first part.count)) in
-    IfOk-weaker c.encode_interval.result (λ bytes. bytes.items ≡ packed c.params.result c.width-width.result part.count (map (λ v. v.items) c.deref.result.now))
+    IfOk-weaker c.encode_interval.result (λ bytes. bytes.items ≡ packed c.params.result c.width-width.result part.count (map (λ line. line.now) c.deref.result.now))
     (λ bytes. bytes.items ≡ spec.interval_code pic (scan_from pic part.options part.first part.count) c.args.interval) (λ bytes is. is ∙ code_is) c.encode_interval.ensures.packed

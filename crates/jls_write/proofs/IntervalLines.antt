@@ -1,4 +1,4 @@
--- The lines of an interval, copied row by row, are what an interval's coder asks for.
+-- The lines of an interval, row by row, are what an interval's coder asks for.
 use Rattle.std.proofs.Common.{◌≡◌, ℕ, zero, suc, ◌+◌, ◌-◌, ◌*◌, ◌^◌, ◌<◌, ◌≤◌, min, List, [], ◌∷◌, ◌++◌, length, map, refl, sym, ap, subst}
 use Rattle.std.proofs.Common.{◌∙◌, arith}
 use Rattle.std.specs.List.{All, AllByRecursion, flat_map, range_with_len}

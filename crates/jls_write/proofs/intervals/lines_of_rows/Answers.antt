@@ -2,7 +2,7 @@ use Rattle.std.proofs.Common.{ℕ, List, ◌++◌, ◌≤◌, sym, ap, ◌∙◌
 use Rattle.std.specs.List.{range_with_len}
 use Rattle.jls_write.proofs.OneMore.{flat_map_from_more}
 use Rattle.jls_write.specs.WrittenFile as spec
-use Rattle.jls_write.proofs.intervals.copied_rows.Goals as goal
+use Rattle.jls_write.proofs.intervals.lines_of_rows.Goals as goal
 
 pub loop-row-preserved : goal.loop-row-preserved
 loop-row-preserved c =
