@@ -1,9 +1,10 @@
 -- The searches of all splices that are made: the one that is asked for; and where it has no limit of samples and is cut off, others under
 -- limits in turn.
-use Rattle.std.specs.Prelude.{◌≡◌, ℕ, ◌*◌, ◌≤◌, ◌⊎◌, Bool, true, false, List, [], ◌∷◌, ◌++◌, length, Option, Some, None, IsSome, min, max}
+use Rattle.std.specs.Prelude.{◌≡◌, ℕ, ◌*◌, ◌≤◌, ◌⊎◌, Bool, true, false, List, [], ◌∷◌, ◌++◌, length, Option, Some, None, IfSome, IsSome, min, max}
 use Rattle.std.specs.Prelude.{if◌then◌else◌}
 use Rattle.jls_diff.specs.Parts.{Part}
 use Rattle.jls_search.specs.Faultless.{IsSought}
+use Rattle.jls_search.specs.Levels.{IsLone}
 use Rattle.jls_search.specs.Search.{CameTo, WereTried, lists_of}
 use Rattle.jls_search.specs.declared.whole_search.Searched.{Searched}
 use Rattle.jls_splice_run.specs.declared.limits.Limited.{Limited}
@@ -78,10 +79,20 @@ abbrev pub counting : SearchMade → List SearchMade → SearchMade
 counting s [] = s
 counting s (next ∷ more) = counting (counting_of s next) more
 
--- the limit under which the cut file is sought: that of the last search that was not cut off, and else that of the first
+-- the limit of the last search that was not cut off, and else that of the first
 abbrev pub cut_limit : Option ℕ → List SearchMade → Option ℕ
 cut_limit limit [] = limit
 cut_limit limit (next ∷ more) = cut_limit (if next.is_used_up then limit else next.ceiling) more
+
+-- the limit of a shallow picture: one of the limits in turn, where one path is lone under that and under the last
+abbrev pub IsShallowLimit : List Part → ℕ → Type 0
+IsShallowLimit parts limit =
+    (limit ≡ 16383) × (path : List ℕ) × IsLone (IsSought (Some 16383)) parts path × IsLone (IsSought (Some 46340)) parts path
+
+-- the limit under which the cut file is sought, where this is that of the searches, and these are the choices that they found: the same; or
+-- where there is none and nothing was found, there may be that of a shallow picture
+abbrev pub IsCutLimit : List Part → Option ℕ → List (List ℕ) → Option ℕ → Type 0
+IsCutLimit parts limit choices cut = (cut ≡ limit) ⊎ ((limit ≡ None) × (choices ≡ []) × IfSome cut (IsShallowLimit parts))
 
 -- As the code has it -----------------------------------------------------------------------------------------------
 

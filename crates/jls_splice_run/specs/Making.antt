@@ -20,7 +20,7 @@ use Rattle.jls_splice_run.specs.declared.found.GroupSearch.{GroupSearch}
 use Rattle.jls_splice_run.specs.declared.found.Promise.{Promise}
 use Rattle.jls_splice_run.specs.declared.found.Promise.TheVariants.{Picture, Lines}
 use Rattle.jls_splice_run.specs.declared.found.SearchReport.{SearchReport}
-use Rattle.jls_splice_run.specs.Limits.{AreSearches, SearchMade, Searches, counting, cut_limit, has_some}
+use Rattle.jls_splice_run.specs.Limits.{AreSearches, IsCutLimit, SearchMade, Searches, counting, cut_limit, has_some}
 use Rattle.jls_splice_run.specs.Telling.{AreReported, ReportedUpTo}
 use Rattle.jls_station.specs.declared.input.ReadStop.{ReadStop}
 use Rattle.jls_station.specs.declared.input.ReadStop.TheVariants.{Whole}
@@ -109,7 +109,7 @@ pub record IsCounted (a : Asked) (copies : List (List ℕ)) (w : Searches) (ceil
 pub record IsMade (a : Asked) (copies : List (List ℕ)) (m : Made) : Type 0 where
   pub is_counted : IsCounted a copies m.searches m.ceiling m.found m.tries
   pub is_found : IsFound m.ceiling copies m.found
-  pub cut_ceiling_is : m.cut_ceiling ≡ cut_limit m.searches.first.ceiling m.searches.more
+  pub cut_ceiling_is : IsCutLimit m.found.parts (cut_limit m.searches.first.ceiling m.searches.more) m.found.choices m.cut_ceiling
   pub is_lone : IfSome m.lone (IsCut m.cut_ceiling m.found)
   pub no_lone : IfNone m.lone (FindsNoCut m.cut_ceiling a.options.tries m.found)
   pub is_cut : IsCutTaken copies m.found m.lone m.cut

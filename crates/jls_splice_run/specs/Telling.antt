@@ -7,7 +7,7 @@ use Rattle.jls_search.specs.Search.{CanGoOn, IsBegun, IsSearch, Tried, lists_of}
 use Rattle.jls_diff.specs.Parts.{Part}
 use Rattle.jls_search.specs.declared.whole_search.WholeSearch.{WholeSearch}
 use Rattle.jls_splice_run.specs.Limits.{AreInTurn, AreSearches, SearchMade, Searches, WentThrough, counting, cut_limit, last_or, limit_or}
-use Rattle.jls_splice_run.specs.Limits.{tries_after}
+use Rattle.jls_splice_run.specs.Limits.{IsCutLimit, tries_after}
 use Rattle.jls_splice_run.specs.Lines.{progress_line}
 use Rattle.jls_splice_run.specs.declared.limits.Turned.{Turned}
 use Rattle.jls_splice_run.specs.declared.options.SearchOptions.{SearchOptions}
@@ -41,13 +41,18 @@ ReportedUpTo limit tells events =
     (searches : List SearchMade) × (done : List Event) × (last : List Event) × (events ≡ done ++ last)
     × AllByRecursion (λ s. s.tries ≤ limit) searches × AreReported tells searches done × ReportedSome limit tells last
 
--- all searches of a run over these parts: the one that counts, the limit under which the cut file is sought, and what they reported
+-- all searches of a run over these parts: the one that counts, the limit of the last one that was not cut off, and what they reported
 pub record HasSearched (options : SearchOptions) (parts : List Part) (s : SearchMade) (cut : Option ℕ) (events : List Event) : Type 0 where
   pub searches : Searches
   pub are : AreSearches options.ceiling options.tries parts searches
   pub counts : counting searches.first searches.more ≡ s
   pub cut_is : cut_limit searches.first.ceiling searches.more ≡ cut
   pub reported : AreReported options.tells (searches.first ∷ searches.more) events
+
+-- all searches of a run, with the limit under which the cut file is sought
+abbrev pub HasChosenLimit : SearchOptions → List Part → SearchMade → Option ℕ → List Event → Type 0
+HasChosenLimit options parts s cut events =
+    (limit : Option ℕ) × HasSearched options parts s limit events × IsCutLimit parts limit s.choices cut
 
 -- Inside the crate -------------------------------------------------------------------------------------------------
 

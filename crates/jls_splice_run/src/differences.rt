@@ -36,7 +36,7 @@ fn first_way_at<'b>(parts: &'b [Part<'_>], place: usize) -> &'b [u8]
 }
 
 /// Whether the copies differ at a part.
-fn is_differ(part: &Part<'_>) -> bool
+pub(crate) fn is_differ(part: &Part<'_>) -> bool
     ensures { result ≡ spec_is_differ (part_of part.now) }
 {
     match part {

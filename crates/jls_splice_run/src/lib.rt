@@ -9,6 +9,7 @@
 //! - `handing`: the events that hand out all
 //! - `options`, `searching`: how a search is made; a search that goes on 64 tries at a time, and tells how far it is
 //! - `limits`: all searches of a run: the one that is asked for, and where it is cut off others under limits of samples in turn
+//! - `shallow`: the limit under which a cut file is sought, where the searches had none and found nothing
 //! - `differences`: where copies differ: the offset in the first copy, and how many bytes that one has there
 //! - `found`, `lines`: what is reported of a search, as one value; its lines, and the line that says how far a search is
 //! - `outcome`, `printing`: what came of a run, why it stopped, and the exit status; the fault line
@@ -41,6 +42,7 @@ mod printing;
 mod program;
 mod searching;
 mod settling;
+mod shallow;
 mod single;
 mod splicing;
 mod task;

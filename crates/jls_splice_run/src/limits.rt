@@ -6,14 +6,15 @@ ghost use Rattle.jls_io.specs.Event.{GrewBy};
 ghost use Rattle.jls_diff.specs.Parts.{AreParts};
 ghost use Rattle.jls_diff.specs.PartsOf.{bytes_of, parts_of};
 ghost use Rattle.jls_search.specs.Choices.{HasSomeWay};
-ghost use Rattle.jls_search.specs.Search.{IsShort};
+ghost use Rattle.jls_search.specs.Search.{IsShort, lists_of};
 ghost use Rattle.jls_search.specs.SearchLaws.{AreShort};
-ghost use Rattle.jls_splice_run.specs.Limits.{IsSearchMade, SearchMade, counting_of, last_or, made_under, next_tries};
+ghost use Rattle.jls_splice_run.specs.Limits.{IsCutLimit, IsSearchMade, SearchMade, counting_of, last_or, made_under, next_tries};
 ghost use Rattle.jls_splice_run.specs.Limits as spec;
-ghost use Rattle.jls_splice_run.specs.Telling.{HasSearched, ReportedUpTo, TookTurns};
+ghost use Rattle.jls_splice_run.specs.Telling.{HasChosenLimit, HasSearched, ReportedUpTo, TookTurns};
 
 use crate::options::SearchOptions;
 use crate::searching::search_once;
+use crate::shallow::shallow_limit;
 use jls_diff::{Part, find_parts};
 use jls_io::Sink;
 use jls_search::{Searched, SearchedCopies, parts_can_be_searched};
@@ -132,12 +133,12 @@ fn search_in_turn<E: Sink>(
     Ok(turned)
 }
 
-/// The search that counts, and the limit under which a cut file is sought.
+/// The search that counts, and the limit of the last one that was not cut off.
 #[derive(Drop)]
 struct CountingSearch {
     /// The limit of the search that counts, if it has one.
     ceiling: Option<u16>,
-    /// The limit under which a cut file is sought, if there is one.
+    /// The limit of the last search that was not cut off, and else that of the first, if it has one.
     cut_limit: Option<u16>,
     /// What the search that counts came to.
     searched: Searched,
@@ -193,6 +194,25 @@ fn search_all<E: Sink>(
     Ok(chosen(first, turned))
 }
 
+/// The limit under which a cut file is sought: that of the searches. If they have none and found nothing, it may be that of a shallow
+/// picture. `Err` comes where memory is refused.
+fn limit_of_cut(
+    alloc: Global,
+    parts: &[Part<'_>],
+    all: &CountingSearch,
+    tries: u32,
+) -> Result<Option<u16>, AllocError>
+    requires some_way { AllByRecursion HasSomeWay (parts_of parts.now) }
+    requires short { IsShort (parts_of parts.now) }
+    ensures { IfOk result (λ limit.
+        IsCutLimit (parts_of parts.now) all.now.cut_limit (lists_of all.now.searched.splices.items) limit) }
+{
+    if all.cut_limit.is_some() || !all.searched.splices.is_empty() {
+        return Ok(all.cut_limit);
+    }
+    shallow_limit(alloc, parts, tries)
+}
+
 /// Finds the parts of copies and searches their splices, under the ceiling if there is one, with so many tries at most. Where no ceiling is
 /// given and that search is cut off, it searches under limits in turn, until one of these searches is cut off. The search that counts is
 /// the last that was not cut off and found a file, and else the first.
@@ -208,20 +228,21 @@ pub fn search_and_tell<'a, E: Sink>(
     requires some_copy { 0 < length copies.now }
     requires short { AreShort (bytes_of copies.now) }
     ensures parts { IfOk result (λ found. AreParts (bytes_of copies.now) (parts_of found.copies.parts.items)) }
-    ensures searched { IfOk result (λ found. GrewBy
-        (HasSearched options (parts_of found.copies.parts.items) (made_under found.copies.ceiling found.copies.searched) found.cut_limit)
+    ensures searched { IfOk result (λ found. GrewBy (HasChosenLimit options (parts_of found.copies.parts.items)
+        (made_under found.copies.ceiling found.copies.searched) found.cut_limit)
         (E.history faults.old) (E.history faults.new)) }
     ensures reported_some { OnErr result (GrewBy (ReportedUpTo options.tries options.tells) (E.history faults.old) (E.history faults.new)) }
 {
     parts_can_be_searched();
     let parts = find_parts(alloc, copies)?;
     let all = search_all(alloc, &parts, options, faults)?;
+    let cut_limit = limit_of_cut(alloc, &parts, &all, options.tries)?;
     Ok(SearchedInTurn {
         copies: SearchedCopies {
             parts,
             ceiling: all.ceiling,
             searched: all.searched,
         },
-        cut_limit: all.cut_limit,
+        cut_limit,
     })
 }

@@ -15,7 +15,7 @@ ghost use Rattle.jls_search.specs.Search.{IsShort, files_of, lists_of};
 ghost use Rattle.jls_search.specs.Found.{IsFound, IsGroupSearch, by_groups_of, found_of, splices_in};
 ghost use Rattle.jls_search.specs.Files as given;
 ghost use Rattle.jls_splice_run.specs.Limits.{Searches};
-ghost use Rattle.jls_splice_run.specs.Telling.{HasSearched, ReportedUpTo};
+ghost use Rattle.jls_splice_run.specs.Telling.{HasChosenLimit, ReportedUpTo};
 ghost use Rattle.jls_splice_run.specs.Making.{AreTextsOf, CantMake, FindsNoCut, HoldsMade, IsCut, files_taken, lacks_single, made_of};
 ghost use Rattle.jls_splice_run.specs.Making.{search_of};
 ghost use Rattle.jls_splice_run.specs.Making as spec;
@@ -89,7 +89,7 @@ fn search<'c, E: Sink>(
     ensures small { IfOk result (λ found. length (made 0 (parts_of found.splices.parts.items)) < 2 ^ 64) }
     ensures of_groups { IfOk result (λ found. IfSome (found_of found.splices).by_groups
         (IsGroupSearch options.tries (length copies.now) (parts_of found.splices.parts.items))) }
-    ensures searched { IfOk result (λ found. GrewBy (HasSearched options (parts_of found.splices.parts.items)
+    ensures searched { IfOk result (λ found. GrewBy (HasChosenLimit options (parts_of found.splices.parts.items)
         (search_of found.splices.ceiling (found_of found.splices) found.splices.tries) found.cut_limit)
         (E.history faults.old) (E.history faults.new)) }
     ensures reported_some { OnErr result (GrewBy (ReportedUpTo options.tries options.tells) (E.history faults.old) (E.history faults.new)) }

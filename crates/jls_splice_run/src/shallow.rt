@@ -7,14 +7,15 @@ ghost use Rattle.jls_search.specs.Choices.{HasSomeWay};
 ghost use Rattle.jls_search.specs.Search.{IsShort};
 ghost use Rattle.jls_splice_run.specs.Limits.{IsShallowLimit};
 
+use crate::differences::is_differ;
 use jls_diff::Part;
 use jls_search::lone_path;
 use std::alloc::{AllocError, Global};
 
-/// The last but one of the limits in turn.
-const SHALLOW: u16 = 32767;
+/// The limit of a shallow picture: one of the limits in turn.
+const SHALLOW: u16 = 16383;
 
-/// The last of them.
+/// The last of these limits.
 const LAST: u16 = 46340;
 
 /// Whether two paths are one.
@@ -24,10 +25,20 @@ fn are_same(path: &[usize], other: &[usize]) -> bool
     *path == *other
 }
 
-/// The limit of a shallow picture, if it is one: 32767. It is one if the path that `lone_path` finds under this limit is the one that it
-/// finds under 46340, and not the one that it finds without a limit. Then wrong ways soon have samples above both limits, and lines of a
-/// cut file without a limit would be wrong ones. A picture with larger samples before the cut has other paths under the two limits, or
-/// none. Each of the three has so many tries. `Err` comes where memory is refused.
+/// Whether a path has a choice at a part in which the copies differ.
+fn has_choice(parts: &[Part<'_>], path: &[usize]) -> bool {
+    for place in 0..path.len().min(parts.len()) {
+        if is_differ(&parts[place]) {
+            return true;
+        }
+    }
+    false
+}
+
+/// The limit of a shallow picture, if it is one: 16383. It is one if the path that `lone_path` finds under this limit goes past a place
+/// where the copies differ, is the path that it finds under 46340, and is not the one that it finds without a limit. Then wrong ways soon
+/// have samples above both limits, and a cut file without a limit has fewer lines, or wrong ones. A picture with larger samples before the
+/// cut seldom has one path under both. Each of the three has so many tries. `Err` comes where memory is refused.
 pub(crate) fn shallow_limit(
     alloc: Global,
     parts: &[Part<'_>],
@@ -40,6 +51,10 @@ pub(crate) fn shallow_limit(
     let Some(path) = lone_path(alloc, parts, Some(SHALLOW), tries)? else {
         return Ok(None);
     };
+    let chooses = has_choice(parts, &path);
+    if !chooses {
+        return Ok(None);
+    }
     let Some(last) = lone_path(alloc, parts, Some(LAST), tries)? else {
         return Ok(None);
     };

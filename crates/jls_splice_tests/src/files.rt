@@ -180,8 +180,8 @@ pub(crate) fn file_of(alloc: Global, name: &str) -> Result<Option<Vec<u8>>, Allo
     Ok(Some(file))
 }
 
-/// The picture of `eight`.
-const EIGHT: Picture = Picture {
+/// The picture of `eight`, from which the others differ.
+const OF_EIGHT: Picture = Picture {
     precision: 8,
     values: 256,
     width: 24,
@@ -193,21 +193,21 @@ const EIGHT: Picture = Picture {
 
 fn picture_of(name: &str) -> Option<Picture> {
     match name {
-        "eight" | "comment" => Some(EIGHT),
+        "eight" | "comment" => Some(OF_EIGHT),
         "sixteen" => Some(Picture {
             precision: 16,
             values: 65_536,
             width: 16,
             height: 14,
             begin: 2,
-            ..EIGHT
+            ..OF_EIGHT
         }),
         "deep" => Some(Picture {
             precision: 16,
             width: 16,
             height: 14,
             begin: 4,
-            ..EIGHT
+            ..OF_EIGHT
         }),
         "scans" => Some(Picture {
             width: 8,
@@ -215,14 +215,14 @@ fn picture_of(name: &str) -> Option<Picture> {
             components: 3,
             begin: 3,
             lines: 8,
-            ..EIGHT
+            ..OF_EIGHT
         }),
         "restarts" => Some(Picture {
             width: 8,
             height: 12,
             begin: 10,
             lines: 4,
-            ..EIGHT
+            ..OF_EIGHT
         }),
         _ => None,
     }

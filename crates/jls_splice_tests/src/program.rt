@@ -55,6 +55,10 @@ no other limit than the one given: deep: 50+3=85 98+3=85 146+3=85 194+3=85 242+3
 74+3=85 122+3=85 170+3=85 218+3=85 266+3=85: --max 65535 --tries 40 OUT 1 2: 1 other: tries used up
 a limit of the lines before: deep: 50+3=85 98+3=85 146+3=85 194+3=85 242+3=85 206+4=0 / \
 74+3=85 122+3=85 170+3=85 218+3=85 266+3=85 206+4=51: --tries 40 OUT 1 2: 1 other: before 194, samples up to 8191
+a limit of a shallow picture: deep: 50+3=85 150+4=0 / 74+3=85 150+4=51: OUT 1 2: 1 other: before 150, samples up to 16383
+lines of a shallow picture: deep: 50+3=85 150+4=0 / 74+3=85 150+4=51: OUT 1 2: 1 other: missing 1 5-13
+none of a deep picture: sixteen: 50+3=85 200+4=0 / 74+3=85 200+4=51: OUT 1 2: 1 other: before 200
+none of eight bits: eight: 100+8=0 300+8=0 / 200+8=0 300+8=85: OUT 1 2: 1 other: before 300
 no promise by groups: eight: 100+8=0 / 400+8=0: --max 254 OUT 1 2: 0 eight: promise lines
 one copy twice: eight: whole / whole: OUT 1 2: 0 eight: splices 0
 a flipped bit in each: eight: 114+1=221 / 400+1=237: OUT 1 2: 1 other: splices 1

@@ -11,7 +11,8 @@ use Rattle.jls_diff.proofs.Slices.{count_of_slices}
 use Rattle.jls_diff.specs.PartsOf.{bytes_of, parts_of}
 use Rattle.jls_search.specs.Search.{files_of, lists_of}
 use Rattle.jls_search.specs.Found.{IsFound, IsGroupSearch, found_of, splices_in}
-use Rattle.jls_splice_run.specs.Telling.{HasSearched, ReportedUpTo}
+use Rattle.jls_splice_run.specs.Limits.{IsCutLimit}
+use Rattle.jls_splice_run.specs.Telling.{HasChosenLimit, ReportedUpTo}
 use Rattle.jls_splice_run.specs.Copies.{bytes_read}
 use Rattle.jls_splice_run.specs.Making.{AreTextsOf, CantMake, FindsNoCut, HoldsMade, IsCounted, IsCut, IsPictureOf, IsUnsettled}
 use Rattle.jls_splice_run.specs.Making.{IsWantOfMemory, cut_file, files_taken, made_of, search_of}
@@ -32,7 +33,7 @@ options_of a = record { ceiling = a.options.ceiling; tries = a.options.tries; te
 -- they came to what was found
 abbrev Searched : Asked → FoundInTurn → List Event → Type 0
 Searched a found events =
-    HasSearched (options_of a) (parts_of found.splices.parts.items)
+    HasChosenLimit (options_of a) (parts_of found.splices.parts.items)
     (search_of found.splices.ceiling (found_of found.splices) found.splices.tries) found.cut_limit events
 
 -- the choices of the cut file are a path
@@ -64,7 +65,7 @@ searched_in a found copies r want events h =
     inl (
       want,
       searched_before (options_of a) (parts_of found.splices.parts.items)
-          (search_of found.splices.ceiling (found_of found.splices) found.splices.tries) found.cut_limit events h,
+          (search_of found.splices.ceiling (found_of found.splices) found.splices.tries) h.0 events h.1,
     )
 
 pub returns-in-Err-find_cut-clause-stopped : goal.returns-in-Err-find_cut-clause-stopped
@@ -85,8 +86,8 @@ settle-requires-clause-cut g c =
 -- the searches of what was asked, over the parts that were found
 counted_in : (a : Asked) (copies : List (List ℕ)) (found : FoundInTurn) (events : List Event)
     → IfSome (found_of found.splices).by_groups (IsGroupSearch a.options.tries (length copies) (parts_of found.splices.parts.items))
-    → (h : Searched a found events) → IsCounted a copies h.searches found.splices.ceiling (found_of found.splices) found.splices.tries
-counted_in a copies found events groups h = record { are_searches = h.are; counts = h.counts; of_groups = groups }
+    → (h : Searched a found events) → IsCounted a copies h.1.searches found.splices.ceiling (found_of found.splices) found.splices.tries
+counted_in a copies found events groups h = record { are_searches = h.1.are; counts = h.1.counts; of_groups = groups }
 
 pub returns-in-Err-settle-clause-stopped : goal.returns-in-Err-settle-clause-stopped
 returns-in-Err-settle-clause-stopped g c =
@@ -104,7 +105,7 @@ returns-in-Err-settle-clause-stopped g c =
     let unsettled = subst (λ (xs : List (List ℕ)). IsUnsettled a copies xs r) splices c.in-Err-settle.ensures.stopped in
     grew_as (Searched a all) (CantMake a copies r)
     (g.E.Device.history c.args.faults.now) (g.E.Device.history c.search.new.faults)
-    (λ events h. inr (h.searches, found.ceiling, found_of found, found.tries, counted_in a (bytes_read copies) all events groups h, is_found, unsettled, h.reported))
+    (λ events h. inr (h.1.searches, found.ceiling, found_of found, found.tries, counted_in a (bytes_read copies) all events groups h, is_found, unsettled, h.1.reported))
     c.in-Ok-search.ensures.searched
 
 pub returns-clause-stopped : goal.returns-clause-stopped
@@ -140,11 +141,11 @@ returns-in-Ok-texts_of-clause-made g c =
     grew_as (Searched a all) (HoldsMade a (copies_of c.args.copies.now) v)
     (g.E.Device.history c.args.faults.now) (g.E.Device.history c.search.new.faults)
     (λ events h. (
-      made_of h.searches all c.in-Ok-find_cut.cut taken.cut taken.station v,
+      made_of h.1.searches all c.in-Ok-find_cut.cut taken.cut taken.station v,
       record {
         is_counted = counted_in a copies all events groups h;
         is_found = is_found;
-        cut_ceiling_is = sym h.cut_is;
+        cut_ceiling_is = subst (λ (l : Option ℕ). IsCutLimit parts l (found_of found).choices all.cut_limit) (sym h.1.cut_is) h.2;
         is_lone = found_mapped (IsCut all.cut_limit (found_of found)) c.in-Ok-find_cut.cut c.in-Ok-find_cut.ensures.lone;
         no_lone = none_mapped (FindsNoCut all.cut_limit a.options.tries (found_of found)) c.in-Ok-find_cut.cut c.in-Ok-find_cut.ensures.none;
         is_cut = cut_mapped (λ path. TakesNoCut copies (splices_in (found_of found)) (prefix_of parts path)) taken.cut c.in-Ok-find_cut.cut
@@ -157,7 +158,7 @@ returns-in-Ok-texts_of-clause-made g c =
         is_single = subst (λ (xs : List (List ℕ)). IsSingleAsked a.options.file (files_taken xs (found_of found)) (option_map (λ (f : Vec ℕ Global). f.items) v.file)) reported c.in-Ok-texts_of.ensures.single;
         are_named = subst (λ (xs : List (List ℕ)). AreNamedAsked a.options.files (files_taken xs (found_of found)) (named_files v.files.items)) reported c.in-Ok-texts_of.ensures.named;
       },
-      subst (λ (xs : List (List ℕ)). AreTextsOf a xs (made_of h.searches all c.in-Ok-find_cut.cut taken.cut taken.station v) v) reported (c.in-Ok-texts_of.ensures.texts h.searches c.in-Ok-find_cut.cut),
-      h.reported,
+      subst (λ (xs : List (List ℕ)). AreTextsOf a xs (made_of h.1.searches all c.in-Ok-find_cut.cut taken.cut taken.station v) v) reported (c.in-Ok-texts_of.ensures.texts h.1.searches c.in-Ok-find_cut.cut),
+      h.1.reported,
     ))
     c.in-Ok-search.ensures.searched

@@ -7,7 +7,7 @@ use Rattle.jls_search.specs.SearchLaws.{AreShort}
 use Rattle.jls_search.specs.Found.{found_of}
 use Rattle.jls_splice_run.specs.Limits.{SearchMade, made_under}
 use Rattle.jls_splice_run.specs.Making.{search_of}
-use Rattle.jls_splice_run.specs.Telling.{HasSearched, ReportedUpTo}
+use Rattle.jls_splice_run.specs.Telling.{HasChosenLimit, ReportedUpTo}
 use Rattle.jls_splice_run.proofs.Rounds.{on_err_anyway}
 use Rattle.jls_splice_run.proofs.Turns.{nothing_reported, searched_before, searched_made}
 use Rattle.jls_splice_run.proofs.MakingLemmas.{first_is_short}
@@ -43,7 +43,7 @@ complete_by_groups-requires-clause-searched g c =
     let found = c.in_ok-found.found in
     let h = c.in_ok-found.ensures.searched in
     let s = made_under found.copies.ceiling found.copies.searched in
-    (searched_made c.args.options (parts_of found.copies.parts.items) s found.cut_limit h.events h.they_are).came_to
+    (searched_made c.args.options (parts_of found.copies.parts.items) s h.they_are.0 h.events h.they_are.1).came_to
 
 pub returns-clause-searched : goal.returns-clause-searched
 returns-clause-searched g c =
@@ -57,9 +57,9 @@ returns-clause-searched g c =
       choices = sym e.kept i;
       is_used_up = sym e.used_up i;
     } in
-    subst (λ ps. GrewBy (HasSearched c.args.options (parts_of ps) (search_of more.ceiling (found_of more) more.tries) found.cut_limit)
+    subst (λ ps. GrewBy (HasChosenLimit c.args.options (parts_of ps) (search_of more.ceiling (found_of more) more.tries) found.cut_limit)
     (g.E.Device.history c.args.faults.now) (g.E.Device.history c.search_and_tell.new.faults)) (sym e.parts_kept)
-    (subst (λ (s : SearchMade). GrewBy (HasSearched c.args.options (parts_of found.copies.parts.items) s found.cut_limit)
+    (subst (λ (s : SearchMade). GrewBy (HasChosenLimit c.args.options (parts_of found.copies.parts.items) s found.cut_limit)
     (g.E.Device.history c.args.faults.now) (g.E.Device.history c.search_and_tell.new.faults)) same c.in_ok-found.ensures.searched)
 
 pub returns-in_err-more-clause-reported_some : goal.returns-in_err-more-clause-reported_some
@@ -71,6 +71,6 @@ returns-in_err-more-clause-reported_some g c =
     let parts = parts_of found.copies.parts.items in
     let s = made_under found.copies.ceiling found.copies.searched in
     on_err_anyway _ (GrewBy (ReportedUpTo options.tries options.tells) before now)
-    (grew_as (HasSearched options parts s found.cut_limit) (ReportedUpTo options.tries options.tells) before now
-    (λ events h. searched_before options parts s found.cut_limit events h)
+    (grew_as (HasChosenLimit options parts s found.cut_limit) (ReportedUpTo options.tries options.tells) before now
+    (λ events h. searched_before options parts s h.0 events h.1)
     c.in_ok-found.ensures.searched)
