@@ -20,17 +20,36 @@ fn lines_of(alloc: Global, width: u16, count: u32, mask: u16) -> Result<Vec<Vec<
     Ok(lines)
 }
 
-/// Whether the lines are written, and read back from slices of 4,096 bytes as they are.
-fn come_back(alloc: Global, size: &Size, lines: &[Vec<u16>]) -> Result<bool, Fail> {
-    let params = Params::new(8, 0, 0, 0, 0, 0)?;
+/// Lines of an interval, lent.
+fn lent<'a>(alloc: Global, lines: &'a [Vec<u16>]) -> Result<Vec<&'a [u16]>, Fail> {
     let mut lent = Vec::new(alloc);
     for line in lines {
         lent.push(line.as_slice())?;
     }
-    if !fits(&params, size.width, size.components, &lent) {
-        return Ok(false);
+    Ok(lent)
+}
+
+/// The bytes that the lines are written as, if they fit an interval.
+fn written(
+    alloc: Global,
+    params: &Params,
+    size: &Size,
+    lines: &[Vec<u16>],
+) -> Result<Option<Vec<u8>>, Fail> {
+    let lines = lent(alloc, lines)?;
+    if !fits(params, size.width, size.components, &lines) {
+        return Ok(None);
     }
-    let piece = encode_interval(alloc, &params, size.width, size.components, &lent)?;
+    let piece = encode_interval(alloc, params, size.width, size.components, &lines)?;
+    Ok(Some(piece))
+}
+
+/// Whether the lines are written, and read back from slices of 4,096 bytes as they are.
+fn come_back(alloc: Global, size: &Size, lines: &[Vec<u16>]) -> Result<bool, Fail> {
+    let params = Params::new(8, 0, 0, 0, 0, 0)?;
+    let Some(piece) = written(alloc, &params, size, lines)? else {
+        return Ok(false);
+    };
     let mut decoder = size.decoder(alloc, &params);
     for slice in piece.chunks(4096) {
         decoder.push_all(slice)?;
