@@ -9,6 +9,7 @@ from dataclasses import dataclass
 from jls_tools.dicom_align import merged
 from jls_tools.dicom_file import PIXEL_DATA, tag_name, text_of
 from jls_tools.dicom_result import Place
+from jls_tools.dicom_sectors import BESIDE, SECTOR, is_noise, is_plain
 from jls_tools.dicom_values import TEXTS, allows, strangeness
 
 PADDING = 0xFFFCFFFC
@@ -113,6 +114,13 @@ def is_across(element, border):
     return element.value < border < element.end and (element.vr not in TEXTS or element.length > LONG)
 
 
+def ends_clearly(copy):
+    """Whether a foreign beginning ends as noise at a border of sectors, where the bytes of the other copy are none on both sides."""
+    border = copy.absent[0][1]
+    sides = (copy.data[border - BESIDE : border], copy.data[border : border + BESIDE])
+    return border % SECTOR == 0 and is_noise(copy.foreign[border - BESIDE : border]) and all(map(is_plain, sides))
+
+
 def denies(text, own, element):
     """Whether the bytes of a copy that was left out, or of a foreign beginning, go another way through an element that can be true."""
     other = text[element.start : element.start + len(own)]
@@ -130,7 +138,7 @@ class Doubts:
 
     def __init__(self, header, strangers):
         self.unclear = unclear_ranges(header)
-        self.borders = [copy.absent[0][1] for copy in header.copies if copy.foreign]
+        self.borders = [copy.absent[0][1] for copy in header.copies if copy.foreign and not ends_clearly(copy)]
         # (from where on it counts, the bytes)
         self.texts = [(len(copy.foreign) - NEAR, copy.foreign) for copy in header.copies if copy.foreign]
         self.texts += [(0, stranger.data) for stranger in strangers if stranger.may_be_copy]

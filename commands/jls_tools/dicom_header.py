@@ -7,6 +7,7 @@ import struct
 from jls_tools.dicom_alone import PADDING, held_by_one, places_alone
 from jls_tools.dicom_file import JPEG_LS, UNDEFINED, tag_name, text_of
 from jls_tools.dicom_result import Place
+from jls_tools.dicom_sectors import Decider
 from jls_tools.dicom_values import NOT_IN_TEXT, TEXTS, allows
 
 GROUP_LENGTH, CLASS_IN_META, INSTANCE_IN_META, SYNTAX = 0x00020000, 0x00020002, 0x00020003, 0x00020010
@@ -118,6 +119,7 @@ class Header:
         self.by_tables(table)
         self.by_neighbours()
         self.keep_values(PADDING, lambda value: not value.strip(b"\0"), IS_PADDING)
+        Decider(self).decide()
         self.by_most()
         self.by_preamble()
 
@@ -204,8 +206,14 @@ class Header:
         """Leaves the one way of a run that the copies have from which the runs around it were taken."""
         both = self.holders(before) & self.holders(after)
         ways = {way for way in self.left[number] if set(self.runs.runs[number].holders[way]) & both}
-        if len(ways) == 1:
+        if len(ways) == 1 and not self.looks_lost(number, ways):
             self.keep(number, ways, "the bytes around it are of that copy")
+
+    def looks_lost(self, number, ways):
+        """Whether eight bytes or more of one value would be kept, where another way has more values."""
+        run = self.runs.runs[number]
+        plain = {way for way in self.left[number] if not run.ways[way].strip(run.ways[way][:1])}
+        return run.end - run.begin >= 8 and ways <= plain and plain != set(self.left[number])
 
     def by_preamble(self):
         """Zeros in the preamble, or else what the first copy has. It has no meaning (PS3.10, 7.1)."""
