@@ -2,7 +2,7 @@
 import json
 import os
 
-from . import archive_names, archive_rows
+from . import archive_names
 from .archive_places import Refused
 
 MARK = "run.json"  # says that jls-archive made the folder
@@ -33,6 +33,15 @@ def check_places(out, trees):
                 raise Refused(f"{shown(tree)} and {shown(other)} lie in one another")
 
 
+def made_for(mark):
+    """What the runs are for that made a folder, by its mark. None if there is no mark, or one that a killed run didn't complete."""
+    try:
+        with open(mark, encoding="ascii") as file:
+            return json.load(file).get("what")
+    except (FileNotFoundError, ValueError):
+        return None
+
+
 def claim(places, what):
     """Makes OUT and the folder of the report. What is there already has to be of an earlier run, or empty."""
     mark, shown = os.path.join(places.report, f".{MARK}"), archive_names.printable(places.out)
@@ -43,10 +52,10 @@ def claim(places, what):
             if os.path.lexists(path) and not (os.path.isdir(path) and not os.listdir(path)):
                 raise Refused(f"{archive_names.printable(path)} is there already, and no run of jls-archive made it")
     os.makedirs(places.report, exist_ok=True)
-    if os.path.isfile(mark):
-        with open(mark, encoding="ascii") as file:
-            if json.load(file).get("what") != what:
-                raise Refused(f"{shown} is there already, of a run of another kind")
-    else:
-        archive_rows.write_whole(mark, json.dumps({"what": what}).encode("ascii"))
+    if made_for(mark) not in (None, what):
+        raise Refused(f"{shown} is there already, of a run of another kind")
+    if made_for(mark) is None:
+        # not by way of another name: a run that is killed would leave that, and its folder without a mark
+        with open(mark, "w", encoding="ascii") as file:
+            file.write(json.dumps({"what": what}))
     os.makedirs(places.out, exist_ok=True)
