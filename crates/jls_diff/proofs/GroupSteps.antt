@@ -2,11 +2,12 @@
 use Rattle.std.proofs.Common.{◌≡◌, ℕ, zero, suc, ◌+◌, ◌<◌, ◌≤◌, Bool, true, false, List, [], ◌∷◌, ◌++◌, length, Option, Some, None, refl}
 use Rattle.std.proofs.Common.{sym, ap, ◌∙◌, subst, arith, ◌⊎◌, inl, inr}
 use Rattle.std.specs.Prelude.{get_or, IfSome, if◌then◌else◌}
-use Rattle.std.specs.List.{AllByRecursion, Contains}
+use Rattle.std.specs.List.{AllByRecursion}
 use Rattle.std.proofs.lemmas.List.Elements.{Contains-append_left, Contains-append_right}
 use Rattle.jls_diff.specs.Parts.{Part, Same, Differ}
 use Rattle.jls_diff.specs.Borders.{IsBorder, IsBorderOf}
-use Rattle.jls_diff.specs.Groups.{Differs, IsGroup, IsInSome, CoverParts, closed_groups, IsClosed, IsFound}
+use Rattle.jls_diff.specs.Parts.{Differs}
+use Rattle.jls_diff.specs.Groups.{IsGroup, IsInSome, CoverParts, closed_groups, IsClosed, IsFound}
 use Rattle.jls_diff.specs.declared.border.Border.{Border}
 use Rattle.jls_diff.specs.declared.group.Group.{Group}
 use Rattle.jls_diff.specs.declared.grouping.Found.{Found}

@@ -1,16 +1,11 @@
 -- Groups of parts: what stands between two borders, with the head of the parts, which belongs to every group.
 use Rattle.std.specs.Prelude.{◌≡◌, ℕ, ◌<◌, ◌≤◌, true, false, List, [], ◌∷◌, ◌++◌, length, get_or, Option, IfSome, ◌⊎◌, if◌then◌else◌}
 use Rattle.std.specs.List.{AllByRecursion, Contains}
-use Rattle.jls_diff.specs.Parts.{Part, Same, Differ}
+use Rattle.jls_diff.specs.Parts.{Part, Same, Differs}
 use Rattle.jls_diff.specs.Borders.{IsBorder}
 use Rattle.jls_diff.specs.declared.border.Border.{Border}
 use Rattle.jls_diff.specs.declared.group.Group.{Group}
 use Rattle.jls_diff.specs.declared.grouping.Found.{Found}
-
--- copies differ in the part
-abbrev pub Differs : Part → Type 0
-Differs (Same bytes) = ⊥
-Differs (Differ ways) = Unit {0}
 
 -- a group begins at a border after the head, and ends at a later border, or with the parts
 abbrev pub IsGroup : List Part → Group → Type 0

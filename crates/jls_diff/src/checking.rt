@@ -4,19 +4,8 @@ ghost use Rattle.std.specs.Prelude.{◌≡◌, ℕ, ◌<◌, ◌++◌, [], lengt
 ghost use Rattle.std.specs.List.{AllByRecursion};
 ghost use Rattle.jls_diff.specs.Parts.{AreParts, HasWays, made};
 ghost use Rattle.jls_diff.specs.PartsOf.{bytes_of, part_of, parts_of};
-ghost use Rattle.jls_diff.specs.Parts as spec;
 
 use crate::part::Part;
-
-/// What copy number `copy` has at a part.
-fn way<'b>(part: &'b Part<'_>, copy: usize) -> &'b [u8]
-    ensures { result.now ≡ spec.way copy (part_of part.now) }
-{
-    match part {
-        Part::Same(bytes) => bytes,
-        Part::Differ(ways) => { if copy < ways.len() { ways[copy] } else { &[] } }
-    }
-}
 
 /// Whether there is a way for each of so many copies.
 fn has_ways(part: &Part<'_>, count: usize) -> bool
@@ -45,7 +34,7 @@ fn makes(parts: &[Part<'_>], copy: usize, bytes: &[u8]) -> bool
 {
     let mut rest = bytes;
     for part in parts {
-        match following(rest, way(part, copy)) {
+        match following(rest, part.way(copy)) {
             Some(others) => rest = others,
             None => return false,
         }

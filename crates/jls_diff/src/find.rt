@@ -2,22 +2,23 @@
 
 ghost use Rattle.std.specs.Prelude.{IfOk};
 ghost use Rattle.jls_diff.specs.Parts.{AreParts};
-ghost use Rattle.jls_diff.specs.PartsOf.{bytes_of, parts_of};
+ghost use Rattle.jls_diff.specs.PartsOf.{bytes_of};
 
 use crate::checking::are_parts;
 use crate::part::Part;
+use crate::parts::Parts;
 use crate::propose::proposed;
 use std::alloc::{AllocError, Global};
 
 /// All of the copies as one part: no part, where there are no copies.
-fn one_part<'a>(alloc: Global, copies: &[&'a [u8]]) -> Result<Vec<Part<'a>>, AllocError>
-    ensures { IfOk result (λ parts. AreParts (bytes_of copies.now) (parts_of parts.items)) }
+fn one_part<'a>(alloc: Global, copies: &[&'a [u8]]) -> Result<Parts<'a>, AllocError>
+    ensures { IfOk result (λ parts. AreParts (bytes_of copies.now) parts) }
 {
     let mut parts = Vec::new(alloc);
     if !copies.is_empty() {
         parts.push(Part::Differ(Vec::from_slice(alloc, copies)?))?;
     }
-    Ok(parts)
+    Ok(Parts::of(parts))
 }
 
 /// The parts of some copies of one file. `Err` comes if memory is refused.
@@ -29,12 +30,12 @@ fn one_part<'a>(alloc: Global, copies: &[&'a [u8]]) -> Result<Vec<Part<'a>>, All
 /// Inside a difference, one agreeing byte divides two stretches. Between two restart markers or scan headers, more than 11 stretches
 /// are too many. Then the nearest are joined, if fewer than 8 bytes agree between them. A run of 8 zeros or more in some copies begins
 /// a stretch and ends it. If copies have different lengths in a stretch, those of the most frequent length divide it.
-pub fn find_parts<'a>(alloc: Global, copies: &[&'a [u8]]) -> Result<Vec<Part<'a>>, AllocError>
-    ensures { IfOk result (λ parts. AreParts (bytes_of copies.now) (parts_of parts.items)) }
+pub fn find_parts<'a>(alloc: Global, copies: &[&'a [u8]]) -> Result<Parts<'a>, AllocError>
+    ensures { IfOk result (λ parts. AreParts (bytes_of copies.now) parts) }
 {
     let parts = proposed(alloc, copies)?;
     if are_parts(copies, &parts) {
-        return Ok(parts);
+        return Ok(Parts::of(parts));
     }
     one_part(alloc, copies)
 }

@@ -2,14 +2,15 @@
 
 ghost use Rattle.std.specs.Prelude.{◌≡◌, ◌+◌, ◌<◌, ◌↔◌, [], length, get_or, IsTrue, IfOk, IfSome, OnOk};
 ghost use Rattle.std.specs.List.{AllByRecursion};
-ghost use Rattle.jls_diff.specs.Parts.{Same};
-ghost use Rattle.jls_diff.specs.PartsOf.{part_of, parts_of};
+ghost use Rattle.jls_diff.specs.Parts.{Differs, Same};
+ghost use Rattle.jls_diff.specs.PartsOf.{parts_of};
 ghost use Rattle.jls_diff.specs.Borders.{IsBorder};
-ghost use Rattle.jls_diff.specs.Groups.{Differs, IsGroup, CoverParts, IsClosed, IsFound};
+ghost use Rattle.jls_diff.specs.Groups.{IsGroup, CoverParts, IsClosed, IsFound};
 
 use crate::border::{Border, borders_at, scan_in};
 use crate::group::Group;
 use crate::part::Part;
+use crate::parts::Parts;
 use std::alloc::{AllocError, Global};
 
 /// What is found of the first parts.
@@ -25,22 +26,12 @@ pub(crate) struct Found {
     groups: Vec<Group>,
 }
 
-/// Whether copies differ in a part.
-fn is_differ(part: &Part<'_>) -> bool
-    ensures { IsTrue result ↔ Differs (part_of part.now) }
-{
-    match part {
-        Part::Same(_) => false,
-        Part::Differ(_) => true,
-    }
-}
-
-/// The same, of the part at this place.
+/// Whether copies differ in the part at this place.
 fn differs_at(parts: &[Part<'_>], place: usize) -> bool
     requires { place < length parts.now }
     ensures { IsTrue result ↔ Differs (get_or (parts_of parts.now) place (Same [])) }
 {
-    is_differ(&parts[place])
+    parts[place].is_differ()
 }
 
 /// The last border in the first part that has SOS.
@@ -111,13 +102,9 @@ fn found_in(alloc: Global, parts: &[Part<'_>], first: Border) -> Result<Found, A
     Ok(found)
 }
 
-/// The groups of some parts, in the order of the file. A group goes over parts in which copies differ, from one marker to the next. Both
-/// stand whole in parts that all copies have alike. The last group can end with the parts. There is no group where copies differ nowhere
-/// after SOS, or where SOS stands in no such part. `Err` comes where memory is refused.
-///
-/// Which markers are taken is a proposal, as bytes that look like one can stand in a segment. SOS is taken where a scan header follows.
+/// The groups of these parts, as `find_groups` finds them.
 #[tactic(auto, using(crate::proofs::GroupSteps::are_groups, crate::proofs::GroupSteps::groups_cover))]
-pub fn find_groups(alloc: Global, parts: &[Part<'_>]) -> Result<Vec<Group>, AllocError>
+fn groups_of(alloc: Global, parts: &[Part<'_>]) -> Result<Vec<Group>, AllocError>
     ensures groups { IfOk result (λ groups. AllByRecursion (IsGroup (parts_of parts.now)) groups.items) }
     ensures cover { IfOk result (λ groups. CoverParts (parts_of parts.now) groups.items) }
 {
@@ -128,4 +115,16 @@ pub fn find_groups(alloc: Global, parts: &[Part<'_>]) -> Result<Vec<Group>, Allo
     close(&mut found, None)?;
     let Found { groups, .. } = found;
     Ok(groups)
+}
+
+/// The groups of some parts, in the order of the file. A group goes over parts in which copies differ, from one marker to the next. Both
+/// stand whole in parts that all copies have alike. The last group can end with the parts. There is no group where copies differ nowhere
+/// after SOS, or where SOS stands in no such part. `Err` comes where memory is refused.
+///
+/// Which markers are taken is a proposal, as bytes that look like one can stand in a segment. SOS is taken where a scan header follows.
+pub fn find_groups(alloc: Global, parts: &Parts<'_>) -> Result<Vec<Group>, AllocError>
+    ensures groups { IfOk result (λ groups. AllByRecursion (IsGroup parts.now) groups.items) }
+    ensures cover { IfOk result (λ groups. CoverParts parts.now groups.items) }
+{
+    groups_of(alloc, parts.list())
 }

@@ -1,6 +1,6 @@
 //! Where copies of one file differ: the parts that all have alike or in which they differ, and groups of parts between two markers.
 //!
-//! - `part`: a part: bytes that all copies have, or what each copy has there
+//! - `part`, `parts`: a part: bytes that all copies have, or what each copy has there; all of them
 //! - `find`: answers the parts of some copies (`find_parts`)
 //! - `propose`, `seeds`: search for parts. No contract speaks of them
 //! - `checking`: tests what they propose. If the test fails, `find` takes all of the copies as one part
@@ -27,6 +27,7 @@ mod laws;
 mod lengths;
 mod merging;
 mod part;
+mod parts;
 mod propose;
 mod seeds;
 mod steps;
@@ -39,3 +40,4 @@ pub use group::Group;
 pub use grouping::find_groups;
 pub use laws::{choices_make_splices, copies_are_splices, splices_are_listed};
 pub use part::Part;
+pub use parts::Parts;

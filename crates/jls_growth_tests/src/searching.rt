@@ -1,9 +1,16 @@
 //! Parts of copies, and the searches over their splices.
 
+ghost use Rattle.std.specs.Prelude.{◌≡◌, ◌<◌, length, IfOk};
+ghost use Rattle.jls_diff.specs.Parts.{AreParts};
+ghost use Rattle.jls_diff.specs.PartsOf.{bytes_of};
+ghost use Rattle.jls_search.specs.Faultless.{IsSought};
+ghost use Rattle.jls_search.specs.Search.{CameTo, lists_of};
+ghost use Rattle.jls_search.specs.SearchLaws.{AreShort};
+
 use crate::met::{Met, Stopped, Tally};
 use crate::pairs::{half_lost_pair, mended_pair};
 use jls_diff::{Part, find_parts};
-use jls_search::{are_short, complete_by_groups, search_copies};
+use jls_search::{SearchedCopies, are_short, complete_by_groups, parts_can_be_searched, search};
 use std::alloc::{AllocError, Global};
 use std::process::Abort;
 
@@ -44,8 +51,9 @@ fn find_one(rt: &impl Abort, alloc: Global) -> Result<Met, Stopped> {
     }
     let parts = found?;
     assert!(rt; parts.len() == PARTS.len());
-    for (part, lengths) in parts.iter().zip(&PARTS) {
-        assert!(rt; is_part(part, lengths), "{lengths:?}");
+    for place in 0..parts.len() {
+        let lengths = PARTS.get(place).copied().unwrap_or(&[]);
+        assert!(rt; is_part(parts.part(place), lengths), "{lengths:?}");
     }
     Ok(met)
 }
@@ -57,13 +65,36 @@ fn parts(rt: HostRuntime) {
     assert!(rt; tally.is_single());
 }
 
+/// The parts of copies, and what the search of all their splices comes to, with so many tries.
+fn searched<'a>(
+    alloc: Global,
+    copies: &[&'a [u8]],
+    limit: u32,
+) -> Result<SearchedCopies<'a>, AllocError>
+    requires some_copy { 0 < length copies.now }
+    requires short { AreShort (bytes_of copies.now) }
+    ensures parts { IfOk result (λ found. AreParts (bytes_of copies.now) found.parts) }
+    ensures searched { IfOk result (λ found.
+        CameTo (IsSought found.ceiling) found.parts (lists_of found.searched.splices.items) found.searched.is_used_up) }
+{
+    parts_can_be_searched();
+    let parts = find_parts(alloc, copies)?;
+    let ceiling = Some(255);
+    let searched = search(alloc, &parts, ceiling, limit)?;
+    Ok(SearchedCopies {
+        parts,
+        ceiling,
+        searched,
+    })
+}
+
 /// How many splices both searches come to.
 fn splices_of(alloc: Global, copies: &[&[u8]]) -> Result<usize, AllocError> {
     if copies.is_empty() || !are_short(copies) {
         return Err(AllocError);
     }
-    let searched = search_copies(alloc, copies, Some(255), 4096)?;
-    let found = complete_by_groups(alloc, copies, searched, 4096)?;
+    let all = searched(alloc, copies, 4096)?;
+    let found = complete_by_groups(alloc, copies, all, 4096)?;
     Ok(found.splices.len())
 }
 
@@ -88,7 +119,7 @@ fn search_one(rt: &impl Abort, alloc: Global, is_mended: bool) -> Result<Met, St
 
 #[test]
 fn searches(rt: HostRuntime) {
-    let mut tally = Tally::of("search_copies, and complete_by_groups after it");
+    let mut tally = Tally::of("find_parts, search, and complete_by_groups after them");
     for is_mended in [true, false] {
         tally.note(&rt, search_one(&rt, rt.alloc(), is_mended));
     }

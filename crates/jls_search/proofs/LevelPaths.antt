@@ -6,7 +6,8 @@ use Rattle.std.specs.List.{AllByRecursion, Contains}
 use Rattle.std.proofs.lemmas.List.Elements.{Contains-append_left, Contains-append_right}
 use Rattle.std.proofs.lemmas.List.{take_at, take_more}
 use Rattle.jls_diff.specs.Parts.{Part, Same, Differ}
-use Rattle.jls_search.specs.Choices.{IsDiffer, IsFirstWay, IsPrefix, IsPath, prefix_of}
+use Rattle.jls_search.specs.Choices.{IsFirstWay, IsPrefix, IsPath, prefix_of}
+use Rattle.jls_diff.specs.Parts.{Differs}
 use Rattle.jls_search.specs.Faultless.{IsDead}
 use Rattle.jls_search.specs.Levels.{AreJudged, AreSame, IsNext, IsTaken}
 use Rattle.jls_search.proofs.KeptReaders.{prefix_and_rest}
@@ -17,18 +18,18 @@ use Rattle.jls_search.proofs.Paths.{order, path_at, path_len}
 
 -- one part more
 pub same_more : (ps : List Part) (from : ℕ) (path next : List ℕ) → next ≡ path ++ 0 ∷ []
-    → (IsDiffer (get_or ps (length path) (Same [])) → ⊥) → AreSame ps from (length path) → AreSame ps from (length next)
+    → (Differs (get_or ps (length path) (Same [])) → ⊥) → AreSame ps from (length path) → AreSame ps from (length next)
 same_more ps from path next e here before place least less =
     let l = ap length e ∙ length-append path (0 ∷ []) in
     elim (order place (length path)) [
       | inl earlier ↦ before place least earlier
       | inr r ↦ elim r [
-        | inl at ↦ subst (λ n. IsDiffer (get_or ps n (Same [])) → ⊥) (sym at) here
+        | inl at ↦ subst (λ n. Differs (get_or ps n (Same [])) → ⊥) (sym at) here
         | inr later ↦ absurd (omega (arith, l, less, later))
       ]
     ]
 
-only_way : (part : Part) (choice : ℕ) → (IsDiffer part → ⊥) → IsFirstWay part choice → choice ≡ 0
+only_way : (part : Part) (choice : ℕ) → (Differs part → ⊥) → IsFirstWay part choice → choice ≡ 0
 only_way (Same bytes) choice same first = first
 only_way (Differ ways) choice same first = absurd (same tt)
 
@@ -40,7 +41,7 @@ one_path ps [] (d ∷ ds) from pa pb l e same = absurd (omega (arith, l))
 one_path ps (c ∷ cs) [] from pa pb l e same = absurd (omega (arith, l))
 one_path [] (c ∷ cs) (d ∷ ds) from pa pb l e same = absurd pa
 one_path (p ∷ ps) (c ∷ cs) (d ∷ ds) zero pa pb l e same =
-    let here : IsDiffer p → ⊥ = same zero (omega arith) (omega arith) in
+    let here : Differs p → ⊥ = same zero (omega arith) (omega arith) in
     let first : c ≡ d = only_way p c here pa.0 ∙ sym (only_way p d here pb.0) in
     let rest = one_path ps cs ds zero pa.1 pb.1 (omega (arith, l)) refl (λ place least less. same (suc place) (omega arith) (omega (arith, less))) in
     ap (λ x. x ∷ cs) first ∙ ap (λ xs. d ∷ xs) rest
@@ -77,7 +78,7 @@ module _ (ps : List Part) (from : ℕ) where
   pub also_next : (cs ds : List ℕ) → IsNext ps from cs → IsPath ps ds → length ds ≡ length cs → IsNext ps from ds
   also_next cs ds a is e = record {
     is_path = is;
-    prefix = subst (λ n. IsDiffer (get_or ps n (Same [])) ⊎ (n ≡ length ps)) (sym e) a.prefix;
+    prefix = subst (λ n. Differs (get_or ps n (Same [])) ⊎ (n ≡ length ps)) (sym e) a.prefix;
     from_on = subst (λ n. from ≤ n) (sym e) a.from_on;
     same = subst (AreSame ps from) (sym e) a.same;
   }

@@ -4,7 +4,8 @@ use Rattle.std.specs.Prelude.{get_or}
 use Rattle.std.proofs.Math.ListN.{get_or-append}
 use Rattle.std.proofs.Math.Seq.{get_or-append_seam}
 use Rattle.jls_diff.specs.Parts.{Part, Same, Differ, way}
-use Rattle.jls_search.specs.Choices.{IsDiffer, IsFirstWay}
+use Rattle.jls_search.specs.Choices.{IsFirstWay}
+use Rattle.jls_diff.specs.Parts.{Differs}
 use Rattle.jls_search.specs.Order.{IsToCome, IsLater}
 use Rattle.jls_search.proofs.Paths.{order, path_at, path_back, path_more}
 use Rattle.jls_diff.specs.Groups.{IsInside}
@@ -53,7 +54,7 @@ zero_is_first copy (Differ ways) h = (omega (arith, h), λ other l e. omega (ari
 -- Choices to come --------------------------------------------------------------------------------------------------
 
 -- first ways of a part that take the same, where copies differ in it, are one
-one_way : (p : Part) (c d : ℕ) → IsFirstWay p c → IsFirstWay p d → (IsDiffer p → way c p ≡ way d p) → c ≡ d
+one_way : (p : Part) (c d : ℕ) → IsFirstWay p c → IsFirstWay p d → (Differs p → way c p ≡ way d p) → c ≡ d
 one_way (Same bytes) c d f g same = f ∙ sym g
 one_way (Differ ways) c d f g same =
     elim (order c d) [
@@ -64,7 +65,7 @@ one_way (Differ ways) c d f g same =
 module _ (ps : List Part) (s : Setting) (ds : List ℕ) (set : IsSet ps s ds) (n c : ℕ) (l : n < length ds)
     (first : IsFirstWay (get_or ps n (Same [])) c) where
   -- each choice there is the copy's, if the part isn't one of the group
-  pub same_choice : TakesCopy ps s.copy n c → (IsDiffer (get_or ps n (Same [])) → IsInside s.group n → ⊥) → get_or ds n 0 ≡ c
+  pub same_choice : TakesCopy ps s.copy n c → (Differs (get_or ps n (Same [])) → IsInside s.group n → ⊥) → get_or ds n 0 ≡ c
   same_choice takes out =
       one_way (get_or ps n (Same [])) (get_or ds n 0) c (path_at ps ds n set.0 l).1 first (λ differ. set.1 n l (out differ) ∙ sym takes)
 

@@ -1,6 +1,6 @@
 -- Choices of ways, part by part, and the bytes that they make.
 use Rattle.std.specs.Prelude.{◌≡◌, ℕ, ◌<◌, List, [], ◌∷◌, ◌++◌, length, get_or, ◌⊎◌}
-use Rattle.jls_diff.specs.Parts.{Part, Same, Differ, way}
+use Rattle.jls_diff.specs.Parts.{Part, Same, Differ, Differs, way}
 
 -- the bytes that choices make of the first parts
 abbrev pub prefix_of : List Part → List ℕ → List ℕ
@@ -27,14 +27,9 @@ IsPath (part ∷ parts) (choice ∷ choices) = IsFirstWay part choice × IsPath 
 abbrev pub IsWhole : List Part → List ℕ → Type 0
 IsWhole parts choices = IsPath parts choices × (length choices ≡ length parts)
 
--- copies differ in a part
-abbrev pub IsDiffer : Part → Type 0
-IsDiffer (Same bytes) = ⊥
-IsDiffer (Differ ways) = Unit {0}
-
 -- choices go up to the next part in which copies differ, or to the end of the file
 abbrev pub IsPrefix : List Part → List ℕ → Type 0
-IsPrefix parts path = IsDiffer (get_or parts (length path) (Same [])) ⊎ (length path ≡ length parts)
+IsPrefix parts path = Differs (get_or parts (length path) (Same [])) ⊎ (length path ≡ length parts)
 
 -- a part that differs has a way
 abbrev pub HasSomeWay : Part → Type 0

@@ -1,12 +1,12 @@
 -- The files taken: the copies in their order, then the splices that a search found.
 use Rattle.std.specs.Prelude.{ℕ, List, ◌++◌}
-use Rattle.jls_diff.specs.PartsOf.{bytes_of, parts_of}
+use Rattle.jls_diff.specs.PartsOf.{bytes_of}
 use Rattle.jls_search.specs.Search.{files_of, lists_of}
 use Rattle.jls_search.specs.declared.files.Files.{Files}
 
 -- the splices that a search found
 abbrev pub splices_found : Files → List (List ℕ)
-splices_found files = files_of (parts_of files.parts.now) (lists_of files.splices.now)
+splices_found files = files_of files.parts.now (lists_of files.splices.now)
 
 -- the files taken: the copies in their order, then the splices that a search found
 abbrev pub files_taken : Files → List (List ℕ)

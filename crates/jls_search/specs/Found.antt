@@ -3,7 +3,6 @@ use Rattle.std.specs.Prelude.{◌≡◌, ℕ, ◌↔◌, Bool, true, List, [], �
 use Rattle.std.specs.Prelude.{option_map, ◌⊎◌}
 use Rattle.std.specs.List.{AllByRecursion}
 use Rattle.jls_diff.specs.Parts.{Part, AreParts}
-use Rattle.jls_diff.specs.PartsOf.{parts_of}
 use Rattle.jls_search.specs.Faultless.{IsSought}
 use Rattle.jls_search.specs.Search.{CameTo, files_of, lists_of}
 use Rattle.jls_diff.specs.Groups.{CoverParts, IsGroup}
@@ -78,7 +77,7 @@ by_groups_of choices reported = record {
 -- what a search found, from the value of the code: its first `whole` splices are those of the search of all, the others those of groups
 abbrev pub found_of : FoundSplices → Found
 found_of s = record {
-  parts = parts_of s.parts.items;
+  parts = s.parts;
   choices = take s.whole (lists_of s.splices.items);
   is_used_up = s.is_used_up;
   by_groups = option_map (by_groups_of (drop s.whole (lists_of s.splices.items))) s.by_groups;

@@ -2,7 +2,8 @@
 use Rattle.std.specs.Prelude.{◌≡◌, ℕ, ◌<◌, ◌≤◌, List, [], ◌∷◌, ◌++◌, length, take, get_or, ◌⊎◌}
 use Rattle.std.specs.List.{AllByRecursion, Contains}
 use Rattle.jls_diff.specs.Parts.{Part, Same}
-use Rattle.jls_search.specs.Choices.{IsDiffer, IsPrefix, IsPath, prefix_of}
+use Rattle.jls_search.specs.Choices.{IsPrefix, IsPath, prefix_of}
+use Rattle.jls_diff.specs.Parts.{Differs}
 use Rattle.jls_search.specs.Faultless.{IsDead}
 
 -- a path goes up to a part in which the copies differ, or to the end. Each other path of as many choices makes bytes with which no file of
@@ -15,7 +16,7 @@ pub record IsLone (Sought : List ℕ → Type 0) (parts : List Part) (path : Lis
 
 -- copies differ in no part from this place on, up to that one
 abbrev pub AreSame : List Part → ℕ → ℕ → Type 0
-AreSame parts from to = (place : ℕ) → from ≤ place → place < to → IsDiffer (get_or parts place (Same [])) → ⊥
+AreSame parts from to = (place : ℕ) → from ≤ place → place < to → Differs (get_or parts place (Same [])) → ⊥
 
 -- a path goes from so many choices on to the next part in which copies differ, or to the end
 pub record IsNext (parts : List Part) (from : ℕ) (path : List ℕ) : Type 0 where

@@ -1,5 +1,5 @@
 -- What a search by groups comes to.
-use Rattle.std.specs.Prelude.{◌≡◌, ℕ, ◌<◌, ◌≤◌, Bool, true, false, List, [], ◌∷◌, ◌++◌, length, get_or, take, None, ◌⊎◌}
+use Rattle.std.specs.Prelude.{◌≡◌, ℕ, ◌<◌, ◌≤◌, Bool, true, false, List, [], ◌∷◌, ◌++◌, length, get_or, take, Some, None, IfSome, ◌⊎◌}
 use Rattle.std.specs.List.{AllByRecursion, Contains}
 use Rattle.jls_diff.specs.Parts.{Part, Same, Differ, way}
 use Rattle.jls_search.specs.Choices.{IsPath, IsWhole, prefix_of}
@@ -14,6 +14,8 @@ use Rattle.jls_diff.specs.Groups.{IsGroup, IsInside}
 use Rattle.jls_search.specs.Places.{offset_of, end_offset_of}
 use Rattle.jls_search.specs.ReadsBetween.{ReadsBetween}
 use Rattle.jls_diff.specs.declared.group.Group.{Group}
+use Rattle.jls_search.specs.declared.looking.Sight.{Sight}
+use Rattle.jls_search.specs.declared.looking.Sight.TheVariants.{Dead, Open, Found}
 use Rattle.jls_search.specs.declared.setting.Setting.{Setting}
 
 -- outside of the group the choices take what this copy has
@@ -82,6 +84,12 @@ IsSet parts setting path = IsPath parts path × IsCopyOutside parts setting.grou
 -- and one for each part
 abbrev pub IsSetWhole : List Part → Setting → List ℕ → Type 0
 IsSetWhole parts setting choices = IsSet parts setting choices × (length choices ≡ length parts)
+
+-- what is seen of a path that has no choice for some part
+abbrev pub IsSeenIn : List Part → Group → List ℕ → Sight → Type 0
+IsSeenIn parts group path Dead = AllByRecursion (λ b. b < 256) (prefix_of parts path) → IsGivenUp parts group path
+IsSeenIn parts group path (Open reader) = IfSome reader (λ fed. fed ≡ Some (prefix_of parts path))
+IsSeenIn parts group path Found = ⊥
 
 -- the choices are found, or passed by
 abbrev pub IsSettled : List Part → Group → List (List ℕ) → List ℕ → Type 0

@@ -12,7 +12,7 @@ ghost use Rattle.jls_search.specs.Order.{IsToCome, IsLater};
 
 use crate::path::next_way_at;
 use crate::setting::{Setting, is_free};
-use jls_diff::Part;
+use jls_diff::{Part, Parts};
 use std::alloc::AllocError;
 
 /// The first of these ways with the bytes of one of them.
@@ -43,26 +43,26 @@ fn choice_of(part: &Part<'_>, copy: usize) -> usize
 }
 
 /// The same, of the part at this place.
-pub(crate) fn choice_at(parts: &[Part<'_>], place: usize, copy: usize) -> usize
+pub(crate) fn choice_at(parts: &Parts<'_>, place: usize, copy: usize) -> usize
     requires place { place < length parts.now }
-    requires copy { AllByRecursion (HasCopy copy) (parts_of parts.now) }
-    ensures first { IsFirstWay (get_or (parts_of parts.now) place (Same [])) result }
-    ensures same { spec.way result (get_or (parts_of parts.now) place (Same []))
-        ≡ spec.way copy (get_or (parts_of parts.now) place (Same [])) }
+    requires copy { AllByRecursion (HasCopy copy) parts.now }
+    ensures first { IsFirstWay (get_or parts.now place (Same [])) result }
+    ensures same { spec.way result (get_or parts.now place (Same []))
+        ≡ spec.way copy (get_or parts.now place (Same [])) }
 {
-    choice_of(&parts[place], copy)
+    choice_of(parts.part(place), copy)
 }
 
 /// Goes on with the copy's ways, up to the next part of the group in which copies differ.
 pub(crate) fn follow(
-    parts: &[Part<'_>],
+    parts: &Parts<'_>,
     setting: Setting,
     path: &mut Vec<usize>,
 ) -> Result<(), AllocError>
-    requires copy { AllByRecursion (HasCopy setting.copy) (parts_of parts.now) }
-    requires path { IsSet (parts_of parts.now) setting path.old.items }
-    ensures path { OnOk result (IsSet (parts_of parts.now) setting path.new.items) }
-    ensures kept { OnOk result ((choices : List ℕ) → IsSetWhole (parts_of parts.now) setting choices
+    requires copy { AllByRecursion (HasCopy setting.copy) parts.now }
+    requires path { IsSet parts.now setting path.old.items }
+    ensures path { OnOk result (IsSet parts.now setting path.new.items) }
+    ensures kept { OnOk result ((choices : List ℕ) → IsSetWhole parts.now setting choices
         → IsToCome path.old.items choices → IsToCome path.new.items choices) }
 {
     while path.len() < parts.len() && !is_free(parts, setting.group, path.len()) {
@@ -72,12 +72,12 @@ pub(crate) fn follow(
 }
 
 /// The first choice of the part at this place: its first way, if it is one of the group, and else the copy's.
-fn first_choice(parts: &[Part<'_>], setting: Setting, place: usize) -> usize
+fn first_choice(parts: &Parts<'_>, setting: Setting, place: usize) -> usize
     requires place { place < length parts.now }
-    requires copy { AllByRecursion (HasCopy setting.copy) (parts_of parts.now) }
-    ensures first { IsFirstWay (get_or (parts_of parts.now) place (Same [])) result }
-    ensures same { ¬ IsInside setting.group place → spec.way result (get_or (parts_of parts.now) place (Same []))
-        ≡ spec.way setting.copy (get_or (parts_of parts.now) place (Same [])) }
+    requires copy { AllByRecursion (HasCopy setting.copy) parts.now }
+    ensures first { IsFirstWay (get_or parts.now place (Same [])) result }
+    ensures same { ¬ IsInside setting.group place → spec.way result (get_or parts.now place (Same []))
+        ≡ spec.way setting.copy (get_or parts.now place (Same [])) }
     ensures least { IsInside setting.group place → result ≡ 0 }
 {
     if setting.group.is_inside(place) {
@@ -87,15 +87,15 @@ fn first_choice(parts: &[Part<'_>], setting: Setting, place: usize) -> usize
 }
 
 /// The choice of the part at this place after one, if it is one of the group and has another.
-fn next_choice(parts: &[Part<'_>], setting: Setting, place: usize, choice: usize) -> Option<usize>
+fn next_choice(parts: &Parts<'_>, setting: Setting, place: usize, choice: usize) -> Option<usize>
     requires place { place < length parts.now }
-    requires first { IsFirstWay (get_or (parts_of parts.now) place (Same [])) choice }
-    ensures first { IfSome result (λ next. IsFirstWay (get_or (parts_of parts.now) place (Same [])) next) }
+    requires first { IsFirstWay (get_or parts.now place (Same [])) choice }
+    ensures first { IfSome result (λ next. IsFirstWay (get_or parts.now place (Same [])) next) }
     ensures inside { IfSome result (λ next. IsInside setting.group place) }
     ensures between { IfSome result (λ next. (other : ℕ) → choice < other → other < next
-        → ¬ IsFirstWay (get_or (parts_of parts.now) place (Same [])) other) }
+        → ¬ IsFirstWay (get_or parts.now place (Same [])) other) }
     ensures none { IfNone result (IsInside setting.group place → (other : ℕ) → choice < other
-        → ¬ IsFirstWay (get_or (parts_of parts.now) place (Same [])) other) }
+        → ¬ IsFirstWay (get_or parts.now place (Same [])) other) }
 {
     if !setting.group.is_inside(place) {
         return None;
@@ -105,15 +105,15 @@ fn next_choice(parts: &[Part<'_>], setting: Setting, place: usize, choice: usize
 
 /// Goes on with the first choice of the next part, and then with the copy's ways.
 pub(crate) fn descend(
-    parts: &[Part<'_>],
+    parts: &Parts<'_>,
     setting: Setting,
     path: &mut Vec<usize>,
 ) -> Result<(), AllocError>
-    requires copy { AllByRecursion (HasCopy setting.copy) (parts_of parts.now) }
-    requires path { IsSet (parts_of parts.now) setting path.old.items }
+    requires copy { AllByRecursion (HasCopy setting.copy) parts.now }
+    requires path { IsSet parts.now setting path.old.items }
     requires more { length path.old.items < length parts.now }
-    ensures path { OnOk result (IsSet (parts_of parts.now) setting path.new.items) }
-    ensures kept { OnOk result ((choices : List ℕ) → IsSetWhole (parts_of parts.now) setting choices
+    ensures path { OnOk result (IsSet parts.now setting path.new.items) }
+    ensures kept { OnOk result ((choices : List ℕ) → IsSetWhole parts.now setting choices
         → IsToCome path.old.items choices → IsToCome path.new.items choices) }
 {
     path.push(first_choice(parts, setting, path.len()))?;
@@ -122,16 +122,16 @@ pub(crate) fn descend(
 
 /// Gives up all choices that begin with the path, and goes to the next path; `false` where there is none.
 pub(crate) fn turn(
-    parts: &[Part<'_>],
+    parts: &Parts<'_>,
     setting: Setting,
     path: &mut Vec<usize>,
 ) -> Result<bool, AllocError>
-    requires copy { AllByRecursion (HasCopy setting.copy) (parts_of parts.now) }
-    requires path { IsSet (parts_of parts.now) setting path.old.items }
-    ensures path { IfOk result (λ more. more ≡ true → IsSet (parts_of parts.now) setting path.new.items) }
-    ensures to_come { IfOk result (λ more. more ≡ true → (choices : List ℕ) → IsSetWhole (parts_of parts.now) setting choices
+    requires copy { AllByRecursion (HasCopy setting.copy) parts.now }
+    requires path { IsSet parts.now setting path.old.items }
+    ensures path { IfOk result (λ more. more ≡ true → IsSet parts.now setting path.new.items) }
+    ensures to_come { IfOk result (λ more. more ≡ true → (choices : List ℕ) → IsSetWhole parts.now setting choices
         → IsLater path.old.items choices → IsToCome path.new.items choices) }
-    ensures none { IfOk result (λ more. more ≡ false → (choices : List ℕ) → IsSetWhole (parts_of parts.now) setting choices
+    ensures none { IfOk result (λ more. more ≡ false → (choices : List ℕ) → IsSetWhole parts.now setting choices
         → ¬ IsLater path.old.items choices) }
 {
     while let Some(choice) = path.pop() {

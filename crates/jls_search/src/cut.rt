@@ -21,21 +21,17 @@ use crate::reading_files::{FilesRead, read_files};
 use crate::settling::station_of;
 use crate::shape_rule::first_faultless;
 use jls_copy::{CopyFault, CopyRead, CopyReader};
-use jls_diff::Part;
+use jls_diff::Parts;
 use jls_station::Station;
 use std::alloc::{AllocError, Global};
 
 /// What is read of the cut file; `None` where it has no frame.
-fn read_cut(
-    alloc: Global,
-    parts: &[Part<'_>],
-    cut: &[usize],
-) -> Result<Option<CopyRead>, AllocError>
-    requires path { IsPath (parts_of parts.now) cut.now }
-    requires few { length (prefix_of (parts_of parts.now) cut.now) ≤ 2 ^ 63 - 1 }
-    ensures bytes { IfOk result (λ _. AreBytes (prefix_of (parts_of parts.now) cut.now)) }
-    ensures some { IfOk result (λ found. IfSome found (λ read. CopyReads (prefix_of (parts_of parts.now) cut.now) read)) }
-    ensures none { IfOk result (λ found. IfNone found (HasNoFrame (prefix_of (parts_of parts.now) cut.now))) }
+fn read_cut(alloc: Global, parts: &Parts<'_>, cut: &[usize]) -> Result<Option<CopyRead>, AllocError>
+    requires path { IsPath parts.now cut.now }
+    requires few { length (prefix_of parts.now cut.now) ≤ 2 ^ 63 - 1 }
+    ensures bytes { IfOk result (λ _. AreBytes (prefix_of parts.now cut.now)) }
+    ensures some { IfOk result (λ found. IfSome found (λ read. CopyReads (prefix_of parts.now cut.now) read)) }
+    ensures none { IfOk result (λ found. IfNone found (HasNoFrame (prefix_of parts.now cut.now))) }
 {
     let mut reader = CopyReader::new(alloc);
     feed_prefix(&mut reader, parts, cut)?;
@@ -55,14 +51,14 @@ fn take_cut(
     before: Option<Station>,
     cut: &[usize],
 ) -> Result<Option<Station>, AllocError>
-    requires whole { AllByRecursion (IsWhole (parts_of files.now.parts.now)) (lists_of files.now.splices.now) }
-    requires short { IsShort (parts_of files.now.parts.now) }
+    requires whole { AllByRecursion (IsWhole files.now.parts.now) (lists_of files.now.splices.now) }
+    requires short { IsShort files.now.parts.now }
     requires taken { HasTaken source (files_taken files.now) before }
-    requires cut { IsPath (parts_of files.now.parts.now) cut.now }
-    ensures some { IfOk result (λ found. IfSome found (λ station. HasShape station.shape (prefix_of (parts_of files.now.parts.now) cut.now)
-        × TakesFiles source (files_taken files.now ++ prefix_of (parts_of files.now.parts.now) cut.now ∷ [])
+    requires cut { IsPath files.now.parts.now cut.now }
+    ensures some { IfOk result (λ found. IfSome found (λ station. HasShape station.shape (prefix_of files.now.parts.now cut.now)
+        × TakesFiles source (files_taken files.now ++ prefix_of files.now.parts.now cut.now ∷ [])
         (nothing_known station.shape) station)) }
-    ensures none { IfOk result (λ found. IfNone found (HasNoFrame (prefix_of (parts_of files.now.parts.now) cut.now))) }
+    ensures none { IfOk result (λ found. IfNone found (HasNoFrame (prefix_of files.now.parts.now cut.now))) }
 {
     let Some(read) = read_cut(alloc, files.parts, cut)? else {
         return Ok(None);
@@ -85,13 +81,13 @@ pub fn settle_with_cut(
     cut: &[usize],
 ) -> Result<Option<Station>, AllocError>
     requires some_copy { 0 < length files.now.copies.now }
-    requires whole { AllByRecursion (IsWhole (parts_of files.now.parts.now)) (lists_of files.now.splices.now) }
-    requires short { IsShort (parts_of files.now.parts.now) }
-    requires cut { IsPath (parts_of files.now.parts.now) cut.now }
+    requires whole { AllByRecursion (IsWhole files.now.parts.now) (lists_of files.now.splices.now) }
+    requires short { IsShort files.now.parts.now }
+    requires cut { IsPath files.now.parts.now cut.now }
     ensures taken { IfOk result (λ found. IfSome found (λ station. TakesCut source (bytes_of files.now.copies.now)
-        (splices_found files.now) (prefix_of (parts_of files.now.parts.now) cut.now) station)) }
+        (splices_found files.now) (prefix_of files.now.parts.now cut.now) station)) }
     ensures nothing { IfOk result (λ found. IfNone found (TakesNoCut (bytes_of files.now.copies.now)
-        (splices_found files.now) (prefix_of (parts_of files.now.parts.now) cut.now))) }
+        (splices_found files.now) (prefix_of files.now.parts.now cut.now))) }
 {
     let FilesRead { seen, station } = read_files(alloc, source, files)?;
     match first_faultless(&seen) {

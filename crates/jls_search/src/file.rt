@@ -10,7 +10,7 @@ ghost use Rattle.jls_search.specs.Stations.{TakesFiles};
 
 use crate::feeding::feed_prefix;
 use jls_copy::{CopyFault, CopyRead, CopyReader};
-use jls_diff::Part;
+use jls_diff::Parts;
 use jls_partial::Partial;
 use jls_station::Station;
 use jls_values::MergeFault;
@@ -78,12 +78,12 @@ pub(crate) fn take_splice(
     alloc: Global,
     station: &mut Station,
     source: Option<u32>,
-    parts: &[Part<'_>],
+    parts: &Parts<'_>,
     choices: &[usize],
 ) -> Result<(), AllocError>
-    requires path { IsPath (parts_of parts.now) choices.now }
-    requires few { length (prefix_of (parts_of parts.now) choices.now) ≤ 2 ^ 63 - 1 }
-    ensures { OnOk result (TakesFiles source (prefix_of (parts_of parts.now) choices.now ∷ []) station.old station.new) }
+    requires path { IsPath parts.now choices.now }
+    requires few { length (prefix_of parts.now choices.now) ≤ 2 ^ 63 - 1 }
+    ensures { OnOk result (TakesFiles source (prefix_of parts.now choices.now ∷ []) station.old station.new) }
 {
     let mut reader = CopyReader::new(alloc);
     feed_prefix(&mut reader, parts, choices)?;

@@ -1,6 +1,6 @@
 //! The files that are taken.
 
-use jls_diff::Part;
+use jls_diff::Parts;
 
 /// The copies of a picture, and the splices of them that a search found. The files taken are the copies, in their order, and then the
 /// splices.
@@ -9,7 +9,7 @@ pub struct Files<'f, 'a> {
     /// The copies, in their order.
     pub copies: &'f [&'a [u8]],
     /// The parts of the copies.
-    pub parts: &'f [Part<'a>],
+    pub parts: &'f Parts<'a>,
     /// Each splice as its choices, one for each part.
     pub splices: &'f [Vec<usize>],
 }

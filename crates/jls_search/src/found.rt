@@ -13,7 +13,7 @@ ghost use Rattle.jls_search.specs.Found.{IsFound, IsGroupSearch, found_of, splic
 use crate::copies::SearchedCopies;
 use crate::group_search::{SearchedGroups, search_groups};
 use crate::whole_search::Searched;
-use jls_diff::Part;
+use jls_diff::Parts;
 use std::alloc::{AllocError, Global};
 
 /// What is reported of a search by groups.
@@ -31,7 +31,7 @@ pub struct GroupsReported {
 #[derive(Drop)]
 pub struct FoundSplices<'a> {
     /// The parts that were found.
-    pub parts: Vec<Part<'a>>,
+    pub parts: Parts<'a>,
     /// The splices, each as its choices, one for each part: those of the search of all, and after them those that groups gave.
     pub splices: Vec<Vec<usize>>,
     /// How many of them the search of all came to.
@@ -86,21 +86,21 @@ pub fn complete_by_groups<'a>(
 ) -> Result<FoundSplices<'a>, AllocError>
     requires some_copy { 0 < length copies.now }
     requires short { AreShort (bytes_of copies.now) }
-    requires parts { AreParts (bytes_of copies.now) (parts_of found.parts.items) }
-    requires searched { CameTo (IsSought found.ceiling) (parts_of found.parts.items) (lists_of found.searched.splices.items)
+    requires parts { AreParts (bytes_of copies.now) found.parts }
+    requires searched { CameTo (IsSought found.ceiling) found.parts (lists_of found.searched.splices.items)
         found.searched.is_used_up }
     ensures found { IfOk result (λ more. IsFound found.entry.ceiling (bytes_of copies.now) (found_of more)) }
     ensures ceiling { IfOk result (λ more. more.ceiling ≡ found.entry.ceiling) }
-    ensures parts_kept { IfOk result (λ more. more.parts.items ≡ found.entry.parts.items) }
+    ensures parts_kept { IfOk result (λ more. more.parts ≡ found.entry.parts) }
     ensures tries { IfOk result (λ more. more.tries ≡ found.entry.searched.tries) }
     ensures used_up { IfOk result (λ more. more.is_used_up ≡ found.entry.searched.is_used_up) }
     ensures kept { IfOk result (λ more. (found_of more).choices ≡ lists_of found.entry.searched.splices.items) }
     ensures splices { IfOk result
-        (λ more. files_of (parts_of more.parts.items) (lists_of more.splices.items) ≡ splices_in (found_of more)) }
-    ensures each { IfOk result (λ more. AllByRecursion (IsWhole (parts_of more.parts.items)) (lists_of more.splices.items)) }
+        (λ more. files_of more.parts (lists_of more.splices.items) ≡ splices_in (found_of more)) }
+    ensures each { IfOk result (λ more. AllByRecursion (IsWhole more.parts) (lists_of more.splices.items)) }
     ensures whole { IfOk result (λ more. more.whole ≤ length more.splices.items) }
     ensures by_groups { IfOk result
-        (λ more. IfSome (found_of more).by_groups (IsGroupSearch limit (length copies.now) (parts_of more.parts.items))) }
+        (λ more. IfSome (found_of more).by_groups (IsGroupSearch limit (length copies.now) more.parts)) }
 {
     let SearchedCopies {
         parts,

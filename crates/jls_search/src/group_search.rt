@@ -14,9 +14,9 @@ use crate::choosing::follow;
 use crate::laws::parts_can_be_searched;
 use crate::order::groups_in_order;
 use crate::setting::Setting;
-use crate::trying::try_next;
+use crate::trying::{GroupWalk, try_next};
 use crate::whole_search::{MOST_FOUND, Searched};
-use jls_diff::{Group, Part, find_groups};
+use jls_diff::{Group, Parts, find_groups};
 use std::alloc::{AllocError, Global};
 
 /// What a search by groups came to.
@@ -49,39 +49,44 @@ fn most_after(found: usize) -> usize
 /// Goes on with one group, with one copy outside of it.
 fn search_setting(
     alloc: Global,
-    parts: &[Part<'_>],
+    parts: &Parts<'_>,
     setting: Setting,
     limit: u32,
     searched: Searched,
 ) -> Result<Searched, AllocError>
-    requires setting { IsSetting (parts_of parts.now) setting }
-    requires short { IsShort (parts_of parts.now) }
-    requires splices { AreOfGroups (parts_of parts.now) (lists_of searched.splices.items) }
+    requires setting { IsSetting parts.now setting }
+    requires short { IsShort parts.now }
+    requires splices { AreOfGroups parts.now (lists_of searched.splices.items) }
     requires few { (searched.tries ≤ limit) × (length searched.splices.items ≤ 4096) }
-    ensures splices { IfOk result (λ more. AreOfGroups (parts_of parts.now) (lists_of more.splices.items)) }
-    ensures goes { IfOk result (λ more. GoesThrough limit (parts_of parts.now) setting searched more) }
+    ensures splices { IfOk result (λ more. AreOfGroups parts.now (lists_of more.splices.items)) }
+    ensures goes { IfOk result (λ more. GoesThrough limit parts.now setting searched more) }
 {
     let Searched {
-        mut splices,
+        splices,
         mut tries,
         is_used_up,
     } = searched;
     let most = most_after(splices.len());
     let mut path = Vec::new(alloc);
     follow(parts, setting, &mut path)?;
-    while tries < limit && splices.len() < most {
+    let mut walk = GroupWalk {
+        path,
+        found: splices,
+        kept: None,
+    };
+    while tries < limit && walk.found.len() < most {
         tries += 1;
-        let more = try_next(alloc, parts, setting, &mut path, &mut splices)?;
+        let more = try_next(alloc, parts, setting, &mut walk)?;
         if !more {
             return Ok(Searched {
-                splices,
+                splices: walk.found,
                 tries,
                 is_used_up,
             });
         }
     }
     Ok(Searched {
-        splices,
+        splices: walk.found,
         tries,
         is_used_up: true,
     })
@@ -90,19 +95,19 @@ fn search_setting(
 /// Goes on with one group, which was not tried, with each copy outside of it.
 fn search_group(
     alloc: Global,
-    parts: &[Part<'_>],
+    parts: &Parts<'_>,
     group: Group,
     extent: Extent,
     mut searched: Searched,
 ) -> Result<Searched, AllocError>
-    requires ways { AllByRecursion (HasWays extent.copies) (parts_of parts.now) }
-    requires group { IsGroup (parts_of parts.now) group }
-    requires short { IsShort (parts_of parts.now) }
-    requires splices { AreOfGroups (parts_of parts.now) (lists_of searched.splices.items) }
+    requires ways { AllByRecursion (HasWays extent.copies) parts.now }
+    requires group { IsGroup parts.now group }
+    requires short { IsShort parts.now }
+    requires splices { AreOfGroups parts.now (lists_of searched.splices.items) }
     requires untried { searched.tries ≡ 0 }
     requires few { length searched.splices.items ≤ 4096 }
-    ensures splices { IfOk result (λ more. AreOfGroups (parts_of parts.now) (lists_of more.splices.items)) }
-    ensures goes { IfOk result (λ more. GoesThroughCopies extent.limit extent.copies (parts_of parts.now) group searched more) }
+    ensures splices { IfOk result (λ more. AreOfGroups parts.now (lists_of more.splices.items)) }
+    ensures goes { IfOk result (λ more. GoesThroughCopies extent.limit extent.copies parts.now group searched more) }
 {
     for copy in 0..extent.copies {
         let setting = Setting { group, copy };
@@ -114,15 +119,15 @@ fn search_group(
 /// Searches these groups in turn. Each is tried anew.
 fn search_in_turn(
     alloc: Global,
-    parts: &[Part<'_>],
+    parts: &Parts<'_>,
     groups: &[Group],
     extent: Extent,
 ) -> Result<Searched, AllocError>
-    requires ways { AllByRecursion (HasWays extent.copies) (parts_of parts.now) }
-    requires groups { AllByRecursion (IsGroup (parts_of parts.now)) groups.now }
-    requires short { IsShort (parts_of parts.now) }
-    ensures splices { IfOk result (λ searched. AreOfGroups (parts_of parts.now) (lists_of searched.splices.items)) }
-    ensures searched { IfOk result (λ searched. AreGroupsSearched extent.limit extent.copies (parts_of parts.now) groups.now
+    requires ways { AllByRecursion (HasWays extent.copies) parts.now }
+    requires groups { AllByRecursion (IsGroup parts.now) groups.now }
+    requires short { IsShort parts.now }
+    ensures splices { IfOk result (λ searched. AreOfGroups parts.now (lists_of searched.splices.items)) }
+    ensures searched { IfOk result (λ searched. AreGroupsSearched extent.limit extent.copies parts.now groups.now
         searched.tries (lists_of searched.splices.items) searched.is_used_up) }
 {
     let mut searched = Searched {
@@ -155,17 +160,17 @@ fn search_in_turn(
 pub fn search_groups(
     alloc: Global,
     copies: &[&[u8]],
-    parts: &[Part<'_>],
+    parts: &Parts<'_>,
     limit: u32,
 ) -> Result<SearchedGroups, AllocError>
     requires some_copy { 0 < length copies.now }
     requires short { AreShort (bytes_of copies.now) }
-    requires parts { AreParts (bytes_of copies.now) (parts_of parts.now) }
-    ensures groups { IfOk result (λ found. AllByRecursion (IsGroup (parts_of parts.now)) found.groups.items) }
-    ensures cover { IfOk result (λ found. CoverParts (parts_of parts.now) found.groups.items) }
-    ensures splices { IfOk result (λ found. AllByRecursion (IsOfGroup (parts_of parts.now)) (lists_of found.searched.splices.items)) }
+    requires parts { AreParts (bytes_of copies.now) parts.now }
+    ensures groups { IfOk result (λ found. AllByRecursion (IsGroup parts.now) found.groups.items) }
+    ensures cover { IfOk result (λ found. CoverParts parts.now found.groups.items) }
+    ensures splices { IfOk result (λ found. AllByRecursion (IsOfGroup parts.now) (lists_of found.searched.splices.items)) }
     ensures once { IfOk result (λ found. IsOnce (lists_of found.searched.splices.items)) }
-    ensures searched { IfOk result (λ found. AreGroupsSearched limit (length copies.now) (parts_of parts.now) found.groups.items
+    ensures searched { IfOk result (λ found. AreGroupsSearched limit (length copies.now) parts.now found.groups.items
         found.searched.tries (lists_of found.searched.splices.items) found.searched.is_used_up) }
 {
     parts_can_be_searched();

@@ -5,9 +5,9 @@ ghost use Rattle.jls_diff.specs.PartsOf.{parts_of};
 ghost use Rattle.jls_search.specs.Choices.{IsPath, prefix_of};
 ghost use Rattle.jls_search.specs.Search.{IsKept, Keeps};
 
-use crate::feeding::{feed_prefix, reader_of};
+use crate::feeding::{feed_way, reader_of};
 use jls_copy::CopyReader;
-use jls_diff::Part;
+use jls_diff::Parts;
 use std::alloc::{AllocError, Global};
 
 /// A reader that a search keeps, with the choices that it was fed.
@@ -31,33 +31,34 @@ pub struct Judge {
 /// A clone of a reader, fed on to all that the path makes. That reader was fed what the first `from` choices of the path make.
 fn fed_on(
     last: &CopyReader,
-    parts: &[Part<'_>],
+    parts: &Parts<'_>,
     path: &[usize],
     from: usize,
 ) -> Result<CopyReader, AllocError>
-    requires within { from ≤ length parts.now }
     requires begun { from ≤ length path.now }
-    requires path { IsPath (parts_of parts.now) path.now }
-    requires few { length (prefix_of (parts_of parts.now) path.now) ≤ 2 ^ 63 - 1 }
-    requires fed { last.now ≡ Some (prefix_of (parts_of parts.now) (take from path.now)) }
-    ensures { IfOk result (λ reader. reader ≡ Some (prefix_of (parts_of parts.now) path.now)) }
+    requires path { IsPath parts.now path.now }
+    requires few { length (prefix_of parts.now path.now) ≤ 2 ^ 63 - 1 }
+    requires fed { last.now ≡ Some (prefix_of parts.now (take from path.now)) }
+    ensures { IfOk result (λ reader. reader ≡ Some (prefix_of parts.now path.now)) }
 {
     let mut reader = last.try_clone()?;
-    feed_prefix(&mut reader, &parts[from..], &path[from..])?;
+    for place in from..path.len() {
+        feed_way(&mut reader, parts.way(place, path[place]))?;
+    }
     Ok(reader)
 }
 
 /// A reader that was fed what the path makes: a clone of the kept one, if its choices begin the path, and else a new one.
 pub(crate) fn reader_on(
     alloc: Global,
-    parts: &[Part<'_>],
+    parts: &Parts<'_>,
     kept: &Option<KeptReader>,
     path: &[usize],
 ) -> Result<CopyReader, AllocError>
-    requires kept { IfSome kept.now (IsKept (parts_of parts.now)) }
-    requires path { IsPath (parts_of parts.now) path.now }
-    requires few { length (prefix_of (parts_of parts.now) path.now) ≤ 2 ^ 63 - 1 }
-    ensures { IfOk result (λ reader. reader ≡ Some (prefix_of (parts_of parts.now) path.now)) }
+    requires kept { IfSome kept.now (IsKept parts.now) }
+    requires path { IsPath parts.now path.now }
+    requires few { length (prefix_of parts.now path.now) ≤ 2 ^ 63 - 1 }
+    ensures { IfOk result (λ reader. reader ≡ Some (prefix_of parts.now path.now)) }
 {
     if let Some(last) = kept {
         if path.starts_with(&last.choices) {

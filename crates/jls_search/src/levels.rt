@@ -13,7 +13,7 @@ use crate::ceiling::is_above;
 use crate::faultless::is_dead;
 use crate::kept::{Judge, keep, reader_on};
 use crate::path::{follow_same, next_way_at};
-use jls_diff::Part;
+use jls_diff::Parts;
 use std::alloc::{AllocError, Global};
 
 /// How many paths of a level may live.
@@ -40,15 +40,15 @@ struct Begun {
 /// Whether it was found that no file that is sought begins with what the path makes. `false` says nothing.
 fn is_found_dead(
     alloc: Global,
-    parts: &[Part<'_>],
+    parts: &Parts<'_>,
     judge: &Judge,
     path: &[usize],
 ) -> Result<bool, AllocError>
-    requires kept { IfSome judge.now.kept (IsKept (parts_of parts.now)) }
-    requires path { IsPath (parts_of parts.now) path.now }
-    requires few { length (prefix_of (parts_of parts.now) path.now) ≤ 2 ^ 63 - 1 }
+    requires kept { IfSome judge.now.kept (IsKept parts.now) }
+    requires path { IsPath parts.now path.now }
+    requires few { length (prefix_of parts.now path.now) ≤ 2 ^ 63 - 1 }
     ensures { IfOk result
-        (λ dead. dead ≡ true → IsDead (IsSought judge.now.ceiling) (prefix_of (parts_of parts.now) path.now)) }
+        (λ dead. dead ≡ true → IsDead (IsSought judge.now.ceiling) (prefix_of parts.now path.now)) }
 {
     let reader = reader_on(alloc, parts, &judge.kept, path)?;
     let above = is_above(judge.ceiling, &reader)?;
@@ -61,15 +61,15 @@ fn is_found_dead(
 /// Goes on to the next part in which copies differ, or to the end, and judges that path. One that is not found dead is added.
 fn take_path(
     alloc: Global,
-    parts: &[Part<'_>],
+    parts: &Parts<'_>,
     judge: &Judge,
     begin: Vec<usize>,
     living: &mut Vec<Vec<usize>>,
 ) -> Result<(), AllocError>
-    requires short { IsShort (parts_of parts.now) }
-    requires kept { IfSome judge.now.kept (IsKept (parts_of parts.now)) }
-    requires path { IsPath (parts_of parts.now) begin.items }
-    ensures { OnOk result (IsTaken (IsSought judge.now.ceiling) (parts_of parts.now) begin.items
+    requires short { IsShort parts.now }
+    requires kept { IfSome judge.now.kept (IsKept parts.now) }
+    requires path { IsPath parts.now begin.items }
+    ensures { OnOk result (IsTaken (IsSought judge.now.ceiling) parts.now begin.items
         (lists_of living.old.items) (lists_of living.new.items)) }
 {
     let mut path = begin;
@@ -94,21 +94,21 @@ fn with_choice(alloc: Global, path: &[usize], choice: usize) -> Result<Vec<usize
 /// Judges each path of the next level that begins with this one. `false` where tries are used up before, or too many paths live.
 fn take_ways(
     alloc: Global,
-    parts: &[Part<'_>],
+    parts: &Parts<'_>,
     judge: &Judge,
     path: &[usize],
     begun: &mut Begun,
 ) -> Result<bool, AllocError>
-    requires some_way { AllByRecursion HasSomeWay (parts_of parts.now) }
-    requires short { IsShort (parts_of parts.now) }
-    requires kept { IfSome judge.now.kept (IsKept (parts_of parts.now)) }
-    requires path { IsPath (parts_of parts.now) path.now }
+    requires some_way { AllByRecursion HasSomeWay parts.now }
+    requires short { IsShort parts.now }
+    requires kept { IfSome judge.now.kept (IsKept parts.now) }
+    requires path { IsPath parts.now path.now }
     requires more { length path.now < length parts.now }
-    requires each { AllByRecursion (IsNext (parts_of parts.now) (length path.now + 1)) (lists_of begun.old.living.items) }
-    ensures each { OnOk result (AllByRecursion (IsNext (parts_of parts.now) (length path.now + 1)) (lists_of begun.new.living.items)) }
+    requires each { AllByRecursion (IsNext parts.now (length path.now + 1)) (lists_of begun.old.living.items) }
+    ensures each { OnOk result (AllByRecursion (IsNext parts.now (length path.now + 1)) (lists_of begun.new.living.items)) }
     ensures still { OnOk result ((other : List ℕ) → Contains (lists_of begun.old.living.items) other
         → Contains (lists_of begun.new.living.items) other) }
-    ensures judged { IfOk result (λ all. all ≡ true → AreJudged (IsSought judge.now.ceiling) (parts_of parts.now) (length path.now + 1)
+    ensures judged { IfOk result (λ all. all ≡ true → AreJudged (IsSought judge.now.ceiling) parts.now (length path.now + 1)
         (lists_of begun.new.living.items) path.now) }
     ensures left { OnOk result (begun.new.left ≤ begun.old.left) }
     ensures spent { OnOk result (length (lists_of begun.new.living.items) + begun.new.left
@@ -141,17 +141,13 @@ fn level_of(living: Vec<Vec<usize>>) -> Option<Level>
 }
 
 /// The first level, if its one path lives: it was not found dead.
-fn first_level(
-    alloc: Global,
-    parts: &[Part<'_>],
-    judge: &Judge,
-) -> Result<Option<Level>, AllocError>
-    requires short { IsShort (parts_of parts.now) }
-    requires kept { IfSome judge.now.kept (IsKept (parts_of parts.now)) }
+fn first_level(alloc: Global, parts: &Parts<'_>, judge: &Judge) -> Result<Option<Level>, AllocError>
+    requires short { IsShort parts.now }
+    requires kept { IfSome judge.now.kept (IsKept parts.now) }
     ensures level { IfOk result (λ first. IfSome first (λ level.
-        IsLevel (IsSought judge.now.ceiling) (parts_of parts.now) level.count (lists_of level.living.items))) }
+        IsLevel (IsSought judge.now.ceiling) parts.now level.count (lists_of level.living.items))) }
     ensures one { IfOk result (λ first. IfSome first (λ level. length (lists_of level.living.items) ≡ 1)) }
-    ensures dead { IfOk result (λ first. IfNone first (IsFirstDead (IsSought judge.now.ceiling) (parts_of parts.now))) }
+    ensures dead { IfOk result (λ first. IfNone first (IsFirstDead (IsSought judge.now.ceiling) parts.now)) }
 {
     let mut living = Vec::new(alloc);
     take_path(alloc, parts, judge, Vec::new(alloc), &mut living)?;
@@ -162,17 +158,17 @@ fn first_level(
 /// gone through completely: its tries were used up, or too many paths of it live.
 fn next_level(
     alloc: Global,
-    parts: &[Part<'_>],
+    parts: &Parts<'_>,
     judge: &Judge,
     level: &Level,
     left: &mut u32,
 ) -> Result<Option<Level>, AllocError>
-    requires some_way { AllByRecursion HasSomeWay (parts_of parts.now) }
-    requires short { IsShort (parts_of parts.now) }
-    requires kept { IfSome judge.now.kept (IsKept (parts_of parts.now)) }
-    requires level { IsLevel (IsSought judge.now.ceiling) (parts_of parts.now) level.now.count (lists_of level.now.living.items) }
+    requires some_way { AllByRecursion HasSomeWay parts.now }
+    requires short { IsShort parts.now }
+    requires kept { IfSome judge.now.kept (IsKept parts.now) }
+    requires level { IsLevel (IsSought judge.now.ceiling) parts.now level.now.count (lists_of level.now.living.items) }
     ensures level { IfOk result (λ after. IfSome after (λ next.
-        IsLevel (IsSought judge.now.ceiling) (parts_of parts.now) next.count (lists_of next.living.items))) }
+        IsLevel (IsSought judge.now.ceiling) parts.now next.count (lists_of next.living.items))) }
     ensures left { OnOk result (left.new ≤ left.old) }
     ensures spent { IfOk result (λ after. IfSome after (λ next. length (lists_of next.living.items) + left.new ≤ left.old)) }
 {
@@ -196,18 +192,18 @@ fn next_level(
 /// Notes the path of a level, if exactly one lives there, and keeps its reader. One that was noted before is let go only for that.
 fn note_lone(
     alloc: Global,
-    parts: &[Part<'_>],
+    parts: &Parts<'_>,
     judge: &mut Judge,
     level: &Level,
     lone: &mut Option<Vec<usize>>,
 ) -> Result<(), AllocError>
-    requires short { IsShort (parts_of parts.now) }
-    requires kept { IfSome judge.old.kept (IsKept (parts_of parts.now)) }
-    requires level { IsLevel (IsSought judge.old.ceiling) (parts_of parts.now) level.now.count (lists_of level.now.living.items) }
-    requires lone { IfSome lone.old (λ path. IsLone (IsSought judge.old.ceiling) (parts_of parts.now) path.items) }
-    ensures kept { OnOk result (IfSome judge.new.kept (IsKept (parts_of parts.now))) }
+    requires short { IsShort parts.now }
+    requires kept { IfSome judge.old.kept (IsKept parts.now) }
+    requires level { IsLevel (IsSought judge.old.ceiling) parts.now level.now.count (lists_of level.now.living.items) }
+    requires lone { IfSome lone.old (λ path. IsLone (IsSought judge.old.ceiling) parts.now path.items) }
+    ensures kept { OnOk result (IfSome judge.new.kept (IsKept parts.now)) }
     ensures ceiling { judge.new.ceiling ≡ judge.old.ceiling }
-    ensures lone { OnOk result (IfSome lone.new (λ path. IsLone (IsSought judge.old.ceiling) (parts_of parts.now) path.items)) }
+    ensures lone { OnOk result (IfSome lone.new (λ path. IsLone (IsSought judge.old.ceiling) parts.now path.items)) }
     ensures noted { OnOk result (length (lists_of level.now.living.items) ≡ 1 → IsSome lone.new) }
     ensures still { OnOk result (IsSome lone.old → IsSome lone.new) }
 {
@@ -234,14 +230,14 @@ fn note_lone(
 /// `Err` comes where memory is refused.
 pub fn lone_path(
     alloc: Global,
-    parts: &[Part<'_>],
+    parts: &Parts<'_>,
     ceiling: Option<u16>,
     limit: u32,
 ) -> Result<Option<Vec<usize>>, AllocError>
-    requires some_way { AllByRecursion HasSomeWay (parts_of parts.now) }
-    requires short { IsShort (parts_of parts.now) }
-    ensures lone { IfOk result (λ found. IfSome found (λ path. IsLone (IsSought ceiling) (parts_of parts.now) path.items)) }
-    ensures some { IfOk result (λ found. IfNone found ((limit ≡ 0) ⊎ IsFirstDead (IsSought ceiling) (parts_of parts.now))) }
+    requires some_way { AllByRecursion HasSomeWay parts.now }
+    requires short { IsShort parts.now }
+    ensures lone { IfOk result (λ found. IfSome found (λ path. IsLone (IsSought ceiling) parts.now path.items)) }
+    ensures some { IfOk result (λ found. IfNone found ((limit ≡ 0) ⊎ IsFirstDead (IsSought ceiling) parts.now)) }
     ensures untried { limit ≡ 0 → IfOk result (λ found. found ≡ None) }
 {
     if limit == 0 {

@@ -73,10 +73,10 @@ mod taking;
 mod trying;
 mod whole_search;
 
-pub use copies::{SearchedCopies, search_copies};
+pub use copies::SearchedCopies;
 pub use cut::settle_with_cut;
 pub use faultless::{is_dead, is_faultless, is_read_faultless, is_sought};
-pub use feeding::{feed_prefix, reader_of, way_at};
+pub use feeding::{feed_prefix, reader_of};
 pub use files::Files;
 pub use found::{FoundSplices, GroupsReported, complete_by_groups};
 pub use group_search::{MOST_BY_GROUPS, SearchedGroups, search_groups};

@@ -10,7 +10,7 @@ use crate::ceiling::is_above;
 use crate::faultless::{is_dead, is_sought};
 use crate::kept::{Judge, reader_on};
 use jls_copy::CopyReader;
-use jls_diff::Part;
+use jls_diff::Parts;
 use std::alloc::{AllocError, Global};
 
 /// What is seen of a path.
@@ -27,15 +27,15 @@ pub(crate) enum Sight {
 /// What is seen of a path that has a choice for each part.
 fn look_at_file(
     alloc: Global,
-    parts: &[Part<'_>],
+    parts: &Parts<'_>,
     judge: &Judge,
     path: &[usize],
 ) -> Result<Sight, AllocError>
-    requires kept { IfSome judge.now.kept (IsKept (parts_of parts.now)) }
-    requires path { IsPath (parts_of parts.now) path.now }
-    requires few { length (prefix_of (parts_of parts.now) path.now) ≤ 2 ^ 63 - 1 }
-    requires whole { length path.now ≡ length (parts_of parts.now) }
-    ensures { IfOk result (λ sight. IsSeen (IsSought judge.now.ceiling) (parts_of parts.now) path.now sight) }
+    requires kept { IfSome judge.now.kept (IsKept parts.now) }
+    requires path { IsPath parts.now path.now }
+    requires few { length (prefix_of parts.now path.now) ≤ 2 ^ 63 - 1 }
+    requires whole { length path.now ≡ length parts.now }
+    ensures { IfOk result (λ sight. IsSeen (IsSought judge.now.ceiling) parts.now path.now sight) }
 {
     let reader = reader_on(alloc, parts, &judge.kept, path)?;
     let sought = is_sought(judge.ceiling, reader)?;
@@ -48,15 +48,15 @@ fn look_at_file(
 /// What is seen of a shorter one.
 fn look_at_prefix(
     alloc: Global,
-    parts: &[Part<'_>],
+    parts: &Parts<'_>,
     judge: &Judge,
     path: &[usize],
 ) -> Result<Sight, AllocError>
-    requires kept { IfSome judge.now.kept (IsKept (parts_of parts.now)) }
-    requires path { IsPath (parts_of parts.now) path.now }
-    requires few { length (prefix_of (parts_of parts.now) path.now) ≤ 2 ^ 63 - 1 }
-    requires more { length path.now < length (parts_of parts.now) }
-    ensures { IfOk result (λ sight. IsSeen (IsSought judge.now.ceiling) (parts_of parts.now) path.now sight) }
+    requires kept { IfSome judge.now.kept (IsKept parts.now) }
+    requires path { IsPath parts.now path.now }
+    requires few { length (prefix_of parts.now path.now) ≤ 2 ^ 63 - 1 }
+    requires more { length path.now < length parts.now }
+    ensures { IfOk result (λ sight. IsSeen (IsSought judge.now.ceiling) parts.now path.now sight) }
 {
     let reader = reader_on(alloc, parts, &judge.kept, path)?;
     let above = is_above(judge.ceiling, &reader)?;
@@ -77,14 +77,14 @@ fn look_at_prefix(
 /// Feeds what the path makes to a reader, and tells what is seen. The kept reader saves it the bytes of its own choices.
 pub(crate) fn look(
     alloc: Global,
-    parts: &[Part<'_>],
+    parts: &Parts<'_>,
     judge: &Judge,
     path: &[usize],
 ) -> Result<Sight, AllocError>
-    requires kept { IfSome judge.now.kept (IsKept (parts_of parts.now)) }
-    requires path { IsPath (parts_of parts.now) path.now }
-    requires few { length (prefix_of (parts_of parts.now) path.now) ≤ 2 ^ 63 - 1 }
-    ensures { IfOk result (λ sight. IsSeen (IsSought judge.now.ceiling) (parts_of parts.now) path.now sight) }
+    requires kept { IfSome judge.now.kept (IsKept parts.now) }
+    requires path { IsPath parts.now path.now }
+    requires few { length (prefix_of parts.now path.now) ≤ 2 ^ 63 - 1 }
+    ensures { IfOk result (λ sight. IsSeen (IsSought judge.now.ceiling) parts.now path.now sight) }
 {
     if path.len() < parts.len() {
         look_at_prefix(alloc, parts, judge, path)

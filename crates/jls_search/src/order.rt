@@ -15,13 +15,13 @@ use crate::feeding::reader_of;
 use crate::offsets::{border_offset, end_offset};
 use crate::reading_between::reads_between;
 use jls_copy::{CopyFault, CopyRead};
-use jls_diff::{Group, Part};
+use jls_diff::{Group, Parts};
 use std::alloc::{AllocError, Global};
 
 /// The choices that make a copy.
-fn copy_path(alloc: Global, parts: &[Part<'_>], copy: usize) -> Result<Vec<usize>, AllocError>
-    requires { AllByRecursion (HasCopy copy) (parts_of parts.now) }
-    ensures { IfOk result (λ path. IsWhole (parts_of parts.now) path.items) }
+fn copy_path(alloc: Global, parts: &Parts<'_>, copy: usize) -> Result<Vec<usize>, AllocError>
+    requires { AllByRecursion (HasCopy copy) parts.now }
+    ensures { IfOk result (λ path. IsWhole parts.now path.items) }
 {
     let mut path = Vec::new(alloc);
     for place in 0..parts.len() {
@@ -33,11 +33,11 @@ fn copy_path(alloc: Global, parts: &[Part<'_>], copy: usize) -> Result<Vec<usize
 /// What the choices make, read; `None` where it has no frame.
 fn read_file(
     alloc: Global,
-    parts: &[Part<'_>],
+    parts: &Parts<'_>,
     path: &[usize],
 ) -> Result<Option<CopyRead>, AllocError>
-    requires whole { IsWhole (parts_of parts.now) path.now }
-    requires short { IsShort (parts_of parts.now) }
+    requires whole { IsWhole parts.now path.now }
+    requires short { IsShort parts.now }
 {
     let reader = reader_of(alloc, parts, path)?;
     match reader.finish() {
@@ -48,10 +48,10 @@ fn read_file(
 }
 
 /// Whether what was read reads in a group.
-fn reads_group(parts: &[Part<'_>], path: &[usize], read: &CopyRead, group: Group) -> bool
-    requires whole { IsWhole (parts_of parts.now) path.now }
-    requires short { IsShort (parts_of parts.now) }
-    requires group { IsGroup (parts_of parts.now) group }
+fn reads_group(parts: &Parts<'_>, path: &[usize], read: &CopyRead, group: Group) -> bool
+    requires whole { IsWhole parts.now path.now }
+    requires short { IsShort parts.now }
+    requires group { IsGroup parts.now group }
 {
     let from = border_offset(parts, path, group.begin);
     let to = end_offset(parts, path, group.end);
@@ -69,14 +69,14 @@ fn is_noted(notes: &[bool], number: usize) -> bool {
 /// Of each group, whether this copy reads in it, or another did, as was noted.
 fn with_copy(
     alloc: Global,
-    parts: &[Part<'_>],
+    parts: &Parts<'_>,
     copy: usize,
     groups: &[Group],
     noted: Vec<bool>,
 ) -> Result<Vec<bool>, AllocError>
-    requires copy { AllByRecursion (HasCopy copy) (parts_of parts.now) }
-    requires short { IsShort (parts_of parts.now) }
-    requires groups { AllByRecursion (IsGroup (parts_of parts.now)) groups.now }
+    requires copy { AllByRecursion (HasCopy copy) parts.now }
+    requires short { IsShort parts.now }
+    requires groups { AllByRecursion (IsGroup parts.now) groups.now }
 {
     let path = copy_path(alloc, parts, copy)?;
     let Some(read) = read_file(alloc, parts, &path)? else {
@@ -93,13 +93,13 @@ fn with_copy(
 /// Of each group, whether some copy reads in it.
 fn groups_that_read(
     alloc: Global,
-    parts: &[Part<'_>],
+    parts: &Parts<'_>,
     copies: usize,
     groups: &[Group],
 ) -> Result<Vec<bool>, AllocError>
-    requires ways { AllByRecursion (HasWays copies) (parts_of parts.now) }
-    requires short { IsShort (parts_of parts.now) }
-    requires groups { AllByRecursion (IsGroup (parts_of parts.now)) groups.now }
+    requires ways { AllByRecursion (HasWays copies) parts.now }
+    requires short { IsShort parts.now }
+    requires groups { AllByRecursion (IsGroup parts.now) groups.now }
 {
     let mut notes = Vec::new(alloc);
     for copy in 0..copies {
@@ -111,14 +111,14 @@ fn groups_that_read(
 /// All groups, each as often as it is given: first those in which no copy reads, and of these and of the others each in their order.
 pub(crate) fn groups_in_order(
     alloc: Global,
-    parts: &[Part<'_>],
+    parts: &Parts<'_>,
     copies: usize,
     groups: &[Group],
 ) -> Result<Vec<Group>, AllocError>
-    requires ways { AllByRecursion (HasWays copies) (parts_of parts.now) }
-    requires short { IsShort (parts_of parts.now) }
-    requires groups { AllByRecursion (IsGroup (parts_of parts.now)) groups.now }
-    ensures groups { IfOk result (λ ordered. AllByRecursion (IsGroup (parts_of parts.now)) ordered.items) }
+    requires ways { AllByRecursion (HasWays copies) parts.now }
+    requires short { IsShort parts.now }
+    requires groups { AllByRecursion (IsGroup parts.now) groups.now }
+    ensures groups { IfOk result (λ ordered. AllByRecursion (IsGroup parts.now) ordered.items) }
     ensures same { IfOk result (λ ordered. IsPermutation groups.now ordered.items) }
 {
     let notes = groups_that_read(alloc, parts, copies, groups)?;

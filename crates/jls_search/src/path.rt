@@ -5,11 +5,12 @@ ghost use Rattle.std.specs.Prelude.{OnOk};
 ghost use Rattle.std.specs.List.{AllByRecursion};
 ghost use Rattle.jls_diff.specs.PartsOf.{part_of, parts_of};
 ghost use Rattle.jls_diff.specs.Parts.{Same};
-ghost use Rattle.jls_search.specs.Choices.{IsDiffer, IsFirstWay, IsPrefix, IsNew, IsPath, IsWhole, HasSomeWay};
+ghost use Rattle.jls_search.specs.Choices.{IsFirstWay, IsPrefix, IsNew, IsPath, IsWhole, HasSomeWay};
+ghost use Rattle.jls_diff.specs.Parts.{Differs};
 ghost use Rattle.jls_search.specs.Order.{Goes, IsToCome, IsLater};
 ghost use Rattle.jls_search.specs.Levels.{AreSame};
 
-use jls_diff::Part;
+use jls_diff::{Part, Parts};
 use std::alloc::AllocError;
 
 /// Whether no way before this one has the same bytes.
@@ -57,22 +58,22 @@ fn next_way(part: &Part<'_>, after: usize) -> Option<usize>
 }
 
 /// The next way of the part at this place after one, before which none has the same bytes.
-pub fn next_way_at(parts: &[Part<'_>], place: usize, after: usize) -> Option<usize>
+pub fn next_way_at(parts: &Parts<'_>, place: usize, after: usize) -> Option<usize>
     requires place { place < length parts.now }
-    requires first { IsFirstWay (get_or (parts_of parts.now) place (Same [])) after }
-    ensures some { IfSome result (λ choice. IsFirstWay (get_or (parts_of parts.now) place (Same [])) choice
-        × ((other : ℕ) → after < other → other < choice → ¬ IsFirstWay (get_or (parts_of parts.now) place (Same [])) other)) }
+    requires first { IsFirstWay (get_or parts.now place (Same [])) after }
+    ensures some { IfSome result (λ choice. IsFirstWay (get_or parts.now place (Same [])) choice
+        × ((other : ℕ) → after < other → other < choice → ¬ IsFirstWay (get_or parts.now place (Same [])) other)) }
     ensures rises { IfSome result (λ choice. after < choice) }
-    ensures none { IfNone result ((other : ℕ) → after < other → ¬ IsFirstWay (get_or (parts_of parts.now) place (Same [])) other) }
+    ensures none { IfNone result ((other : ℕ) → after < other → ¬ IsFirstWay (get_or parts.now place (Same [])) other) }
 {
-    next_way(&parts[place], after)
+    next_way(parts.part(place), after)
 }
 
 /// Whether all copies have the part alike.
 fn is_same(part: &Part<'_>) -> bool
     ensures same { result ≡ true → IsFirstWay (part_of part.now) 0 }
-    ensures alike { result ≡ true → ¬ IsDiffer (part_of part.now) }
-    ensures differ { result ≡ false → IsDiffer (part_of part.now) }
+    ensures alike { result ≡ true → ¬ Differs (part_of part.now) }
+    ensures differ { result ≡ false → Differs (part_of part.now) }
 {
     match part {
         Part::Same(_) => true,
@@ -81,24 +82,24 @@ fn is_same(part: &Part<'_>) -> bool
 }
 
 /// The same, of the part at this place.
-pub(crate) fn is_same_at(parts: &[Part<'_>], place: usize) -> bool
+pub(crate) fn is_same_at(parts: &Parts<'_>, place: usize) -> bool
     requires { place < length parts.now }
-    ensures same { result ≡ true → IsFirstWay (get_or (parts_of parts.now) place (Same [])) 0 }
-    ensures alike { result ≡ true → ¬ IsDiffer (get_or (parts_of parts.now) place (Same [])) }
-    ensures differ { result ≡ false → IsDiffer (get_or (parts_of parts.now) place (Same [])) }
+    ensures same { result ≡ true → IsFirstWay (get_or parts.now place (Same [])) 0 }
+    ensures alike { result ≡ true → ¬ Differs (get_or parts.now place (Same [])) }
+    ensures differ { result ≡ false → Differs (get_or parts.now place (Same [])) }
 {
-    is_same(&parts[place])
+    is_same(parts.part(place))
 }
 
 /// Goes on along parts that all copies have alike.
-pub(crate) fn follow_same(parts: &[Part<'_>], path: &mut Vec<usize>) -> Result<(), AllocError>
-    requires { IsPath (parts_of parts.now) path.old.items }
-    ensures path { OnOk result (IsPath (parts_of parts.now) path.new.items) }
-    ensures prefix { OnOk result (IsPrefix (parts_of parts.now) path.new.items) }
+pub(crate) fn follow_same(parts: &Parts<'_>, path: &mut Vec<usize>) -> Result<(), AllocError>
+    requires { IsPath parts.now path.old.items }
+    ensures path { OnOk result (IsPath parts.now path.new.items) }
+    ensures prefix { OnOk result (IsPrefix parts.now path.new.items) }
     ensures grew { OnOk result ((more : List ℕ) × (path.new.items ≡ path.old.items ++ more)) }
-    ensures same { OnOk result (AreSame (parts_of parts.now) (length path.old.items) (length path.new.items)) }
+    ensures same { OnOk result (AreSame parts.now (length path.old.items) (length path.new.items)) }
     ensures kept { OnOk result
-        ((choices : List ℕ) → IsWhole (parts_of parts.now) choices → IsToCome path.old.items choices → IsToCome path.new.items choices) }
+        ((choices : List ℕ) → IsWhole parts.now choices → IsToCome path.old.items choices → IsToCome path.new.items choices) }
 {
     while path.len() < parts.len() && is_same_at(parts, path.len()) {
         path.push(0)?;
@@ -107,29 +108,29 @@ pub(crate) fn follow_same(parts: &[Part<'_>], path: &mut Vec<usize>) -> Result<(
 }
 
 /// Goes on with the first way of the next part, up to the next part in which the copies differ.
-pub(crate) fn descend(parts: &[Part<'_>], path: &mut Vec<usize>) -> Result<(), AllocError>
-    requires path { IsPath (parts_of parts.now) path.old.items }
+pub(crate) fn descend(parts: &Parts<'_>, path: &mut Vec<usize>) -> Result<(), AllocError>
+    requires path { IsPath parts.now path.old.items }
     requires more { length path.old.items < length parts.now }
-    requires some_way { AllByRecursion HasSomeWay (parts_of parts.now) }
-    ensures path { OnOk result (IsPath (parts_of parts.now) path.new.items) }
-    ensures prefix { OnOk result (IsPrefix (parts_of parts.now) path.new.items) }
+    requires some_way { AllByRecursion HasSomeWay parts.now }
+    ensures path { OnOk result (IsPath parts.now path.new.items) }
+    ensures prefix { OnOk result (IsPrefix parts.now path.new.items) }
     ensures grew { OnOk result (Goes path.old.items path.new.items) }
     ensures kept { OnOk result
-        ((choices : List ℕ) → IsWhole (parts_of parts.now) choices → IsToCome path.old.items choices → IsToCome path.new.items choices) }
+        ((choices : List ℕ) → IsWhole parts.now choices → IsToCome path.old.items choices → IsToCome path.new.items choices) }
 {
     path.push(0)?;
     follow_same(parts, path)
 }
 
 /// Gives up all choices that begin with the path, and takes the next way of the last part that has one; `false` where there is none.
-fn pass(parts: &[Part<'_>], path: &mut Vec<usize>) -> Result<bool, AllocError>
-    requires { IsPath (parts_of parts.now) path.old.items }
-    ensures path { IfOk result (λ more. more ≡ true → IsPath (parts_of parts.now) path.new.items) }
+fn pass(parts: &Parts<'_>, path: &mut Vec<usize>) -> Result<bool, AllocError>
+    requires { IsPath parts.now path.old.items }
+    ensures path { IfOk result (λ more. more ≡ true → IsPath parts.now path.new.items) }
     ensures after { IfOk result (λ more. more ≡ true → IsLater path.old.items path.new.items) }
     ensures to_come { IfOk result (λ more. more ≡ true →
-        (choices : List ℕ) → IsWhole (parts_of parts.now) choices → IsLater path.old.items choices → IsToCome path.new.items choices) }
+        (choices : List ℕ) → IsWhole parts.now choices → IsLater path.old.items choices → IsToCome path.new.items choices) }
     ensures none { IfOk result (λ more. more ≡ false →
-        (choices : List ℕ) → IsWhole (parts_of parts.now) choices → ¬ IsLater path.old.items choices) }
+        (choices : List ℕ) → IsWhole parts.now choices → ¬ IsLater path.old.items choices) }
 {
     while let Some(choice) = path.pop() {
         if let Some(next) = next_way_at(parts, path.len(), choice) {
@@ -141,15 +142,15 @@ fn pass(parts: &[Part<'_>], path: &mut Vec<usize>) -> Result<bool, AllocError>
 }
 
 /// Gives up all choices that begin with the path, and goes to the next prefix; `false` where there is none.
-pub(crate) fn turn(parts: &[Part<'_>], path: &mut Vec<usize>) -> Result<bool, AllocError>
-    requires { IsPath (parts_of parts.now) path.old.items }
-    ensures path { IfOk result (λ more. more ≡ true → IsPath (parts_of parts.now) path.new.items) }
-    ensures prefix { IfOk result (λ more. more ≡ true → IsPrefix (parts_of parts.now) path.new.items) }
+pub(crate) fn turn(parts: &Parts<'_>, path: &mut Vec<usize>) -> Result<bool, AllocError>
+    requires { IsPath parts.now path.old.items }
+    ensures path { IfOk result (λ more. more ≡ true → IsPath parts.now path.new.items) }
+    ensures prefix { IfOk result (λ more. more ≡ true → IsPrefix parts.now path.new.items) }
     ensures after { IfOk result (λ more. more ≡ true → IsLater path.old.items path.new.items) }
     ensures to_come { IfOk result (λ more. more ≡ true →
-        (choices : List ℕ) → IsWhole (parts_of parts.now) choices → IsLater path.old.items choices → IsToCome path.new.items choices) }
+        (choices : List ℕ) → IsWhole parts.now choices → IsLater path.old.items choices → IsToCome path.new.items choices) }
     ensures none { IfOk result (λ more. more ≡ false →
-        (choices : List ℕ) → IsWhole (parts_of parts.now) choices → ¬ IsLater path.old.items choices) }
+        (choices : List ℕ) → IsWhole parts.now choices → ¬ IsLater path.old.items choices) }
 {
     if pass(parts, path)? {
         follow_same(parts, path)?;

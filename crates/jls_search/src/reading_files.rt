@@ -14,7 +14,7 @@ use crate::file::take_read;
 use crate::files::Files;
 use crate::seen::{Seen, see};
 use jls_copy::{CopyFault, CopyRead, CopyReader};
-use jls_diff::Part;
+use jls_diff::Parts;
 use jls_station::Station;
 use std::alloc::{AllocError, Global};
 
@@ -84,12 +84,12 @@ fn read_splice(
     alloc: Global,
     source: Option<u32>,
     before: FilesRead,
-    parts: &[Part<'_>],
+    parts: &Parts<'_>,
     choices: &[usize],
 ) -> Result<FilesRead, AllocError>
-    requires path { IsPath (parts_of parts.now) choices.now }
-    requires few { length (prefix_of (parts_of parts.now) choices.now) ≤ 2 ^ 63 - 1 }
-    ensures { IfOk result (λ read. ReadsMore source (prefix_of (parts_of parts.now) choices.now ∷ []) before read) }
+    requires path { IsPath parts.now choices.now }
+    requires few { length (prefix_of parts.now choices.now) ≤ 2 ^ 63 - 1 }
+    ensures { IfOk result (λ read. ReadsMore source (prefix_of parts.now choices.now ∷ []) before read) }
 {
     let mut reader = CopyReader::new(alloc);
     feed_prefix(&mut reader, parts, choices)?;
@@ -119,12 +119,12 @@ fn read_splices(
     alloc: Global,
     source: Option<u32>,
     before: FilesRead,
-    parts: &[Part<'_>],
+    parts: &Parts<'_>,
     splices: &[Vec<usize>],
 ) -> Result<FilesRead, AllocError>
-    requires whole { AllByRecursion (IsWhole (parts_of parts.now)) (lists_of splices.now) }
-    requires short { IsShort (parts_of parts.now) }
-    ensures { IfOk result (λ read. ReadsMore source (files_of (parts_of parts.now) (lists_of splices.now)) before read) }
+    requires whole { AllByRecursion (IsWhole parts.now) (lists_of splices.now) }
+    requires short { IsShort parts.now }
+    ensures { IfOk result (λ read. ReadsMore source (files_of parts.now (lists_of splices.now)) before read) }
 {
     let mut read = before;
     for choices in splices {
@@ -139,8 +139,8 @@ pub(crate) fn read_files(
     source: Option<u32>,
     files: &Files<'_, '_>,
 ) -> Result<FilesRead, AllocError>
-    requires whole { AllByRecursion (IsWhole (parts_of files.now.parts.now)) (lists_of files.now.splices.now) }
-    requires short { IsShort (parts_of files.now.parts.now) }
+    requires whole { AllByRecursion (IsWhole files.now.parts.now) (lists_of files.now.splices.now) }
+    requires short { IsShort files.now.parts.now }
     ensures { IfOk result (λ read. AreRead source (files_taken files.now) read) }
 {
     let copies = read_copies(alloc, source, files.copies)?;

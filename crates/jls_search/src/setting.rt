@@ -4,10 +4,10 @@ ghost use Rattle.std.specs.Prelude.{◌≡◌, ◌<◌, [], false, length, get_o
 ghost use Rattle.jls_diff.specs.Groups.{IsInside};
 ghost use Rattle.jls_diff.specs.Parts.{Same};
 ghost use Rattle.jls_diff.specs.PartsOf.{parts_of};
-ghost use Rattle.jls_search.specs.Choices.{IsDiffer};
+ghost use Rattle.jls_diff.specs.Parts.{Differs};
 
 use crate::path::is_same_at;
-use jls_diff::{Group, Part};
+use jls_diff::{Group, Parts};
 
 /// A group that is searched, and the copy whose ways are taken outside of it.
 #[derive(Clone, Copy)]
@@ -17,9 +17,9 @@ pub(crate) struct Setting {
 }
 
 /// Whether the part at this place is one of the group, and copies differ in it.
-pub(crate) fn is_free(parts: &[Part<'_>], group: Group, place: usize) -> bool
+pub(crate) fn is_free(parts: &Parts<'_>, group: Group, place: usize) -> bool
     requires { place < length parts.now }
-    ensures { result ≡ false → IsDiffer (get_or (parts_of parts.now) place (Same [])) → ¬ IsInside group place }
+    ensures { result ≡ false → Differs (get_or parts.now place (Same [])) → ¬ IsInside group place }
 {
     if is_same_at(parts, place) {
         return false;

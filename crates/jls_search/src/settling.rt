@@ -41,8 +41,8 @@ pub(crate) fn station_of(
     first: Option<Station>,
     shape: Shape,
 ) -> Result<Station, AllocError>
-    requires whole { AllByRecursion (IsWhole (parts_of files.now.parts.now)) (lists_of files.now.splices.now) }
-    requires short { IsShort (parts_of files.now.parts.now) }
+    requires whole { AllByRecursion (IsWhole files.now.parts.now) (lists_of files.now.splices.now) }
+    requires short { IsShort files.now.parts.now }
     requires taken { HasTaken source (files_taken files.now) first }
     ensures shape { IfOk result (λ station. station.shape ≡ shape) }
     ensures readings { IfOk result (λ station. TakesFiles source (files_taken files.now) (nothing_known shape) station) }
@@ -64,8 +64,8 @@ pub fn settle_files(
     files: &Files<'_, '_>,
 ) -> Result<Settled, AllocError>
     requires some_copy { 0 < length files.now.copies.now }
-    requires whole { AllByRecursion (IsWhole (parts_of files.now.parts.now)) (lists_of files.now.splices.now) }
-    requires short { IsShort (parts_of files.now.parts.now) }
+    requires whole { AllByRecursion (IsWhole files.now.parts.now) (lists_of files.now.splices.now) }
+    requires short { IsShort files.now.parts.now }
     ensures { IfOk result (λ settled.
         SettlesFiles source (bytes_of files.now.copies.now) (splices_found files.now) settled) }
 {

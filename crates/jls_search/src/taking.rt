@@ -11,7 +11,7 @@ ghost use Rattle.jls_search.specs.Stations.{TakesFiles};
 
 use crate::file::{take_copy, take_splice};
 use crate::files::Files;
-use jls_diff::Part;
+use jls_diff::Parts;
 use jls_station::Station;
 use jls_values::Shape;
 use std::alloc::{AllocError, Global};
@@ -36,12 +36,12 @@ fn take_splices(
     alloc: Global,
     station: &mut Station,
     source: Option<u32>,
-    parts: &[Part<'_>],
+    parts: &Parts<'_>,
     splices: &[Vec<usize>],
 ) -> Result<(), AllocError>
-    requires whole { AllByRecursion (IsWhole (parts_of parts.now)) (lists_of splices.now) }
-    requires short { IsShort (parts_of parts.now) }
-    ensures { OnOk result (TakesFiles source (files_of (parts_of parts.now) (lists_of splices.now)) station.old station.new) }
+    requires whole { AllByRecursion (IsWhole parts.now) (lists_of splices.now) }
+    requires short { IsShort parts.now }
+    ensures { OnOk result (TakesFiles source (files_of parts.now (lists_of splices.now)) station.old station.new) }
 {
     for choices in splices {
         take_splice(alloc, station, source, parts, choices)?;
@@ -57,8 +57,8 @@ pub(crate) fn take_files(
     source: Option<u32>,
     files: &Files<'_, '_>,
 ) -> Result<Station, AllocError>
-    requires whole { AllByRecursion (IsWhole (parts_of files.now.parts.now)) (lists_of files.now.splices.now) }
-    requires short { IsShort (parts_of files.now.parts.now) }
+    requires whole { AllByRecursion (IsWhole files.now.parts.now) (lists_of files.now.splices.now) }
+    requires short { IsShort files.now.parts.now }
     ensures shape { IfOk result (λ station. station.shape ≡ shape) }
     ensures readings { IfOk result (λ station. TakesFiles source (files_taken files.now) (nothing_known shape) station) }
 {

@@ -1,70 +1,87 @@
 //! One try of a search by groups.
 
-ghost use Rattle.std.specs.Prelude.{◌≡◌, ◌↔◌, ℕ, List, ◌-◌, ◌^◌, ◌<◌, ◌≤◌, true, false, length, IsTrue, IfOk, OnOk};
+ghost use Rattle.std.specs.Prelude.{◌≡◌, ◌↔◌, ℕ, List, ◌-◌, ◌^◌, ◌<◌, ◌≤◌, true, false, length, IsTrue, IfOk, IfSome, OnOk, Some};
 ghost use Rattle.std.specs.List.{AllByRecursion, Contains};
-ghost use Rattle.jls_diff.specs.PartsOf.{parts_of};
-ghost use Rattle.jls_search.specs.Choices.{IsPath, prefix_of};
-ghost use Rattle.jls_search.specs.Search.{IsShort, lists_of};
 ghost use Rattle.jls_diff.specs.Groups.{IsGroup};
-ghost use Rattle.jls_search.specs.OfGroups.{AddsOne, GoesOnWith, HasManyFaults, IsAddedOnce, IsGivenUp, IsSet, IsSetting, IsSettled};
-ghost use Rattle.jls_search.specs.OfGroups.{IsSoughtWith};
+ghost use Rattle.jls_search.specs.Choices.{IsPath, prefix_of};
+ghost use Rattle.jls_search.specs.OfGroups.{AddsOne, GoesOnWith, HasManyFaults, IsAddedOnce, IsSeenIn, IsSet, IsSetting, IsSettled, IsSoughtWith};
 ghost use Rattle.jls_search.specs.OfGroups.{ReadsInGroup, StandsWith};
+ghost use Rattle.jls_search.specs.Search.{IsKept, IsShort, lists_of};
 
 use crate::choosing::{descend, turn};
-use crate::feeding::reader_of;
+use crate::kept::{KeptReader, keep, reader_on};
+use crate::looking::Sight;
 use crate::offsets::{border_offset, end_offset};
 use crate::reading_between::is_read_between;
 use crate::setting::Setting;
-use jls_diff::Part;
+use jls_copy::CopyReader;
+use jls_diff::{Group, Parts};
 use std::alloc::{AllocError, Global};
 
-/// Whether the path is given up: the piece in hand begins in the group, or the group begins in it, and it is broken; or the file is at its
-/// end, and reads no more.
-fn is_prefix_dead(
-    alloc: Global,
-    parts: &[Part<'_>],
-    setting: Setting,
-    path: &[usize],
-) -> Result<bool, AllocError>
-    requires group { IsGroup (parts_of parts.now) setting.group }
-    requires path { IsPath (parts_of parts.now) path.now }
-    requires few { length (prefix_of (parts_of parts.now) path.now) ≤ 2 ^ 63 - 1 }
-    ensures { IfOk result (λ dead. dead ≡ true → AllByRecursion (λ b. b < 256) (prefix_of (parts_of parts.now) path.now)
-        → IsGivenUp (parts_of parts.now) setting.group path.now) }
-{
-    let begin = setting.group.begin;
-    let reader = reader_of(alloc, parts, path)?;
-    if path.len() <= begin.part {
-        return Ok(reader.is_done());
-    }
-    if reader.is_piece_broken() {
-        return Ok(true);
-    }
-    if !reader.is_done() {
-        return Ok(false);
-    }
-    let reads = is_read_between(reader, border_offset(parts, path, begin), None)?;
-    Ok(!reads)
+/// How far the search of a group is, with one copy outside of it.
+#[derive(Drop)]
+pub(crate) struct GroupWalk {
+    /// What is tried next: a choice for each of the first parts.
+    pub(crate) path: Vec<usize>,
+    /// The splices that were found.
+    pub(crate) found: Vec<Vec<usize>>,
+    /// The reader of the last path that was left open.
+    pub(crate) kept: Option<KeptReader>,
 }
 
-/// Whether the choices make a file that reads in the group.
-fn reads_in_group(
+/// What is seen of a path that has no choice for some part. It is dead where the piece in hand begins in the group, or the group begins in
+/// it, and it is broken. It is dead too where the file is at its end, and reads no more.
+fn look_at_prefix(
     alloc: Global,
-    parts: &[Part<'_>],
-    setting: Setting,
+    parts: &Parts<'_>,
+    group: Group,
+    kept: &Option<KeptReader>,
+    path: &[usize],
+) -> Result<Sight, AllocError>
+    requires group { IsGroup parts.now group }
+    requires kept { IfSome kept.now (IsKept parts.now) }
+    requires path { IsPath parts.now path.now }
+    requires few { length (prefix_of parts.now path.now) ≤ 2 ^ 63 - 1 }
+    ensures { IfOk result (λ sight. IsSeenIn parts.now group path.now sight) }
+{
+    let reader = reader_on(alloc, parts, kept, path)?;
+    if path.len() <= group.begin.part {
+        if reader.is_done() {
+            return Ok(Sight::Dead);
+        }
+        return Ok(Sight::Open(Some(reader)));
+    }
+    if reader.is_piece_broken() {
+        return Ok(Sight::Dead);
+    }
+    if !reader.is_done() {
+        return Ok(Sight::Open(Some(reader)));
+    }
+    let reads = is_read_between(reader, border_offset(parts, path, group.begin), None)?;
+    if reads {
+        return Ok(Sight::Open(None));
+    }
+    Ok(Sight::Dead)
+}
+
+/// Whether the choices make a file that reads in the group. The reader was fed that file.
+fn reads_in_group(
+    reader: CopyReader,
+    parts: &Parts<'_>,
+    group: Group,
     path: &[usize],
 ) -> Result<bool, AllocError>
-    requires group { IsGroup (parts_of parts.now) setting.group }
-    requires path { IsPath (parts_of parts.now) path.now }
-    requires few { length (prefix_of (parts_of parts.now) path.now) ≤ 2 ^ 63 - 1 }
-    requires whole { length path.now ≡ length (parts_of parts.now) }
-    ensures reads { IfOk result (λ answer. answer ≡ true → ReadsInGroup (parts_of parts.now) setting.group path.now) }
-    ensures unread { IfOk result (λ answer. answer ≡ false → AllByRecursion (λ b. b < 256) (prefix_of (parts_of parts.now) path.now)
-        → ReadsInGroup (parts_of parts.now) setting.group path.now → HasManyFaults (prefix_of (parts_of parts.now) path.now)) }
+    requires group { IsGroup parts.now group }
+    requires path { IsPath parts.now path.now }
+    requires few { length (prefix_of parts.now path.now) ≤ 2 ^ 63 - 1 }
+    requires whole { length path.now ≡ length parts.now }
+    requires fed { reader ≡ Some (prefix_of parts.now path.now) }
+    ensures reads { IfOk result (λ answer. answer ≡ true → ReadsInGroup parts.now group path.now) }
+    ensures unread { IfOk result (λ answer. answer ≡ false → AllByRecursion (λ b. b < 256) (prefix_of parts.now path.now)
+        → ReadsInGroup parts.now group path.now → HasManyFaults (prefix_of parts.now path.now)) }
 {
-    let reader = reader_of(alloc, parts, path)?;
-    let from = border_offset(parts, path, setting.group.begin);
-    let to = end_offset(parts, path, setting.group.end);
+    let from = border_offset(parts, path, group.begin);
+    let to = end_offset(parts, path, group.end);
     is_read_between(reader, from, to)
 }
 
@@ -95,87 +112,96 @@ fn add_found(alloc: Global, path: &[usize], found: &mut Vec<Vec<usize>>) -> Resu
 /// Tries a path that has a choice for each part.
 fn try_file(
     alloc: Global,
-    parts: &[Part<'_>],
+    parts: &Parts<'_>,
     setting: Setting,
-    path: &[usize],
-    found: &mut Vec<Vec<usize>>,
+    walk: &mut GroupWalk,
 ) -> Result<(), AllocError>
-    requires setting { IsSetting (parts_of parts.now) setting }
-    requires short { IsShort (parts_of parts.now) }
-    requires path { IsSet (parts_of parts.now) setting path.now }
-    requires whole { length path.now ≡ length (parts_of parts.now) }
-    ensures found { OnOk result (AddsOne (parts_of parts.now) setting (lists_of found.old.items) (lists_of found.new.items)) }
-    ensures settled { OnOk result (IsSoughtWith (parts_of parts.now) setting path.now
-        → IsSettled (parts_of parts.now) setting.group (lists_of found.new.items) path.now) }
+    requires setting { IsSetting parts.now setting }
+    requires short { IsShort parts.now }
+    requires path { IsSet parts.now setting walk.old.path.items }
+    requires kept { IfSome walk.old.kept (IsKept parts.now) }
+    requires whole { length walk.old.path.items ≡ length parts.now }
+    ensures found { OnOk result (AddsOne parts.now setting (lists_of walk.old.found.items) (lists_of walk.new.found.items)) }
+    ensures settled { OnOk result (IsSoughtWith parts.now setting walk.old.path.items
+        → IsSettled parts.now setting.group (lists_of walk.new.found.items) walk.old.path.items) }
+    ensures path { OnOk result (walk.new.path ≡ walk.old.path) }
+    ensures kept { OnOk result (walk.new.kept ≡ walk.old.kept) }
 {
-    let reads = reads_in_group(alloc, parts, setting, path)?;
+    let reader = reader_on(alloc, parts, &walk.kept, &walk.path)?;
+    let reads = reads_in_group(reader, parts, setting.group, &walk.path)?;
     if !reads {
         return Ok(());
     }
-    add_found(alloc, path, found)?;
-    Ok(())
+    add_found(alloc, &walk.path, &mut walk.found)
 }
 
 /// Tries a path that has a choice for each part, and goes to the next; `false` where there is none.
 fn try_whole(
     alloc: Global,
-    parts: &[Part<'_>],
+    parts: &Parts<'_>,
     setting: Setting,
-    path: &mut Vec<usize>,
-    found: &mut Vec<Vec<usize>>,
+    walk: &mut GroupWalk,
 ) -> Result<bool, AllocError>
-    requires setting { IsSetting (parts_of parts.now) setting }
-    requires short { IsShort (parts_of parts.now) }
-    requires stands { StandsWith (parts_of parts.now) setting path.old.items (lists_of found.old.items) }
-    requires whole { length path.old.items ≡ length (parts_of parts.now) }
-    ensures goes { IfOk result (λ more. GoesOnWith (parts_of parts.now) setting path.new.items (lists_of found.new.items) more) }
-    ensures found { OnOk result (AddsOne (parts_of parts.now) setting (lists_of found.old.items) (lists_of found.new.items)) }
+    requires setting { IsSetting parts.now setting }
+    requires short { IsShort parts.now }
+    requires stands { StandsWith parts.now setting walk.old.path.items (lists_of walk.old.found.items) }
+    requires kept { IfSome walk.old.kept (IsKept parts.now) }
+    requires whole { length walk.old.path.items ≡ length parts.now }
+    ensures goes { IfOk result (λ more. GoesOnWith parts.now setting walk.new.path.items (lists_of walk.new.found.items) more) }
+    ensures found { OnOk result (AddsOne parts.now setting (lists_of walk.old.found.items) (lists_of walk.new.found.items)) }
+    ensures kept { OnOk result (IfSome walk.new.kept (IsKept parts.now)) }
 {
-    try_file(alloc, parts, setting, path, found)?;
-    let more = turn(parts, setting, path)?;
-    Ok(more)
+    try_file(alloc, parts, setting, walk)?;
+    turn(parts, setting, &mut walk.path)
 }
 
 /// Tries a shorter path, and goes to the next; `false` where there is none.
 fn try_prefix(
     alloc: Global,
-    parts: &[Part<'_>],
+    parts: &Parts<'_>,
     setting: Setting,
-    path: &mut Vec<usize>,
+    walk: &mut GroupWalk,
 ) -> Result<bool, AllocError>
-    requires setting { IsSetting (parts_of parts.now) setting }
-    requires short { IsShort (parts_of parts.now) }
-    requires path { IsSet (parts_of parts.now) setting path.old.items }
-    requires more { length path.old.items < length parts.now }
-    ensures goes { (found : List (List ℕ)) → StandsWith (parts_of parts.now) setting path.old.items found
-        → IfOk result (λ more. GoesOnWith (parts_of parts.now) setting path.new.items found more) }
+    requires setting { IsSetting parts.now setting }
+    requires short { IsShort parts.now }
+    requires path { IsSet parts.now setting walk.old.path.items }
+    requires kept { IfSome walk.old.kept (IsKept parts.now) }
+    requires more { length walk.old.path.items < length parts.now }
+    ensures goes { (found : List (List ℕ)) → StandsWith parts.now setting walk.old.path.items found
+        → IfOk result (λ more. GoesOnWith parts.now setting walk.new.path.items found more) }
+    ensures found { walk.new.found ≡ walk.old.found }
+    ensures kept { OnOk result (IfSome walk.new.kept (IsKept parts.now)) }
 {
-    let dead = is_prefix_dead(alloc, parts, setting, path)?;
-    if dead {
-        return turn(parts, setting, path);
+    let sight = look_at_prefix(alloc, parts, setting.group, &walk.kept, &walk.path)?;
+    match sight {
+        Sight::Open(reader) => {
+            keep(alloc, &mut walk.kept, reader, &walk.path)?;
+            descend(parts, setting, &mut walk.path)?;
+            Ok(true)
+        }
+        Sight::Dead => turn(parts, setting, &mut walk.path),
+        Sight::Found => turn(parts, setting, &mut walk.path),
     }
-    descend(parts, setting, path)?;
-    Ok(true)
 }
 
 /// Tries the path, and goes to the next; `false` where there is none.
 pub(crate) fn try_next(
     alloc: Global,
-    parts: &[Part<'_>],
+    parts: &Parts<'_>,
     setting: Setting,
-    path: &mut Vec<usize>,
-    found: &mut Vec<Vec<usize>>,
+    walk: &mut GroupWalk,
 ) -> Result<bool, AllocError>
-    requires setting { IsSetting (parts_of parts.now) setting }
-    requires short { IsShort (parts_of parts.now) }
-    requires stands { StandsWith (parts_of parts.now) setting path.old.items (lists_of found.old.items) }
-    ensures goes { IfOk result (λ more. GoesOnWith (parts_of parts.now) setting path.new.items (lists_of found.new.items) more) }
-    ensures found { OnOk result (AddsOne (parts_of parts.now) setting (lists_of found.old.items) (lists_of found.new.items)) }
+    requires setting { IsSetting parts.now setting }
+    requires short { IsShort parts.now }
+    requires stands { StandsWith parts.now setting walk.old.path.items (lists_of walk.old.found.items) }
+    requires kept { IfSome walk.old.kept (IsKept parts.now) }
+    ensures goes { IfOk result (λ more. GoesOnWith parts.now setting walk.new.path.items (lists_of walk.new.found.items) more) }
+    ensures found { OnOk result (AddsOne parts.now setting (lists_of walk.old.found.items) (lists_of walk.new.found.items)) }
+    ensures kept { OnOk result (IfSome walk.new.kept (IsKept parts.now)) }
 {
-    if path.len() < parts.len() {
-        let more = try_prefix(alloc, parts, setting, path)?;
-        Ok(more)
+    if walk.path.len() < parts.len() {
+        try_prefix(alloc, parts, setting, walk)
     } else {
-        try_whole(alloc, parts, setting, path, found)
+        try_whole(alloc, parts, setting, walk)
     }
 }

@@ -13,7 +13,7 @@ ghost use Rattle.jls_search.specs.Search.{CameTo, HasEachSplice, MakeFiles, file
 use crate::kept::{Judge, keep};
 use crate::looking::{Sight, look};
 use crate::path::{descend, follow_same, turn};
-use jls_diff::Part;
+use jls_diff::Parts;
 use std::alloc::{AllocError, Global};
 
 /// How many splices a search finds at most.
@@ -42,16 +42,16 @@ fn take_found(alloc: Global, path: &[usize], found: &mut Vec<Vec<usize>>) -> Res
 /// Adds them, and goes to the next path; `false` where there is none.
 fn pass_found(
     alloc: Global,
-    parts: &[Part<'_>],
+    parts: &Parts<'_>,
     path: &mut Vec<usize>,
     found: &mut Vec<Vec<usize>>,
 ) -> Result<bool, AllocError>
-    requires is_path { IsPath (parts_of parts.now) path.old.items }
-    requires whole { length path.old.items ≡ length (parts_of parts.now) }
+    requires is_path { IsPath parts.now path.old.items }
+    requires whole { length path.old.items ≡ length parts.now }
     ensures next { (ceiling : Option ℕ)
-        → StandsAt (IsSought ceiling) (parts_of parts.now) path.old.items (lists_of found.old.items)
-        → IsSought ceiling (prefix_of (parts_of parts.now) path.old.items)
-        → IfOk result (λ more. GoesOn (IsSought ceiling) (parts_of parts.now) path.new.items (lists_of found.new.items) more) }
+        → StandsAt (IsSought ceiling) parts.now path.old.items (lists_of found.old.items)
+        → IsSought ceiling (prefix_of parts.now path.old.items)
+        → IfOk result (λ more. GoesOn (IsSought ceiling) parts.now path.new.items (lists_of found.new.items) more) }
     ensures count { IfOk result (λ more. (length (lists_of found.old.items) ≤ length (lists_of found.new.items))
         × (length (lists_of found.new.items) ≤ length (lists_of found.old.items) + 1)) }
     ensures step { IfOk result (λ more. IsStep path.old.items (lists_of found.old.items) path.new.items (lists_of found.new.items) more) }
@@ -63,21 +63,21 @@ fn pass_found(
 /// Tries the path, and goes to the next; `false` where there is none.
 fn try_next(
     alloc: Global,
-    parts: &[Part<'_>],
+    parts: &Parts<'_>,
     path: &mut Vec<usize>,
     found: &mut Vec<Vec<usize>>,
     judge: &mut Judge,
 ) -> Result<bool, AllocError>
-    requires some_way { AllByRecursion HasSomeWay (parts_of parts.now) }
-    requires short { IsShort (parts_of parts.now) }
-    requires stands { StandsAt (IsSought judge.old.ceiling) (parts_of parts.now) path.old.items (lists_of found.old.items) }
-    requires kept { IfSome judge.old.kept (IsKept (parts_of parts.now)) }
+    requires some_way { AllByRecursion HasSomeWay parts.now }
+    requires short { IsShort parts.now }
+    requires stands { StandsAt (IsSought judge.old.ceiling) parts.now path.old.items (lists_of found.old.items) }
+    requires kept { IfSome judge.old.kept (IsKept parts.now) }
     ensures next { IfOk result
-        (λ more. GoesOn (IsSought judge.new.ceiling) (parts_of parts.now) path.new.items (lists_of found.new.items) more) }
+        (λ more. GoesOn (IsSought judge.new.ceiling) parts.now path.new.items (lists_of found.new.items) more) }
     ensures count { IfOk result (λ more. (length (lists_of found.old.items) ≤ length (lists_of found.new.items))
         × (length (lists_of found.new.items) ≤ length (lists_of found.old.items) + 1)) }
     ensures step { IfOk result (λ more. IsStep path.old.items (lists_of found.old.items) path.new.items (lists_of found.new.items) more) }
-    ensures kept { OnOk result (IfSome judge.new.kept (IsKept (parts_of parts.now))) }
+    ensures kept { OnOk result (IfSome judge.new.kept (IsKept parts.now)) }
     ensures ceiling { judge.new.ceiling ≡ judge.old.ceiling }
 {
     let sight = look(alloc, parts, judge, path)?;
@@ -113,10 +113,10 @@ impl WholeSearch {
     /// A search that has tried nothing. `ceiling` is the greatest sample that a file may have that it seeks, if there is a limit.
     pub fn begin(
         alloc: Global,
-        parts: &[Part<'_>],
+        parts: &Parts<'_>,
         ceiling: Option<u16>,
     ) -> Result<WholeSearch, AllocError>
-        ensures stands { IfOk result (λ begun. IsSearch (parts_of parts.now) begun) }
+        ensures stands { IfOk result (λ begun. IsSearch parts.now begun) }
         ensures ceiling { IfOk result (λ begun. begun.judge.ceiling ≡ ceiling) }
         ensures untried { IfOk result (λ begun. IsBegun begun) }
     {
@@ -142,13 +142,13 @@ impl WholeSearch {
     }
 
     /// Goes on until so many tries were made in all, or it can't. It is over these parts. `Err` comes where memory is refused.
-    pub fn go_on(&mut self, alloc: Global, parts: &[Part<'_>], limit: u32) -> Result<(), AllocError>
-        requires some_way { AllByRecursion HasSomeWay (parts_of parts.now) }
-        requires short { IsShort (parts_of parts.now) }
-        requires stands { IsSearch (parts_of parts.now) self.old }
-        ensures stands { OnOk result (IsSearch (parts_of parts.now) self.new) }
+    pub fn go_on(&mut self, alloc: Global, parts: &Parts<'_>, limit: u32) -> Result<(), AllocError>
+        requires some_way { AllByRecursion HasSomeWay parts.now }
+        requires short { IsShort parts.now }
+        requires stands { IsSearch parts.now self.old }
+        ensures stands { OnOk result (IsSearch parts.now self.new) }
         ensures stops { OnOk result (CanGoOn self.new limit → ⊥) }
-        ensures went { OnOk result (GoesFrom (parts_of parts.now) self.old self.new limit) }
+        ensures went { OnOk result (GoesFrom parts.now self.old self.new limit) }
     {
         while self.can_go_on(limit) {
             self.tries += 1;
@@ -187,19 +187,19 @@ impl WholeSearch {
 /// `is_used_up` says that the search ended with its tries, or with its 64th file, while there was more to try.
 pub fn search(
     alloc: Global,
-    parts: &[Part<'_>],
+    parts: &Parts<'_>,
     ceiling: Option<u16>,
     limit: u32,
 ) -> Result<Searched, AllocError>
-    requires some_way { AllByRecursion HasSomeWay (parts_of parts.now) }
-    requires short { IsShort (parts_of parts.now) }
-    ensures files { IfOk result (λ searched. MakeFiles (IsSought ceiling) (parts_of parts.now) (lists_of searched.splices.items)) }
+    requires some_way { AllByRecursion HasSomeWay parts.now }
+    requires short { IsShort parts.now }
+    ensures files { IfOk result (λ searched. MakeFiles (IsSought ceiling) parts.now (lists_of searched.splices.items)) }
     ensures all { IfOk result (λ searched. searched.is_used_up ≡ false
-        → HasEachSplice (IsSought ceiling) (parts_of parts.now) (files_of (parts_of parts.now) (lists_of searched.splices.items))) }
+        → HasEachSplice (IsSought ceiling) parts.now (files_of parts.now (lists_of searched.splices.items))) }
     ensures used_up { IfOk result
         (λ searched. searched.is_used_up ≡ true → (searched.tries ≡ limit) ⊎ (length searched.splices.items ≡ 64)) }
     ensures few { IfOk result (λ searched. (searched.tries ≤ limit) × (length searched.splices.items ≤ 64)) }
-    ensures tried { IfOk result (λ searched. WereTried ceiling (parts_of parts.now) searched.tries (lists_of searched.splices.items)) }
+    ensures tried { IfOk result (λ searched. WereTried ceiling parts.now searched.tries (lists_of searched.splices.items)) }
 {
     let mut begun = WholeSearch::begin(alloc, parts, ceiling)?;
     begun.go_on(alloc, parts, limit)?;

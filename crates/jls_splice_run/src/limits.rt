@@ -15,7 +15,7 @@ ghost use Rattle.jls_splice_run.specs.Telling.{HasChosenLimit, HasSearched, Repo
 use crate::options::SearchOptions;
 use crate::searching::search_once;
 use crate::shallow::shallow_limit;
-use jls_diff::{Part, find_parts};
+use jls_diff::{Parts, find_parts};
 use jls_io::Sink;
 use jls_search::{Searched, SearchedCopies, parts_can_be_searched};
 use std::alloc::{AllocError, Global};
@@ -102,14 +102,14 @@ fn with_one_more(turned: Turned, limit: u16, searched: Searched, most: u32) -> T
 /// Searches under these limits in turn, until a search is cut off.
 fn search_in_turn<E: Sink>(
     alloc: Global,
-    parts: &[Part<'_>],
+    parts: &Parts<'_>,
     options: SearchOptions,
     limits: &[u16],
     faults: &mut E,
 ) -> Result<Turned, AllocError>
-    requires some_way { AllByRecursion HasSomeWay (parts_of parts.now) }
-    requires short { IsShort (parts_of parts.now) }
-    ensures turned { IfOk result (λ turned. GrewBy (TookTurns (parts_of parts.now) options limits.now turned)
+    requires some_way { AllByRecursion HasSomeWay parts.now }
+    requires short { IsShort parts.now }
+    ensures turned { IfOk result (λ turned. GrewBy (TookTurns parts.now options limits.now turned)
         (E.history faults.old) (E.history faults.new)) }
     ensures reported_some { OnErr result (GrewBy (ReportedUpTo options.tries options.tells) (E.history faults.old) (E.history faults.new)) }
 {
@@ -171,14 +171,14 @@ fn chosen(first: Searched, turned: Turned) -> CountingSearch
 /// Makes all searches over these parts.
 fn search_all<E: Sink>(
     alloc: Global,
-    parts: &[Part<'_>],
+    parts: &Parts<'_>,
     options: SearchOptions,
     faults: &mut E,
 ) -> Result<CountingSearch, AllocError>
-    requires some_way { AllByRecursion HasSomeWay (parts_of parts.now) }
-    requires short { IsShort (parts_of parts.now) }
+    requires some_way { AllByRecursion HasSomeWay parts.now }
+    requires short { IsShort parts.now }
     ensures searched { IfOk result (λ all. GrewBy
-        (HasSearched options (parts_of parts.now) (made_under all.ceiling all.searched) all.cut_limit)
+        (HasSearched options parts.now (made_under all.ceiling all.searched) all.cut_limit)
         (E.history faults.old) (E.history faults.new)) }
     ensures reported_some { OnErr result (GrewBy (ReportedUpTo options.tries options.tells) (E.history faults.old) (E.history faults.new)) }
 {
@@ -198,14 +198,14 @@ fn search_all<E: Sink>(
 /// picture. `Err` comes where memory is refused.
 fn limit_of_cut(
     alloc: Global,
-    parts: &[Part<'_>],
+    parts: &Parts<'_>,
     all: &CountingSearch,
     tries: u32,
 ) -> Result<Option<u16>, AllocError>
-    requires some_way { AllByRecursion HasSomeWay (parts_of parts.now) }
-    requires short { IsShort (parts_of parts.now) }
+    requires some_way { AllByRecursion HasSomeWay parts.now }
+    requires short { IsShort parts.now }
     ensures { IfOk result (λ limit.
-        IsCutLimit (parts_of parts.now) all.now.cut_limit (lists_of all.now.searched.splices.items) limit) }
+        IsCutLimit parts.now all.now.cut_limit (lists_of all.now.searched.splices.items) limit) }
 {
     if all.cut_limit.is_some() || !all.searched.splices.is_empty() {
         return Ok(all.cut_limit);
@@ -227,8 +227,8 @@ pub fn search_and_tell<'a, E: Sink>(
 ) -> Result<SearchedInTurn<'a>, AllocError>
     requires some_copy { 0 < length copies.now }
     requires short { AreShort (bytes_of copies.now) }
-    ensures parts { IfOk result (λ found. AreParts (bytes_of copies.now) (parts_of found.copies.parts.items)) }
-    ensures searched { IfOk result (λ found. GrewBy (HasChosenLimit options (parts_of found.copies.parts.items)
+    ensures parts { IfOk result (λ found. AreParts (bytes_of copies.now) found.copies.parts) }
+    ensures searched { IfOk result (λ found. GrewBy (HasChosenLimit options found.copies.parts
         (made_under found.copies.ceiling found.copies.searched) found.cut_limit)
         (E.history faults.old) (E.history faults.new)) }
     ensures reported_some { OnErr result (GrewBy (ReportedUpTo options.tries options.tells) (E.history faults.old) (E.history faults.new)) }

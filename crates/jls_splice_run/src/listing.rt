@@ -11,7 +11,7 @@ ghost use Rattle.jls_splice_run.specs.Listing.{AreNamed, IsNumbered, is_named, n
 
 use crate::files::file_of;
 use crate::single::is_copy_faultless;
-use jls_diff::Part;
+use jls_diff::Parts;
 use jls_search::Files;
 use std::alloc::{AllocError, Global};
 
@@ -99,12 +99,12 @@ fn name_splices(
     alloc: Global,
     prefix: &str,
     named: &mut Vec<NumberedFile>,
-    parts: &[Part<'_>],
+    parts: &Parts<'_>,
     splices: &[Vec<usize>],
 ) -> Result<(), AllocError>
-    requires { AllByRecursion (IsWhole (parts_of parts.now)) (lists_of splices.now) }
+    requires { AllByRecursion (IsWhole parts.now) (lists_of splices.now) }
     ensures { OnOk result ((files : List (List ℕ)) → AreNamed prefix.now files (named_files named.old.items)
-        → AreNamed prefix.now (files ++ files_of (parts_of parts.now) (lists_of splices.now)) (named_files named.new.items)) }
+        → AreNamed prefix.now (files ++ files_of parts.now (lists_of splices.now)) (named_files named.new.items)) }
 {
     for choices in splices {
         let file = file_of(alloc, parts, choices)?;
@@ -119,7 +119,7 @@ pub(crate) fn name_files(
     prefix: &str,
     files: &Files<'_, '_>,
 ) -> Result<Vec<NumberedFile>, AllocError>
-    requires { AllByRecursion (IsWhole (parts_of files.now.parts.now)) (lists_of files.now.splices.now) }
+    requires { AllByRecursion (IsWhole files.now.parts.now) (lists_of files.now.splices.now) }
     ensures { IfOk result (λ named. AreNamed prefix.now (files_taken files.now) (named_files named.items)) }
 {
     let mut named = name_copies(alloc, prefix, files.copies)?;

@@ -79,17 +79,17 @@ fn search<'c, E: Sink>(
 ) -> Result<FoundInTurn<'c>, AllocError>
     requires { 0 < length copies.now }
     ensures found { IfOk result (λ found. IsFound found.splices.ceiling (bytes_of copies.now) (found_of found.splices)) }
-    ensures splices { IfOk result (λ found. files_of (parts_of found.splices.parts.items) (lists_of found.splices.splices.items)
+    ensures splices { IfOk result (λ found. files_of found.splices.parts (lists_of found.splices.splices.items)
         ≡ splices_in (found_of found.splices)) }
     ensures each { IfOk result (λ found.
-        AllByRecursion (IsWhole (parts_of found.splices.parts.items)) (lists_of found.splices.splices.items)) }
+        AllByRecursion (IsWhole found.splices.parts) (lists_of found.splices.splices.items)) }
     ensures whole { IfOk result (λ found. found.splices.whole ≤ length found.splices.splices.items) }
-    ensures some_way { IfOk result (λ found. AllByRecursion HasSomeWay (parts_of found.splices.parts.items)) }
-    ensures short { IfOk result (λ found. IsShort (parts_of found.splices.parts.items)) }
-    ensures small { IfOk result (λ found. length (made 0 (parts_of found.splices.parts.items)) < 2 ^ 64) }
+    ensures some_way { IfOk result (λ found. AllByRecursion HasSomeWay found.splices.parts) }
+    ensures short { IfOk result (λ found. IsShort found.splices.parts) }
+    ensures small { IfOk result (λ found. length (made 0 found.splices.parts) < 2 ^ 64) }
     ensures of_groups { IfOk result (λ found. IfSome (found_of found.splices).by_groups
-        (IsGroupSearch options.tries (length copies.now) (parts_of found.splices.parts.items))) }
-    ensures searched { IfOk result (λ found. GrewBy (HasChosenLimit options (parts_of found.splices.parts.items)
+        (IsGroupSearch options.tries (length copies.now) found.splices.parts)) }
+    ensures searched { IfOk result (λ found. GrewBy (HasChosenLimit options found.splices.parts
         (search_of found.splices.ceiling (found_of found.splices) found.splices.tries) found.cut_limit)
         (E.history faults.old) (E.history faults.new)) }
     ensures reported_some { OnErr result (GrewBy (ReportedUpTo options.tries options.tells) (E.history faults.old) (E.history faults.new)) }
@@ -112,8 +112,8 @@ fn find_cut(
     found: &FoundInTurn<'_>,
     limit: u32,
 ) -> Result<Option<Vec<usize>>, AllocError>
-    requires some_way { AllByRecursion HasSomeWay (parts_of found.now.splices.parts.items) }
-    requires short { IsShort (parts_of found.now.splices.parts.items) }
+    requires some_way { AllByRecursion HasSomeWay found.now.splices.parts }
+    requires short { IsShort found.now.splices.parts }
     requires whole { found.now.splices.whole ≤ length found.now.splices.splices.items }
     ensures lone { IfOk result (λ cut. IfSome cut (λ path. IsCut found.now.cut_limit (found_of found.now.splices) path.items)) }
     ensures none { IfOk result (λ cut. IfNone cut (FindsNoCut found.now.cut_limit limit (found_of found.now.splices))) }
@@ -130,7 +130,7 @@ fn file_asked(
     name: Option<&str>,
     files: &Files<'_, '_>,
 ) -> Result<Option<Vec<u8>>, AllocError>
-    requires { AllByRecursion (IsWhole (parts_of files.now.parts.now)) (lists_of files.now.splices.now) }
+    requires { AllByRecursion (IsWhole files.now.parts.now) (lists_of files.now.splices.now) }
     ensures { IfOk result (λ file. IsSingleAsked name.entry (given.files_taken files.now) (option_map (λ f. f.items) file)) }
 {
     match name {
@@ -155,7 +155,7 @@ fn files_asked(
     prefix: Option<&str>,
     files: &Files<'_, '_>,
 ) -> Result<Vec<NumberedFile>, AllocError>
-    requires { AllByRecursion (IsWhole (parts_of files.now.parts.now)) (lists_of files.now.splices.now) }
+    requires { AllByRecursion (IsWhole files.now.parts.now) (lists_of files.now.splices.now) }
     ensures { IfOk result (λ named.
         AreNamedAsked (option_map (λ s. s.now) prefix.entry) (given.files_taken files.now) (named_files named.items)) }
 {
@@ -212,10 +212,10 @@ fn promise_of(found: &FoundSplices<'_>, settled: bool) -> Promise
 
 /// Where the cut file ends, if one was taken.
 fn cut_end(found: &FoundInTurn<'_>, cut: &Option<Vec<usize>>) -> Option<CutEnd>
-    requires path { IfSome cut.now (λ path. IsPath (parts_of found.now.splices.parts.items) path.items) }
-    requires small { length (made 0 (parts_of found.now.splices.parts.items)) < 2 ^ 64 }
+    requires path { IfSome cut.now (λ path. IsPath found.now.splices.parts path.items) }
+    requires small { length (made 0 found.now.splices.parts) < 2 ^ 64 }
     ensures { result
-        ≡ option_map (λ path. spec.cut_end (parts_of found.now.splices.parts.items) found.now.cut_limit path.items) cut.now }
+        ≡ option_map (λ path. spec.cut_end found.now.splices.parts found.now.cut_limit path.items) cut.now }
 {
     match cut {
         Some(path) => Some(CutEnd {
@@ -234,12 +234,12 @@ fn texts_of(
     all: &FoundInTurn<'_>,
     taken: &Taken,
 ) -> Result<Made, AllocError>
-    requires splices { files_of (parts_of all.now.splices.parts.items) (lists_of all.now.splices.splices.items)
+    requires splices { files_of all.now.splices.parts (lists_of all.now.splices.splices.items)
         ≡ splices_in (found_of all.now.splices) }
-    requires each { AllByRecursion (IsWhole (parts_of all.now.splices.parts.items)) (lists_of all.now.splices.splices.items) }
+    requires each { AllByRecursion (IsWhole all.now.splices.parts) (lists_of all.now.splices.splices.items) }
     requires whole { all.now.splices.whole ≤ length all.now.splices.splices.items }
-    requires small { length (made 0 (parts_of all.now.splices.parts.items)) < 2 ^ 64 }
-    requires path { IfSome taken.now.cut (λ path. IsPath (parts_of all.now.splices.parts.items) path.items) }
+    requires small { length (made 0 all.now.splices.parts) < 2 ^ 64 }
+    requires path { IfSome taken.now.cut (λ path. IsPath all.now.splices.parts path.items) }
     ensures texts { IfOk result (λ made. (searches : Searches) → (lone : Option (Vec ℕ Global))
         → AreTextsOf (task_of task.now) (bytes_of copies.now)
         (made_of searches all.now lone taken.now.cut taken.now.station made) made) }

@@ -13,7 +13,7 @@ use crate::differences::differences_of;
 use crate::found::SearchReport;
 use crate::lines::put_found;
 use crate::noting::put_noted;
-use jls_diff::Part;
+use jls_diff::Parts;
 use jls_partial::Partial;
 use jls_report::Report;
 use std::alloc::{AllocError, Global};
@@ -21,11 +21,11 @@ use std::alloc::{AllocError, Global};
 /// The lines of what was found.
 fn found_lines(
     alloc: Global,
-    parts: &[Part<'_>],
+    parts: &Parts<'_>,
     report: &SearchReport,
 ) -> Result<Vec<u8>, AllocError>
-    requires { length (made 0 (parts_of parts.now)) < 2 ^ 64 }
-    ensures { IfOk result (λ lines. lines.items ≡ found_text (differences (parts_of parts.now)) report.now) }
+    requires { length (made 0 parts.now) < 2 ^ 64 }
+    ensures { IfOk result (λ lines. lines.items ≡ found_text (differences parts.now) report.now) }
 {
     let differences = differences_of(alloc, parts)?;
     let mut out = Vec::new(alloc);
@@ -60,13 +60,13 @@ fn report_lines(alloc: Global, partial: &Partial) -> Result<Vec<u8>, AllocError>
 pub(crate) fn lines_of(
     alloc: Global,
     out: &str,
-    parts: &[Part<'_>],
+    parts: &Parts<'_>,
     report: &SearchReport,
     partial: &Partial,
 ) -> Result<Vec<u8>, AllocError>
-    requires { length (made 0 (parts_of parts.now)) < 2 ^ 64 }
+    requires { length (made 0 parts.now) < 2 ^ 64 }
     ensures { IfOk result (λ lines. lines.items ≡ (if bytes_eq out.now (codes "-") then []
-        else found_text (differences (parts_of parts.now)) report.now ++ report_text (report_of partial.now))) }
+        else found_text (differences parts.now) report.now ++ report_text (report_of partial.now))) }
 {
     if out == "-" {
         return Ok(Vec::new(alloc));

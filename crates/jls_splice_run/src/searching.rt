@@ -13,7 +13,7 @@ ghost use Rattle.jls_splice_run.specs.Telling.{GoesOn, HasReported, IsReported, 
 
 use crate::lines::put_progress;
 use crate::options::SearchOptions;
-use jls_diff::Part;
+use jls_diff::Parts;
 use jls_io::{Sink, write_all};
 use jls_search::{Searched, WholeSearch};
 use std::alloc::{AllocError, Global};
@@ -72,18 +72,18 @@ fn tell<E: Sink>(
 /// Goes on to the next pause, and tells how far it is there.
 fn go_on<E: Sink>(
     alloc: Global,
-    parts: &[Part<'_>],
+    parts: &Parts<'_>,
     options: SearchOptions,
     walk: &mut WholeSearch,
     faults: &mut E,
 ) -> Result<(), AllocError>
-    requires some_way { AllByRecursion HasSomeWay (parts_of parts.now) }
-    requires short { IsShort (parts_of parts.now) }
-    requires stands { IsSearch (parts_of parts.now) walk.old }
+    requires some_way { AllByRecursion HasSomeWay parts.now }
+    requires short { IsShort parts.now }
+    requires stands { IsSearch parts.now walk.old }
     requires can { CanGoOn walk.old options.tries }
-    ensures stands { OnOk result (IsSearch (parts_of parts.now) walk.new) }
+    ensures stands { OnOk result (IsSearch parts.now walk.new) }
     ensures fewer { OnOk result (walk.old.tries < walk.new.tries) }
-    ensures tried { OnOk result (Tried (parts_of parts.now) walk.old walk.new) }
+    ensures tried { OnOk result (Tried parts.now walk.old walk.new) }
     ensures ceiling { OnOk result (walk.new.judge.ceiling ≡ walk.old.judge.ceiling) }
     ensures reported { OnOk result (GrewBy (GoesOn options walk.old walk.new) (E.history faults.old) (E.history faults.new)) }
     ensures unreported { OnErr result (E.history faults.new ≡ E.history faults.old) }
@@ -96,16 +96,16 @@ fn go_on<E: Sink>(
 /// Searches the splices of these parts, and tells how far it is.
 fn search_parts<E: Sink>(
     alloc: Global,
-    parts: &[Part<'_>],
+    parts: &Parts<'_>,
     options: SearchOptions,
     faults: &mut E,
 ) -> Result<WholeSearch, AllocError>
-    requires some_way { AllByRecursion HasSomeWay (parts_of parts.now) }
-    requires short { IsShort (parts_of parts.now) }
-    ensures stands { IfOk result (λ walk. IsSearch (parts_of parts.now) walk) }
+    requires some_way { AllByRecursion HasSomeWay parts.now }
+    requires short { IsShort parts.now }
+    ensures stands { IfOk result (λ walk. IsSearch parts.now walk) }
     ensures ceiling { IfOk result (λ walk. walk.judge.ceiling ≡ options.ceiling) }
     ensures stops { IfOk result (λ walk. CanGoOn walk options.tries → ⊥) }
-    ensures tried { IfOk result (λ walk. WasBegun options.ceiling (parts_of parts.now) walk) }
+    ensures tried { IfOk result (λ walk. WasBegun options.ceiling parts.now walk) }
     ensures reported { IfOk result (λ walk. GrewBy (HasReported options walk) (E.history faults.old) (E.history faults.new)) }
     ensures reported_some { OnErr result (GrewBy (ReportedSome options.tries options.tells) (E.history faults.old) (E.history faults.new)) }
 {
@@ -120,13 +120,13 @@ fn search_parts<E: Sink>(
 /// a line on how far it is, each time that 64 more were tried, and when it is over.
 pub(crate) fn search_once<E: Sink>(
     alloc: Global,
-    parts: &[Part<'_>],
+    parts: &Parts<'_>,
     options: SearchOptions,
     faults: &mut E,
 ) -> Result<Searched, AllocError>
-    requires some_way { AllByRecursion HasSomeWay (parts_of parts.now) }
-    requires short { IsShort (parts_of parts.now) }
-    ensures is_made { IfOk result (λ s. IsSearchMade (parts_of parts.now) options.tries (made_under options.ceiling s)) }
+    requires some_way { AllByRecursion HasSomeWay parts.now }
+    requires short { IsShort parts.now }
+    ensures is_made { IfOk result (λ s. IsSearchMade parts.now options.tries (made_under options.ceiling s)) }
     ensures reported { IfOk result (λ s. GrewBy (IsReported options.tells s.tries (length (lists_of s.splices.items)))
         (E.history faults.old) (E.history faults.new)) }
     ensures reported_some { OnErr result (GrewBy (ReportedSome options.tries options.tells) (E.history faults.old) (E.history faults.new)) }

@@ -49,8 +49,8 @@ fn settle_whole<'a>(
     requires some_copy { 0 < length copies.now }
     requires names { length task.now.names.now ≡ length copies.now }
     requires copies { bytes_of files.now.copies.now ≡ bytes_read (copies_of copies.now) }
-    requires whole { AllByRecursion (IsWhole (parts_of files.now.parts.now)) (lists_of files.now.splices.now) }
-    requires short { IsShort (parts_of files.now.parts.now) }
+    requires whole { AllByRecursion (IsWhole files.now.parts.now) (lists_of files.now.splices.now) }
+    requires short { IsShort files.now.parts.now }
     ensures settled { IfOk result (λ station.
         IsPictureOfFiles (task_of task.now).options.source (bytes_read (copies_of copies.now)) (splices_found files.now) station) }
     ensures stopped { IfErr result (λ refusal.
@@ -85,14 +85,14 @@ pub(crate) fn settle<'a>(
     requires some_copy { 0 < length copies.now }
     requires names { length task.now.names.now ≡ length copies.now }
     requires copies { bytes_of files.now.copies.now ≡ bytes_read (copies_of copies.now) }
-    requires whole { AllByRecursion (IsWhole (parts_of files.now.parts.now)) (lists_of files.now.splices.now) }
-    requires short { IsShort (parts_of files.now.parts.now) }
-    requires cut { IfSome cut (λ path. IsPath (parts_of files.now.parts.now) path.items) }
+    requires whole { AllByRecursion (IsWhole files.now.parts.now) (lists_of files.now.splices.now) }
+    requires short { IsShort files.now.parts.now }
+    requires cut { IfSome cut (λ path. IsPath files.now.parts.now path.items) }
     ensures settled { IfOk result (λ taken.
         IsPictureOf (task_of task.now).options.source (bytes_read (copies_of copies.now)) (splices_found files.now)
-        (option_map (λ path. prefix_of (parts_of files.now.parts.now) path.items) taken.cut) taken.station) }
+        (option_map (λ path. prefix_of files.now.parts.now path.items) taken.cut) taken.station) }
     ensures cut { IfOk result (λ taken. (taken.cut ≡ cut) ⊎ ((taken.cut ≡ None) × IfSome cut (λ path.
-        TakesNoCut (bytes_read (copies_of copies.now)) (splices_found files.now) (prefix_of (parts_of files.now.parts.now) path.items)))) }
+        TakesNoCut (bytes_read (copies_of copies.now)) (splices_found files.now) (prefix_of files.now.parts.now path.items)))) }
     ensures stopped { IfErr result (λ refusal.
         IsUnsettled (task_of task.now) (copies_of copies.now) (splices_found files.now) refusal) }
 {

@@ -7,8 +7,7 @@ ghost use Rattle.jls_search.specs.Choices.{HasSomeWay};
 ghost use Rattle.jls_search.specs.Search.{IsShort};
 ghost use Rattle.jls_splice_run.specs.Limits.{IsShallowLimit};
 
-use crate::differences::is_differ;
-use jls_diff::Part;
+use jls_diff::Parts;
 use jls_search::lone_path;
 use std::alloc::{AllocError, Global};
 
@@ -26,9 +25,9 @@ fn are_same(path: &[usize], other: &[usize]) -> bool
 }
 
 /// Whether a path has a choice at a part in which the copies differ.
-fn has_choice(parts: &[Part<'_>], path: &[usize]) -> bool {
+fn has_choice(parts: &Parts<'_>, path: &[usize]) -> bool {
     for place in 0..path.len().min(parts.len()) {
-        if is_differ(&parts[place]) {
+        if parts.is_differ(place) {
             return true;
         }
     }
@@ -41,12 +40,12 @@ fn has_choice(parts: &[Part<'_>], path: &[usize]) -> bool {
 /// cut seldom has one path under both. Each of the three has so many tries. `Err` comes where memory is refused.
 pub(crate) fn shallow_limit(
     alloc: Global,
-    parts: &[Part<'_>],
+    parts: &Parts<'_>,
     tries: u32,
 ) -> Result<Option<u16>, AllocError>
-    requires some_way { AllByRecursion HasSomeWay (parts_of parts.now) }
-    requires short { IsShort (parts_of parts.now) }
-    ensures { IfOk result (λ limit. IfSome limit (IsShallowLimit (parts_of parts.now))) }
+    requires some_way { AllByRecursion HasSomeWay parts.now }
+    requires short { IsShort parts.now }
+    ensures { IfOk result (λ limit. IfSome limit (IsShallowLimit parts.now)) }
 {
     let Some(path) = lone_path(alloc, parts, Some(SHALLOW), tries)? else {
         return Ok(None);

@@ -11,7 +11,7 @@ ghost use Rattle.jls_splice_run.specs.Single.{AreSeenSo, IsSingle};
 
 use crate::files::file_of;
 use jls_copy::CopyReader;
-use jls_diff::Part;
+use jls_diff::Parts;
 use jls_search::{Files, is_faultless};
 use std::alloc::{AllocError, Global};
 
@@ -79,12 +79,12 @@ fn among_copies(alloc: Global, copies: &[&[u8]]) -> Result<Faultless, AllocError
 fn with_splices(
     alloc: Global,
     copies: Faultless,
-    parts: &[Part<'_>],
+    parts: &Parts<'_>,
     splices: &[Vec<usize>],
 ) -> Result<Faultless, AllocError>
-    requires { AllByRecursion (IsWhole (parts_of parts.now)) (lists_of splices.now) }
+    requires { AllByRecursion (IsWhole parts.now) (lists_of splices.now) }
     ensures { IfOk result (λ faultless. (files : List (List ℕ)) → AreSeenSo files copies
-        → AreSeenSo (files ++ files_of (parts_of parts.now) (lists_of splices.now)) faultless) }
+        → AreSeenSo (files ++ files_of parts.now (lists_of splices.now)) faultless) }
 {
     let mut faultless = copies;
     for choices in splices {
@@ -110,7 +110,7 @@ pub(crate) fn single_file(
     alloc: Global,
     files: &Files<'_, '_>,
 ) -> Result<Option<Vec<u8>>, AllocError>
-    requires { AllByRecursion (IsWhole (parts_of files.now.parts.now)) (lists_of files.now.splices.now) }
+    requires { AllByRecursion (IsWhole files.now.parts.now) (lists_of files.now.splices.now) }
     ensures { IfOk result (λ single. IsSingle (files_taken files.now) (option_map (λ file. file.items) single)) }
 {
     let copies = among_copies(alloc, files.copies)?;

@@ -1,6 +1,7 @@
 //! Splices of two copies of a file with restart intervals, worked by hand.
 
-use jls_search::{are_short, complete_by_groups, search_copies};
+use crate::searched::searched;
+use jls_search::{are_short, complete_by_groups};
 use std::alloc::{AllocError, Global};
 use std::test::Fail;
 
@@ -70,8 +71,8 @@ fn found_in(alloc: Global, copies: &[&[u8]], limit: u32) -> Result<(Counts, bool
     if copies.is_empty() || !are_short(copies) {
         return Err(Fail::from("no copies that can be searched"));
     }
-    let searched = search_copies(alloc, copies, None, limit)?;
-    let found = complete_by_groups(alloc, copies, searched, limit)?;
+    let all = searched(alloc, copies, None, limit)?;
+    let found = complete_by_groups(alloc, copies, all, limit)?;
     let (groups, is_used_up) = match found.by_groups {
         Some(reported) => (Some(reported.groups), reported.is_used_up),
         None => (None, false),

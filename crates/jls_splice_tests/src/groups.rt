@@ -1,6 +1,6 @@
 //! Groups of two copies of a file with two restart intervals, worked by hand.
 
-use jls_diff::{Border, Group, Part, find_groups};
+use jls_diff::{Border, Group, Part, Parts, find_groups};
 use std::alloc::{AllocError, Global};
 use std::test::Fail;
 
@@ -41,7 +41,7 @@ fn groups_of(alloc: Global, count: usize) -> Result<Vec<Group>, AllocError> {
             None => Part::Differ(Vec::from_slice(alloc, &ways)?),
         })?;
     }
-    find_groups(alloc, &parts)
+    find_groups(alloc, &Parts::of(parts))
 }
 
 #[test]

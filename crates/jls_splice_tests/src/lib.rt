@@ -1,7 +1,7 @@
 //! Tests of `jls-splice` and of what it is made of. They stand apart, so that those crates are proved once, without them.
 //!
 //! - `parts`, `groups`: where copies differ
-//! - `prefixes`, `group_search`, `stations`: the searches, and stations of the files taken
+//! - `searched`, `prefixes`, `group_search`, `stations`: the searches, and stations of the files taken
 //! - `copy_files`, `lines`, `words`: copies that are read, printed lines, the command line
 //! - `memory`, `files`, `damage`, `program`: runs over files in memory
 #![tactic(auto)]
@@ -28,6 +28,8 @@ mod parts;
 mod prefixes;
 #[cfg(test)]
 mod program;
+#[cfg(test)]
+mod searched;
 #[cfg(test)]
 mod stations;
 #[cfg(test)]

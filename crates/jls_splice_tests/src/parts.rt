@@ -1,6 +1,6 @@
 //! Which parts are found of copies that are damaged in known places.
 
-use jls_diff::{Part, find_parts};
+use jls_diff::{Part, Parts, find_parts};
 use std::alloc::{AllocError, Global};
 use std::test::Fail;
 
@@ -64,10 +64,10 @@ fn damaged(alloc: Global, file: &[u8], damages: &[Damage]) -> Result<Vec<u8>, Al
 }
 
 /// Parts as text: how many bytes all have alike, after `=`; or how many each copy has.
-fn text(alloc: Global, parts: &[Part<'_>]) -> Result<String, Fail> {
+fn text(alloc: Global, parts: &Parts<'_>) -> Result<String, Fail> {
     let mut out = String::new(alloc);
-    for part in parts {
-        match part {
+    for place in 0..parts.len() {
+        match parts.part(place) {
             Part::Same(bytes) => out.push_str(&format!(in alloc; "={}", bytes.len())?)?,
             Part::Differ(ways) => {
                 for (copy, way) in ways.iter().enumerate() {

@@ -2,10 +2,9 @@
 
 use crate::damage::copy_of;
 use crate::files::file_of;
+use crate::searched::searched;
 use jls_copy::CopyReader;
-use jls_search::{
-    are_short, is_dead, is_faultless, is_sought, parts_can_be_searched, search_copies,
-};
+use jls_search::{are_short, is_dead, is_faultless, is_sought};
 use std::alloc::Global;
 use std::process::Abort;
 use std::test::Fail;
@@ -74,9 +73,8 @@ fn check_search(
     if copies.is_empty() || !are_short(copies) {
         return Err(Fail::from("no copy, or too many bytes"));
     }
-    parts_can_be_searched();
     let (limit, ceiling, files, is_used_up) = row;
-    let found = search_copies(alloc, copies, ceiling, limit)?;
+    let found = searched(alloc, copies, ceiling, limit)?;
     assert_eq!(rt; found.searched.splices.len(), files);
     assert_eq!(rt; found.searched.is_used_up, is_used_up);
     Ok(())

@@ -1,8 +1,9 @@
 //! Copies of known pictures, each byte of which is true in some copy or in none. CharLS wrote the file of four lines.
 
+use crate::searched::searched;
 use jls_marker::MarkerFault;
 use jls_partial::Partial;
-use jls_search::{Files, Settled, are_short, parts_can_be_searched, search_copies, settle_files};
+use jls_search::{Files, Settled, are_short, parts_can_be_searched, settle_files};
 use jls_values::Shape;
 use std::alloc::Global;
 use std::test::Fail;
@@ -35,7 +36,7 @@ fn outcome_of(alloc: Global, copies: &[&[u8]]) -> Result<Settled, Fail> {
         return Err(Fail::from("no copy, or too many bytes"));
     }
     parts_can_be_searched();
-    let found = search_copies(alloc, copies, None, 4096)?;
+    let found = searched(alloc, copies, None, 4096)?;
     let files = Files {
         copies,
         parts: &found.parts,

@@ -1,4 +1,4 @@
-use Rattle.std.proofs.Common.{◌≡◌, ℕ, ◌<◌, length, sym, ◌∙◌, subst, arith, below_more, [], get_or}
+use Rattle.std.proofs.Common.{◌≡◌, length, sym, ◌∙◌, subst, arith, below_more, [], get_or}
 use Rattle.std.specs.List.{AllByRecursion}
 use Rattle.jls_diff.proofs.Slices.{at_slice, count_of_slices}
 use Rattle.jls_diff.specs.Parts.{HasWays, made}

@@ -1,8 +1,8 @@
-use Rattle.std.proofs.Common.{[], get_or, false, refl}
+use Rattle.std.proofs.Common.{[], get_or, refl}
 use Rattle.std.specs.Prelude.{IsTrue}
 use Rattle.jls_diff.specs.Parts.{Same}
 use Rattle.jls_diff.specs.PartsOf.{parts_of}
-use Rattle.jls_diff.specs.Groups.{Differs}
+use Rattle.jls_diff.specs.Parts.{Differs}
 use Rattle.jls_diff.proofs.GroupSteps.{pass_borders}
 use Rattle.jls_diff.proofs.grouping.pass.Goals as goal
 

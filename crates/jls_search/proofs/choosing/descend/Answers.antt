@@ -1,10 +1,8 @@
 use Rattle.std.proofs.Common.{◌≡◌, ℕ, ◌<◌, List, [], length, sym, ◌∙◌, subst, Result, Ok, Err}
 use Rattle.std.specs.Prelude.{get_or, OnOk}
 use Rattle.std.specs.declared.alloc.AllocError.{AllocError}
-use Rattle.jls_diff.specs.PartsOf.{parts_of}
 use Rattle.jls_diff.specs.Parts.{Part, Same}
 use Rattle.jls_search.specs.Choices.{IsFirstWay}
-use Rattle.jls_search.proofs.Paths.{length-map}
 use Rattle.jls_diff.specs.Groups.{IsInside}
 use Rattle.jls_search.specs.OfGroups.{IsSet, IsSetWhole}
 use Rattle.jls_search.specs.Order.{IsToCome}
@@ -18,10 +16,10 @@ by (Err e) W A B C f h = h
 
 pub follow-requires-clause-path : goal.follow-requires-clause-path
 follow-requires-clause-path c =
-    let ps : List Part = parts_of c.args.parts.now in
+    let ps : List Part = c.args.parts.now in
     let path : List ℕ = c.args.path.now.items in
     let s = c.args.setting in
-    let k : length path < length ps = rw length-map c.requires.more in
+    let k : length path < length ps = c.requires.more in
     let at = c.len.ensures ∙ c.args.path.now.ok.0 in
     let choice = c.first_choice.result in
     subst (IsSet ps s) (sym c.in_ok-push.ensures.items)
@@ -30,10 +28,10 @@ follow-requires-clause-path c =
 
 pub returns-clause-kept : goal.returns-clause-kept
 returns-clause-kept c =
-    let ps : List Part = parts_of c.args.parts.now in
+    let ps : List Part = c.args.parts.now in
     let path : List ℕ = c.args.path.now.items in
     let s = c.args.setting in
-    let k : length path < length ps = rw length-map c.requires.more in
+    let k : length path < length ps = c.requires.more in
     let at = c.len.ensures ∙ c.args.path.now.ok.0 in
     let choice = c.first_choice.result in
     let mid : List ℕ = c.push.new.self.items in

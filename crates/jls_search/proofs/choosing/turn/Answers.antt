@@ -1,9 +1,8 @@
 use Rattle.std.proofs.Common.{ℕ, ◌<◌, List, [], ◌∷◌, ◌++◌, length, sym, ◌∙◌, subst}
-use Rattle.jls_diff.specs.PartsOf.{parts_of}
 use Rattle.jls_diff.specs.Parts.{Part, Same}
 use Rattle.std.specs.Prelude.{get_or}
 use Rattle.jls_search.specs.Choices.{IsFirstWay}
-use Rattle.jls_search.proofs.Paths.{length-map, turned}
+use Rattle.jls_search.proofs.Paths.{turned}
 use Rattle.jls_diff.specs.Groups.{IsInside}
 use Rattle.jls_search.specs.OfGroups.{IsSet}
 use Rattle.jls_search.specs.Order.{IsLater, IsToCome}
@@ -12,18 +11,18 @@ use Rattle.jls_search.proofs.choosing.turn.Goals as goal
 
 pub next_choice-requires : goal.next_choice-requires
 next_choice-requires c =
-    let ps : List Part = parts_of c.args.parts.now in
+    let ps : List Part = c.args.parts.now in
     let rest : List ℕ = c.pop.new.self.items in
     let back = set_back ps c.args.setting rest c.in-Some.choice (subst (IsSet ps c.args.setting) c.in-Some.ensures.items c.loop-choice.invariant.set) in
     let at = c.len.ensures ∙ c.pop.new.self.ok.0 in
     record {
-      place = subst (λ n. n < length c.args.parts.now) (sym at) (rw length-map at back.1);
+      place = subst (λ n. n < length c.args.parts.now) (sym at) (back.1);
       first = subst (λ n. IsFirstWay (get_or ps n (Same [])) c.in-Some.choice) (sym at) back.2;
     }
 
 pub follow-requires-clause-path : goal.follow-requires-clause-path
 follow-requires-clause-path c =
-    let ps : List Part = parts_of c.args.parts.now in
+    let ps : List Part = c.args.parts.now in
     let rest : List ℕ = c.pop.new.self.items in
     let back = set_back ps c.args.setting rest c.in-Some.choice (subst (IsSet ps c.args.setting) c.in-Some.ensures.items c.loop-choice.invariant.set) in
     let at = c.len.ensures ∙ c.pop.new.self.ok.0 in
@@ -35,7 +34,7 @@ follow-requires-clause-path c =
 
 pub returns-in-Some-next_choice-clause-to_come : goal.returns-in-Some-next_choice-clause-to_come
 returns-in-Some-next_choice-clause-to_come c = λ _ choices whole after.
-    let ps : List Part = parts_of c.args.parts.now in
+    let ps : List Part = c.args.parts.now in
     let rest : List ℕ = c.pop.new.self.items in
     let at = c.len.ensures ∙ c.pop.new.self.ok.0 in
     let next = c.in-Some-next_choice.next in
@@ -52,7 +51,7 @@ loop-choice-init c = record { set = c.requires.path; after = λ choices whole af
 
 pub loop-choice-preserved : goal.loop-choice-preserved
 loop-choice-preserved c =
-    let ps : List Part = parts_of c.args.parts.now in
+    let ps : List Part = c.args.parts.now in
     let s = c.args.setting in
     let rest : List ℕ = c.pop.new.self.items in
     let p = c.in-Some.choice in

@@ -2,7 +2,6 @@ use Rattle.std.proofs.Common.{subst}
 use Rattle.std.specs.Prelude.{IfSome}
 use Rattle.std.proofs.lemmas.Option.{IfSome_then}
 use Rattle.jls_copy.specs.CopyReads.{CopyGivesNone, CopyReads}
-use Rattle.jls_diff.specs.PartsOf.{parts_of}
 use Rattle.jls_search.specs.Choices.{prefix_of}
 use Rattle.jls_search.specs.Shapes.{HasNoFrame}
 use Rattle.jls_search.proofs.Prefixes.{fed_first, of_some}
@@ -10,7 +9,7 @@ use Rattle.jls_search.proofs.cut.read_cut.Goals as goal
 
 pub returns-in-Ok-clause-some : goal.returns-in-Ok-clause-some
 returns-in-Ok-clause-some c =
-    let prefix = prefix_of (parts_of c.args.parts.now) c.args.cut.now in
+    let prefix = prefix_of c.args.parts.now c.args.cut.now in
     let fed = c.feed_prefix.new.reader in
     of_some fed prefix (λ bytes. CopyReads bytes c.in-Ok.read)
     (fed_first fed c.new-reader.result prefix c.new-reader.ensures c.in_ok-feed_prefix.ensures.fed) c.in-Ok.ensures.read
@@ -18,7 +17,7 @@ returns-in-Ok-clause-some c =
 pub returns-in-Err-NoPicture-clause-none : goal.returns-in-Err-NoPicture-clause-none
 returns-in-Err-NoPicture-clause-none c =
     let none = c.in-Err-NoPicture in
-    let prefix = prefix_of (parts_of c.args.parts.now) c.args.cut.now in
+    let prefix = prefix_of c.args.parts.now c.args.cut.now in
     let fed = c.feed_prefix.new.reader in
     of_some fed prefix (λ bytes. HasNoFrame bytes)
     (fed_first fed c.new-reader.result prefix c.new-reader.ensures c.in_ok-feed_prefix.ensures.fed)

@@ -3,7 +3,6 @@ use Rattle.std.specs.Prelude.{IfSome}
 use Rattle.jls_partial.specs.Partial.{PartialPicture}
 use Rattle.jls_copy.specs.CopyReads.{CopyReads}
 use Rattle.jls_copy.specs.ReadCopy.{ReadCopy}
-use Rattle.jls_diff.specs.PartsOf.{parts_of}
 use Rattle.jls_search.specs.Choices.{prefix_of}
 use Rattle.jls_search.specs.Files.{files_taken}
 use Rattle.jls_search.proofs.CutFiles.{cut_taken}
@@ -14,7 +13,7 @@ read_cut-requires-clause-few c = c.requires.short c.args.cut.now c.requires.cut
 
 pub returns-clause-some : goal.returns-clause-some
 returns-clause-some c =
-    let cut : List ℕ = prefix_of (parts_of c.args.files.now.parts.now) c.args.cut.now in
+    let cut : List ℕ = prefix_of c.args.files.now.parts.now c.args.cut.now in
     let read : ReadCopy = c.in-Some.read in
     let reads : CopyReads cut read = subst (λ found. IfSome found (λ (r : ReadCopy). CopyReads cut r)) c.in-Some.is c.in_ok-read.ensures.some in
     let shape : c.to_owned-shape.result ≡ read.partial.shape =

@@ -1,14 +1,11 @@
 use Rattle.std.proofs.Common.{◌≡◌, ℕ, Bool, false, List, length, take, drop, Some, Vec, Global, ap, sym, ◌∙◌, ◌++◌, subst, arith}
 use Rattle.std.proofs.Common.{length-append, inl, inr}
 use Rattle.std.specs.List.{AllByRecursion}
-use Rattle.jls_diff.specs.Parts.{AreParts}
-use Rattle.jls_diff.specs.PartsOf.{bytes_of, parts_of}
+use Rattle.jls_diff.specs.PartsOf.{bytes_of}
 use Rattle.jls_search.specs.Choices.{IsWhole}
 use Rattle.jls_search.specs.Faultless.{IsSought}
 use Rattle.jls_search.specs.Search.{lists_of}
-use Rattle.jls_diff.specs.Groups.{CoverParts, IsGroup}
 use Rattle.jls_search.specs.Found.{IsFound, IsGroupSearch, by_groups_of}
-use Rattle.jls_search.specs.OfGroups.{IsOfGroup}
 use Rattle.jls_search.specs.GroupTries.{AreGroupsSearched}
 use Rattle.jls_search.specs.declared.found.GroupsReported.{GroupsReported}
 use Rattle.jls_search.proofs.FoundMore.{all_is, prefix_is, group_search, found_whole, found_groups, files_whole, files_groups}
@@ -26,14 +23,14 @@ returns-then-not-wants-clause-found c =
     let vs = c.args.found.searched.splices.items in
     let at : c.len-whole.result ≡ length vs = c.len-whole.ensures ∙ c.args.found.searched.splices.ok.0 in
     let no = c.wants_groups-wants.ensures.no c.if-not-wants.true in
-    found_whole c.args.found.ceiling (bytes_of c.args.copies.now) (parts_of c.args.found.parts.items) vs c.len-whole.result c.args.found.searched.is_used_up
+    found_whole c.args.found.ceiling (bytes_of c.args.copies.now) c.args.found.parts vs c.len-whole.result c.args.found.searched.is_used_up
     c.requires.parts c.requires.searched at no.0 no.1
 
 pub returns-then-not-wants-clause-splices : goal.returns-then-not-wants-clause-splices
 returns-then-not-wants-clause-splices c =
     let vs = c.args.found.searched.splices.items in
     let at : c.len-whole.result ≡ length vs = c.len-whole.ensures ∙ c.args.found.searched.splices.ok.0 in
-    files_whole (parts_of c.args.found.parts.items) vs c.len-whole.result at
+    files_whole c.args.found.parts vs c.len-whole.result at
 
 pub returns-then-not-wants-clause-kept : goal.returns-then-not-wants-clause-kept
 returns-then-not-wants-clause-kept c =
@@ -42,15 +39,15 @@ returns-then-not-wants-clause-kept c =
 
 pub returns-then-not-wants-clause-each : goal.returns-then-not-wants-clause-each
 returns-then-not-wants-clause-each c =
-    whole_of_found (parts_of c.args.found.parts.items) (IsSought c.args.found.ceiling) (lists_of c.args.found.searched.splices.items) c.requires.searched.files
+    whole_of_found c.args.found.parts (IsSought c.args.found.ceiling) (lists_of c.args.found.searched.splices.items) c.requires.searched.files
 
 pub search_groups-requires-clause-parts : goal.search_groups-requires-clause-parts
 search_groups-requires-clause-parts c =
-    subst (λ ps. AreParts (bytes_of c.args.copies.now) (parts_of ps)) (sym c.deref.ensures.value) c.requires.parts
+    c.requires.parts
 
 pub returns-clause-found : goal.returns-clause-found
 returns-clause-found c =
-    let ps = parts_of c.args.found.parts.items in
+    let ps = c.args.found.parts in
     let vs = c.args.found.searched.splices.items in
     let n = c.len-whole.result in
     let used = c.args.found.searched.is_used_up in
@@ -61,9 +58,9 @@ returns-clause-found c =
     let needed : used ≡ false → n ≡ 0 =
     λ done. elim (c.wants_groups-wants.ensures.yes c.if-not-wants.false) [ inl e ↦ absurd cc | inr z ↦ z ] in
     let e = c.in_ok-by.ensures in
-    let groups = subst (λ qs. AllByRecursion (IsGroup (parts_of qs)) by.groups.items) c.deref.ensures.value e.groups in
-    let cover = subst (λ qs. CoverParts (parts_of qs) by.groups.items) c.deref.ensures.value e.cover in
-    let each = subst (λ qs. AllByRecursion (IsOfGroup (parts_of qs)) (lists_of by.searched.splices.items)) c.deref.ensures.value e.splices in
+    let groups = e.groups in
+    let cover = e.cover in
+    let each = e.splices in
     subst (λ (xs : List (Vec ℕ Global)). IsFound c.args.found.ceiling (bytes_of c.args.copies.now) (record {
       parts = ps;
       choices = take n (lists_of xs);
@@ -75,7 +72,7 @@ returns-clause-found c =
 
 pub returns-clause-by_groups : goal.returns-clause-by_groups
 returns-clause-by_groups c =
-    let ps = parts_of c.args.found.parts.items in
+    let ps = c.args.found.parts in
     let vs = c.args.found.searched.splices.items in
     let n = c.len-whole.result in
     let at : n ≡ length vs = c.len-whole.ensures ∙ c.args.found.searched.splices.ok.0 in
@@ -86,26 +83,26 @@ returns-clause-by_groups c =
     let more : List (List ℕ) = lists_of by.searched.splices.items in
     let is = c.reported_of-reported.ensures in
     let e = c.in_ok-by.ensures in
-    let groups = subst (λ qs. AllByRecursion (IsGroup (parts_of qs)) gs) c.deref.ensures.value e.groups in
-    let cover = subst (λ qs. CoverParts (parts_of qs) gs) c.deref.ensures.value e.cover in
+    let groups = e.groups in
+    let cover = e.cover in
     let searched : AreGroupsSearched c.args.limit copies ps gs reported.tries more reported.is_used_up =
     subst (λ (k : ℕ). AreGroupsSearched c.args.limit copies ps gs k more reported.is_used_up) (sym is.tries)
     (subst (λ (u : Bool). AreGroupsSearched c.args.limit copies ps gs by.searched.tries more u) (sym is.is_used_up)
-    (subst (λ qs. AreGroupsSearched c.args.limit copies (parts_of qs) gs by.searched.tries more by.searched.is_used_up) c.deref.ensures.value e.searched)) in
+    (e.searched)) in
     subst (λ (xs : List (Vec ℕ Global)). IsGroupSearch c.args.limit copies ps (by_groups_of (drop n (lists_of xs)) reported))
     (sym (appended vs c.splices_given-given.result by.searched.splices c.append.new.self.items c.in_ok-append.ensures.items c.splices_given-given.ensures))
     (group_search vs by.searched.splices.items n at c.args.limit copies ps gs reported groups cover is.groups e.once searched)
 
 pub returns-clause-splices : goal.returns-clause-splices
 returns-clause-splices c =
-    files_groups (parts_of c.args.found.parts.items) (lists_of c.append.new.self.items) c.len-whole.result
+    files_groups c.args.found.parts (lists_of c.append.new.self.items) c.len-whole.result
 
 pub returns-clause-each : goal.returns-clause-each
 returns-clause-each c =
-    let ps = parts_of c.args.found.parts.items in
+    let ps = c.args.found.parts in
     let vs = c.args.found.searched.splices.items in
     let more = c.in_ok-by.by.searched.splices.items in
-    let each = subst (λ qs. AllByRecursion (IsOfGroup (parts_of qs)) (lists_of more)) c.deref.ensures.value c.in_ok-by.ensures.splices in
+    let each = c.in_ok-by.ensures.splices in
     subst (λ (xs : List (Vec ℕ Global)). AllByRecursion (IsWhole ps) (lists_of xs)) (sym (appended vs c.splices_given-given.result c.in_ok-by.by.searched.splices c.append.new.self.items c.in_ok-append.ensures.items c.splices_given-given.ensures))
     (whole_of_both ps (IsSought c.args.found.ceiling) vs more c.requires.searched.files each)
 

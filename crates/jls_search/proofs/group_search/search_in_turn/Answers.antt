@@ -1,6 +1,5 @@
 use Rattle.std.proofs.Common.{◌≡◌, ◌+◌, ◌-◌, ◌^◌, ℕ, List, Vec, Global, min, false, rules, arith, sym, subst, take}
 use Rattle.std.proofs.lemmas.List.{take_all}
-use Rattle.jls_diff.specs.PartsOf.{parts_of}
 use Rattle.jls_diff.specs.Groups.{IsGroup}
 use Rattle.jls_diff.specs.declared.group.Group.{Group}
 use Rattle.jls_search.specs.Search.{lists_of}
@@ -12,11 +11,11 @@ use Rattle.jls_search.proofs.group_search.search_in_turn.Goals as goal
 
 pub search_group-requires-clause-group : goal.search_group-requires-clause-group
 search_group-requires-clause-group c =
-    all_at (IsGroup (parts_of c.args.parts.now)) c.args.groups.now _ c.loop-group.group-index c.loop-group-test.true c.requires.groups
+    all_at (IsGroup c.args.parts.now) c.args.groups.now _ c.loop-group.group-index c.loop-group-test.true c.requires.groups
 
 pub loop-group-init : goal.loop-group-init
 loop-group-init c =
-    let ps = parts_of c.args.parts.now in
+    let ps = c.args.parts.now in
     let limit = c.args.extent.limit in
     let copies = c.args.extent.copies in
     record {
@@ -33,7 +32,7 @@ loop-group-preserved c =
     record {
       splices = c.in_ok-searched.ensures.splices;
       searched =
-          one_more_group c.args.extent.limit c.args.extent.copies (parts_of c.args.parts.now) c.args.groups.now c.loop-group.group-index _ was.tries
+          one_more_group c.args.extent.limit c.args.extent.copies c.args.parts.now c.args.groups.now c.loop-group.group-index _ was.tries
           c.saturating_add.result (record { splices = was.splices; tries = 0; is_used_up = was.is_used_up }) c.in_ok-searched.searched
           c.loop-group-test.true c.loop-group.invariant.searched c.in_ok-searched.ensures.goes sum;
     }
@@ -42,6 +41,6 @@ pub returns-clause-searched : goal.returns-clause-searched
 returns-clause-searched c =
     let s = c.loop-group.searched in
     let end = c.loop-group-test.false in
-    subst (λ (gs : List Group). AreGroupsSearched c.args.extent.limit c.args.extent.copies (parts_of c.args.parts.now) gs s.tries
+    subst (λ (gs : List Group). AreGroupsSearched c.args.extent.limit c.args.extent.copies c.args.parts.now gs s.tries
     (lists_of s.splices.items) s.is_used_up) (take_all c.loop-group.group-index c.args.groups.now (omega (arith, end)))
     c.loop-group.invariant.searched

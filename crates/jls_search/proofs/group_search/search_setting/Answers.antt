@@ -1,5 +1,4 @@
 use Rattle.std.proofs.Common.{◌≡◌, ◌+◌, ◌≤◌, ◌⊎◌, min, true, false, length, rules, refl, ◌∙◌, arith, inl, inr}
-use Rattle.jls_diff.specs.PartsOf.{parts_of}
 use Rattle.jls_search.specs.Search.{lists_of}
 use Rattle.jls_search.proofs.GroupSearches.{added_more, count_of, none_added, of_groups_more, one_at_most, went}
 use Rattle.jls_search.proofs.Sets.{set_first}
@@ -8,18 +7,19 @@ use Rattle.jls_search.proofs.group_search.search_setting.Goals as goal
 use Rattle.jls_search.proofs.group_search.search_setting.Goals.{then-loop-tries-test+else-len-most, else-loop-tries-test}
 
 pub follow-requires-clause-path : goal.follow-requires-clause-path
-follow-requires-clause-path c = set_first (parts_of c.args.parts.now) c.args.setting _ (search rules)
+follow-requires-clause-path c = set_first c.args.parts.now c.args.setting _ (search rules)
 
 pub try_next-requires : goal.try_next-requires
 try_next-requires c = record {
   setting = c.requires.setting;
   short = c.requires.short;
   stands = c.loop-tries.invariant.stands;
+  kept = c.loop-tries.invariant.kept;
 }
 
 pub loop-tries-init : goal.loop-tries-init
 loop-tries-init c =
-    let ps = parts_of c.args.parts.now in
+    let ps = c.args.parts.now in
     let s = c.args.setting in
     let found = lists_of c.args.searched.splices.items in
     let n = c.len.ensures ∙ c.args.searched.splices.ok.0 in
@@ -31,63 +31,65 @@ loop-tries-init c =
       few = omega (arith, n, most, few.1);
       added = none_added ps s found;
       splices = c.requires.splices;
+      kept = tt;
       stands = begun ps s c.new-path.result.items c.follow.new.path.items found c.new-path.ensures.items c.in_ok-follow.ensures.path c.in_ok-follow.ensures.kept;
     }
 
 pub loop-tries-preserved : goal.loop-tries-preserved
 loop-tries-preserved c =
-    let ps = parts_of c.args.parts.now in
+    let ps = c.args.parts.now in
     let s = c.args.setting in
     let inv = c.loop-tries.invariant in
-    let old = lists_of c.loop-tries.splices.items in
-    let new = lists_of c.try_next.new.found.items in
+    let old = lists_of c.loop-tries.walk.found.items in
+    let new = lists_of c.try_next.new.walk.found.items in
     let count = one_at_most ps s old new c.in_ok-more.ensures.found in
-    let a = count_of c.loop-tries.splices.items in
-    let b = count_of c.try_next.new.found.items in
-    let at = c.len-in-loop-tries.ensures ∙ c.loop-tries.splices.ok.0 in
+    let a = count_of c.loop-tries.walk.found.items in
+    let b = count_of c.try_next.new.walk.found.items in
+    let at = c.len-in-loop-tries.ensures ∙ c.loop-tries.walk.found.ok.0 in
     record {
       more_tries = omega (arith, inv.more_tries);
       within = omega (arith, c.loop-tries-test.true);
       few = omega (arith, c.if-len-most.true, at, a, b, count);
       added = added_more ps s old new (lists_of c.args.searched.splices.items) inv.added c.in_ok-more.ensures.found;
       splices = of_groups_more ps s old new c.requires.setting inv.splices c.in_ok-more.ensures.found;
-      stands = when_on ps s c.try_next.new.path.items new c.in_ok-more.more c.if-not-more.false c.in_ok-more.ensures.goes;
+      kept = c.in_ok-more.ensures.kept;
+      stands = when_on ps s c.try_next.new.walk.path.items new c.in_ok-more.more c.if-not-more.false c.in_ok-more.ensures.goes;
     }
 
 pub returns-then-not-more-clause-splices : goal.returns-then-not-more-clause-splices
 returns-then-not-more-clause-splices c =
-    of_groups_more (parts_of c.args.parts.now) c.args.setting (lists_of c.loop-tries.splices.items) (lists_of c.try_next.new.found.items)
+    of_groups_more c.args.parts.now c.args.setting (lists_of c.loop-tries.walk.found.items) (lists_of c.try_next.new.walk.found.items)
     c.requires.setting c.loop-tries.invariant.splices c.in_ok-more.ensures.found
 
 pub returns-then-not-more-clause-goes : goal.returns-then-not-more-clause-goes
 returns-then-not-more-clause-goes c =
-    let ps = parts_of c.args.parts.now in
+    let ps = c.args.parts.now in
     let s = c.args.setting in
     let inv = c.loop-tries.invariant in
-    let old = lists_of c.loop-tries.splices.items in
-    let new = lists_of c.try_next.new.found.items in
+    let old = lists_of c.loop-tries.walk.found.items in
+    let new = lists_of c.try_next.new.walk.found.items in
     let count = one_at_most ps s old new c.in_ok-more.ensures.found in
-    let a = count_of c.loop-tries.splices.items in
-    let b = count_of c.try_next.new.found.items in
-    let at = c.len-in-loop-tries.ensures ∙ c.loop-tries.splices.ok.0 in
+    let a = count_of c.loop-tries.walk.found.items in
+    let b = count_of c.try_next.new.walk.found.items in
+    let at = c.len-in-loop-tries.ensures ∙ c.loop-tries.walk.found.ok.0 in
     let n = c.len.ensures ∙ c.args.searched.splices.ok.0 in
     let most = c.most_after-most.ensures in
     went c.args.limit ps s c.args.searched _ false (omega (arith, inv.more_tries)) (omega (arith, c.loop-tries-test.true))
     (added_more ps s old new (lists_of c.args.searched.splices.items) inv.added c.in_ok-more.ensures.found)
     (omega (arith, c.if-len-most.true, at, a, b, count, n, most)) (λ e. omega (arith, inv.more_tries)) (λ e. absurd cc) refl
-    (λ e. when_over ps s c.try_next.new.path.items new c.in_ok-more.more c.if-not-more.true c.in_ok-more.ensures.goes)
+    (λ e. when_over ps s c.try_next.new.walk.path.items new c.in_ok-more.more c.if-not-more.true c.in_ok-more.ensures.goes)
 
 pub returns-clause-goes : goal.returns-clause-goes
 returns-clause-goes c =
     let inv = c.loop-tries.invariant in
     let n = c.len.ensures ∙ c.args.searched.splices.ok.0 in
     let most = c.most_after-most.ensures in
-    let full : (c.loop-tries.tries ≡ c.args.limit) ⊎ (min (length c.args.searched.splices.items + 64) 4096 ≤ length c.loop-tries.splices.items) =
+    let full : (c.loop-tries.tries ≡ c.args.limit) ⊎ (min (length c.args.searched.splices.items + 64) 4096 ≤ length c.loop-tries.walk.found.items) =
     elim c.loop-tries-test.branch [
       | then-loop-tries-test+else-len-most w ↦ inr (
-          let at = w.len-in-loop-tries.ensures ∙ c.loop-tries.splices.ok.0 in omega (arith, w.if-len-most.false, at, n, most)
+          let at = w.len-in-loop-tries.ensures ∙ c.loop-tries.walk.found.ok.0 in omega (arith, w.if-len-most.false, at, n, most)
           )
       | else-loop-tries-test w ↦ inl (omega (arith, inv.within, w.loop-tries-test.false))
     ] in
-    went c.args.limit (parts_of c.args.parts.now) c.args.setting c.args.searched _ true inv.more_tries inv.within inv.added
+    went c.args.limit c.args.parts.now c.args.setting c.args.searched _ true inv.more_tries inv.within inv.added
     (omega (arith, inv.few, n, most)) (λ e. absurd cc) (λ e. full) refl (λ e. absurd cc)

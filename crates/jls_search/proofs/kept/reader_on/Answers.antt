@@ -2,10 +2,8 @@ use Rattle.std.proofs.Common.{◌≡◌, ℕ, ◌≤◌, List, length, take, Som
 use Rattle.std.specs.Prelude.{IfSome}
 use Rattle.std.specs.Cmp.Lexicographic.{same_text}
 use Rattle.jls_diff.specs.Parts.{Part}
-use Rattle.jls_diff.specs.PartsOf.{part_of, parts_of}
 use Rattle.jls_search.specs.Choices.{prefix_of}
 use Rattle.jls_search.specs.Search.{IsKept}
-use Rattle.jls_search.proofs.Paths.{path_len, length-map}
 use Rattle.jls_search.proofs.kept.reader_on.Goals as goal
 
 pub fed_on-requires-clause-begun : goal.fed_on-requires-clause-begun
@@ -15,18 +13,9 @@ fed_on-requires-clause-begun c =
     let bound : length choices ≤ length c.args.path.now = subst (λ cs. length cs ≤ length c.args.path.now) c.deref.ensures.value (c.if-starts_with.ensures.bound refl) in
     omega (arith, n, bound)
 
-pub fed_on-requires-clause-within : goal.fed_on-requires-clause-within
-fed_on-requires-clause-within c =
-    let choices : List ℕ = c.in-Some.last.choices.items in
-    let n : c.len-from.result ≡ length choices = c.len-from.ensures ∙ c.in-Some.last.choices.ok.0 in
-    let bound : length choices ≤ length c.args.path.now = subst (λ cs. length cs ≤ length c.args.path.now) c.deref.ensures.value (c.if-starts_with.ensures.bound refl) in
-    let fits = path_len (parts_of c.args.parts.now) c.args.path.now c.requires.path in
-    let count = length-map part_of c.args.parts.now in
-    omega (arith, n, bound, fits, count)
-
 pub fed_on-requires-clause-fed : goal.fed_on-requires-clause-fed
 fed_on-requires-clause-fed c =
-    let ps : List Part = parts_of c.args.parts.now in
+    let ps : List Part = c.args.parts.now in
     let path : List ℕ = c.args.path.now in
     let choices : List ℕ = c.in-Some.last.choices.items in
     let n : c.len-from.result ≡ length choices = c.len-from.ensures ∙ c.in-Some.last.choices.ok.0 in

@@ -1,7 +1,6 @@
 use Rattle.std.proofs.Common.{ℕ, List, [], sym, ap, ◌∙◌, subst, length}
 use Rattle.std.proofs.lemmas.Option.{IfSome_then}
 use Rattle.jls_diff.specs.Parts.{Part}
-use Rattle.jls_diff.specs.PartsOf.{parts_of}
 use Rattle.jls_search.specs.Faultless.{IsSought}
 use Rattle.jls_search.specs.Levels.{IsLevel, IsTaken}
 use Rattle.jls_search.specs.Search.{lists_of}
@@ -11,7 +10,7 @@ use Rattle.jls_search.proofs.levels.first_level.Goals as goal
 pub returns-clause-level : goal.returns-clause-level
 returns-clause-level c =
     let Sought : List ℕ → Type 0 = IsSought c.args.judge.now.ceiling in
-    let ps : List Part = parts_of c.args.parts.now in
+    let ps : List Part = c.args.parts.now in
     let living : List (List ℕ) = lists_of c.take_path.new.living.items in
     let taken : IsTaken Sought ps [] [] living =
     subst (λ begin. IsTaken Sought ps begin [] living) c.new.ensures.items
@@ -22,7 +21,7 @@ returns-clause-level c =
 pub returns-clause-one : goal.returns-clause-one
 returns-clause-one c =
     let Sought : List ℕ → Type 0 = IsSought c.args.judge.now.ceiling in
-    let ps : List Part = parts_of c.args.parts.now in
+    let ps : List Part = c.args.parts.now in
     let living : List (List ℕ) = lists_of c.take_path.new.living.items in
     let taken : IsTaken Sought ps [] [] living =
     subst (λ begin. IsTaken Sought ps begin [] living) c.new.ensures.items
@@ -32,7 +31,7 @@ returns-clause-one c =
 pub returns-clause-dead : goal.returns-clause-dead
 returns-clause-dead c =
     let Sought : List ℕ → Type 0 = IsSought c.args.judge.now.ceiling in
-    let ps : List Part = parts_of c.args.parts.now in
+    let ps : List Part = c.args.parts.now in
     let living : List (List ℕ) = lists_of c.take_path.new.living.items in
     let taken : IsTaken Sought ps [] [] living =
     subst (λ begin. IsTaken Sought ps begin [] living) c.new.ensures.items

@@ -3,7 +3,6 @@ use Rattle.std.specs.List.{AllByRecursion}
 use Rattle.std.proofs.lemmas.List.{take_all}
 use Rattle.std.proofs.lemmas.Option.{IfSome_then}
 use Rattle.jls_diff.specs.Parts.{Part}
-use Rattle.jls_diff.specs.PartsOf.{parts_of}
 use Rattle.jls_search.specs.Faultless.{IsSought}
 use Rattle.jls_search.specs.Levels.{AreJudged, IsLevel, IsNext}
 use Rattle.jls_search.specs.Search.{lists_of}
@@ -13,22 +12,22 @@ use Rattle.jls_search.proofs.levels.next_level.Goals as goal
 pub take_ways-requires-clause-path : goal.take_ways-requires-clause-path
 take_ways-requires-clause-path c =
     let is = item_of_level c.args.level.now.living.items c.deref-path-items.result.now c.paths.path-index c.path-item.result c.deref.result.now
-    c.deref-path-items.ensures.value c.paths-test.true c.path-item.is c.deref.ensures.value (parts_of c.args.parts.now) c.args.level.now.count
+    c.deref-path-items.ensures.value c.paths-test.true c.path-item.is c.deref.ensures.value c.args.parts.now c.args.level.now.count
     c.requires.level.each in
     is.0
 
 pub take_ways-requires-clause-more : goal.take_ways-requires-clause-more
 take_ways-requires-clause-more c =
     let is = item_of_level c.args.level.now.living.items c.deref-path-items.result.now c.paths.path-index c.path-item.result c.deref.result.now
-    c.deref-path-items.ensures.value c.paths-test.true c.path-item.is c.deref.ensures.value (parts_of c.args.parts.now) c.args.level.now.count
+    c.deref-path-items.ensures.value c.paths-test.true c.path-item.is c.deref.ensures.value c.args.parts.now c.args.level.now.count
     c.requires.level.each in
     let count = is.2 in
-    let less = c.if-level-parts.false in
+    let less = c.if-level-len.false in
     omega (arith, count, less)
 
 pub take_ways-requires-clause-each : goal.take_ways-requires-clause-each
 take_ways-requires-clause-each c =
-    let ps : List Part = parts_of c.args.parts.now in
+    let ps : List Part = c.args.parts.now in
     let is = item_of_level c.args.level.now.living.items c.deref-path-items.result.now c.paths.path-index c.path-item.result c.deref.result.now
     c.deref-path-items.ensures.value c.paths-test.true c.path-item.is c.deref.ensures.value ps c.args.level.now.count c.requires.level.each in
     subst (λ n. AllByRecursion (IsNext ps (n + 1)) (lists_of c.paths.begun.living.items)) (sym is.2) c.paths.invariant.each
@@ -36,7 +35,7 @@ take_ways-requires-clause-each c =
 pub paths-preserved : goal.paths-preserved
 paths-preserved c =
     let Sought : List ℕ → Type 0 = IsSought c.args.judge.now.ceiling in
-    let ps : List Part = parts_of c.args.parts.now in
+    let ps : List Part = c.args.parts.now in
     let count : ℕ = c.args.level.now.count in
     let vs : List (Vec ℕ Global) = c.args.level.now.living.items in
     let path : List ℕ = c.deref.result.now in
@@ -59,7 +58,7 @@ paths-preserved c =
 pub returns-clause-level : goal.returns-clause-level
 returns-clause-level c =
     let Sought : List ℕ → Type 0 = IsSought c.args.judge.now.ceiling in
-    let ps : List Part = parts_of c.args.parts.now in
+    let ps : List Part = c.args.parts.now in
     let count : ℕ = c.args.level.now.count in
     let vs : List (Vec ℕ Global) = c.args.level.now.living.items in
     let living : List (List ℕ) = lists_of c.paths.begun.living.items in

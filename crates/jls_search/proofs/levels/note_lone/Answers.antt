@@ -1,6 +1,5 @@
 use Rattle.std.proofs.Common.{◌≡◌, ℕ, List, Vec, Global, length, sym, ◌∙◌, subst, arith, rules}
 use Rattle.jls_diff.specs.Parts.{Part}
-use Rattle.jls_diff.specs.PartsOf.{parts_of}
 use Rattle.jls_search.specs.Faultless.{IsSought}
 use Rattle.jls_search.specs.Levels.{IsLone}
 use Rattle.jls_search.proofs.NextLevels.{lone_of_one}
@@ -9,7 +8,7 @@ use Rattle.jls_search.proofs.levels.note_lone.Goals as goal
 pub returns-clause-lone : goal.returns-clause-lone
 returns-clause-lone c =
     let Sought : List ℕ → Type 0 = IsSought c.args.judge.now.ceiling in
-    let ps : List Part = parts_of c.args.parts.now in
+    let ps : List Part = c.args.parts.now in
     let vs : List (Vec ℕ Global) = c.args.level.now.living.items in
     let items : c.in_ok-choices.choices.items ≡ c.deref-path.result.now = search rules in
     let count = c.len.ensures ∙ c.args.level.now.living.ok.0 in

@@ -1,6 +1,5 @@
 use Rattle.std.proofs.Common.{List, [], ◌∷◌, ℕ, sym, ap, ◌∙◌, subst, inl, inr, refl, Vec, Global}
 use Rattle.std.proofs.lemmas.List.{map-append}
-use Rattle.jls_diff.specs.PartsOf.{parts_of}
 use Rattle.jls_search.specs.Choices.{IsPath, prefix_of}
 use Rattle.jls_search.specs.Faultless.{IsDead, IsSought}
 use Rattle.jls_search.specs.Search.{lists_of}
@@ -9,14 +8,14 @@ use Rattle.jls_search.proofs.levels.take_path.Goals as goal
 
 pub is_found_dead-requires-clause-path : goal.is_found_dead-requires-clause-path
 is_found_dead-requires-clause-path c =
-    subst (IsPath (parts_of c.args.parts.now)) (sym c.deref.ensures.value) c.in_ok-follow_same.ensures.path
+    subst (IsPath c.args.parts.now) (sym c.deref.ensures.value) c.in_ok-follow_same.ensures.path
 
 pub is_found_dead-requires-clause-few : goal.is_found_dead-requires-clause-few
 is_found_dead-requires-clause-few c = c.requires.short c.deref.result.now (is_found_dead-requires-clause-path c)
 
 pub returns-then-dead : goal.returns-then-dead
 returns-then-dead c =
-    let ps = parts_of c.args.parts.now in
+    let ps = c.args.parts.now in
     let on = c.in_ok-follow_same.ensures in
     let path : List ℕ = c.follow_same.new.path.items in
     record {
@@ -32,7 +31,7 @@ returns-then-dead c =
 
 pub returns : goal.returns
 returns c =
-    let ps = parts_of c.args.parts.now in
+    let ps = c.args.parts.now in
     let on = c.in_ok-follow_same.ensures in
     let path : List ℕ = c.follow_same.new.path.items in
     record {

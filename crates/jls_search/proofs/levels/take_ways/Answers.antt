@@ -1,26 +1,25 @@
 use Rattle.std.proofs.Common.{ℕ, ◌<◌, List, length, sym, subst, arith}
 use Rattle.jls_diff.specs.Parts.{Part}
-use Rattle.jls_diff.specs.PartsOf.{parts_of}
 use Rattle.jls_search.specs.Choices.{IsPath}
 use Rattle.jls_search.specs.Faultless.{IsSought}
 use Rattle.jls_search.specs.Search.{lists_of}
 use Rattle.jls_search.proofs.LevelPaths.{all_ways, one_at_most, still_lives}
 use Rattle.jls_search.proofs.NextLevels.{each_way, ways_up_to}
-use Rattle.jls_search.proofs.Paths.{length-map, path_more}
+use Rattle.jls_search.proofs.Paths.{path_more}
 use Rattle.jls_search.proofs.levels.take_ways.Goals as goal
 
 pub take_path-requires-clause-path : goal.take_path-requires-clause-path
 take_path-requires-clause-path c =
-    let ps : List Part = parts_of c.args.parts.now in
+    let ps : List Part = c.args.parts.now in
     let path : List ℕ = c.args.path.now in
-    let l : length path < length ps = rw length-map c.requires.more in
+    let l : length path < length ps = c.requires.more in
     subst (IsPath ps) (sym c.in_ok-begin.ensures)
     (path_more ps path c.ways.choice c.requires.path l c.ways.invariant.first)
 
 pub ways-preserved : goal.ways-preserved
 ways-preserved c =
     let Sought : List ℕ → Type 0 = IsSought c.args.judge.now.ceiling in
-    let ps : List Part = parts_of c.args.parts.now in
+    let ps : List Part = c.args.parts.now in
     let path : List ℕ = c.args.path.now in
     let begin : List ℕ = c.in_ok-begin.begin.items in
     let old : List (List ℕ) = lists_of c.ways.begun.living.items in
@@ -41,13 +40,13 @@ ways-preserved c =
 
 pub returns-in-None-clause-still : goal.returns-in-None-clause-still
 returns-in-None-clause-still c = λ other lives.
-    still_lives (IsSought c.args.judge.now.ceiling) (parts_of c.args.parts.now) c.in_ok-begin.begin.items (lists_of c.ways.begun.living.items)
+    still_lives (IsSought c.args.judge.now.ceiling) c.args.parts.now c.in_ok-begin.begin.items (lists_of c.ways.begun.living.items)
     (lists_of c.take_path.new.living.items) c.in_ok-take_path.ensures other (c.ways.invariant.still other lives)
 
 pub returns-in-None-clause-judged : goal.returns-in-None-clause-judged
 returns-in-None-clause-judged c = λ _.
     let Sought : List ℕ → Type 0 = IsSought c.args.judge.now.ceiling in
-    let ps : List Part = parts_of c.args.parts.now in
+    let ps : List Part = c.args.parts.now in
     let path : List ℕ = c.args.path.now in
     let new : List (List ℕ) = lists_of c.take_path.new.living.items in
     all_ways Sought ps path new
@@ -57,6 +56,6 @@ returns-in-None-clause-judged c = λ _.
 pub returns-in-None-clause-spent : goal.returns-in-None-clause-spent
 returns-in-None-clause-spent c =
     let so_far = c.ways.invariant in
-    let grew = one_at_most (IsSought c.args.judge.now.ceiling) (parts_of c.args.parts.now) c.in_ok-begin.begin.items (lists_of c.ways.begun.living.items)
+    let grew = one_at_most (IsSought c.args.judge.now.ceiling) c.args.parts.now c.in_ok-begin.begin.items (lists_of c.ways.begun.living.items)
     (lists_of c.take_path.new.living.items) c.in_ok-take_path.ensures in
     omega (arith, so_far.spent, grew, c.ways-test.true)

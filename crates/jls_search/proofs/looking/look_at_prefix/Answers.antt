@@ -1,4 +1,3 @@
-use Rattle.jls_diff.specs.PartsOf.{parts_of}
 use Rattle.jls_search.specs.Choices.{prefix_of}
 use Rattle.jls_search.specs.Faultless.{IsDead, IsFaultless, IsSought}
 use Rattle.jls_search.proofs.Prefixes.{of_some}
@@ -7,14 +6,14 @@ use Rattle.jls_search.proofs.looking.look_at_prefix.Goals as goal
 
 pub returns-then-dead : goal.returns-then-dead
 returns-then-dead c =
-    dead_prefix (IsSought c.args.judge.now.ceiling) (parts_of c.args.parts.now) c.args.path.now c.requires.path
-    (λ more low sought. of_some c.in_ok-reader.reader (prefix_of (parts_of c.args.parts.now) c.args.path.now) (λ bytes. IsDead IsFaultless bytes)
+    dead_prefix (IsSought c.args.judge.now.ceiling) c.args.parts.now c.args.path.now c.requires.path
+    (λ more low sought. of_some c.in_ok-reader.reader (prefix_of c.args.parts.now c.args.path.now) (λ bytes. IsDead IsFaultless bytes)
     c.in_ok-reader.ensures (c.in_ok-dead.ensures c.if-dead.true) more low sought.0)
 
 pub returns-then-above : goal.returns-then-above
 returns-then-above c =
-    dead_prefix (IsSought c.args.judge.now.ceiling) (parts_of c.args.parts.now) c.args.path.now c.requires.path
-    (of_some c.in_ok-reader.reader (prefix_of (parts_of c.args.parts.now) c.args.path.now) (λ bytes. IsDead (IsSought c.args.judge.now.ceiling) bytes)
+    dead_prefix (IsSought c.args.judge.now.ceiling) c.args.parts.now c.args.path.now c.requires.path
+    (of_some c.in_ok-reader.reader (prefix_of c.args.parts.now c.args.path.now) (λ bytes. IsDead (IsSought c.args.judge.now.ceiling) bytes)
     c.in_ok-reader.ensures (c.in_ok-above.ensures c.if-above.true))
 
 pub returns-then-goes_on : goal.returns-then-goes_on

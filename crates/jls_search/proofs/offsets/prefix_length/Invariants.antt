@@ -1,7 +1,6 @@
 use Rattle.std.proofs.Common.{◌≡◌, length, take}
-use Rattle.jls_diff.specs.PartsOf.{parts_of}
 use Rattle.jls_search.specs.Choices.{prefix_of}
 use Rattle.jls_search.proofs.offsets.prefix_length.Given as goal
 
 abbrev pub invariant-loop-place : goal.invariant-loop-place
-invariant-loop-place l = l.total ≡ length (prefix_of (parts_of l.parts) (take l.place l.path))
+invariant-loop-place l = l.total ≡ length (prefix_of l.parts (take l.place l.path))

@@ -1,17 +1,16 @@
 use Rattle.std.proofs.Common.{◌≡◌, ℕ, ◌+◌, ◌<◌, List, [], ◌∷◌, length, get_or, ap, sym, ◌∙◌, subst, arith, length-append}
-use Rattle.jls_diff.specs.PartsOf.{parts_of}
 use Rattle.jls_diff.specs.Parts.{Part, Same}
 use Rattle.jls_search.specs.Choices.{IsFirstWay, IsPath}
-use Rattle.jls_search.proofs.Paths.{path_more, length-map}
+use Rattle.jls_search.proofs.Paths.{path_more}
 use Rattle.jls_search.proofs.order.copy_path.Goals as goal
 
 pub loop-place-preserved : goal.loop-place-preserved
 loop-place-preserved c =
-    let ps : List Part = parts_of c.args.parts.now in
+    let ps : List Part = c.args.parts.now in
     let path : List ℕ = c.loop-place.path.items in
     let choice = c.choice_at.result in
     let inv = c.loop-place.invariant in
-    let l : c.loop-place.place < length ps = rw length-map c.loop-place-test.true in
+    let l : c.loop-place.place < length ps = omega arith in
     let items = c.in_ok-push.ensures.items in
     let count : length c.push.new.self.items ≡ c.loop-place.place + 1 =
     (let a = ap length items ∙ length-append path (choice ∷ []) in let e = inv.1 in omega (arith, a, e)) in (

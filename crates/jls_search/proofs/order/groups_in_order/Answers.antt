@@ -2,7 +2,6 @@ use Rattle.std.proofs.Common.{ℕ, ◌+◌, List, ◌++◌, take, sym, ap, ◌�
 use Rattle.std.specs.List.{AllByRecursion}
 use Rattle.std.specs.List.Sorted.{IsPermutation}
 use Rattle.jls_diff.specs.Groups.{IsGroup}
-use Rattle.jls_diff.specs.PartsOf.{parts_of}
 use Rattle.jls_diff.specs.declared.group.Group.{Group}
 use Rattle.jls_search.proofs.Lists.{all_at, all_more}
 use Rattle.jls_search.proofs.Orders.{one_first, one_other}
@@ -14,7 +13,7 @@ items_of v = v.items
 
 pub loop-number-preserved : goal.loop-number-preserved
 loop-number-preserved c =
-    let P : Group → Type 0 = IsGroup (parts_of c.args.parts.now) in
+    let P : Group → Type 0 = IsGroup c.args.parts.now in
     let gs : List Group = c.args.groups.now in
     let i : ℕ = c.loop-number.number in
     let firsts : List Group = c.loop-number.ordered.items in

@@ -1,23 +1,22 @@
 use Rattle.std.proofs.Common.{ℕ, ◌<◌, List, [], ◌∷◌, ◌++◌, length, get_or, sym, ◌∙◌, subst}
-use Rattle.jls_diff.specs.PartsOf.{parts_of}
 use Rattle.jls_diff.specs.Parts.{Part, Same}
 use Rattle.jls_search.specs.Choices.{IsFirstWay, IsPath}
 use Rattle.jls_search.specs.Order.{IsToCome, IsLater}
-use Rattle.jls_search.proofs.Paths.{path_back, path_more, turned, passed, after_longer, next_after, length-map}
+use Rattle.jls_search.proofs.Paths.{path_back, path_more, turned, passed, after_longer, next_after}
 use Rattle.jls_search.proofs.path.pass.Goals as goal
 
 pub next_way_at-requires : goal.next_way_at-requires
 next_way_at-requires c =
-    let ps : List Part = parts_of c.args.parts.now in let rest : List ℕ = c.pop.new.self.items in
+    let ps : List Part = c.args.parts.now in let rest : List ℕ = c.pop.new.self.items in
     let back = path_back ps rest c.in-Some.choice (subst (IsPath ps) c.in-Some.ensures.items c.loop-choice.invariant.0) in
     record {
-      place = subst (λ n. n < length c.args.parts.now) (sym (c.len.ensures ∙ c.pop.new.self.ok.0)) (rw length-map at back.1);
+      place = subst (λ n. n < length c.args.parts.now) (sym (c.len.ensures ∙ c.pop.new.self.ok.0)) (back.1);
       first = subst (λ n. IsFirstWay (get_or ps n (Same [])) c.in-Some.choice) (sym (c.len.ensures ∙ c.pop.new.self.ok.0)) back.2;
     }
 
 pub returns-in-Some-next_way_at-clause-path : goal.returns-in-Some-next_way_at-clause-path
 returns-in-Some-next_way_at-clause-path c = λ _.
-    let ps : List Part = parts_of c.args.parts.now in let rest : List ℕ = c.pop.new.self.items in
+    let ps : List Part = c.args.parts.now in let rest : List ℕ = c.pop.new.self.items in
     let back = path_back ps rest c.in-Some.choice (subst (IsPath ps) c.in-Some.ensures.items c.loop-choice.invariant.0) in
     subst (IsPath ps) (sym c.in_ok-push.ensures.items)
     (path_more ps rest c.in-Some-next_way_at.next back.0 back.1
@@ -25,7 +24,7 @@ returns-in-Some-next_way_at-clause-path c = λ _.
 
 pub returns-in-Some-next_way_at-clause-to_come : goal.returns-in-Some-next_way_at-clause-to_come
 returns-in-Some-next_way_at-clause-to_come c = λ _ choices whole after.
-    let ps : List Part = parts_of c.args.parts.now in let rest : List ℕ = c.pop.new.self.items in
+    let ps : List Part = c.args.parts.now in let rest : List ℕ = c.pop.new.self.items in
     let here : IsLater (rest ++ c.in-Some.choice ∷ []) choices = subst (λ p. IsLater p choices) c.in-Some.ensures.items (c.loop-choice.invariant.1 choices whole after) in
     subst (λ p. IsToCome p choices) (sym c.in_ok-push.ensures.items)
     (turned ps rest choices c.in-Some.choice c.in-Some-next_way_at.next
@@ -34,7 +33,7 @@ returns-in-Some-next_way_at-clause-to_come c = λ _ choices whole after.
 
 pub loop-choice-preserved : goal.loop-choice-preserved
 loop-choice-preserved c =
-    let ps : List Part = parts_of c.args.parts.now in let rest : List ℕ = c.pop.new.self.items in
+    let ps : List Part = c.args.parts.now in let rest : List ℕ = c.pop.new.self.items in
     let back = path_back ps rest c.in-Some.choice (subst (IsPath ps) c.in-Some.ensures.items c.loop-choice.invariant.0) in (
       back.0,
       λ choices whole after.

@@ -1,6 +1,5 @@
 use Rattle.std.proofs.Common.{ℕ, List, [], ◌∷◌, ◌++◌, Vec, Global, take, sym, ap, ◌∙◌, subst, append_assoc, arith}
 use Rattle.std.proofs.lemmas.List.{append-nil, take_all}
-use Rattle.jls_diff.specs.PartsOf.{parts_of}
 use Rattle.jls_search.specs.Choices.{IsPath, prefix_of}
 use Rattle.jls_search.specs.Search.{files_of, lists_of}
 use Rattle.jls_search.specs.Reading.{AreRead, ReadsMore}
@@ -10,9 +9,9 @@ use Rattle.jls_search.proofs.reading_files.read_splices.Goals as goal
 pub read_splice-requires-clause-path : goal.read_splice-requires-clause-path
 read_splice-requires-clause-path c =
     let v = c.choices-item.result in
-    let w = whole_at (parts_of c.args.parts.now) c.args.splices.now c.loop-choices.choices-index v v c.requires.whole
+    let w = whole_at c.args.parts.now c.args.splices.now c.loop-choices.choices-index v v c.requires.whole
     c.loop-choices-test.true c.choices-item.is in
-    subst (IsPath (parts_of c.args.parts.now)) (sym c.deref.ensures.value) w.0
+    subst (IsPath c.args.parts.now) (sym c.deref.ensures.value) w.0
 
 pub read_splice-requires-clause-few : goal.read_splice-requires-clause-few
 read_splice-requires-clause-few c = c.requires.short c.deref.result.now (read_splice-requires-clause-path c)
@@ -23,7 +22,7 @@ loop-choices-init c = λ files read.
 
 pub loop-choices-preserved : goal.loop-choices-preserved
 loop-choices-preserved c = λ files read.
-    let ps = parts_of c.args.parts.now in
+    let ps = c.args.parts.now in
     let vs = c.args.splices.now in
     let v = c.choices-item.result in
     let some = files_of ps (lists_of (take c.loop-choices.choices-index vs)) in
@@ -34,5 +33,5 @@ loop-choices-preserved c = λ files read.
 
 pub returns : goal.returns
 returns c =
-    subst (λ (vs : List (Vec ℕ Global)). ReadsMore c.args.source (files_of (parts_of c.args.parts.now) (lists_of vs)) c.args.before c.loop-choices.read)
+    subst (λ (vs : List (Vec ℕ Global)). ReadsMore c.args.source (files_of c.args.parts.now (lists_of vs)) c.args.before c.loop-choices.read)
     (take_all c.loop-choices.choices-index c.args.splices.now (omega (arith, c.loop-choices-test.false))) c.loop-choices.invariant

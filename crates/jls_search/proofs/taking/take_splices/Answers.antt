@@ -1,5 +1,4 @@
 use Rattle.std.proofs.Common.{sym, subst, ◌∷◌, []}
-use Rattle.jls_diff.specs.PartsOf.{parts_of}
 use Rattle.jls_search.specs.Choices.{IsPath, prefix_of}
 use Rattle.jls_search.specs.Stations.{TakesFiles}
 use Rattle.jls_search.proofs.Members.{whole_at}
@@ -12,17 +11,17 @@ loop-choices-init c = takes_none c.args.source c.args.station.now
 pub take_splice-requires-clause-path : goal.take_splice-requires-clause-path
 take_splice-requires-clause-path c =
     let v = c.choices-item.result in
-    let w = whole_at (parts_of c.args.parts.now) c.args.splices.now c.loop-choices.choices-index v v c.requires.whole
+    let w = whole_at c.args.parts.now c.args.splices.now c.loop-choices.choices-index v v c.requires.whole
     c.loop-choices-test.true c.choices-item.is in
-    subst (IsPath (parts_of c.args.parts.now)) (sym c.deref.ensures.value) w.0
+    subst (IsPath c.args.parts.now) (sym c.deref.ensures.value) w.0
 
 pub take_splice-requires-clause-few : goal.take_splice-requires-clause-few
 take_splice-requires-clause-few c = c.requires.short c.deref.result.now (take_splice-requires-clause-path c)
 
 pub loop-choices-preserved : goal.loop-choices-preserved
 loop-choices-preserved c =
-    splices_taken c.args.source c.args.station.now c.loop-choices.station c.take_splice.new.station (parts_of c.args.parts.now)
+    splices_taken c.args.source c.args.station.now c.loop-choices.station c.take_splice.new.station c.args.parts.now
     c.args.splices.now c.loop-choices.choices-index c.choices-item.result c.loop-choices-test.true c.choices-item.is
     c.loop-choices.invariant
-    (subst (λ choices. TakesFiles c.args.source (prefix_of (parts_of c.args.parts.now) choices ∷ []) c.loop-choices.station
+    (subst (λ choices. TakesFiles c.args.source (prefix_of c.args.parts.now choices ∷ []) c.loop-choices.station
     c.take_splice.new.station) c.deref.ensures.value c.in_ok-take_splice.ensures)

@@ -1,9 +1,8 @@
 use Rattle.std.proofs.Common.{take}
-use Rattle.jls_diff.specs.PartsOf.{parts_of}
 use Rattle.jls_search.specs.Search.{files_of, lists_of}
 use Rattle.jls_search.specs.Stations.{TakesFiles}
 use Rattle.jls_search.proofs.taking.take_splices.Given as goal
 
 abbrev pub invariant-loop-choices : goal.invariant-loop-choices
 invariant-loop-choices l =
-    TakesFiles l.source (files_of (parts_of l.parts) (lists_of (take l.choices-index l.splices))) l.fn.station l.station
+    TakesFiles l.source (files_of l.parts (lists_of (take l.choices-index l.splices))) l.fn.station l.station

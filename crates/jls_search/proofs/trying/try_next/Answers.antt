@@ -1,23 +1,21 @@
-use Rattle.std.proofs.Common.{◌≤◌, length, ◌∙◌, arith}
-use Rattle.std.proofs.lemmas.List.{length-map}
-use Rattle.jls_diff.specs.PartsOf.{part_of, parts_of}
+use Rattle.std.proofs.Common.{◌≤◌, List, ℕ, Vec, Global, length, sym, subst, ◌∙◌, arith}
+use Rattle.std.specs.Prelude.{IfOk}
+use Rattle.jls_search.specs.OfGroups.{GoesOnWith}
 use Rattle.jls_search.specs.Search.{lists_of}
 use Rattle.jls_search.proofs.Paths.{path_len}
 use Rattle.jls_search.proofs.trying.try_next.Goals as goal
 
-pub try_prefix-requires-clause-more : goal.try_prefix-requires-clause-more
-try_prefix-requires-clause-more c = let e = c.len.ensures ∙ c.args.path.now.ok.0 in omega (arith, e)
-
 pub try_whole-requires-clause-whole : goal.try_whole-requires-clause-whole
 try_whole-requires-clause-whole c =
-    let ps = parts_of c.args.parts.now in
-    let e = c.len.ensures ∙ c.args.path.now.ok.0 in
-    let all = length-map c.args.parts.now part_of in
-    let l : length c.args.path.now.items ≤ length ps = path_len ps c.args.path.now.items c.requires.stands.is_set.0 in
-    omega (arith, e, all, l)
+    let ps = c.args.parts.now in
+    let path : List ℕ = c.args.walk.now.path.items in
+    let e = c.len.ensures ∙ c.args.walk.now.path.ok.0 in
+    let l : length path ≤ length ps = path_len ps path c.requires.stands.is_set.0 in
+    omega (arith, e, l, c.if-len.false)
 
-pub try_prefix-requires-clause-path : goal.try_prefix-requires-clause-path
-try_prefix-requires-clause-path c = c.requires.stands.is_set
-
-pub returns-in_ok-more-clause-goes : goal.returns-in_ok-more-clause-goes
-returns-in_ok-more-clause-goes c = c.in_ok-more.ensures.goes (lists_of c.args.found.now.items) c.requires.stands
+pub returns-then-len-clause-goes : goal.returns-then-len-clause-goes
+returns-then-len-clause-goes c =
+    let next : List ℕ = c.try_prefix.new.walk.path.items in
+    subst (λ (v : Vec (Vec ℕ Global) Global). IfOk c.try_prefix.result (λ more. GoesOnWith c.args.parts.now c.args.setting next (lists_of v.items) more))
+    (sym c.try_prefix.ensures.found)
+    (c.try_prefix.ensures.goes (lists_of c.args.walk.now.found.items) c.requires.stands)

@@ -1,27 +1,20 @@
-use Rattle.std.proofs.Common.{List, ◌∙◌, ap, length, subst, sym, ℕ, Ok}
-use Rattle.jls_diff.specs.PartsOf.{parts_of}
-use Rattle.jls_search.specs.OfGroups.{IsSet, IsSettled, IsSoughtWith}
+use Rattle.std.proofs.Common.{◌≡◌, List, ℕ, Vec, Global, length, subst, sym}
+use Rattle.jls_search.specs.OfGroups.{IsSettled, IsSoughtWith, StandsWith}
 use Rattle.jls_search.specs.Search.{lists_of}
 use Rattle.jls_search.proofs.SettingPaths.{tried, turned_on}
 use Rattle.jls_search.proofs.trying.try_whole.Goals as goal
 
-pub try_file-requires-clause-path : goal.try_file-requires-clause-path
-try_file-requires-clause-path c = subst (IsSet (parts_of c.args.parts.now) c.args.setting) (sym c.deref.ensures.value) c.requires.stands.is_set
-
-pub try_file-requires-clause-whole : goal.try_file-requires-clause-whole
-try_file-requires-clause-whole c = ap length c.deref.ensures.value ∙ c.requires.whole
-
-pub turn-requires-clause-path : goal.turn-requires-clause-path
-turn-requires-clause-path c = c.requires.stands.is_set
-
 pub returns-clause-goes : goal.returns-clause-goes
 returns-clause-goes c =
-    let ps = parts_of c.args.parts.now in
+    let ps = c.args.parts.now in
     let s = c.args.setting in
-    let path : List ℕ = c.args.path.now.items in
-    let old : List (List ℕ) = lists_of c.args.found.now.items in
-    let new : List (List ℕ) = lists_of c.try_file.new.found.items in
-    let here = subst (λ p. IsSoughtWith ps s p → IsSettled ps s.group new p) c.deref.ensures.value c.in_ok-try_file.ensures.settled in
-    turned_on ps s path c.turn.new.path.items old c.requires.stands new
-    (tried ps s path c.turn.new.path.items old c.requires.stands new c.in_ok-try_file.ensures.found c.requires.whole here)
-    (Ok c.in_ok-more.more) c.in_ok-more.ensures.path c.in_ok-more.ensures.to_come c.in_ok-more.ensures.none
+    let path : List ℕ = c.try_file.new.walk.path.items in
+    let next : List ℕ = c.turn.new.path.items in
+    let old : List (List ℕ) = lists_of c.args.walk.now.found.items in
+    let new : List (List ℕ) = lists_of c.try_file.new.walk.found.items in
+    let is : c.args.walk.now.path ≡ c.try_file.new.walk.path = sym c.in_ok-try_file.ensures.path in
+    let stands = subst (λ (v : Vec ℕ Global). StandsWith ps s v.items old) is c.requires.stands in
+    let here = subst (λ (v : Vec ℕ Global). IsSoughtWith ps s v.items → IsSettled ps s.group new v.items) is c.in_ok-try_file.ensures.settled in
+    let whole = subst (λ (v : Vec ℕ Global). length v.items ≡ length ps) is c.requires.whole in
+    turned_on ps s path next old stands new (tried ps s path next old stands new c.in_ok-try_file.ensures.found whole here)
+    c.turn.result c.turn.ensures.path c.turn.ensures.to_come c.turn.ensures.none

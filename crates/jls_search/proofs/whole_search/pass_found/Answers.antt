@@ -1,6 +1,5 @@
 use Rattle.std.proofs.Common.{◌≡◌, ℕ, ◌+◌, ◌≤◌, List, [], ◌∷◌, ◌++◌, length, sym, ap, ◌∙◌, subst, arith, ◌⊎◌, inr, length-append}
 use Rattle.std.specs.List.{Contains}
-use Rattle.jls_diff.specs.PartsOf.{parts_of}
 use Rattle.jls_diff.specs.Parts.{Part}
 use Rattle.jls_search.specs.Order.{IsLater}
 use Rattle.jls_search.specs.Faultless.{IsSought}
@@ -11,7 +10,7 @@ use Rattle.jls_search.proofs.whole_search.pass_found.Goals as goal
 pub returns-clause-next : goal.returns-clause-next
 returns-clause-next c = λ ceiling stands sought.
     let Sought : List ℕ → Type 0 = IsSought ceiling in
-    let ps : List Part = parts_of c.args.parts.now in let path : List ℕ = c.args.path.now.items in let next : List ℕ = c.turn.new.path.items in
+    let ps : List Part = c.args.parts.now in let path : List ℕ = c.args.path.now.items in let next : List ℕ = c.turn.new.path.items in
     let F : List (List ℕ) = lists_of c.args.found.now.items in let M : List (List ℕ) = lists_of c.take_found.new.found.items in
     let E : M ≡ F ++ path ∷ [] = c.in_ok-take_found.ensures ∙ ap (λ p. F ++ p ∷ []) c.deref.ensures.value in
     turned_on Sought ps path next F stands M

@@ -1,5 +1,4 @@
 use Rattle.std.proofs.Common.{ℕ, length, Vec, Global, sym, subst, ap, ◌∙◌, arith, inl, inr}
-use Rattle.jls_diff.specs.PartsOf.{parts_of}
 use Rattle.jls_search.specs.Faultless.{IsSought}
 use Rattle.jls_search.specs.Search.{HasEachSplice, MakeFiles, files_of, lists_of}
 use Rattle.jls_search.proofs.Paths.{length-map}
@@ -8,14 +7,14 @@ use Rattle.jls_search.proofs.whole_search.search.Goals as goal
 
 pub returns-clause-files : goal.returns-clause-files
 returns-clause-files c =
-    let came = c.into_searched.ensures.came_to (parts_of c.args.parts.now) c.in_ok-go_on.ensures.stands in
-    subst (λ ceiling. MakeFiles (IsSought ceiling) (parts_of c.args.parts.now) (lists_of c.into_searched.result.splices.items))
+    let came = c.into_searched.ensures.came_to c.args.parts.now c.in_ok-go_on.ensures.stands in
+    subst (λ ceiling. MakeFiles (IsSought ceiling) c.args.parts.now (lists_of c.into_searched.result.splices.items))
     (c.in_ok-go_on.ensures.went.ceiling ∙ c.in_ok-begun.ensures.ceiling) came.files
 
 pub returns-clause-all : goal.returns-clause-all
 returns-clause-all c = λ enough.
-    let came = c.into_searched.ensures.came_to (parts_of c.args.parts.now) c.in_ok-go_on.ensures.stands in
-    let parts = parts_of c.args.parts.now in
+    let came = c.into_searched.ensures.came_to c.args.parts.now c.in_ok-go_on.ensures.stands in
+    let parts = c.args.parts.now in
     subst (λ ceiling. HasEachSplice (IsSought ceiling) parts (files_of parts (lists_of c.into_searched.result.splices.items)))
     (c.in_ok-go_on.ensures.went.ceiling ∙ c.in_ok-begun.ensures.ceiling) (came.all enough)
 

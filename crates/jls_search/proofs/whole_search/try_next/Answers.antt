@@ -1,6 +1,5 @@
 use Rattle.std.specs.Prelude.{IfSome}
 use Rattle.std.proofs.Common.{◌≡◌, ℕ, ◌+◌, ◌<◌, ◌≤◌, List, length, refl, sym, subst, arith, inl}
-use Rattle.jls_diff.specs.PartsOf.{parts_of}
 use Rattle.jls_diff.specs.Parts.{Part}
 use Rattle.jls_search.specs.Choices.{IsPath}
 use Rattle.jls_search.specs.Faultless.{IsSought}
@@ -9,7 +8,6 @@ use Rattle.jls_search.specs.declared.looking.Sight.{Sight}
 use Rattle.jls_search.specs.declared.looking.Sight.TheVariants.{Dead, Open, Found}
 use Rattle.jls_search.proofs.Prefixes.{on_ok as anyway}
 use Rattle.jls_search.proofs.KeptReaders.{still_kept}
-use Rattle.jls_search.proofs.Paths.{length-map}
 use Rattle.jls_search.proofs.Searching.{descended, turned_on, turned_step, dead_after, on_ok}
 use Rattle.jls_search.proofs.whole_search.try_next.Goals as goal
 
@@ -20,29 +18,29 @@ seen Sought ps path there sight is e f h = subst (IsSeen Sought ps path) f (subs
 pub look-requires : goal.look-requires
 look-requires c = record {
   kept = c.requires.kept;
-  path = subst (IsPath (parts_of c.args.parts.now)) (sym c.deref.ensures.value) c.requires.stands.is_path;
-  few = c.requires.short c.deref.result.now (subst (IsPath (parts_of c.args.parts.now)) (sym c.deref.ensures.value) c.requires.stands.is_path);
+  path = subst (IsPath c.args.parts.now) (sym c.deref.ensures.value) c.requires.stands.is_path;
+  few = c.requires.short c.deref.result.now (subst (IsPath c.args.parts.now) (sym c.deref.ensures.value) c.requires.stands.is_path);
 }
 
 pub descend-requires : goal.descend-requires
 descend-requires c =
-    let more : length c.args.path.now.items < length (parts_of c.args.parts.now) =
-    (seen (IsSought c.args.judge.now.ceiling) (parts_of c.args.parts.now) c.args.path.now.items c.deref.result.now c.in_ok-sight.sight (Open c.in-Open.reader) c.deref.ensures.value c.in-Open.is c.in_ok-sight.ensures).0 in
-    record { path = c.requires.stands.is_path; more = rw length-map at more; some_way = c.requires.some_way }
+    let more : length c.args.path.now.items < length c.args.parts.now =
+    (seen (IsSought c.args.judge.now.ceiling) c.args.parts.now c.args.path.now.items c.deref.result.now c.in_ok-sight.sight (Open c.in-Open.reader) c.deref.ensures.value c.in-Open.is c.in_ok-sight.ensures).0 in
+    record { path = c.requires.stands.is_path; more = more; some_way = c.requires.some_way }
 
 pub returns-in_ok-descend-in-Open-clause-next : goal.returns-in_ok-descend-in-Open-clause-next
 returns-in_ok-descend-in-Open-clause-next c =
-    descended (IsSought c.args.judge.now.ceiling) (parts_of c.args.parts.now) c.args.path.now.items c.descend.new.path.items (lists_of c.args.found.now.items) c.requires.stands
+    descended (IsSought c.args.judge.now.ceiling) c.args.parts.now c.args.path.now.items c.descend.new.path.items (lists_of c.args.found.now.items) c.requires.stands
     c.in_ok-descend-in-Open.ensures.path c.in_ok-descend-in-Open.ensures.prefix c.in_ok-descend-in-Open.ensures.kept
 
 pub pass_found-requires : goal.pass_found-requires
 pass_found-requires c =
-    let r = seen (IsSought c.args.judge.now.ceiling) (parts_of c.args.parts.now) c.args.path.now.items c.deref.result.now c.in_ok-sight.sight Found c.deref.ensures.value c.in-Found.is c.in_ok-sight.ensures in
+    let r = seen (IsSought c.args.judge.now.ceiling) c.args.parts.now c.args.path.now.items c.deref.result.now c.in_ok-sight.sight Found c.deref.ensures.value c.in-Found.is c.in_ok-sight.ensures in
     record { is_path = c.requires.stands.is_path; whole = r.0 }
 
 pub returns-in-Found-clause-next : goal.returns-in-Found-clause-next
 returns-in-Found-clause-next c =
-    let r = seen (IsSought c.args.judge.now.ceiling) (parts_of c.args.parts.now) c.args.path.now.items c.deref.result.now c.in_ok-sight.sight Found c.deref.ensures.value c.in-Found.is c.in_ok-sight.ensures in
+    let r = seen (IsSought c.args.judge.now.ceiling) c.args.parts.now c.args.path.now.items c.deref.result.now c.in_ok-sight.sight Found c.deref.ensures.value c.in-Found.is c.in_ok-sight.ensures in
     c.pass_found.ensures.next c.args.judge.now.ceiling c.requires.stands r.1
 
 pub turn-requires : goal.turn-requires
@@ -50,7 +48,7 @@ turn-requires c = c.requires.stands.is_path
 
 pub returns-in-Dead-clause-next : goal.returns-in-Dead-clause-next
 returns-in-Dead-clause-next c =
-    let ps : List Part = parts_of c.args.parts.now in let path : List ℕ = c.args.path.now.items in let next : List ℕ = c.turn.new.path.items in
+    let ps : List Part = c.args.parts.now in let path : List ℕ = c.args.path.now.items in let next : List ℕ = c.turn.new.path.items in
     let F : List (List ℕ) = lists_of c.args.found.now.items in
     turned_on (IsSought c.args.judge.now.ceiling) ps path next F c.requires.stands F c.requires.stands.files
     (dead_after (IsSought c.args.judge.now.ceiling) ps path next F c.requires.stands (seen (IsSought c.args.judge.now.ceiling) ps path c.deref.result.now c.in_ok-sight.sight Dead c.deref.ensures.value c.in-Dead.is c.in_ok-sight.ensures))
@@ -71,7 +69,7 @@ returns-in-Dead-clause-step c =
 
 pub returns-in_ok-descend-in-Open-clause-kept : goal.returns-in_ok-descend-in-Open-clause-kept
 returns-in_ok-descend-in-Open-clause-kept c =
-    let ps : List Part = parts_of c.args.parts.now in
+    let ps : List Part = c.args.parts.now in
     let path : List ℕ = c.args.path.now.items in
     let reader = c.in-Open.reader in
     let fed = (seen (IsSought c.args.judge.now.ceiling) ps path c.deref.result.now c.in_ok-sight.sight (Open reader) c.deref.ensures.value c.in-Open.is c.in_ok-sight.ensures).1 in
@@ -79,7 +77,7 @@ returns-in_ok-descend-in-Open-clause-kept c =
     (subst (λ p. Keeps c.args.judge.now.kept reader p c.keep.new.kept) c.deref-in-Open.ensures.value c.in_ok-keep-in-Open.ensures)
 
 pub returns-in-Found-clause-kept : goal.returns-in-Found-clause-kept
-returns-in-Found-clause-kept c = anyway c.pass_found.result (IfSome c.args.judge.now.kept (IsKept (parts_of c.args.parts.now))) c.requires.kept
+returns-in-Found-clause-kept c = anyway c.pass_found.result (IfSome c.args.judge.now.kept (IsKept c.args.parts.now)) c.requires.kept
 
 pub returns-in-Dead-clause-kept : goal.returns-in-Dead-clause-kept
-returns-in-Dead-clause-kept c = anyway c.turn.result (IfSome c.args.judge.now.kept (IsKept (parts_of c.args.parts.now))) c.requires.kept
+returns-in-Dead-clause-kept c = anyway c.turn.result (IfSome c.args.judge.now.kept (IsKept c.args.parts.now)) c.requires.kept

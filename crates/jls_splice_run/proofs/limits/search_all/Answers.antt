@@ -2,7 +2,6 @@ use Rattle.std.proofs.Common.{◌≡◌, length, Option, None, ℕ, inl, inr, re
 use Rattle.std.proofs.lemmas.Bool.{not-false, not-true}
 use Rattle.jls_io.specs.Event.{GrewBy}
 use Rattle.jls_io.proofs.Growing.{grew_as, grew_on}
-use Rattle.jls_diff.specs.PartsOf.{parts_of}
 use Rattle.jls_splice_run.specs.Limits.{last_or, limits, made_under}
 use Rattle.jls_splice_run.specs.Telling.{HasSearched, IsReported, ReportedUpTo, TookTurns}
 use Rattle.jls_splice_run.proofs.Rounds.{on_err_anyway}
@@ -13,7 +12,7 @@ use Rattle.jls_splice_run.proofs.limits.search_all.Goals as goal
 pub returns-then-is_some-clause-searched : goal.returns-then-is_some-clause-searched
 returns-then-is_some-clause-searched g c =
     let history = g.E.Device.history in
-    let parts = parts_of c.args.parts.now in
+    let parts = c.args.parts.now in
     let options = c.args.options in
     let first = made_under options.ceiling c.in_ok-first.first in
     grew_as (IsReported options.tells first.tries (length first.choices)) (HasSearched options parts first options.ceiling)
@@ -42,7 +41,7 @@ returns-in_err-turned-clause-reported_some g c =
 pub returns-clause-searched : goal.returns-clause-searched
 returns-clause-searched g c =
     let history = g.E.Device.history in
-    let parts = parts_of c.args.parts.now in
+    let parts = c.args.parts.now in
     let options = c.args.options in
     let first = made_under options.ceiling c.in_ok-first.first in
     let turned = c.in_ok-turned.turned in

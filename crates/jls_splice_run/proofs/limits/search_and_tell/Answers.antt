@@ -1,10 +1,9 @@
-use Rattle.std.proofs.Common.{ℕ, ◌<◌, Option, List, length, sym, subst}
+use Rattle.std.proofs.Common.{ℕ, ◌<◌, List, length, sym, subst}
 use Rattle.jls_io.specs.Event.{GrewBy}
 use Rattle.jls_io.proofs.Growing.{grew_as, grew_not}
 use Rattle.jls_diff.proofs.Slices.{count_of_slices}
-use Rattle.jls_diff.specs.PartsOf.{bytes_of, parts_of}
-use Rattle.jls_search.specs.Search.{IsShort}
-use Rattle.jls_splice_run.specs.Limits.{IsCutLimit, SearchMade, made_under}
+use Rattle.jls_diff.specs.PartsOf.{bytes_of}
+use Rattle.jls_splice_run.specs.Limits.{made_under}
 use Rattle.jls_splice_run.specs.Telling.{HasChosenLimit, HasSearched, ReportedUpTo}
 use Rattle.jls_splice_run.proofs.Rounds.{on_err_anyway}
 use Rattle.jls_splice_run.proofs.Turns.{nothing_reported, searched_before}
@@ -21,21 +20,19 @@ pub search_all-requires-clause-short : goal.search_all-requires-clause-short
 search_all-requires-clause-short g c =
     let copies : List (List ℕ) = bytes_of c.args.copies.now in
     let some : 0 < length copies = subst (λ n. 0 < n) (sym (count_of_slices c.args.copies.now)) c.requires.some_copy in
-    subst (λ ps. IsShort (parts_of ps)) (sym c.deref.ensures.value)
-    (c.parts_can_be_searched.ensures copies (parts_of c.in_ok-parts.parts.items) c.in_ok-parts.ensures some c.requires.short).1
+    (c.parts_can_be_searched.ensures copies c.in_ok-parts.parts c.in_ok-parts.ensures some c.requires.short).1
 
 pub limit_of_cut-requires-clause-short : goal.limit_of_cut-requires-clause-short
 limit_of_cut-requires-clause-short g c =
     let copies : List (List ℕ) = bytes_of c.args.copies.now in
     let some : 0 < length copies = subst (λ n. 0 < n) (sym (count_of_slices c.args.copies.now)) c.requires.some_copy in
-    subst (λ ps. IsShort (parts_of ps)) (sym c.deref-2.ensures.value)
-    (c.parts_can_be_searched.ensures copies (parts_of c.in_ok-parts.parts.items) c.in_ok-parts.ensures some c.requires.short).1
+    (c.parts_can_be_searched.ensures copies c.in_ok-parts.parts c.in_ok-parts.ensures some c.requires.short).1
 
 pub returns-in_err-cut_limit-clause-reported_some : goal.returns-in_err-cut_limit-clause-reported_some
 returns-in_err-cut_limit-clause-reported_some g c =
     let options = c.args.options in
     let all = c.in_ok-all.all in
-    let parts = parts_of c.deref.result.now in
+    let parts = c.in_ok-parts.parts in
     let s = made_under all.ceiling all.searched in
     let before = g.E.Device.history c.args.faults.now in
     let now = g.E.Device.history c.search_all.new.faults in
@@ -48,11 +45,9 @@ pub returns-clause-searched : goal.returns-clause-searched
 returns-clause-searched g c =
     let options = c.args.options in
     let all = c.in_ok-all.all in
-    let parts = parts_of c.in_ok-parts.parts.items in
+    let parts = c.in_ok-parts.parts in
     let s = made_under all.ceiling all.searched in
     let before = g.E.Device.history c.args.faults.now in
     let now = g.E.Device.history c.search_all.new.faults in
-    let searched = subst (λ ps. GrewBy (HasSearched options (parts_of ps) s all.cut_limit) before now) c.deref.ensures.value c.in_ok-all.ensures.searched in
-    let limit = subst (λ ps. IsCutLimit (parts_of ps) all.cut_limit s.choices c.in_ok-cut_limit.cut_limit) c.deref-2.ensures.value c.in_ok-cut_limit.ensures in
     grew_as (HasSearched options parts s all.cut_limit) (HasChosenLimit options parts s c.in_ok-cut_limit.cut_limit) before now
-    (λ events h. (all.cut_limit, h, limit)) searched
+    (λ events h. (all.cut_limit, h, c.in_ok-cut_limit.ensures)) c.in_ok-all.ensures.searched

@@ -2,7 +2,6 @@ use Rattle.std.proofs.Common.{ℕ, ◌+◌, List, [], ◌∷◌, ◌++◌, lengt
 use Rattle.std.proofs.lemmas.List.{take_all, take_more}
 use Rattle.jls_io.specs.Event.{GrewBy}
 use Rattle.jls_io.proofs.Growing.{grew_as, grew_not, grew_on}
-use Rattle.jls_diff.specs.PartsOf.{parts_of}
 use Rattle.jls_splice_run.specs.Limits.{made_under}
 use Rattle.jls_splice_run.specs.Telling.{HasTurned, IsReported, ReportedSome, ReportedUpTo, TookTurns}
 use Rattle.jls_splice_run.proofs.Rounds.{on_err_anyway}
@@ -11,14 +10,14 @@ use Rattle.jls_splice_run.proofs.limits.search_in_turn.Goals as goal
 
 pub loop-limit-init : goal.loop-limit-init
 loop-limit-init g c =
-    let parts = parts_of c.args.parts.now in
+    let parts = c.args.parts.now in
     let options = c.args.options in
     grew_not (HasTurned parts options [] _) (g.E.Device.history c.args.faults.now) (turned_not parts options _ refl refl refl)
 
 pub returns-in_err-searched-clause-reported_some : goal.returns-in_err-searched-clause-reported_some
 returns-in_err-searched-clause-reported_some g c =
     let history = g.E.Device.history in
-    let parts = parts_of c.args.parts.now in
+    let parts = c.args.parts.now in
     let options = c.args.options in
     let turned = c.loop-limit.turned in
     let limits = take c.loop-limit.limit-index c.args.limits.now in
@@ -32,7 +31,7 @@ returns-in_err-searched-clause-reported_some g c =
 pub returns-then-searched-clause-turned : goal.returns-then-searched-clause-turned
 returns-then-searched-clause-turned g c =
     let history = g.E.Device.history in
-    let parts = parts_of c.args.parts.now in
+    let parts = c.args.parts.now in
     let options = c.args.options in
     let turned = c.loop-limit.turned in
     let all = c.args.limits.now in
@@ -51,7 +50,7 @@ returns-then-searched-clause-turned g c =
 pub loop-limit-preserved : goal.loop-limit-preserved
 loop-limit-preserved g c =
     let history = g.E.Device.history in
-    let parts = parts_of c.args.parts.now in
+    let parts = c.args.parts.now in
     let options = c.args.options in
     let old = c.loop-limit.turned in
     let new = c.with_one_more-turned.result in
@@ -72,7 +71,7 @@ loop-limit-preserved g c =
 pub returns-clause-turned : goal.returns-clause-turned
 returns-clause-turned g c =
     let history = g.E.Device.history in
-    let parts = parts_of c.args.parts.now in
+    let parts = c.args.parts.now in
     let options = c.args.options in
     let turned = c.loop-limit.turned in
     let all = c.args.limits.now in

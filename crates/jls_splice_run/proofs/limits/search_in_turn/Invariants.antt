@@ -1,10 +1,9 @@
 use Rattle.std.proofs.Common.{take}
 use Rattle.jls_io.specs.Event.{GrewBy}
-use Rattle.jls_diff.specs.PartsOf.{parts_of}
 use Rattle.jls_splice_run.specs.Telling.{HasTurned}
 use Rattle.jls_splice_run.proofs.limits.search_in_turn.Given as goal
 
 abbrev pub invariant-loop-limit : goal.invariant-loop-limit
 invariant-loop-limit g l =
     let history = g.E.Device.history in
-    GrewBy (HasTurned (parts_of l.parts) l.options (take l.limit-index l.limits) l.turned) (history l.fn.faults) (history l.faults)
+    GrewBy (HasTurned l.parts l.options (take l.limit-index l.limits) l.turned) (history l.fn.faults) (history l.faults)

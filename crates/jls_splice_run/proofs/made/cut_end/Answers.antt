@@ -1,19 +1,15 @@
-use Rattle.std.proofs.Common.{ℕ, length, Vec, Global, Option, ap, subst, arith}
+use Rattle.std.proofs.Common.{ℕ, Vec, Global, Option, subst, arith}
 use Rattle.std.specs.Prelude.{IfSome}
-use Rattle.jls_diff.specs.PartsOf.{parts_of}
 use Rattle.jls_search.specs.Choices.{IsPath}
 use Rattle.jls_splice_run.proofs.MakingLemmas.{path_within}
-use Rattle.jls_splice_run.proofs.Offsets.{parts_count}
 use Rattle.jls_splice_run.proofs.made.cut_end.Goals as goal
 
 pub offset_at-requires-clause-within : goal.offset_at-requires-clause-within
 offset_at-requires-clause-within c =
-    let parts = c.args.found.now.splices.parts.items in
+    let parts = c.args.found.now.splices.parts in
     let path = c.in-Some.path in
-    let is : IsPath (parts_of parts) path.items =
-    subst (λ (o : Option (Vec ℕ Global)). IfSome o (λ p. IsPath (parts_of parts) p.items)) c.in-Some.is c.requires.path in
-    let within = path_within (parts_of parts) path.items is in
-    let count = parts_count parts in
-    let here = ap length c.deref.ensures.value in
+    let is : IsPath parts path.items =
+    subst (λ (o : Option (Vec ℕ Global)). IfSome o (λ p. IsPath parts p.items)) c.in-Some.is c.requires.path in
+    let within = path_within parts path.items is in
     let held = path.ok.0 in
-    omega (arith, within, count, here, held, c.len.ensures)
+    omega (arith, within, held, c.len.ensures)

@@ -4,11 +4,10 @@ use Rattle.jls_station.specs.CopyFiles.{CopyBytes, copies_of}
 use Rattle.jls_io.specs.Event.{Event}
 use Rattle.jls_io.proofs.Growing.{grew_as, grew_not}
 use Rattle.jls_cli.specs.SpliceAsking.{Asked}
-use Rattle.jls_diff.specs.declared.part.Part.{Part as CodePart}
 use Rattle.jls_search.specs.Choices.{IsPath, prefix_of}
 use Rattle.jls_search.specs.Cuts.{TakesNoCut}
 use Rattle.jls_diff.proofs.Slices.{count_of_slices}
-use Rattle.jls_diff.specs.PartsOf.{bytes_of, parts_of}
+use Rattle.jls_diff.specs.PartsOf.{bytes_of}
 use Rattle.jls_search.specs.Search.{files_of, lists_of}
 use Rattle.jls_search.specs.Found.{IsFound, IsGroupSearch, found_of, splices_in}
 use Rattle.jls_splice_run.specs.Limits.{IsCutLimit}
@@ -33,13 +32,13 @@ options_of a = record { ceiling = a.options.ceiling; tries = a.options.tries; te
 -- they came to what was found
 abbrev Searched : Asked → FoundInTurn → List Event → Type 0
 Searched a found events =
-    HasChosenLimit (options_of a) (parts_of found.splices.parts.items)
+    HasChosenLimit (options_of a) found.splices.parts
     (search_of found.splices.ceiling (found_of found.splices) found.splices.tries) found.cut_limit events
 
 -- the choices of the cut file are a path
 path_of_cut : (found : FoundInTurn) (cut : Option (Vec ℕ Global))
     → IfSome cut (λ path. IsCut found.cut_limit (found_of found.splices) path.items)
-    → IfSome cut (λ path. IsPath (parts_of found.splices.parts.items) path.items)
+    → IfSome cut (λ path. IsPath found.splices.parts path.items)
 path_of_cut found None h = tt
 path_of_cut found (Some path) h = h.1.is_path
 
@@ -64,7 +63,7 @@ searched_in : (a : Asked) (found : FoundInTurn) (copies : List CopyBytes) (r : R
 searched_in a found copies r want events h =
     inl (
       want,
-      searched_before (options_of a) (parts_of found.splices.parts.items)
+      searched_before (options_of a) found.splices.parts
           (search_of found.splices.ceiling (found_of found.splices) found.splices.tries) h.0 events h.1,
     )
 
@@ -80,12 +79,11 @@ returns-in-Err-find_cut-clause-stopped g c =
 
 pub settle-requires-clause-cut : goal.settle-requires-clause-cut
 settle-requires-clause-cut g c =
-    subst (λ (ps : List CodePart). IfSome c.in-Ok-find_cut.cut (λ path. IsPath (parts_of ps) path.items)) (sym c.deref-3.ensures.value)
-    (path_of_cut c.in-Ok-search.found c.in-Ok-find_cut.cut c.in-Ok-find_cut.ensures.lone)
+    path_of_cut c.in-Ok-search.found c.in-Ok-find_cut.cut c.in-Ok-find_cut.ensures.lone
 
 -- the searches of what was asked, over the parts that were found
 counted_in : (a : Asked) (copies : List (List ℕ)) (found : FoundInTurn) (events : List Event)
-    → IfSome (found_of found.splices).by_groups (IsGroupSearch a.options.tries (length copies) (parts_of found.splices.parts.items))
+    → IfSome (found_of found.splices).by_groups (IsGroupSearch a.options.tries (length copies) found.splices.parts)
     → (h : Searched a found events) → IsCounted a copies h.1.searches found.splices.ceiling (found_of found.splices) found.splices.tries
 counted_in a copies found events groups h = record { are_searches = h.1.are; counts = h.1.counts; of_groups = groups }
 
@@ -97,10 +95,10 @@ returns-in-Err-settle-clause-stopped g c =
     let found = all.splices in
     let r = c.in-Err-settle.refusal in
     let searched : bytes_of c.deref.result.now ≡ bytes_read copies = ap bytes_of c.deref.ensures.value ∙ c.in-Ok.ensures in
-    let splices : files_of (parts_of c.deref-3.result.now) (lists_of c.deref-4.result.now) ≡ splices_in (found_of found) =
-    (λ i. files_of (parts_of (c.deref-3.ensures.value i)) (lists_of (c.deref-4.ensures.value i))) ∙ c.in-Ok-search.ensures.splices in
+    let splices : files_of found.parts (lists_of c.deref-3.result.now) ≡ splices_in (found_of found) =
+    (λ i. files_of found.parts (lists_of (c.deref-3.ensures.value i))) ∙ c.in-Ok-search.ensures.splices in
     let is_found = subst (λ (xs : List (List ℕ)). IsFound found.ceiling xs (found_of found)) searched c.in-Ok-search.ensures.found in
-    let groups = subst (λ (n : ℕ). IfSome (found_of found).by_groups (IsGroupSearch a.options.tries n (parts_of found.parts.items)))
+    let groups = subst (λ (n : ℕ). IfSome (found_of found).by_groups (IsGroupSearch a.options.tries n found.parts))
     (sym (count_of_slices c.deref.result.now) ∙ ap length searched) c.in-Ok-search.ensures.of_groups in
     let unsettled = subst (λ (xs : List (List ℕ)). IsUnsettled a copies xs r) splices c.in-Err-settle.ensures.stopped in
     grew_as (Searched a all) (CantMake a copies r)
@@ -126,15 +124,14 @@ returns-in-Ok-texts_of-clause-made g c =
     let all = c.in-Ok-search.found in
     let found = all.splices in
     let taken = c.in-Ok-settle.taken in
-    let parts = parts_of found.parts.items in
+    let parts = found.parts in
     let searched : bytes_of c.deref.result.now ≡ copies = ap bytes_of c.deref.ensures.value ∙ c.in-Ok.ensures in
-    let reported : bytes_of c.deref-5.result.now ≡ copies = ap bytes_of c.deref-5.ensures.value ∙ c.in-Ok.ensures in
-    let splices : files_of (parts_of c.deref-3.result.now) (lists_of c.deref-4.result.now) ≡ splices_in (found_of found) =
-    (λ i. files_of (parts_of (c.deref-3.ensures.value i)) (lists_of (c.deref-4.ensures.value i))) ∙ c.in-Ok-search.ensures.splices in
+    let reported : bytes_of c.deref-4.result.now ≡ copies = ap bytes_of c.deref-4.ensures.value ∙ c.in-Ok.ensures in
+    let splices : files_of found.parts (lists_of c.deref-3.result.now) ≡ splices_in (found_of found) =
+    (λ i. files_of found.parts (lists_of (c.deref-3.ensures.value i))) ∙ c.in-Ok-search.ensures.splices in
     let choices = option_map (λ (path : Vec ℕ Global). path.items) taken.cut in
-    let cut : option_map (λ (path : Vec ℕ Global). prefix_of (parts_of c.deref-3.result.now) path.items) taken.cut ≡ cut_file (found_of found) choices =
-    (λ i. option_map (λ (path : Vec ℕ Global). prefix_of (parts_of (c.deref-3.ensures.value i)) path.items) taken.cut)
-    ∙ sym (mapped_twice (prefix_of parts) (λ (path : Vec ℕ Global). path.items) taken.cut) in
+    let cut : option_map (λ (path : Vec ℕ Global). prefix_of found.parts path.items) taken.cut ≡ cut_file (found_of found) choices =
+    sym (mapped_twice (prefix_of parts) (λ (path : Vec ℕ Global). path.items) taken.cut) in
     let is_found = subst (λ (xs : List (List ℕ)). IsFound found.ceiling xs (found_of found)) searched c.in-Ok-search.ensures.found in
     let groups = subst (λ (n : ℕ). IfSome (found_of found).by_groups (IsGroupSearch a.options.tries n parts))
     (sym (count_of_slices c.deref.result.now) ∙ ap length searched) c.in-Ok-search.ensures.of_groups in
@@ -150,10 +147,10 @@ returns-in-Ok-texts_of-clause-made g c =
         no_lone = none_mapped (FindsNoCut all.cut_limit a.options.tries (found_of found)) c.in-Ok-find_cut.cut c.in-Ok-find_cut.ensures.none;
         is_cut = cut_mapped (λ path. TakesNoCut copies (splices_in (found_of found)) (prefix_of parts path)) taken.cut c.in-Ok-find_cut.cut
             (subst (λ (xs : List (List ℕ)). (taken.cut ≡ c.in-Ok-find_cut.cut) ⊎ ((taken.cut ≡ None) × IfSome c.in-Ok-find_cut.cut (λ path. TakesNoCut copies xs (prefix_of parts path.items)))) splices
-            (subst (λ (ps : List CodePart). (taken.cut ≡ c.in-Ok-find_cut.cut) ⊎ ((taken.cut ≡ None) × IfSome c.in-Ok-find_cut.cut (λ path. TakesNoCut copies (files_of (parts_of c.deref-3.result.now) (lists_of c.deref-4.result.now)) (prefix_of (parts_of ps) path.items)))) c.deref-3.ensures.value c.in-Ok-settle.ensures.cut));
+            c.in-Ok-settle.ensures.cut);
         is_picture = subst (λ (o : Option (List ℕ)). IsPictureOf a.options.source copies (splices_in (found_of found)) o taken.station) cut
             (subst (λ (xs : List (List ℕ)). IsPictureOf a.options.source copies xs
-            (option_map (λ (path : Vec ℕ Global). prefix_of (parts_of c.deref-3.result.now) path.items) taken.cut) taken.station) splices c.in-Ok-settle.ensures.settled);
+            (option_map (λ (path : Vec ℕ Global). prefix_of found.parts path.items) taken.cut) taken.station) splices c.in-Ok-settle.ensures.settled);
         settled = c.in-Ok-texts_of.ensures.settled;
         is_single = subst (λ (xs : List (List ℕ)). IsSingleAsked a.options.file (files_taken xs (found_of found)) (option_map (λ (f : Vec ℕ Global). f.items) v.file)) reported c.in-Ok-texts_of.ensures.single;
         are_named = subst (λ (xs : List (List ℕ)). AreNamedAsked a.options.files (files_taken xs (found_of found)) (named_files v.files.items)) reported c.in-Ok-texts_of.ensures.named;

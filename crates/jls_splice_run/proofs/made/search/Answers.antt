@@ -2,7 +2,7 @@ use Rattle.std.proofs.Common.{◌≡◌, ℕ, ◌<◌, List, length, sym, subst}
 use Rattle.jls_io.specs.Event.{GrewBy}
 use Rattle.jls_io.proofs.Growing.{grew_as, grew_not}
 use Rattle.jls_diff.proofs.Slices.{count_of_slices}
-use Rattle.jls_diff.specs.PartsOf.{bytes_of, parts_of}
+use Rattle.jls_diff.specs.PartsOf.{bytes_of}
 use Rattle.jls_search.specs.SearchLaws.{AreShort}
 use Rattle.jls_search.specs.Found.{found_of}
 use Rattle.jls_splice_run.specs.Limits.{SearchMade, made_under}
@@ -18,21 +18,21 @@ returns-clause-short g c =
     let copies : List (List ℕ) = bytes_of c.args.copies.now in
     let some : 0 < length copies = subst (λ n. 0 < n) (sym (count_of_slices c.args.copies.now)) c.requires in
     let short : AreShort copies = c.are_short.ensures.0 c.if-not-are_short.false in
-    (c.parts_can_be_searched.ensures copies (parts_of c.in_ok-more.more.parts.items) c.in_ok-more.ensures.found.are_parts some short).1
+    (c.parts_can_be_searched.ensures copies c.in_ok-more.more.parts c.in_ok-more.ensures.found.are_parts some short).1
 
 pub returns-clause-some_way : goal.returns-clause-some_way
 returns-clause-some_way g c =
     let copies : List (List ℕ) = bytes_of c.args.copies.now in
     let some : 0 < length copies = subst (λ n. 0 < n) (sym (count_of_slices c.args.copies.now)) c.requires in
     let short : AreShort copies = c.are_short.ensures.0 c.if-not-are_short.false in
-    (c.parts_can_be_searched.ensures copies (parts_of c.in_ok-more.more.parts.items) c.in_ok-more.ensures.found.are_parts some short).0
+    (c.parts_can_be_searched.ensures copies c.in_ok-more.more.parts c.in_ok-more.ensures.found.are_parts some short).0
 
 pub returns-clause-small : goal.returns-clause-small
 returns-clause-small g c =
     let copies : List (List ℕ) = bytes_of c.args.copies.now in
     let some : 0 < length copies = subst (λ n. 0 < n) (sym (count_of_slices c.args.copies.now)) c.requires in
     let short : AreShort copies = c.are_short.ensures.0 c.if-not-are_short.false in
-    first_is_short copies (parts_of c.in_ok-more.more.parts.items) c.in_ok-more.ensures.found.are_parts some short
+    first_is_short copies c.in_ok-more.more.parts c.in_ok-more.ensures.found.are_parts some short
 
 pub returns-then-not-are_short-clause-reported_some : goal.returns-then-not-are_short-clause-reported_some
 returns-then-not-are_short-clause-reported_some g c =
@@ -43,7 +43,7 @@ complete_by_groups-requires-clause-searched g c =
     let found = c.in_ok-found.found in
     let h = c.in_ok-found.ensures.searched in
     let s = made_under found.copies.ceiling found.copies.searched in
-    (searched_made c.args.options (parts_of found.copies.parts.items) s h.they_are.0 h.events h.they_are.1).came_to
+    (searched_made c.args.options found.copies.parts s h.they_are.0 h.events h.they_are.1).came_to
 
 pub returns-clause-searched : goal.returns-clause-searched
 returns-clause-searched g c =
@@ -57,9 +57,9 @@ returns-clause-searched g c =
       choices = sym e.kept i;
       is_used_up = sym e.used_up i;
     } in
-    subst (λ ps. GrewBy (HasChosenLimit c.args.options (parts_of ps) (search_of more.ceiling (found_of more) more.tries) found.cut_limit)
+    subst (λ ps. GrewBy (HasChosenLimit c.args.options ps (search_of more.ceiling (found_of more) more.tries) found.cut_limit)
     (g.E.Device.history c.args.faults.now) (g.E.Device.history c.search_and_tell.new.faults)) (sym e.parts_kept)
-    (subst (λ (s : SearchMade). GrewBy (HasChosenLimit c.args.options (parts_of found.copies.parts.items) s found.cut_limit)
+    (subst (λ (s : SearchMade). GrewBy (HasChosenLimit c.args.options found.copies.parts s found.cut_limit)
     (g.E.Device.history c.args.faults.now) (g.E.Device.history c.search_and_tell.new.faults)) same c.in_ok-found.ensures.searched)
 
 pub returns-in_err-more-clause-reported_some : goal.returns-in_err-more-clause-reported_some
@@ -68,7 +68,7 @@ returns-in_err-more-clause-reported_some g c =
     let options = c.args.options in
     let before = g.E.Device.history c.args.faults.now in
     let now = g.E.Device.history c.search_and_tell.new.faults in
-    let parts = parts_of found.copies.parts.items in
+    let parts = found.copies.parts in
     let s = made_under found.copies.ceiling found.copies.searched in
     on_err_anyway _ (GrewBy (ReportedUpTo options.tries options.tells) before now)
     (grew_as (HasChosenLimit options parts s found.cut_limit) (ReportedUpTo options.tries options.tells) before now

@@ -1,7 +1,7 @@
 use Rattle.std.proofs.Common.{◌≡◌, ℕ, List, [], ◌++◌, drop, Vec, Global, Bor, ap, refl, sym, ◌∙◌, subst}
 use Rattle.std.specs.Prelude.{◌↔◌, IsTrue, codes, option_map, if◌then◌else◌}
 use Rattle.std.specs.Str.{bytes_eq}
-use Rattle.jls_diff.specs.PartsOf.{bytes_of, parts_of}
+use Rattle.jls_diff.specs.PartsOf.{bytes_of}
 use Rattle.jls_report.specs.Report.{report_of}
 use Rattle.jls_report.specs.ReportText.{report_text}
 use Rattle.jls_search.specs.Search.{files_of, lists_of}
@@ -23,7 +23,7 @@ pub returns-clause-texts : goal.returns-clause-texts
 returns-clause-texts c = λ searches lone.
     let found = c.args.all.now.splices in
     let limit = c.args.all.now.cut_limit in
-    let parts = parts_of found.parts.items in
+    let parts = found.parts in
     let lists = lists_of found.splices.items in
     let copies = bytes_of c.args.copies.now in
     let options = c.args.task.now.options in
@@ -32,7 +32,7 @@ returns-clause-texts c = λ searches lone.
     let name_asked = option_map (λ (s : Bor (List ℕ)). s.now) options.file in
     let single = option_map (λ (f : Vec ℕ Global). f.items) file in
     let new : c.in_ok-splices.splices ≡ count_new copies (splices_in (found_of found)) =
-    c.in_ok-splices.ensures ∙ (λ i. count_new copies (files_of (parts_of (c.deref-3.ensures.value i)) (lists_of (c.deref-4.ensures.value i))))
+    c.in_ok-splices.ensures ∙ (λ i. count_new copies (files_of parts (lists_of (c.deref-2.ensures.value i))))
     ∙ ap (count_new copies) c.requires.splices in
     let groups : c.groups_reported.result ≡ groups_reported (found_of found).by_groups = c.groups_reported.ensures (drop found.whole lists) in
     let before : c.cut_end.result ≡ option_map (cut_end parts limit) (option_map (λ (v : Vec ℕ Global). v.items) cut) =
@@ -41,7 +41,7 @@ returns-clause-texts c = λ searches lone.
     c.lacks_file.ensures ∙ sym (lacks_maps (λ (s : Bor (List ℕ)). s.now) (λ (f : Vec ℕ Global). f.items) options.file file) in
     let numbered = c.in_ok-numbered.numbered.items in
     let files : c.files_reported.result ≡ files_reported (option_map (λ (s : Bor (List ℕ)). s.now) options.files) (named_files numbered) =
-    c.files_reported.ensures ∙ (λ i. files_reported options.files (c.deref-5.ensures.value i))
+    c.files_reported.ensures ∙ (λ i. files_reported options.files (c.deref-3.ensures.value i))
     ∙ sym (reported_maps (λ (s : Bor (List ℕ)). s.now) named_file options.files numbered) in
     let name = c.args.task.now.out.now in
     let reported : SearchReport = record {
@@ -77,7 +77,7 @@ returns-clause-texts c = λ searches lone.
     record {
       lines_are = c.in_ok-lines.ensures
           ∙ (λ i. if bytes_eq name (codes "-") then []
-          else found_text (differences (parts_of (c.deref-6.ensures.value i))) (report i) ++ report_text (report_of (c.partial-partial.ensures i)));
+          else found_text (differences parts) (report i) ++ report_text (report_of (c.partial-partial.ensures i)));
       notes_are = c.in_ok-notes.ensures ∙ (λ i. if bytes_eq name (codes "-") then noted_text (report i) else []);
       text_is = c.in_ok-text.ensures ∙ ap text c.partial-partial.ensures;
       file_is = refl;
@@ -94,8 +94,8 @@ returns-clause-single c =
     let copies = bytes_of c.args.copies.now in
     let options = c.args.task.now.options in
     let single = option_map (λ (f : Vec ℕ Global). f.items) c.in_ok-file.file in
-    let splices : files_of (parts_of c.deref.result.now) (lists_of c.deref-2.result.now) ≡ splices_in (found_of found) =
-    (λ i. files_of (parts_of (c.deref.ensures.value i)) (lists_of (c.deref-2.ensures.value i))) ∙ c.requires.splices in
+    let splices : files_of found.parts (lists_of c.deref.result.now) ≡ splices_in (found_of found) =
+    (λ i. files_of found.parts (lists_of (c.deref.ensures.value i))) ∙ c.requires.splices in
     single_maps (λ (s : Bor (List ℕ)). s.now) options.file (copies ++ splices_in (found_of found)) single
     (subst (λ (xs : List (List ℕ)). IsSingleAsked options.file (copies ++ xs) single) splices c.in_ok-file.ensures)
 
@@ -105,6 +105,6 @@ returns-clause-named c =
     let copies = bytes_of c.args.copies.now in
     let options = c.args.task.now.options in
     let named = named_files c.in_ok-numbered.numbered.items in
-    let splices : files_of (parts_of c.deref.result.now) (lists_of c.deref-2.result.now) ≡ splices_in (found_of found) =
-    (λ i. files_of (parts_of (c.deref.ensures.value i)) (lists_of (c.deref-2.ensures.value i))) ∙ c.requires.splices in
+    let splices : files_of found.parts (lists_of c.deref.result.now) ≡ splices_in (found_of found) =
+    (λ i. files_of found.parts (lists_of (c.deref.ensures.value i))) ∙ c.requires.splices in
     subst (λ (xs : List (List ℕ)). AreNamedAsked (option_map (λ (s : Bor (List ℕ)). s.now) options.files) (copies ++ xs) named) splices c.in_ok-numbered.ensures

@@ -1,7 +1,6 @@
 use Rattle.std.proofs.Common.{◌≡◌, ◌<◌, length, arith}
 use Rattle.jls_io.specs.Event.{GrewBy}
 use Rattle.jls_io.proofs.Growing.{grew_as}
-use Rattle.jls_diff.specs.PartsOf.{parts_of}
 use Rattle.jls_search.specs.Search.{IsSearch, Tried, lists_of}
 use Rattle.jls_splice_run.specs.Telling.{GoesOn, TellsLine}
 use Rattle.jls_splice_run.proofs.Rounds.{on_ok, on_ok_anyway, went_on}
@@ -11,7 +10,7 @@ pub next_pause-pause-requires : goal.next_pause-pause-requires
 next_pause-pause-requires g c = c.requires.can.1
 
 pub returns-clause-stands : goal.returns-clause-stands
-returns-clause-stands g c = on_ok_anyway c.tell.result (IsSearch (parts_of c.args.parts.now) c.go_on.new.self) c.in_ok-go_on.ensures.stands
+returns-clause-stands g c = on_ok_anyway c.tell.result (IsSearch c.args.parts.now c.go_on.new.self) c.in_ok-go_on.ensures.stands
 
 pub returns-clause-fewer : goal.returns-clause-fewer
 returns-clause-fewer g c =
@@ -29,7 +28,7 @@ returns-clause-reported g c =
     let h' = history c.tell.new.faults in
     on_ok c.tell.result (GrewBy tells h h') (GrewBy (GoesOn options old new) h h')
     (grew_as tells (GoesOn options old new) h h'
-    (λ events reported. went_on (parts_of c.args.parts.now) options old new c.next_pause-pause.result c.next_pause-pause.ensures c.requires.can c.in_ok-go_on.ensures.stops c.in_ok-go_on.ensures.went events reported))
+    (λ events reported. went_on c.args.parts.now options old new c.next_pause-pause.result c.next_pause-pause.ensures c.requires.can c.in_ok-go_on.ensures.stops c.in_ok-go_on.ensures.went events reported))
     c.tell.ensures.reported
 
 pub returns-clause-ceiling : goal.returns-clause-ceiling
@@ -38,4 +37,4 @@ returns-clause-ceiling g c =
 
 pub returns-clause-tried : goal.returns-clause-tried
 returns-clause-tried g c =
-    on_ok_anyway c.tell.result (Tried (parts_of c.args.parts.now) c.args.walk.now c.go_on.new.self) c.in_ok-go_on.ensures.went.tried
+    on_ok_anyway c.tell.result (Tried c.args.parts.now c.args.walk.now c.go_on.new.self) c.in_ok-go_on.ensures.went.tried

@@ -1,6 +1,5 @@
 use Rattle.std.proofs.Common.{ℕ, length, Vec, Global, sym, ap, ◌∙◌, subst, arith, inl, inr}
 use Rattle.jls_io.proofs.Growing.{grew_as}
-use Rattle.jls_diff.specs.PartsOf.{parts_of}
 use Rattle.jls_search.specs.Faultless.{IsSought}
 use Rattle.jls_search.specs.Search.{CameTo, lists_of}
 use Rattle.jls_search.proofs.Walks.{used_up}
@@ -11,7 +10,7 @@ pub returns-clause-is_made : goal.returns-clause-is_made
 returns-clause-is_made g c =
     let walk = c.in_ok-walk.walk in
     let options = c.args.options in
-    let parts = parts_of c.args.parts.now in
+    let parts = c.args.parts.now in
     let same = c.into_searched.ensures in
     let were = c.in_ok-walk.ensures.tried in
     record {

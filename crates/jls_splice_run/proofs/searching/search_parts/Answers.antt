@@ -1,7 +1,6 @@
 use Rattle.std.proofs.Common.{◌≡◌, List, [], length, sym, ap, ◌∙◌, subst, arith}
 use Rattle.jls_io.specs.Event.{Event, GrewBy}
 use Rattle.jls_io.proofs.Growing.{grew_as, grew_not, grew_on}
-use Rattle.jls_diff.specs.PartsOf.{parts_of}
 use Rattle.jls_search.specs.Search.{lists_of, nothing}
 use Rattle.jls_search.specs.declared.whole_search.WholeSearch.{WholeSearch}
 use Rattle.jls_splice_run.specs.Telling.{GoesOn, HasReported, IsReported, ReportedSome}
@@ -48,7 +47,7 @@ loop-alloc-preserved g c =
         so_far.0,
         so_far.1,
         so_far.2,
-        tried_on (parts_of c.args.parts.now) so_far.0 c.loop-alloc.walk c.go_on.new.walk so_far.3 c.in_ok-go_on.ensures.tried,
+        tried_on c.args.parts.now so_far.0 c.loop-alloc.walk c.go_on.new.walk so_far.3 c.in_ok-go_on.ensures.tried,
         so_far.4,
       );
       reported = grew_on (HasReported c.args.options c.loop-alloc.walk) (GoesOn c.args.options c.loop-alloc.walk c.go_on.new.walk) (HasReported c.args.options c.go_on.new.walk)

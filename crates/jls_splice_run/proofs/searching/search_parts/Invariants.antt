@@ -1,6 +1,5 @@
 use Rattle.std.proofs.Common.{◌≡◌, ◌-◌}
 use Rattle.jls_io.specs.Event.{GrewBy}
-use Rattle.jls_diff.specs.PartsOf.{parts_of}
 use Rattle.jls_search.specs.Search.{IsSearch}
 use Rattle.jls_splice_run.specs.Telling.{HasReported, WasBegun}
 use Rattle.jls_splice_run.proofs.searching.search_parts.Given as goal
@@ -9,9 +8,9 @@ abbrev pub invariant-loop-alloc : goal.invariant-loop-alloc
 invariant-loop-alloc g l =
     let history = g.E.Device.history in
     record {
-      stands : IsSearch (parts_of l.parts) l.walk;
+      stands : IsSearch l.parts l.walk;
       ceiling : l.walk.judge.ceiling ≡ l.options.ceiling;
-      tried : WasBegun l.options.ceiling (parts_of l.parts) l.walk;
+      tried : WasBegun l.options.ceiling l.parts l.walk;
       reported : GrewBy (HasReported l.options l.walk) (history l.fn.faults) (history l.faults);
     }
 

@@ -2,7 +2,7 @@ use Rattle.std.proofs.Common.{List, ℕ, Vec, Global, Option, inl, inr, refl, sy
 use Rattle.std.specs.Prelude.{IfNone, IfSome}
 use Rattle.jls_station.specs.CopyFiles.{copies_of}
 use Rattle.jls_station.specs.declared.station.Station.{Station}
-use Rattle.jls_diff.specs.PartsOf.{bytes_of, parts_of}
+use Rattle.jls_diff.specs.PartsOf.{bytes_of}
 use Rattle.jls_search.specs.Choices.{prefix_of}
 use Rattle.jls_search.specs.Cuts.{TakesNoCut}
 use Rattle.jls_search.specs.Files.{splices_found}
@@ -18,13 +18,13 @@ returns-in-Ok-clause-cut c =
     elim c.match-cut.branch [
       | in_default w ↦ inl (sym w.in_default.is)
       | in-Some+in-Ok-None w ↦
-          (let nothing : TakesNoCut (bytes_of files.copies.now) splices (prefix_of (parts_of files.parts.now) w.deref.result.now) =
-          subst (λ (o : Option Station). IfNone o (TakesNoCut (bytes_of files.copies.now) splices (prefix_of (parts_of files.parts.now) w.deref.result.now)))
+          (let nothing : TakesNoCut (bytes_of files.copies.now) splices (prefix_of files.parts.now w.deref.result.now) =
+          subst (λ (o : Option Station). IfNone o (TakesNoCut (bytes_of files.copies.now) splices (prefix_of files.parts.now w.deref.result.now)))
           w.in-Ok-None.field-0-is w.in-Ok-None.ensures.nothing in
-          let same = subst (λ (xs : List (List ℕ)). TakesNoCut xs splices (prefix_of (parts_of files.parts.now) w.deref.result.now)) c.requires.copies nothing in
-          let path = subst (λ (p : List ℕ). TakesNoCut copies splices (prefix_of (parts_of files.parts.now) p)) w.deref.ensures.value same in
+          let same = subst (λ (xs : List (List ℕ)). TakesNoCut xs splices (prefix_of files.parts.now w.deref.result.now)) c.requires.copies nothing in
+          let path = subst (λ (p : List ℕ). TakesNoCut copies splices (prefix_of files.parts.now p)) w.deref.ensures.value same in
           inr (
             refl,
-            subst (λ (o : Option (Vec ℕ Global)). IfSome o (λ path. TakesNoCut copies splices (prefix_of (parts_of files.parts.now) path.items))) (sym w.in-Some.is) path,
+            subst (λ (o : Option (Vec ℕ Global)). IfSome o (λ path. TakesNoCut copies splices (prefix_of files.parts.now path.items))) (sym w.in-Some.is) path,
           ))
     ]

@@ -1,6 +1,5 @@
 use Rattle.std.proofs.Common.{◌≡◌, ℕ, List, [], ◌∷◌, ◌++◌, Vec, Global, take, sym, ap, ◌∙◌, subst, append_assoc, arith}
 use Rattle.std.proofs.lemmas.List.{take_all}
-use Rattle.jls_diff.specs.PartsOf.{parts_of}
 use Rattle.jls_search.specs.Choices.{IsPath, prefix_of}
 use Rattle.jls_search.specs.Search.{files_of, lists_of}
 use Rattle.jls_search.proofs.Members.{splices_one_more, whole_at}
@@ -9,14 +8,14 @@ use Rattle.jls_splice_run.proofs.single.with_splices.Goals as goal
 
 pub file_of-requires : goal.file_of-requires
 file_of-requires c =
-    let ps = parts_of c.args.parts.now in
+    let ps = c.args.parts.now in
     let v = c.choices-item.result in
     let w = whole_at ps c.args.splices.now c.loop-choices.choices-index v v c.requires c.loop-choices-test.true c.choices-item.is in
     subst (IsPath ps) (sym c.deref.ensures.value) w.0
 
 pub loop-choices-preserved : goal.loop-choices-preserved
 loop-choices-preserved c = λ files seen.
-    let ps = parts_of c.args.parts.now in
+    let ps = c.args.parts.now in
     let vs = c.args.splices.now in
     let i = c.loop-choices.choices-index in
     let v = c.choices-item.result in
@@ -30,5 +29,5 @@ loop-choices-preserved c = λ files seen.
 
 pub returns : goal.returns
 returns c = λ files seen.
-    subst (λ (vs : List (Vec ℕ Global)). AreSeenSo (files ++ files_of (parts_of c.args.parts.now) (lists_of vs)) c.loop-choices.faultless)
+    subst (λ (vs : List (Vec ℕ Global)). AreSeenSo (files ++ files_of c.args.parts.now (lists_of vs)) c.loop-choices.faultless)
     (take_all c.loop-choices.choices-index c.args.splices.now (omega (arith, c.loop-choices-test.false))) (c.loop-choices.invariant files seen)

@@ -1,5 +1,4 @@
 use Rattle.std.proofs.Common.{ℕ, List, ◌++◌, take}
-use Rattle.jls_diff.specs.PartsOf.{parts_of}
 use Rattle.jls_search.specs.Search.{files_of, lists_of}
 use Rattle.jls_splice_run.specs.Single.{AreSeenSo}
 use Rattle.jls_splice_run.proofs.single.with_splices.Given as goal
@@ -7,4 +6,4 @@ use Rattle.jls_splice_run.proofs.single.with_splices.Given as goal
 abbrev pub invariant-loop-choices : goal.invariant-loop-choices
 invariant-loop-choices l =
     (files : List (List ℕ)) → AreSeenSo files l.fn.copies
-    → AreSeenSo (files ++ files_of (parts_of l.parts) (lists_of (take l.choices-index l.splices))) l.faultless
+    → AreSeenSo (files ++ files_of l.parts (lists_of (take l.choices-index l.splices))) l.faultless

@@ -11,14 +11,12 @@ use Rattle.jls_splice_tests.proofs.stations.outcome_of.Goals as goal
 pub settle_files-requires-clause-whole : goal.settle_files-requires-clause-whole
 settle_files-requires-clause-whole c =
     let found = c.in_ok-found.found in
-    subst (λ ps. AllByRecursion (IsWhole (parts_of ps)) (lists_of c.deref-2.result.now)) (sym c.deref.ensures.value)
-    (subst (λ (vs : List (Vec ℕ Global)). AllByRecursion (IsWhole (parts_of found.parts.items)) (lists_of vs)) (sym c.deref-2.ensures.value)
-    (whole_of_found (IsSought None) (parts_of found.parts.items) (lists_of found.searched.splices.items) c.in_ok-found.ensures.searched.files))
+    subst (λ (vs : List (Vec ℕ Global)). AllByRecursion (IsWhole found.parts) (lists_of vs)) (sym c.deref.ensures.value)
+    (whole_of_found (IsSought None) found.parts (lists_of found.searched.splices.items) c.in_ok-found.ensures.searched.files)
 
 pub settle_files-requires-clause-short : goal.settle_files-requires-clause-short
 settle_files-requires-clause-short c =
     let some : 0 < length c.args.copies.now = search rules in
     let yes : IsTrue c.are_short.result = search rules in
-    subst (λ ps. IsShort (parts_of ps)) (sym c.deref.ensures.value)
-    (short_of_found c.parts_can_be_searched.ensures c.args.copies.now (parts_of c.in_ok-found.found.parts.items) c.in_ok-found.ensures.parts
-    some (c.are_short.ensures.0 yes))
+    short_of_found c.parts_can_be_searched.ensures c.args.copies.now c.in_ok-found.found.parts c.in_ok-found.ensures.parts some
+    (c.are_short.ensures.0 yes)

@@ -1,6 +1,5 @@
 use Rattle.std.proofs.Common.{◌≡◌, ℕ, Bool, true, List, refl, sym, ◌∙◌, subst, arith, inl, inr}
 use Rattle.jls_diff.specs.Parts.{Part}
-use Rattle.jls_diff.specs.PartsOf.{parts_of}
 use Rattle.jls_search.specs.Faultless.{IsSought}
 use Rattle.jls_search.specs.Search.{CanGoOn, GoesOn, StandsAt, lists_of, nothing, one_more}
 use Rattle.jls_search.specs.declared.whole_search.WholeSearch.{WholeSearch}
@@ -18,7 +17,7 @@ pub try_next-requires-clause-stands : goal.try_next-requires-clause-stands
 try_next-requires-clause-stands c =
     let can = c.can_go_on.ensures.0 c.loop-alloc-test.true in
     let s = c.loop-alloc.self in
-    stands_at (IsSought s.judge.ceiling) (parts_of c.args.parts.now) s.path.items (lists_of s.splices.items) s.goes_on can.0 c.loop-alloc.invariant.stands.0
+    stands_at (IsSought s.judge.ceiling) c.args.parts.now s.path.items (lists_of s.splices.items) s.goes_on can.0 c.loop-alloc.invariant.stands.0
 
 pub try_next-requires-clause-kept : goal.try_next-requires-clause-kept
 try_next-requires-clause-kept c = c.loop-alloc.invariant.stands.2

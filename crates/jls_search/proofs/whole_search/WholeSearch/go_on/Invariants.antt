@@ -1,13 +1,12 @@
 use Rattle.std.proofs.Common.{◌≡◌, ◌-◌, ◌<◌, ◌≤◌, ◌⊎◌, length}
 use Rattle.std.specs.Prelude.{max}
-use Rattle.jls_diff.specs.PartsOf.{parts_of}
 use Rattle.jls_search.specs.Search.{IsSearch, Tried, lists_of}
 use Rattle.jls_search.proofs.whole_search.WholeSearch.go_on.Given as goal
 
 abbrev pub invariant-loop-alloc : goal.invariant-loop-alloc
 invariant-loop-alloc l = record {
-  stands : IsSearch (parts_of l.parts) l.self;
-  tried : Tried (parts_of l.parts) l.fn.self l.self;
+  stands : IsSearch l.parts l.self;
+  tried : Tried l.parts l.fn.self l.self;
   tries : l.fn.self.tries ≤ l.self.tries;
   files : length (lists_of l.fn.self.splices.items) ≤ length (lists_of l.self.splices.items);
   ceiling : l.self.judge.ceiling ≡ l.fn.self.judge.ceiling;

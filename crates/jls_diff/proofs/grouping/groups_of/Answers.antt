@@ -2,7 +2,7 @@ use Rattle.std.proofs.Common.{◌≤◌, length, arith}
 use Rattle.std.proofs.lemmas.List.{length-map}
 use Rattle.jls_diff.specs.PartsOf.{part_of, parts_of}
 use Rattle.jls_diff.proofs.GroupSteps.{found_all, are_groups, groups_cover}
-use Rattle.jls_diff.proofs.grouping.find_groups.Goals as goal
+use Rattle.jls_diff.proofs.grouping.groups_of.Goals as goal
 
 pub returns-clause-groups : goal.returns-clause-groups
 returns-clause-groups c =
