@@ -1,9 +1,12 @@
 //! Callers of stations that take copies and partial pictures.
 
-ghost use Rattle.std.specs.Prelude.{◌≡◌, ◌++◌, ◌∷◌, [], List, OnOk, IfOk, IfErr, IsErrOf};
+ghost use Rattle.std.specs.Prelude.{◌≡◌, ◌++◌, ◌∷◌, ◌⊎◌, [], List, OnOk, IfOk, IfErr, IsErrOf};
 ghost use Rattle.jls_io.specs.Event.{GrewBy, bytes_given};
 ghost use Rattle.jls_values.specs.declared.merge.MergeFault.TheVariants.{ShapeDiffers, OutOfMemory};
 ghost use Rattle.jls_station.specs.declared.take_copy.TakeFault.TheVariants as TakeFault;
+ghost use Rattle.jls_partial.specs.Partial.{PartialPicture};
+ghost use Rattle.jls_station.specs.Given.{CopyReport};
+ghost use Rattle.jls_station.specs.TakingCopies.{CopyGives};
 ghost use Rattle.jls_headline.specs.Collected.{Collected};
 ghost use Rattle.jls_headline.specs.Sources.{SourcedCopy, sourced_copy};
 
@@ -41,6 +44,11 @@ pub fn take_next<S: Source>(
     ensures ran_out { (copies over : List SourcedCopy) → Collected station.old copies over
         → IfErr result (λ fault. fault ≡ TakeFault.OutOfMemory → GrewBy
         (λ reads. Collected station.new copies (over ++ sourced_copy source (bytes_given reads) ∷ []))
+        (S.history device.old) (S.history device.new)) }
+    // If memory ran out before all of the copy was read, the history goes on as if the call had not been made.
+    ensures ran_out_early { (copies over : List SourcedCopy) → Collected station.old copies over
+        → IfErr result (λ fault. fault ≡ TakeFault.OutOfMemory → GrewBy
+        (λ reads. Collected station.new copies over ⊎ ((p : PartialPicture) × (report : CopyReport) × CopyGives source p report reads))
         (S.history device.old) (S.history device.new)) }
 {
     station.take_copy(source, device)

@@ -46,7 +46,7 @@ pub fn take_its_text(
     station.take_text(bytes)
 }
 
-/// A station refuses a text that was cut short.
+/// A station is given a text that was cut short. If it refuses that, its history goes on.
 pub fn take_cut_text(
     station: &mut Station,
     other: &Station,

@@ -19,7 +19,8 @@ use jls_station::Station;
 use jls_write::{Options, Picture, write_jls};
 use std::alloc::Global;
 
-/// Writes the picture of a station as JPEG-LS, if each line is settled and the options fit. It answers whether the sink took all of it.
+/// Writes the picture of a station as JPEG-LS, if each line is settled and the options fit. If it answers true, the sink
+/// took all of it.
 pub fn write_station<W: Sink>(
     alloc: Global,
     station: &Station,

@@ -11,13 +11,14 @@ use jls_write::{Picture, pictures_are_whole};
 
 /// A law, the one that this product is trusted for. It speaks of stations for which public calls read copies (`Collected`).
 ///
-/// For two stations of one shape, calls read the same copies, in any order and with any repeats. Then both hold exactly the readings that
-/// these copies give, and so the same ones. Two calls of `write_jls` under equal options hand the same bytes to their sinks, and two of
-/// `write_pnm` do. Two reports have the same text. If the copies were read under the same sources, the stations are equal, and so are the
-/// bytes of two calls of `to_bytes`. This is said of calls that answer Ok.
+/// For two stations of one shape, calls read the same copies, in any order and with any repeats. A copy for which memory ran out was read
+/// again. Then both hold exactly the readings that these copies give, and so the same ones. Two calls of `write_jls` under equal options
+/// hand the same bytes to their sinks, and two of `write_pnm` do. Two reports have the same text. If the copies were read under the same
+/// sources, the stations are equal, and so are the bytes of two calls of `to_bytes`. This is said of calls that answer Ok.
 ///
 /// Now let calls read damaged copies of one picture alone, in some of which each line survives. Then each line of the station is settled,
-/// as the picture's. `Picture::of` answers the picture. What `write_jls` hands to its sink reads as that picture and as no other.
+/// as the picture's. `Picture::of` answers the picture. Under options that fit, what `write_jls` hands to its sink reads as that picture
+/// and as no other.
 ///
 /// A damaged copy may have lost whole restart intervals, fewer than eight restart markers in a row before one that is seen. The markers
 /// that are seen must be true ones. No piece may decode to other lines than the picture's, even if it is damaged or a header before it

@@ -20,9 +20,9 @@ pub fn never_another_picture()
     ensures { NeverAnotherPicture }
 {}
 
-/// A law: restart markers number the pieces of a copy, and no piece gives another reading of one line than the picture's. Then the copy
-/// gives none. A damaged copy is such a copy at each line. So is one with the picture's frame whose pieces that have the line stand under
-/// true headers and were only truncated or extended.
+/// A law: restart markers number the pieces of a copy with the picture's frame, and no piece gives another reading of one line than the
+/// picture's. Then the copy gives none. A damaged copy is such a copy at each line. So is one with the picture's frame whose pieces that
+/// have the line stand under true headers and were only truncated or extended.
 pub fn damaged_copies_say_no_other()
     ensures at_line { DamagedAtSaysNoOther }
     ensures at_each { DamagedIsDamagedAtEach }

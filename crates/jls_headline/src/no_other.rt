@@ -9,9 +9,9 @@ pub fn settled_joins_are_the_picture()
     ensures { SettledJoinsAreThePicture }
 {}
 
-/// A law: a run of `write` is done. Each line of a picture survives in the copy that is its input, or stands in the text that is. Then its
-/// output was handed exactly the file of that picture. As JPEG-LS, with any restart interval, this file reads as that picture and no
-/// other.
+/// A law: a run of `write` is done. Each line of a picture survives in the copy that is its input, or stands in the text of its shape that
+/// is. Then its output was handed exactly the file of that picture. As JPEG-LS, with any restart interval, this file reads as that picture
+/// and no other.
 pub fn written_inputs_are_the_picture()
     ensures written { WrittenInputsAreThePicture }
     ensures reads { WrittenInputsReadAsThePicture }

@@ -11,7 +11,8 @@ pub fn trimmed_pieces_are_harmless()
     ensures first_lines { TrimmedPiecesHavePictureLines }
 {}
 
-/// A law: a copy that has only lost intervals and been trimmed is a damaged copy. So nothing has to be assumed of what its pieces read as.
+/// A law: a copy with the picture's frame that has only been trimmed and lost intervals, fewer than eight in a row, is a damaged copy. So
+/// nothing has to be assumed of what its pieces read as.
 pub fn trimmed_copies_are_damaged()
     ensures { TrimmedCopiesAreDamaged }
 {}

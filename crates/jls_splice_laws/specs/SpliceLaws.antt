@@ -36,9 +36,8 @@ SplicesGiveNoOther =
     → HoldsExactly station files
     × ((pic : WholePicture) → IsPicture pic → EachLineSurvives pic files → IsSettled station → picture_of station ≡ pic)
 
--- Where, at each part in which the copies are found to differ, some copy has what an undamaged file has there, that file is within the
--- ceiling, and the search found each splice that is sought: not each line of a station for which calls read the files taken is settled, or
--- they are that file's picture
+-- Where an undamaged file within the ceiling is a splice of the copies, and the search found each splice that is sought: not each line of a
+-- station for which calls read the files taken is settled, or they are that file's picture
 abbrev pub WholeSplicesGiveNoOther : Type 0
 WholeSplicesGiveNoOther =
     (ceiling : Option ℕ) (copies : List (List ℕ)) (parts : List Part) (shape : PictureShape) (files : List (List ℕ))
@@ -47,7 +46,7 @@ WholeSplicesGiveNoOther =
     → IsSplice (length copies) parts file
     → (station : PartialPicture) → ReadFiles station files → IsSettled station → picture_of station ≡ pic
 
--- What is taken of the copies and of what `search_copies` came to over them are files taken, each of which is a splice. Where its tries
+-- What is taken of the copies and of what `search` came to over them are files taken, each of which is a splice. Where its tries
 -- were not used up, each splice that is sought is among them
 abbrev pub SearchedFilesAreTaken : Type 0
 SearchedFilesAreTaken =
@@ -55,9 +54,8 @@ SearchedFilesAreTaken =
     (files : List (List ℕ)) → SearchTaken ceiling copies parts found is_used_up shape files
     → FilesTaken copies parts shape files × (is_used_up ≡ false → AllTaken ceiling copies parts shape files)
 
--- So, where the tries of `search_copies` were not used up: if some copy has, at each part in which the copies are found to differ, what
--- an undamaged file has there, and that file is within the ceiling, it is taken; and not each line of a station for which calls read the
--- files taken is settled, or they are that file's picture
+-- So, where the tries of `search` were not used up: if an undamaged file within the ceiling is a splice of the copies, it is taken;
+-- and not each line of a station for which calls read the files taken is settled, or they are that file's picture
 abbrev pub SearchedSplicesGiveNoOther : Type 0
 SearchedSplicesGiveNoOther =
     (ceiling : Option ℕ) (copies : List (List ℕ)) (parts : List Part) (found : List (List ℕ)) (shape : PictureShape)

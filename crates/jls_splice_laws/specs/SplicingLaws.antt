@@ -43,8 +43,8 @@ pub record WereSpliced (ceiling : Option ℕ) (copies : List (List ℕ)) (parts 
   pub shape_is : IsShapeTaken copies (files_of parts found) shape
   pub takes : TakesFiles source (copies ++ files_of parts found) (nothing_known shape) station
 
--- Where, at each part in which the copies are found to differ, some copy has what an undamaged file has there, and that file is within the
--- ceiling: not each line of the station is settled, or they are that file's picture
+-- Where an undamaged file within the ceiling is a splice of the copies: not each line of the station is settled, or they are that file's
+-- picture
 abbrev pub SplicedCopiesGiveNoOther : Type 0
 SplicedCopiesGiveNoOther =
     (ceiling : Option ℕ) (copies : List (List ℕ)) (parts : List Part) (source : Option ℕ) (station : PartialPicture)

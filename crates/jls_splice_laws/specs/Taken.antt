@@ -53,7 +53,7 @@ pub record AllTaken (ceiling : Option ℕ) (copies : List (List ℕ)) (parts : L
   pub files_taken : FilesTaken copies parts shape files
   pub each : HasEachSplice (IsSought ceiling) parts files_taken.found
 
--- the files taken, if what was found is what `search_copies` came to over the copies, under this ceiling
+-- the files taken, if what was found is what `search` came to over the copies, under this ceiling
 pub record SearchTaken (ceiling : Option ℕ) (copies : List (List ℕ)) (parts : List Part) (found : List (List ℕ)) (is_used_up : Bool)
     (shape : PictureShape) (files : List (List ℕ)) : Type 0 where
   pub some_copy : 0 < length copies

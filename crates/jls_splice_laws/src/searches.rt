@@ -5,7 +5,7 @@ ghost use Rattle.jls_splice_laws.specs.Searches.{SearchesFindSplices, SearchesLo
 use jls_copy::{final_ends_stay, prefixes_stay_broken};
 use jls_diff::splices_are_listed;
 
-/// A law: what a search through the parts finds are splices without a fault, and it finds all of them. It may give up a prefix whose
+/// A law: what a search as `Searched` defines it finds are splices without a fault, and it finds all of them. It may give up a prefix whose
 /// current piece is broken, or which has ended with a fault. It may skip a way whose bytes an earlier way has.
 pub fn searches_lose_nothing()
     ensures splices { SearchesFindSplices }

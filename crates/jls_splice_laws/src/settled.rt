@@ -15,8 +15,8 @@ pub fn whole_files_survive()
     ensures faultless { WholeFilesAreFaultless }
 {}
 
-/// A law: where the tries of the search were enough, each splice without a fault is among the files taken. What is taken of what
-/// `search_copies` of jls_search came to are files taken.
+/// A law: where the tries of the search were enough, each splice that is sought is among the files taken. What is taken of what
+/// `search` of jls_search came to over the copies are files taken.
 pub fn faultless_splices_are_taken()
     ensures taken { FaultlessSplicesAreTaken }
     ensures searched { SearchedFilesAreTaken }
@@ -25,8 +25,8 @@ pub fn faultless_splices_are_taken()
 }
 
 /// A law: a station for which public calls read the files taken holds exactly their readings. Where every line of a picture survives in
-/// them, it settles that picture or none. Let some copy have, at each part where the copies are found to differ, what an undamaged file has
-/// there. If the tries of the search are enough, what is settled is that file's picture and no other.
+/// them, it settles that picture or none. Let an undamaged file within the ceiling be a splice of the copies. If the tries of the search
+/// are enough, what is settled is that file's picture and no other.
 pub fn splices_give_no_other()
     ensures surviving { SplicesGiveNoOther }
     ensures all { WholeSplicesGiveNoOther }

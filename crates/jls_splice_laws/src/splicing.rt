@@ -13,9 +13,8 @@ pub fn files_are_held()
     collected_copies_are_held();
 }
 
-/// A law: assume that an undamaged file has, at each part in which the copies are found to differ, what some copy has there. Assume
-/// also that the tries of the search were not used up. If every line of the station that took the files is settled, the lines are that
-/// file's picture and no other.
+/// A law: assume that an undamaged file within the ceiling is a splice of the copies. Assume also that the tries of the search were not
+/// used up. If every line of the station that took the files is settled, the lines are that file's picture and no other.
 pub fn spliced_copies_give_no_other()
     ensures { SplicedCopiesGiveNoOther }
 {
