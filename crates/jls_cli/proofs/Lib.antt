@@ -1,4 +1,6 @@
 -- Lemmas of this crate.
+mod FaultLineExamples
+pub mod OutputSteps
 mod SalvageNumbers
 mod SalvageSimpleCommand
 pub mod SalvageWordsRead
@@ -8,4 +10,5 @@ mod SpliceSimpleCommand
 mod SpliceWordsRead
 mod SpliceWordsTakenExamples
 mod AnswerExamples
+mod StatusExamples
 mod RefusedWords

@@ -1,4 +1,7 @@
 -- What the contracts of this crate cite.
+pub mod FaultLines
+pub mod Outcomes
+pub mod Outputs
 pub mod SalvageAsking
 pub mod SalvageWords
 pub mod SpliceAsking
