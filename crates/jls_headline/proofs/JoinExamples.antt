@@ -29,7 +29,7 @@ use Rattle.jls_salvage_run.specs.Joining.{JoinIsDone}
 use Rattle.jls_salvage_run.specs.CommandLaws.{AreInputsOf, input_bytes}
 use Rattle.jls_station.specs.Reading.{IsRead, AreBytes}
 use Rattle.jls_station.specs.declared.input.ReadStop.TheVariants.{Whole}
-use Rattle.jls_salvage_run.specs.Outcomes.{finished}
+use Rattle.jls_cli.specs.Outcomes.{finished}
 use Rattle.jls_station.proofs.OneInput.{empty_goes_on}
 use Rattle.jls_salvage_run.specs.WritingFiles.{done}
 use Rattle.jls_salvage_run.specs.declared.writing.Format.TheVariants.{Pnm}

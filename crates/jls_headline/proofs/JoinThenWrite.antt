@@ -1,7 +1,6 @@
 -- What comes of a `write` whose input gives what a `join` of damaged copies handed to its output: the picture, read again.
 use Rattle.std.proofs.Common.{◌≡◌, ℕ, ◌-◌, ◌<◌, ◌≤◌, ◌^◌, ◌||◌, Bool, false, List, [], ◌∷◌, max, Option, Some, None, Ok, Err, refl, sym, ap}
 use Rattle.std.proofs.Common.{◌∙◌, subst, arith}
-use Rattle.std.specs.Borrow.{Bor}
 use Rattle.std.specs.Prelude.{nat_lt}
 use Rattle.std.proofs.lemmas.Bool.Decides.{nat_tests}
 use Rattle.std.proofs.lemmas.List.{append-nil}
@@ -23,11 +22,11 @@ use Rattle.jls_station.specs.Texts.{is_text}
 use Rattle.jls_station.specs.Given.{Given}
 use Rattle.jls_write.specs.WholePictures.{IsPicture}
 use Rattle.jls_salvage_run.specs.AllInputs.{partials, IsTaken, StopsAt, not_there, refused, other_shape, no_memory}
-use Rattle.jls_salvage_run.specs.Outputs as output
+use Rattle.jls_cli.specs.Outputs as output
 use Rattle.jls_salvage_run.specs.CommandLaws.{input_bytes, output_bytes}
-use Rattle.jls_salvage_run.specs.Outcomes.{Outcome, finished}
-use Rattle.jls_salvage_run.specs.declared.outcome.Refusal.{Refusal}
-use Rattle.jls_salvage_run.specs.declared.outcome.Refusal.TheVariants.{Unsettled}
+use Rattle.jls_cli.specs.Outcomes.{Outcome, finished, refusal_at}
+use Rattle.jls_cli.specs.declared.outcome.Refusal.{Refusal}
+use Rattle.jls_cli.specs.declared.outcome.Cause.TheVariants.{Unsettled}
 use Rattle.jls_salvage_run.specs.WritingFiles as writing
 use Rattle.jls_salvage_run.specs.WritingFiles.{file, FitsFormat, options_for, WritesFile, StopsAtFile}
 use Rattle.jls_salvage_run.specs.declared.writing.Format.{Format}
@@ -243,26 +242,26 @@ written_text_joins_read_as_the_picture pic joining j line ri low settled whole e
 -- Refusals -------------------------------------------------------------------------------------------------------
 
 IsUnsettledRefusal : Refusal → Type 0
-IsUnsettledRefusal r = (name : Bor (List ℕ)) × (id : ℕ) × (line : ℕ) × (disputed : Bool) × (r ≡ Unsettled name id line disputed)
+IsUnsettledRefusal r = (id : ℕ) × (line : ℕ) × (disputed : Bool) × (r.cause ≡ Unsettled id line disputed)
 
 not_at_input : (r : Refusal) (reading : List Event) → StopsAt None [] r reading → IsUnsettledRefusal r → ⊥
 unfolding IsUnsettledRefusal
-not_at_input _ _ (not_there _ _ n) (name, id, line, disputed, e) = cc
-not_at_input _ _ (refused _ _ n f reads h) (name, id, line, disputed, e) = cc
-not_at_input _ _ (other_shape _ _ n g events taken other) (name, id, line, disputed, e) = cc
-not_at_input _ _ (no_memory _ _ n g events taken same) (name, id, line, disputed, e) = cc
+not_at_input _ _ (not_there _ _ n) (id, line, disputed, e) = cc
+not_at_input _ _ (refused _ _ n f reads h) (id, line, disputed, e) = cc
+not_at_input _ _ (other_shape _ _ n g events taken other) (id, line, disputed, e) = cc
+not_at_input _ _ (no_memory _ _ n g events taken same) (id, line, disputed, e) = cc
 
-not_at_output : (bytes : List ℕ) (r : Refusal) (events : List Event) → output.StopsAtOutput bytes r events → IsUnsettledRefusal r → ⊥
+not_at_output : (name bytes : List ℕ) (r : Refusal) (events : List Event) → output.StopsAtOutput name bytes r events → IsUnsettledRefusal r → ⊥
 unfolding IsUnsettledRefusal
-not_at_output _ _ _ (output.not_there n bytes) (name, id, line, disputed, e) = cc
-not_at_output _ _ _ (output.cut n bytes count writes wrote) (name, id, line, disputed, e) = cc
+not_at_output _ _ _ _ (output.not_there named is) (id, line, disputed, e) = cc
+not_at_output _ _ _ _ (output.cut count writes named is wrote) (id, line, disputed, e) = cc
 
 not_at_file : (F L : Type 0) (takes : Bool) (bytes : List ℕ) (r : Refusal) (events : List Event) → StopsAtFile F L takes bytes r events
     → IsUnsettledRefusal r → ⊥
 unfolding IsUnsettledRefusal
-not_at_file F L takes _ _ _ (writing.too_large n bytes unfit) (name, id, line, disputed, e) = cc
-not_at_file F L takes _ _ _ (writing.at_output bytes r events fits stops) u = not_at_output bytes r events stops u
-not_at_file F L takes _ _ _ (writing.no_memory n bytes count writes fits is below wrote) (name, id, line, disputed, e) = cc
+not_at_file F L takes _ _ _ (writing.too_large n bytes unfit) (id, line, disputed, e) = cc
+not_at_file F L takes _ _ _ (writing.at_output bytes r events fits stops) u = not_at_output _ bytes r events stops u
+not_at_file F L takes _ _ _ (writing.no_memory n bytes count writes fits is below wrote) (id, line, disputed, e) = cc
 
 none_named : (p : PartialPicture) (fault : PictureFault) → IsSettled p → NamesFirstUnsettled p fault → ⊥
 none_named p (picture_fault.Unsettled component line) settled names =
@@ -291,9 +290,9 @@ refused_as_unsettled pic joining j _ _ _ _ _ (writing.at_file f out name r g rea
 pub written_joins_are_settled : WrittenJoinsAreSettled
 unfolding IsUnsettledRefusal IsRefusedFor
 written_joins_are_settled pic joining j f name id line disputed events w =
-    refused_as_unsettled pic joining (gave_of_copies pic joining j) f w.out w.name (Err (Unsettled name id line disputed)) events w.writes w.same_bytes (name, id, line, disputed, refl)
+    refused_as_unsettled pic joining (gave_of_copies pic joining j) f w.out w.name (Err (refusal_at name (Unsettled id line disputed))) events w.writes w.same_bytes (id, line, disputed, refl)
 
 pub written_text_joins_are_settled : WrittenTextJoinsAreSettled
 unfolding IsUnsettledRefusal IsRefusedFor
 written_text_joins_are_settled pic joining j f name id line disputed events w =
-    refused_as_unsettled pic joining (gave_of_texts pic joining j) f w.out w.name (Err (Unsettled name id line disputed)) events w.writes w.same_bytes (name, id, line, disputed, refl)
+    refused_as_unsettled pic joining (gave_of_texts pic joining j) f w.out w.name (Err (refusal_at name (Unsettled id line disputed))) events w.writes w.same_bytes (id, line, disputed, refl)

@@ -5,7 +5,7 @@ use Rattle.jls_io.specs.Event.{Event}
 use Rattle.jls_write.specs.Picture.{WholePicture, picture_of}
 use Rattle.jls_write.specs.WholePictures.{IsPicture}
 use Rattle.jls_salvage_run.specs.CommandLaws.{input_bytes}
-use Rattle.jls_salvage_run.specs.Outcomes.{finished}
+use Rattle.jls_cli.specs.Outcomes.{finished}
 use Rattle.jls_salvage_run.specs.WritingFiles.{file}
 use Rattle.jls_salvage_run.specs.declared.writing.Format.{Format}
 use Rattle.jls_salvage_run.specs.declared.writing.Format.TheVariants.{Jls}

@@ -7,8 +7,8 @@ use Rattle.jls_io.specs.Event.{Event}
 use Rattle.jls_write.specs.Picture.{WholePicture}
 use Rattle.jls_salvage_run.specs.Joining.{JoinIsDone}
 use Rattle.jls_salvage_run.specs.CommandLaws.{input_bytes, output_bytes}
-use Rattle.jls_salvage_run.specs.Outcomes.{Outcome, finished}
-use Rattle.jls_salvage_run.specs.declared.outcome.Refusal.TheVariants.{Unsettled}
+use Rattle.jls_cli.specs.Outcomes.{Outcome, finished, refusal_at}
+use Rattle.jls_cli.specs.declared.outcome.Cause.TheVariants.{Unsettled}
 use Rattle.jls_salvage_run.specs.WritingFiles.{file, WritesFile}
 use Rattle.jls_salvage_run.specs.declared.writing.Format.{Format}
 use Rattle.jls_salvage_run.specs.declared.writing.Format.TheVariants.{Jls}
@@ -77,7 +77,7 @@ abbrev pub WrittenJoinsAreSettled : Type 0
 WrittenJoinsAreSettled =
     (pic : WholePicture) (joining : List Event) → JoinsDamagedCopies pic joining
     → (format : Format) (name : Bor (List ℕ)) (id line : ℕ) (disputed : Bool) (writing : List Event)
-    → WritesWhatWasJoined joining format (Err (Unsettled name id line disputed)) writing → ⊥
+    → WritesWhatWasJoined joining format (Err (refusal_at name (Unsettled id line disputed))) writing → ⊥
 
 -- The same after a `join` with texts among its inputs -------------------------------------------------------------
 
@@ -101,4 +101,4 @@ abbrev pub WrittenTextJoinsAreSettled : Type 0
 WrittenTextJoinsAreSettled =
     (pic : WholePicture) (joining : List Event) → JoinsForDamagedCopies pic joining
     → (format : Format) (name : Bor (List ℕ)) (id line : ℕ) (disputed : Bool) (writing : List Event)
-    → WritesWhatWasJoined joining format (Err (Unsettled name id line disputed)) writing → ⊥
+    → WritesWhatWasJoined joining format (Err (refusal_at name (Unsettled id line disputed))) writing → ⊥

@@ -10,7 +10,7 @@ use Rattle.jls_write.specs.WholePictures.{IsPicture}
 use Rattle.jls_station.specs.Texts.{IsTextOf}
 use Rattle.jls_salvage_run.specs.Joining.{JoinIsDone}
 use Rattle.jls_salvage_run.specs.CommandLaws.{input_bytes, output_bytes}
-use Rattle.jls_salvage_run.specs.Outcomes.{finished}
+use Rattle.jls_cli.specs.Outcomes.{finished}
 use Rattle.jls_salvage_run.specs.WritingFiles.{file, WritesFile}
 use Rattle.jls_salvage_run.specs.declared.writing.Format.{Format}
 use Rattle.jls_salvage_run.specs.declared.writing.Format.TheVariants.{Jls}

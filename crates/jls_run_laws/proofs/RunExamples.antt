@@ -6,7 +6,7 @@ use Rattle.clap.proofs.OnLiterals.{clap_on_literals}
 use Rattle.jls_copy.specs.CopyReads.{CopyReads}
 use Rattle.jls_copy.specs.ReadCopy.{ReadCopy}
 use Rattle.jls_salvage_run.specs.Joining as joining
-use Rattle.jls_salvage_run.specs.Outcomes.{finished}
+use Rattle.jls_cli.specs.Outcomes.{finished}
 use Rattle.jls_cli.specs.SalvageAsking.{AskFor, join}
 use Rattle.jls_salvage_run.specs.Runs.{came_of}
 use Rattle.jls_headline.proofs.JoinExamples as runs

@@ -6,7 +6,7 @@ use Rattle.jls_partial.specs.Partial.{PartialPicture}
 use Rattle.jls_io.specs.Event.{Event, History}
 use Rattle.jls_write.specs.Picture.{WholePicture}
 use Rattle.jls_salvage_run.specs.Joining.{JoinIsDone}
-use Rattle.jls_salvage_run.specs.Outcomes.{finished}
+use Rattle.jls_cli.specs.Outcomes.{finished}
 use Rattle.jls_salvage_run.specs.WritingFiles as writing
 use Rattle.jls_salvage_run.specs.declared.writing.Format.{Format}
 use Rattle.jls_salvage_run.specs.declared.writing.Format.TheVariants.{Jls}

@@ -5,6 +5,7 @@
 
 use jls_host::{Guard, Program, run_program};
 use jls_io::{Desk, Sink};
+use jls_salvage_run::PROGRAM;
 use std::alloc::Global;
 use std::process::ExitCode;
 
@@ -13,7 +14,7 @@ struct Salvage;
 
 impl Program for Salvage {
     fn name() -> &'static str {
-        "jls-salvage"
+        PROGRAM
     }
 
     /// A join replaces no JPEG file.
@@ -39,7 +40,7 @@ impl Program for Salvage {
     }
 
     fn print_not_created<E: Sink>(faults: &mut E, name: &str) {
-        jls_salvage_run::print_not_created(faults, name);
+        jls_cli::print_not_created(faults, PROGRAM, name);
     }
 }
 

@@ -13,15 +13,16 @@ use Rattle.jls_station.specs.Inputs.{for_memory}
 use Rattle.jls_salvage_run.specs.AllInputs.{StopsAt, not_there, refused, other_shape, no_memory}
 use Rattle.jls_salvage_run.specs.Joining as joining
 use Rattle.jls_salvage_run.specs.Joining.{JoinIsDone, Joins}
-use Rattle.jls_salvage_run.specs.Outputs as outputs
-use Rattle.jls_salvage_run.specs.Outputs.{StopsAtOutput}
-use Rattle.jls_salvage_run.specs.Outcomes.{Outcome, exit_status, finished, name_of, status_of_done, status_of_input, status_of_refusal}
+use Rattle.jls_cli.specs.Outputs as outputs
+use Rattle.jls_cli.specs.Outputs.{StopsAtOutput}
+use Rattle.jls_cli.specs.Outcomes.{Outcome, exit_status, finished, status_of_cause, status_of_done, status_of_input}
 use Rattle.jls_station.specs.Reading.{IsRead}
 use Rattle.jls_station.specs.declared.input.ReadStop.{ReadStop}
 use Rattle.jls_station.specs.declared.input.InputFault.{InputFault}
 use Rattle.jls_station.specs.declared.input.InputFault.TheVariants as fault
-use Rattle.jls_salvage_run.specs.declared.outcome.Refusal.{Refusal}
-use Rattle.jls_salvage_run.specs.declared.outcome.Refusal.TheVariants as refusal
+use Rattle.jls_cli.specs.declared.outcome.Cause.{Cause}
+use Rattle.jls_cli.specs.declared.outcome.Refusal.{Refusal}
+use Rattle.jls_cli.specs.declared.outcome.Cause.TheVariants as cause
 use Rattle.jls_salvage_run.specs.Reporting as reporting
 use Rattle.jls_salvage_run.specs.Reporting.{PrintsReport, lines}
 use Rattle.jls_salvage_run.specs.WritingFiles as writing
@@ -43,15 +44,20 @@ input_at_most (fault.NoPicture f offset) = lit≤ tt
 input_at_most (fault.Read stop offset) = lit≤ tt
 input_at_most fault.OutOfMemory = lit≤ tt
 
-refusal_at_most : (r : Refusal) → status_of_refusal r ≤ 5
-refusal_at_most (refusal.NotOpened name) = lit≤ tt
-refusal_at_most (refusal.Input name f) = input_at_most f
-refusal_at_most (refusal.ShapeDiffers name) = lit≤ tt
-refusal_at_most (refusal.Unsettled name id line disputed) = lit≤ tt
-refusal_at_most (refusal.TooLarge name) = lit≤ tt
-refusal_at_most (refusal.NotCreated name) = lit≤ tt
-refusal_at_most (refusal.NotWritten name count) = lit≤ tt
-refusal_at_most (refusal.OutOfMemory name) = lit≤ tt
+cause_at_most : (c : Cause) → status_of_cause c ≤ 5
+cause_at_most cause.NotOpened = lit≤ tt
+cause_at_most (cause.Input f) = input_at_most f
+cause_at_most cause.PartialPicture = lit≤ tt
+cause_at_most (cause.NoPicture f offset) = lit≤ tt
+cause_at_most cause.NotRead = lit≤ tt
+cause_at_most cause.ShapeDiffers = lit≤ tt
+cause_at_most (cause.Unsettled id line disputed) = lit≤ tt
+cause_at_most cause.TooLarge = lit≤ tt
+cause_at_most cause.NotCreated = lit≤ tt
+cause_at_most (cause.NotWritten count) = lit≤ tt
+cause_at_most (cause.FileNotCreated number) = lit≤ tt
+cause_at_most (cause.FileNotWritten number count) = lit≤ tt
+cause_at_most cause.OutOfMemory = lit≤ tt
 
 done_at_most : (settled whole : Bool) → status_of_done settled whole ≤ 5
 done_at_most settled false = lit≤ tt
@@ -60,7 +66,7 @@ done_at_most false true = lit≤ tt
 
 outcome_at_most : (o : Outcome) → exit_status o ≤ 5
 outcome_at_most (Ok d) = done_at_most d.settled d.whole
-outcome_at_most (Err r) = refusal_at_most r
+outcome_at_most (Err r) = cause_at_most r.cause
 
 run_at_most : (words : List (List ℕ)) (status : ℕ) (desk report faults : List Event) → Run words status desk report faults → status ≤ 5
 run_at_most words _ _ _ _ (came_of _ asked outcome desk report faults reads came line) = outcome_at_most outcome
@@ -88,9 +94,9 @@ not_cut : (bytes : List ℕ) (count : ℕ) (events : List Event) → WrotePrefix
 not_cut bytes count events h fine =
     let last : true ≡ false = (parts_fine h.writes (write_failed ∷ []) (subst NothingElseFailed h.events_are fine)).1 in cc
 
-not_at_output : (bytes : List ℕ) (r : Refusal) (events : List Event) → StopsAtOutput bytes r events → NothingElseFailed events → ⊥
-not_at_output bytes _ _ (outputs.not_there _ _) fine = cc
-not_at_output bytes _ _ (outputs.cut _ _ count writes h) fine = not_cut bytes count writes h fine
+not_at_output : (name bytes : List ℕ) (r : Refusal) (events : List Event) → StopsAtOutput name bytes r events → NothingElseFailed events → ⊥
+not_at_output name bytes r _ (outputs.not_there _ _) fine = cc
+not_at_output name bytes r _ (outputs.cut count writes _ _ h) fine = not_cut bytes count writes h fine
 
 -- ---- one input
 
@@ -109,7 +115,7 @@ reads_unread name f reads (for_fault _ bytes stop _ is h) e = refused_unread nam
 reads_unread name _ reads (for_memory _ h) e = absurd (omega (arith, e))
 
 unread_at_input : (source : Option ℕ) (before : List Given) (r : Refusal) (events : List Event)
-    → StopsAt source before r events → status_of_refusal r ≡ 4 → NothingElseFailed events → IsUnread (name_of r) events
+    → StopsAt source before r events → status_of_cause r.cause ≡ 4 → NothingElseFailed events → IsUnread (r.name.now) events
 unread_at_input source before _ _ (not_there _ _ _) e fine = absurd cc
 unread_at_input source before _ _ (refused _ _ n f reads h) e fine = reads_unread n.now f reads h e
 unread_at_input source before _ _ (other_shape _ _ _ g events h other) e fine = absurd (omega (arith, e))
@@ -149,7 +155,7 @@ join_in_part source out names _ events (joining.at_input _ _ _ r _ h) e fine =
     let last = (parts_fine h.reading h.last (subst NothingElseFailed h.events_are fine)).1 in
     inr (record {
       before = h.before;
-      name = name_of r;
+      name = r.name.now;
       after = h.after;
       among = h.among;
       givens = h.givens;
@@ -160,8 +166,8 @@ join_in_part source out names _ events (joining.at_input _ _ _ r _ h) e fine =
       events_are = h.events_are;
     })
 join_in_part source out names _ events (joining.no_memory _ _ _ n p whole _ named h) e fine = absurd (omega (arith, e))
-join_in_part source out names _ _ (joining.at_output _ _ _ r p whole reading written named h stops) e fine =
-    absurd (not_at_output _ r written stops (parts_fine reading written fine).1)
+join_in_part source out names _ _ (joining.at_output _ _ _ r p whole reading written h stops) e fine =
+    absurd (not_at_output _ _ r written stops (parts_fine reading written fine).1)
 
 tell_in_part : (traced : Bool) (name : List ℕ) (outcome : Outcome) (events reported : List Event)
     → PrintsReport (lines traced) name outcome events reported → exit_status outcome ≡ 4 → NothingElseFailed events → NothingElseFailed reported
@@ -175,9 +181,9 @@ tell_in_part traced name _ events reported (reporting.not_printed _ n g count _ 
     absurd (not_cut (lines traced g) count reported wrote quiet)
 
 file_in_part : {P : Type 0} (F L : Type 0) (takes : Bool) (bytes : List ℕ) (r : Refusal) (events : List Event)
-    → StopsAtFile F L takes bytes r events → status_of_refusal r ≡ 4 → NothingElseFailed events → P
+    → StopsAtFile F L takes bytes r events → status_of_cause r.cause ≡ 4 → NothingElseFailed events → P
 file_in_part F L takes bytes _ _ (writing.too_large _ _ large) e fine = absurd (omega (arith, e))
-file_in_part F L takes bytes r _ (writing.at_output _ _ events fit h) e fine = absurd (not_at_output bytes r events h fine)
+file_in_part F L takes bytes r _ (writing.at_output _ _ events fit h) e fine = absurd (not_at_output _ bytes r events h fine)
 file_in_part F L takes bytes _ _ (writing.no_memory _ _ count writes fit is lt h) e fine = absurd (omega (arith, e))
 
 write_in_part : (format : Format) (out name : List ℕ) (outcome : Outcome) (events : List Event)

@@ -14,11 +14,10 @@ use Rattle.jls_station.specs.Given.{Given}
 use Rattle.jls_salvage_run.specs.AllInputs.{IsTaken, StopsAt, not_there, refused, other_shape, no_memory}
 use Rattle.jls_salvage_run.specs.Joining as joining
 use Rattle.jls_salvage_run.specs.Joining.{JoinIsDone, Joins}
-use Rattle.jls_salvage_run.specs.Outputs as outputs
-use Rattle.jls_salvage_run.specs.Outputs.{StopsAtOutput}
-use Rattle.jls_salvage_run.specs.Outcomes.{Outcome, exit_status, finished, status_of_input, status_of_refusal}
-use Rattle.jls_salvage_run.specs.declared.outcome.Refusal.{Refusal}
-use Rattle.jls_salvage_run.specs.declared.outcome.Refusal.TheVariants as refusal
+use Rattle.jls_cli.specs.Outputs as outputs
+use Rattle.jls_cli.specs.Outputs.{StopsAtOutput}
+use Rattle.jls_cli.specs.Outcomes.{Outcome, exit_status, finished, status_of_cause, status_of_input}
+use Rattle.jls_cli.specs.declared.outcome.Refusal.{Refusal}
 use Rattle.jls_station.specs.declared.input.InputFault.{InputFault}
 use Rattle.jls_station.specs.declared.input.InputFault.TheVariants as fault
 use Rattle.jls_salvage_run.specs.Reporting as reporting
@@ -31,7 +30,8 @@ use Rattle.jls_write.specs.declared.picture.PictureFault.TheVariants.{Unsettled}
 use Rattle.jls_salvage_run.specs.declared.writing.Format.{Format}
 use Rattle.jls_salvage_run.specs.declared.writing.Format.TheVariants.{Pnm, Jls}
 use Rattle.jls_cli.specs.SalvageAsking.{Asked, AskFor}
-use Rattle.jls_salvage_run.specs.FaultLines.{fault_line}
+use Rattle.jls_cli.specs.FaultLines.{fault_line}
+use Rattle.jls_salvage_run.specs.FaultLines.{program}
 use Rattle.jls_salvage_run.specs.Runs.{CameOf, Run, came_of, misused, helped, help_cut, nothing_begun, nothing_asked}
 use Rattle.jls_salvage_run.specs.RunLaws.{JoinRan, DoneJoinsRan, TellRan, DoneChecksRan, DoneShowsRan, WriteRan, DoneWritesRan}
 use Rattle.jls_salvage_run.specs.RunLaws.{UnsettledWritesStop, written_as}
@@ -46,26 +46,26 @@ status_of_input_fault fault.OutOfMemory = omega arith
 
 -- an input has at least status 3
 status_at_input : (source : Option ℕ) (before : List Given) (r : Refusal) (events : List Event)
-    → StopsAt source before r events → 3 ≤ status_of_refusal r
+    → StopsAt source before r events → 3 ≤ status_of_cause r.cause
 status_at_input source before _ _ (not_there _ _ _) = omega arith
 status_at_input source before _ _ (refused _ _ _ f reads h) = status_of_input_fault f
 status_at_input source before _ _ (other_shape _ _ _ g events h other) = omega arith
 status_at_input source before _ _ (no_memory _ _ _ g events h other) = omega arith
 
--- and so has an output
-status_at_output : (bytes : List ℕ) (r : Refusal) (events : List Event) → StopsAtOutput bytes r events → 3 ≤ status_of_refusal r
-status_at_output bytes _ _ (outputs.not_there _ _) = omega arith
-status_at_output bytes _ _ (outputs.cut _ _ count writes h) = omega arith
+-- an output has status 4
+pub output_is_4 : (name bytes : List ℕ) (r : Refusal) (events : List Event) → StopsAtOutput name bytes r events → status_of_cause r.cause ≡ 4
+output_is_4 name bytes r _ (outputs.not_there named is) = ap status_of_cause is
+output_is_4 name bytes r _ (outputs.cut count writes named is h) = ap status_of_cause is
 
 -- a file that does not go out has at least status 2
 status_at_file : (F L : Type 0) (takes : Bool) (bytes : List ℕ) (r : Refusal) (events : List Event)
-    → StopsAtFile F L takes bytes r events → 2 ≤ status_of_refusal r
+    → StopsAtFile F L takes bytes r events → 2 ≤ status_of_cause r.cause
 status_at_file F L takes bytes _ _ (writing.too_large _ _ large) = omega arith
-status_at_file F L takes bytes r _ (writing.at_output _ _ events fit h) = let k = status_at_output bytes r events h in omega (arith, k)
+status_at_file F L takes bytes r _ (writing.at_output _ _ events fit h) = let k = output_is_4 _ bytes r events h in omega (arith, k)
 status_at_file F L takes bytes _ _ (writing.no_memory _ _ count writes fit is lt h) = omega arith
 
-pub status_of_unsettled : (n : Bor (List ℕ)) (p : PartialPicture) (f : PictureFault) (r : Refusal) → r ≡ unsettled_refusal n p f → status_of_refusal r ≡ 1
-status_of_unsettled n p (Unsettled component line) r is = ap status_of_refusal is
+pub status_of_unsettled : (n : Bor (List ℕ)) (p : PartialPicture) (f : PictureFault) (r : Refusal) → r ≡ unsettled_refusal n p f → status_of_cause r.cause ≡ 1
+status_of_unsettled n p (Unsettled component line) r is = ap (λ (x : Refusal). status_of_cause x.cause) is
 
 -- ---- no fault line
 
@@ -98,7 +98,7 @@ record Came (asked : Asked) (status : ℕ) (desk report faults : List Event) : T
   outcome : Outcome
   came : CameOf asked outcome desk report
   status_is : status ≡ exit_status outcome
-  printed : Printed (fault_line outcome) faults
+  printed : Printed (fault_line program outcome) faults
 
 came_of_run : (words : List Text) (status : ℕ) (desk report faults : List Event) → Run words status desk report faults → (asked : Asked)
     → AskFor words asked → status ≤ 1
@@ -122,7 +122,7 @@ done_status settled false p s le = absurd (omega (arith, le))
 
 join_finished : (source : Option ℕ) (out : Text) (names : List Text) (outcome : Outcome) (events : List Event) (desk desk' : History)
     → Joins source out names outcome events → desk' ≡ desk ++ events → exit_status outcome ≤ 1
-    → (joined : PartialPicture) × JoinRan source out names joined (exit_status outcome) desk desk' × (fault_line outcome ≡ [])
+    → (joined : PartialPicture) × JoinRan source out names joined (exit_status outcome) desk desk' × (fault_line program outcome ≡ [])
 join_finished source out names _ events desk desk' (joining.done _ _ _ p settled whole _ h) e le =
     let s = done_status settled whole p h.settled_is le in (
       p,
@@ -137,12 +137,12 @@ join_finished source out names _ events desk desk' (joining.done _ _ _ p settled
     )
 join_finished source out names _ events desk desk' (joining.at_input _ _ _ r _ h) e le = let k = status_at_input source h.givens r h.last h.stops in absurd (omega (arith, k, le))
 join_finished source out names _ events desk desk' (joining.no_memory _ _ _ n p whole _ named h) e le = absurd (omega (arith, le))
-join_finished source out names _ _ desk desk' (joining.at_output _ _ _ r p whole reading writing named h stops) e le = let k = status_at_output _ r writing stops in absurd (omega (arith, k, le))
+join_finished source out names _ _ desk desk' (joining.at_output _ _ _ r p whole reading writing h stops) e le = let k = output_is_4 _ _ r writing stops in absurd (omega (arith, k, le))
 
 tell_finished : (traced : Bool) (name : Text) (outcome : Outcome) (events reported : List Event) (desk desk' report report' : History)
     → PrintsReport (lines traced) name outcome events reported
     → desk' ≡ desk ++ events → report' ≡ report ++ reported → exit_status outcome ≤ 1
-    → (g : Given) × TellRan traced name g (exit_status outcome) desk desk' report report' × (fault_line outcome ≡ [])
+    → (g : Given) × TellRan traced name g (exit_status outcome) desk desk' report report' × (fault_line program outcome ≡ [])
 tell_finished traced name _ events reported desk desk' report report' (reporting.done _ g settled whole _ _ taken says wrote) e d le =
     let s = done_status settled whole g.partial says.settled_is le in (
       g,
@@ -162,7 +162,7 @@ tell_finished traced name _ events reported desk desk' report report' (reporting
 
 write_finished : (format : Format) (out name : Text) (outcome : Outcome) (events : List Event) (desk desk' : History)
     → WritesFile format out name outcome events → desk' ≡ desk ++ events → exit_status outcome ≡ 0
-    → (g : Given) × WriteRan format out name g desk desk' × (fault_line outcome ≡ [])
+    → (g : Given) × WriteRan format out name g desk desk' × (fault_line program outcome ≡ [])
 write_finished format out name _ _ desk desk' (writing.done _ _ _ g whole reading written taken settled says fit handed) e is =
     let s = done_status true whole g.partial says.settled_is (omega (arith, is)) in
     (g, record { reading = reading; writing = written; grew = e; taken = taken; whole = says.whole_is.0 s.1; settled = settled; fits = fit; handed = handed }, refl)

@@ -11,7 +11,8 @@ use Rattle.jls_partial.specs.declared.text_fault.TextFault.{TextFault}
 use Rattle.jls_station.specs.InputFaults.{input_fault_of}
 use Rattle.jls_station.specs.declared.input.InputFault.{InputFault}
 use Rattle.jls_salvage_run.specs.AllInputs.{CantJoin, differs, runs_out, CantJoinText, refused_text, other_text, JoinsText}
-use Rattle.jls_salvage_run.specs.declared.outcome.Refusal.TheVariants as refusal
+use Rattle.jls_cli.specs.Outcomes.{refusal_at}
+use Rattle.jls_cli.specs.declared.outcome.Cause.TheVariants as cause
 
 -- ---- a text
 
@@ -28,29 +29,29 @@ text_merged held old bytes new some m =
     (record { said = m.said; is_text = m.is_text; joined = record { one_shape = m.one_shape; union_is = m.union_is } })
 
 pub text_fails : (held : Option PartialPicture) (bytes : List ℕ) (name : Bor (List ℕ)) (f : TextFault) (e : InputFault)
-    → e ≡ input_fault_of f → Fails f (read_text bytes) → CantJoinText held bytes (refusal.Input name e)
+    → e ≡ input_fault_of f → Fails f (read_text bytes) → CantJoinText held bytes (refusal_at name (cause.Input e))
 text_fails held bytes name f e is fails =
-    subst (λ (x : InputFault). CantJoinText held bytes (refusal.Input name x)) (sym is) (refused_text held bytes name f fails)
+    subst (λ (x : InputFault). CantJoinText held bytes (refusal_at name (cause.Input x))) (sym is) (refused_text held bytes name f fails)
 
 pub text_differs : (held : Option PartialPicture) (old : PartialPicture) (bytes : List ℕ) (name : Bor (List ℕ)) → held ≡ Some old
-    → HasOtherShape old bytes → CantJoinText held bytes (refusal.ShapeDiffers name)
+    → HasOtherShape old bytes → CantJoinText held bytes (refusal_at name cause.ShapeDiffers)
 text_differs held old bytes name some h =
-    subst (λ (x : Option PartialPicture). CantJoinText x bytes (refusal.ShapeDiffers name)) (sym some)
+    subst (λ (x : Option PartialPicture). CantJoinText x bytes (refusal_at name cause.ShapeDiffers)) (sym some)
     (other_text old h.said bytes name h.is_text h.other_shape)
 
 -- ---- what a copy gives
 
 -- the partial picture is lent as `q`
 module _ (held : Option PartialPicture) (old p q : PartialPicture) (name : Bor (List ℕ)) (some : held ≡ Some old) (lent : q ≡ p) where
-  pub copy_differs : has_same_shape old q ≡ false → CantJoin held p (refusal.ShapeDiffers name)
+  pub copy_differs : has_same_shape old q ≡ false → CantJoin held p (refusal_at name cause.ShapeDiffers)
   copy_differs other =
-      subst (λ (h : Option PartialPicture). CantJoin h p (refusal.ShapeDiffers name)) (sym some)
-      (subst (λ (x : PartialPicture). CantJoin (Some old) x (refusal.ShapeDiffers name)) lent (differs old q name other))
+      subst (λ (h : Option PartialPicture). CantJoin h p (refusal_at name cause.ShapeDiffers)) (sym some)
+      (subst (λ (x : PartialPicture). CantJoin (Some old) x (refusal_at name cause.ShapeDiffers)) lent (differs old q name other))
 
-  pub copy_runs_out : (has_same_shape old q ≡ false → ⊥) → CantJoin held p (refusal.OutOfMemory name)
+  pub copy_runs_out : (has_same_shape old q ≡ false → ⊥) → CantJoin held p (refusal_at name cause.OutOfMemory)
   copy_runs_out same =
-      subst (λ (h : Option PartialPicture). CantJoin h p (refusal.OutOfMemory name)) (sym some)
-      (subst (λ (x : PartialPicture). CantJoin (Some old) x (refusal.OutOfMemory name)) lent (runs_out old q name same))
+      subst (λ (h : Option PartialPicture). CantJoin h p (refusal_at name cause.OutOfMemory)) (sym some)
+      (subst (λ (x : PartialPicture). CantJoin (Some old) x (refusal_at name cause.OutOfMemory)) lent (runs_out old q name same))
 
 -- memory that ran out is no other shape
 pub not_both : (r : Result (Unit {0}) MergeFault) (e : MergeFault) → r ≡ Err e → e ≡ OutOfMemory → r ≡ Err ShapeDiffers → ⊥

@@ -13,26 +13,18 @@ use Rattle.jls_values.specs.SameShape.{same_shape}
 use Rattle.jls_partial.specs.Partial.{PartialPicture, has_same_shape, union}
 use Rattle.jls_io.specs.Event.{Event, History, GrewBy, opened, not_opened}
 use Rattle.jls_io.proofs.Growing.{grew_twice}
+use Rattle.jls_cli.proofs.OutputSteps.{grew_after}
 use Rattle.jls_station.specs.Given.{Given}
 use Rattle.jls_station.specs.Inputs.{ReadsGive, ReadsRefuse}
 use Rattle.jls_salvage_run.specs.AllInputs.{partials, AreOfOneShape, IsOfOtherShape, IsUnionOf, IsTaken, TakesInTurn, TakesUnion, StopsAt}
 use Rattle.jls_salvage_run.specs.AllInputs.{not_there, refused, StopsAtInput}
 use Rattle.jls_station.specs.declared.input.ReadStop.TheVariants.{Whole}
 use Rattle.jls_station.specs.declared.input.InputFault.{InputFault}
-use Rattle.jls_salvage_run.specs.Outcomes.{name_of}
-use Rattle.jls_salvage_run.specs.declared.outcome.Refusal.{Refusal}
-use Rattle.jls_salvage_run.specs.declared.outcome.Refusal.TheVariants as refusal
+use Rattle.jls_cli.specs.Outcomes.{refusal_at}
+use Rattle.jls_cli.specs.declared.outcome.Refusal.{Refusal}
+use Rattle.jls_cli.specs.declared.outcome.Cause.TheVariants as cause
 
 -- ---- one input
-
--- an event, and then others
-pub grew_after : (A B : List Event → Type 0) (old mid new : History) (e : Event) → ((events : List Event) → A events → B (e ∷ events))
-    → mid ≡ old ++ e ∷ [] → GrewBy A mid new → GrewBy B old new
-grew_after A B old mid new e see d h = record {
-  events = e ∷ h.events;
-  grew = grew_twice old mid new (e ∷ []) h.events d h.grew;
-  they_are = see h.events h.they_are;
-}
 
 module _ (source : Option ℕ) (old mid new : History) (name : List ℕ) where
   pub opened_and_given : (g : Given) → mid ≡ old ++ opened name ∷ [] → GrewBy (ReadsGive source g) mid new
@@ -41,11 +33,11 @@ module _ (source : Option ℕ) (old mid new : History) (name : List ℕ) where
 
 module _ (source : Option ℕ) (old mid new : History) (name : Bor (List ℕ)) where
   pub opened_and_refused : (f : InputFault) (before : List Given) → mid ≡ old ++ opened name.now ∷ [] → GrewBy (ReadsRefuse f) mid new
-      → GrewBy (StopsAt source before (refusal.Input name f)) old new
+      → GrewBy (StopsAt source before (refusal_at name (cause.Input f))) old new
   opened_and_refused f before =
-      grew_after (ReadsRefuse f) (StopsAt source before (refusal.Input name f)) old mid new (opened name.now) (λ reads h. refused source before name f reads h)
+      grew_after (ReadsRefuse f) (StopsAt source before (refusal_at name (cause.Input f))) old mid new (opened name.now) (λ reads h. refused source before name f reads h)
 
-  pub not_opened_at_all : (before : List Given) (r : Refusal) → r ≡ refusal.NotOpened name → new ≡ old ++ not_opened name.now ∷ []
+  pub not_opened_at_all : (before : List Given) (r : Refusal) → r ≡ refusal_at name cause.NotOpened → new ≡ old ++ not_opened name.now ∷ []
       → GrewBy (StopsAt source before r) old new
   not_opened_at_all before r is grew =
       subst (λ (x : Refusal). GrewBy (StopsAt source before x) old new) (sym is)
@@ -173,7 +165,7 @@ module _ (source : Option ℕ) (old mid new : History) (names : List (List ℕ))
         (next_taken source names name g also w joined whole both b e taken.events h.events taken.they_are h.they_are);
   }
 
-  module _ (all after : List (List ℕ)) (r : Refusal) (among : all ≡ names ++ name_of r ∷ after) where
+  module _ (all after : List (List ℕ)) (r : Refusal) (among : all ≡ names ++ r.name.now ∷ after) where
     pub stops_next : ((before : List Given) → IsUnionOf (partials before) joined → GrewBy (StopsAt source before r) mid new)
         → GrewBy (StopsAtInput source all r) old new
     stops_next h =
@@ -195,7 +187,7 @@ module _ (source : Option ℕ) (old mid new : History) (names : List (List ℕ))
         }
 
 -- the first input stops the command
-pub stops_first : (source : Option ℕ) (old new : History) (first : List ℕ) (others : List (List ℕ)) (r : Refusal) → name_of r ≡ first
+pub stops_first : (source : Option ℕ) (old new : History) (first : List ℕ) (others : List (List ℕ)) (r : Refusal) → r.name.now ≡ first
     → GrewBy (StopsAt source [] r) old new → GrewBy (StopsAtInput source (first ∷ others) r) old new
 stops_first source old new first others r named s =
     record {

@@ -4,7 +4,6 @@ pub mod InTurn
 pub mod InputBytes
 pub mod JoinSteps
 pub mod NextInputs
-mod StatusExamples
 pub mod Reported
 mod TooLarge
 mod TraceExamples

@@ -13,9 +13,9 @@ use Rattle.jls_station.specs.declared.input.ReadStop.TheVariants.{Whole}
 use Rattle.jls_station.proofs.OneInput.{all_read, text_gives, refused_by}
 use Rattle.jls_salvage_run.specs.AllInputs.{CantJoin, differs, runs_out, CantJoinText, refused_text, other_text, IsHeld, IsTaken}
 use Rattle.jls_salvage_run.specs.AllInputs.{JoinsInput, JoinsText, JoinsWith, partials, StopsAt, other_shape, no_memory, TakesUnion}
-use Rattle.jls_salvage_run.specs.Outcomes.{name_of}
-use Rattle.jls_salvage_run.specs.declared.outcome.Refusal.{Refusal}
-use Rattle.jls_salvage_run.specs.declared.outcome.Refusal.TheVariants as refusal
+use Rattle.jls_cli.specs.Outcomes.{refusal_at}
+use Rattle.jls_cli.specs.declared.outcome.Refusal.{Refusal}
+use Rattle.jls_cli.specs.declared.outcome.Cause.TheVariants as cause
 use Rattle.jls_salvage_run.proofs.InTurn.{opened_and_given, opened_and_refused, other_shape_than_union, same_shape_as_union, union_of_first}
 use Rattle.jls_salvage_run.proofs.InTurn.{union_of_next}
 
@@ -39,23 +39,23 @@ module _ (source : Option ℕ) (old mid new : History) (name : List ℕ) (is_ope
   is_opened_as n named = subst (λ (t : List ℕ). mid ≡ old ++ opened t ∷ []) (sym named) is_opened
 
   pub given_stops : (held : Option PartialPicture) (before : List Given) → IsHeld (partials before) held → (g : Given) (r : Refusal)
-      → name_of r ≡ name → GrewBy (ReadsGive source g) mid new → CantJoin held g.partial r → GrewBy (StopsAt source before r) old new
+      → r.name.now ≡ name → GrewBy (ReadsGive source g) mid new → CantJoin held g.partial r → GrewBy (StopsAt source before r) old new
   given_stops _ before u g _ named h (differs held _ n other) =
-      grew_as (IsTaken source n.now g) (StopsAt source before (refusal.ShapeDiffers n)) old new
+      grew_as (IsTaken source n.now g) (StopsAt source before (refusal_at n cause.ShapeDiffers)) old new
       (λ events taken. other_shape source before n g events taken (other_shape_than_union (partials before) held g.partial u other))
       (opened_and_given source old mid new n.now g (is_opened_as n named) h)
   given_stops _ before u g _ named h (runs_out held _ n same) =
-      grew_as (IsTaken source n.now g) (StopsAt source before (refusal.OutOfMemory n)) old new
+      grew_as (IsTaken source n.now g) (StopsAt source before (refusal_at n cause.OutOfMemory)) old new
       (λ events taken. no_memory source before n g events taken (same_shape_as_union (partials before) held g.partial u same))
       (opened_and_given source old mid new n.now g (is_opened_as n named) h)
 
   pub text_stops : (held : Option PartialPicture) (before : List Given) → IsHeld (partials before) held → (bytes : List ℕ) (r : Refusal)
-      → name_of r ≡ name → GrewBy (IsForm source bytes Text) mid new → CantJoinText held bytes r → GrewBy (StopsAt source before r) old new
+      → r.name.now ≡ name → GrewBy (IsForm source bytes Text) mid new → CantJoinText held bytes r → GrewBy (StopsAt source before r) old new
   text_stops _ before u bytes _ named h (refused_text _ _ n f fails) =
       opened_and_refused source old mid new n _ before (is_opened_as n named)
       (refused_by mid new bytes h.they_are.1 (all_read source mid new bytes h) f fails)
   text_stops _ before u bytes _ named h (other_text held said _ n is other) =
-      given_stops (Some held) before u (given_by_text said) (refusal.ShapeDiffers n) named (text_gives source mid new bytes h said is) (differs held said n other)
+      given_stops (Some held) before u (given_by_text said) (refusal_at n cause.ShapeDiffers) named (text_gives source mid new bytes h said is) (differs held said n other)
 
 -- ---- all of them
 

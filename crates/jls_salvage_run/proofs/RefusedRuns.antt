@@ -7,11 +7,8 @@ use Rattle.jls_station.specs.Inputs.{no_text, no_picture, text_not_read, copy_no
 use Rattle.jls_salvage_run.specs.AllInputs.{StopsAt, not_there, refused, other_shape, no_memory}
 use Rattle.jls_salvage_run.specs.Joining as joining
 use Rattle.jls_salvage_run.specs.Joining.{Joins}
-use Rattle.jls_salvage_run.specs.Outputs as outputs
-use Rattle.jls_salvage_run.specs.Outputs.{StopsAtOutput}
-use Rattle.jls_salvage_run.specs.Outcomes.{Outcome, exit_status, finished, name_of, status_of_input, status_of_refusal}
-use Rattle.jls_salvage_run.specs.declared.outcome.Refusal.{Refusal}
-use Rattle.jls_salvage_run.specs.declared.outcome.Refusal.TheVariants as refusal
+use Rattle.jls_cli.specs.Outcomes.{Outcome, exit_status, finished, status_of_cause, status_of_input}
+use Rattle.jls_cli.specs.declared.outcome.Refusal.{Refusal}
 use Rattle.jls_station.specs.declared.input.InputFault.{InputFault}
 use Rattle.jls_station.specs.declared.input.InputFault.TheVariants as fault
 use Rattle.jls_salvage_run.specs.Reporting as reporting
@@ -26,9 +23,9 @@ use Rattle.jls_salvage_run.specs.Runs.{CameOf, Run, came_of, misused, helped, he
 use Rattle.jls_salvage_run.specs.Statuses as statuses
 use Rattle.jls_salvage_run.specs.Statuses.{AreMisused, AskForTooMuch, EndsAtUnfit, InputsCauseStatus3, IsUnfit, WordsCauseStatus2}
 use Rattle.jls_salvage_run.specs.Statuses.{inputs_of, source_of}
-use Rattle.jls_salvage_run.proofs.Finished.{status_of_unsettled}
+use Rattle.jls_salvage_run.proofs.Finished.{output_is_4, status_of_unsettled}
 
--- ---- neither is done, nor stopped by an output
+-- ---- neither is done
 
 done_not_2 : (settled whole : Bool) → exit_status (finished settled whole) ≡ 2 → ⊥
 done_not_2 settled false e = absurd (omega (arith, e))
@@ -39,10 +36,6 @@ done_not_3 : (settled whole : Bool) → exit_status (finished settled whole) ≡
 done_not_3 settled false e = absurd (omega (arith, e))
 done_not_3 true true e = absurd (omega (arith, e))
 done_not_3 false true e = absurd (omega (arith, e))
-
-output_is_4 : (bytes : List ℕ) (r : Refusal) (events : List Event) → StopsAtOutput bytes r events → status_of_refusal r ≡ 4
-output_is_4 bytes _ _ (outputs.not_there _ _) = refl
-output_is_4 bytes _ _ (outputs.cut _ _ count writes h) = refl
 
 -- ---- status 3
 
@@ -57,14 +50,14 @@ unfit_bytes source before name _ reads (for_fault _ bytes stop _ is (copy_not_re
 unfit_bytes source before name _ reads (for_memory _ h) e = absurd (omega (arith, e))
 
 unfit_input : (source : Option ℕ) (before : List Given) (r : Refusal) (events : List Event)
-    → StopsAt source before r events → status_of_refusal r ≡ 3 → IsUnfit source before (name_of r) events
+    → StopsAt source before r events → status_of_cause r.cause ≡ 3 → IsUnfit source before (r.name.now) events
 unfit_input source before _ _ (not_there _ _ _) e = absurd (omega (arith, e))
 unfit_input source before _ _ (refused _ _ n f reads h) e = unfit_bytes source before n.now f reads h e
 unfit_input source before _ events (other_shape _ _ n g _ h other) e = statuses.other_shape source before n.now g events h other
 unfit_input source before _ events (no_memory _ _ _ g _ h other) e = absurd (omega (arith, e))
 
 -- the only input is unfit
-ends_at_one : (name : List ℕ) (r : Refusal) (events : List Event) → name_of r ≡ name → StopsAt None [] r events → status_of_refusal r ≡ 3
+ends_at_one : (name : List ℕ) (r : Refusal) (events : List Event) → r.name.now ≡ name → StopsAt None [] r events → status_of_cause r.cause ≡ 3
     → EndsAtUnfit None (name ∷ []) events
 ends_at_one name r events named h e = record {
   before = [];
@@ -84,7 +77,7 @@ join_unfit : (source : Option ℕ) (out : List ℕ) (names : List (List ℕ)) (o
 join_unfit source out names _ events (joining.done _ _ _ p settled whole _ h) e = absurd (done_not_3 settled whole e)
 join_unfit source out names _ events (joining.at_input _ _ _ r _ h) e = record {
   before = h.before;
-  name = name_of r;
+  name = r.name.now;
   after = h.after;
   among = h.among;
   givens = h.givens;
@@ -96,8 +89,8 @@ join_unfit source out names _ events (joining.at_input _ _ _ r _ h) e = record {
 }
 join_unfit source out names _ events (joining.no_memory _ _ _ n p whole _ named h) e =
     absurd (omega (arith, e))
-join_unfit source out names _ _ (joining.at_output _ _ _ r p whole reading written named h stops) e =
-    let k = output_is_4 _ r written stops in absurd (omega (arith, k, e))
+join_unfit source out names _ _ (joining.at_output _ _ _ r p whole reading written h stops) e =
+    let k = output_is_4 _ _ r written stops in absurd (omega (arith, k, e))
 
 tell_unfit : (traced : Bool) (name : List ℕ) (outcome : Outcome) (events reported : List Event)
     → PrintsReport (lines traced) name outcome events reported → exit_status outcome ≡ 3 → EndsAtUnfit None (name ∷ []) events
@@ -109,10 +102,10 @@ tell_unfit traced name _ events reported (reporting.not_printed _ n g count _ _ 
     absurd (omega (arith, e))
 
 file_not_3 : (F L : Type 0) (takes : Bool) (bytes : List ℕ) (r : Refusal) (events : List Event) → StopsAtFile F L takes bytes r events
-    → status_of_refusal r ≡ 3 → ⊥
+    → status_of_cause r.cause ≡ 3 → ⊥
 file_not_3 F L takes bytes _ _ (writing.too_large _ _ large) e = absurd (omega (arith, e))
 file_not_3 F L takes bytes r _ (writing.at_output _ _ events fit h) e =
-    let k = output_is_4 bytes r events h in absurd (omega (arith, k, e))
+    let k = output_is_4 _ bytes r events h in absurd (omega (arith, k, e))
 file_not_3 F L takes bytes _ _ (writing.no_memory _ _ count writes fit is lt h) e = absurd (omega (arith, e))
 
 write_unfit : (format : Format) (out name : List ℕ) (outcome : Outcome) (events : List Event)
@@ -149,7 +142,7 @@ inputs_after words status desk desk' report report' faults faults' ran e =
 -- ---- status 2
 
 input_not_2 : (source : Option ℕ) (before : List Given) (r : Refusal) (events : List Event)
-    → StopsAt source before r events → status_of_refusal r ≡ 2 → ⊥
+    → StopsAt source before r events → status_of_cause r.cause ≡ 2 → ⊥
 input_not_2 source before _ _ (not_there _ _ _) e = absurd (omega (arith, e))
 input_not_2 source before _ _ (refused _ _ _ (fault.Text f) reads h) e = absurd (omega (arith, e))
 input_not_2 source before _ _ (refused _ _ _ (fault.NoPicture f offset) reads h) e = absurd (omega (arith, e))
@@ -164,8 +157,8 @@ join_not_2 source out names _ events (joining.done _ _ _ p settled whole _ h) e 
 join_not_2 source out names _ events (joining.at_input _ _ _ r _ h) e = input_not_2 source h.givens r h.last h.stops e
 join_not_2 source out names _ events (joining.no_memory _ _ _ n p whole _ named h) e =
     absurd (omega (arith, e))
-join_not_2 source out names _ _ (joining.at_output _ _ _ r p whole reading written named h stops) e =
-    let k = output_is_4 _ r written stops in absurd (omega (arith, k, e))
+join_not_2 source out names _ _ (joining.at_output _ _ _ r p whole reading written h stops) e =
+    let k = output_is_4 _ _ r written stops in absurd (omega (arith, k, e))
 
 tell_not_2 : (traced : Bool) (name : List ℕ) (outcome : Outcome) (events reported : List Event)
     → PrintsReport (lines traced) name outcome events reported → exit_status outcome ≡ 2 → ⊥
@@ -178,10 +171,10 @@ tell_not_2 traced name _ events reported (reporting.not_printed _ n g count _ _ 
 
 -- the file is not begun, and is too large
 file_with_2 : (F L : Type 0) (takes : Bool) (bytes : List ℕ) (r : Refusal) (events : List Event) → StopsAtFile F L takes bytes r events
-    → status_of_refusal r ≡ 2 → L × (events ≡ [])
+    → status_of_cause r.cause ≡ 2 → L × (events ≡ [])
 file_with_2 F L takes bytes _ _ (writing.too_large _ _ large) e = (large, refl)
 file_with_2 F L takes bytes r _ (writing.at_output _ _ events fit h) e =
-    let k = output_is_4 bytes r events h in absurd (omega (arith, k, e))
+    let k = output_is_4 _ bytes r events h in absurd (omega (arith, k, e))
 file_with_2 F L takes bytes _ _ (writing.no_memory _ _ count writes fit is lt h) e = absurd (omega (arith, e))
 
 module _ (words : List (List ℕ)) (desk desk' : History) where

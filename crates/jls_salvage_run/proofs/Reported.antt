@@ -7,14 +7,14 @@ use Rattle.jls_io.specs.Event.{History, GrewBy}
 use Rattle.jls_io.specs.Writing.{Wrote, WrotePrefix}
 use Rattle.jls_station.specs.Given.{Given}
 use Rattle.jls_salvage_run.specs.AllInputs.{IsTaken, StopsAt}
-use Rattle.jls_salvage_run.specs.Outcomes.{finished, name_of}
-use Rattle.jls_salvage_run.specs.declared.outcome.Refusal.{Refusal}
-use Rattle.jls_salvage_run.specs.declared.outcome.Refusal.TheVariants as refusal
+use Rattle.jls_cli.specs.Outcomes.{finished, refusal_at}
+use Rattle.jls_cli.specs.declared.outcome.Refusal.{Refusal}
+use Rattle.jls_cli.specs.declared.outcome.Cause.TheVariants as cause
 use Rattle.jls_salvage_run.specs.Histories.{GrewBoth}
 use Rattle.jls_salvage_run.specs.Reporting.{Says, PrintsReport, done, at_input, no_memory, not_printed}
 
 module _ (lines : Given → List ℕ) (name : List ℕ) (desk desk' report report' : History) where
-  pub reported_at_input : (r : Refusal) → name_of r ≡ name → GrewBy (StopsAt None [] r) desk desk'
+  pub reported_at_input : (r : Refusal) → r.name.now ≡ name → GrewBy (StopsAt None [] r) desk desk'
       → GrewBoth (PrintsReport lines name (Err r)) desk desk' report report
   reported_at_input r named h = record {
     desk_events = h.events;
@@ -26,7 +26,7 @@ module _ (lines : Given → List ℕ) (name : List ℕ) (desk desk' report repor
 
   module _ (g : Given) (taken : GrewBy (IsTaken None name g) desk desk') where
     pub reported_for_memory : (file : Bor (List ℕ)) → file.now ≡ name
-        → GrewBoth (PrintsReport lines name (Err (refusal.OutOfMemory file))) desk desk' report report
+        → GrewBoth (PrintsReport lines name (Err (refusal_at file cause.OutOfMemory))) desk desk' report report
     reported_for_memory file named = record {
       desk_events = taken.events;
       report_events = [];
@@ -46,7 +46,7 @@ module _ (lines : Given → List ℕ) (name : List ℕ) (desk desk' report repor
     }
 
     pub reported_in_part : (out : Bor (List ℕ)) (count : ℕ) (printed : List ℕ) → printed ≡ lines g → out.now ≡ codes "-"
-        → GrewBy (WrotePrefix printed count) report report' → GrewBoth (PrintsReport lines name (Err (refusal.NotWritten out count))) desk desk' report report'
+        → GrewBy (WrotePrefix printed count) report report' → GrewBoth (PrintsReport lines name (Err (refusal_at out (cause.NotWritten count)))) desk desk' report report'
     reported_in_part out count printed is named h = record {
       desk_events = taken.events;
       report_events = h.events;

@@ -7,12 +7,13 @@ use Rattle.clap.specs.declared.error.kind.ErrorKind.{ErrorKind}
 use Rattle.clap.specs.declared.error.kind.ErrorKind.TheVariants as kind
 use Rattle.jls_io.specs.Event.{Event, History, GrewBy}
 use Rattle.jls_io.specs.Writing.{Printed}
-use Rattle.jls_salvage_run.specs.Outcomes.{Outcome, exit_status}
+use Rattle.jls_cli.specs.Outcomes.{Outcome, exit_status}
 use Rattle.jls_salvage_run.specs.Histories.{GrewBoth}
 use Rattle.jls_cli.specs.SalvageWords.{AreRefused}
 use Rattle.jls_cli.specs.SalvageAsking.{Asked, AskFor, AskForNothing, format_is_known}
 use Rattle.jls_cli.specs.Answers.{Answered}
-use Rattle.jls_salvage_run.specs.FaultLines.{fault_line, program, unknown_value_line}
+use Rattle.jls_cli.specs.FaultLines.{fault_line}
+use Rattle.jls_salvage_run.specs.FaultLines.{program, unknown_value_line}
 use Rattle.jls_salvage_run.specs.Runs.{CameOf, Run, came_of, nothing_asked, Ran}
 use Rattle.jls_salvage_run.proofs.RefusedWords.{run_of_answer}
 
@@ -42,7 +43,7 @@ module _ (words : List Text) (desk desk' report report' faults faults' : History
   }
 
   pub ran : (status : ℕ) (asked : Asked) (outcome : Outcome) → status ≡ exit_status outcome → AskFor words asked
-      → GrewBoth (CameOf asked outcome) desk desk' report report' → GrewBy (Printed (fault_line outcome)) faults faults'
+      → GrewBoth (CameOf asked outcome) desk desk' report report' → GrewBy (Printed (fault_line program outcome)) faults faults'
       → Ran words status desk desk' report report' faults faults'
   ran status asked outcome is reads h line = record {
     desk_events = h.desk_events;

@@ -15,15 +15,16 @@ use Rattle.jls_station.specs.Inputs.{ReadsRefuse, for_fault, for_memory}
 use Rattle.jls_salvage_run.specs.AllInputs.{IsTaken, TakesInTurn, StopsAt, not_there, refused, other_shape, no_memory}
 use Rattle.jls_salvage_run.specs.Joining as joining
 use Rattle.jls_salvage_run.specs.Joining.{Joins}
-use Rattle.jls_salvage_run.specs.Outputs as outputs
-use Rattle.jls_salvage_run.specs.Outputs.{StopsAtOutput}
-use Rattle.jls_salvage_run.specs.Outcomes.{Outcome, exit_status, finished, status_of_done, status_of_input, status_of_refusal}
+use Rattle.jls_cli.specs.Outputs as outputs
+use Rattle.jls_cli.specs.Outputs.{StopsAtOutput}
+use Rattle.jls_cli.specs.Outcomes.{Outcome, exit_status, finished, status_of_cause, status_of_done, status_of_input}
 use Rattle.jls_station.specs.declared.input.ReadStop.{ReadStop}
 use Rattle.jls_station.specs.declared.input.ReadStop.TheVariants.{Whole, Failed, Turns}
 use Rattle.jls_station.specs.declared.input.InputFault.{InputFault}
 use Rattle.jls_station.specs.declared.input.InputFault.TheVariants as fault
-use Rattle.jls_salvage_run.specs.declared.outcome.Refusal.{Refusal}
-use Rattle.jls_salvage_run.specs.declared.outcome.Refusal.TheVariants as refusal
+use Rattle.jls_cli.specs.declared.outcome.Cause.{Cause}
+use Rattle.jls_cli.specs.declared.outcome.Refusal.{Refusal}
+use Rattle.jls_cli.specs.declared.outcome.Cause.TheVariants as cause
 use Rattle.jls_salvage_run.specs.Reporting as reporting
 use Rattle.jls_salvage_run.specs.Reporting.{PrintsReport, lines}
 use Rattle.jls_salvage_run.specs.WritingFiles as writing
@@ -32,10 +33,11 @@ use Rattle.jls_salvage_run.specs.declared.writing.Format.{Format}
 use Rattle.jls_salvage_run.specs.declared.writing.Format.TheVariants.{Pnm, Jls}
 use Rattle.jls_cli.specs.SalvageAsking.{Asked, check, join, show, write_pnm, write_jls}
 use Rattle.jls_io.specs.FaultLines.{out_of_memory_line}
-use Rattle.jls_salvage_run.specs.FaultLines.{fault_line, input_fault_line, program, refusal_line}
+use Rattle.jls_cli.specs.FaultLines.{cause_line, fault_line, input_fault_line}
+use Rattle.jls_salvage_run.specs.FaultLines.{program}
 use Rattle.jls_salvage_run.specs.Runs.{CameOf, Run, came_of, misused, helped, help_cut, nothing_begun, nothing_asked}
 use Rattle.jls_salvage_run.specs.Statuses.{is_failure, HadFailure, FailuresCauseStatus4, RefusedRunsCreateNothing, WantOfMemoryIsReported}
-use Rattle.jls_salvage_run.proofs.Finished.{status_of_unsettled}
+use Rattle.jls_salvage_run.proofs.Finished.{output_is_4, status_of_unsettled}
 
 -- ---- failures among events
 
@@ -117,7 +119,7 @@ reads_failed _ reads (for_memory _ h) e = absurd (omega (arith, e))
 
 failed_at_input : (source : Option ℕ) (before : List Given) (r : Refusal) (events : List Event)
     → StopsAt source before r events
-    → status_of_refusal r ≡ 4 → HadFailure events
+    → status_of_cause r.cause ≡ 4 → HadFailure events
 failed_at_input source before _ _ (not_there _ _ _) e = inl refl
 failed_at_input source before _ _ (refused _ _ n f reads h) e = failed_right (opened n.now ∷ []) reads (reads_failed f reads h e)
 failed_at_input source before _ _ (other_shape _ _ _ g events h other) e = absurd (omega (arith, e))
@@ -151,10 +153,10 @@ failed_in_turn source (name ∷ names) (g ∷ givens) events h not =
 
 -- ---- outputs
 
-failed_at_output : (bytes : List ℕ) (r : Refusal) (events : List Event) → StopsAtOutput bytes r events → HadFailure events
-failed_at_output bytes _ _ (outputs.not_there _ _) = inl refl
-failed_at_output bytes _ _ (outputs.cut n _ count writes h) =
-    failed_right (created n.now ∷ []) writes (failed_as writes (h.writes ++ write_failed ∷ []) h.events_are (failed_right h.writes (write_failed ∷ []) (inl refl)))
+failed_at_output : (name bytes : List ℕ) (r : Refusal) (events : List Event) → StopsAtOutput name bytes r events → HadFailure events
+failed_at_output name bytes r _ (outputs.not_there _ _) = inl refl
+failed_at_output name bytes r _ (outputs.cut count writes _ _ h) =
+    failed_right (created name ∷ []) writes (failed_as writes (h.writes ++ write_failed ∷ []) h.events_are (failed_right h.writes (write_failed ∷ []) (inl refl)))
 
 prefix_failed : (bytes : List ℕ) (count : ℕ) (events : List Event) → WrotePrefix bytes count events → HadFailure events
 prefix_failed bytes count events h = failed_as events (h.writes ++ write_failed ∷ []) h.events_are (failed_right h.writes (write_failed ∷ []) (inl refl))
@@ -176,7 +178,7 @@ join_failed source out names _ events (joining.at_input _ _ _ r _ h) e =
     failed_as events (h.reading ++ h.last) h.events_are (failed_right h.reading h.last (failed_at_input source h.givens r h.last h.stops e))
 join_failed source out names _ events (joining.no_memory _ _ _ n p whole _ named h) e =
     absurd (omega (arith, e))
-join_failed source out names _ _ (joining.at_output _ _ _ r p whole reading written named h stops) e = failed_right reading written (failed_at_output _ r written stops)
+join_failed source out names _ _ (joining.at_output _ _ _ r p whole reading written h stops) e = failed_right reading written (failed_at_output _ _ r written stops)
 
 tell_failed : (traced : Bool) (name : List ℕ) (outcome : Outcome) (events reported : List Event)
     → PrintsReport (lines traced) name outcome events reported
@@ -189,9 +191,9 @@ tell_failed traced name _ events _ (reporting.no_memory _ n g _ named taken) e =
 tell_failed traced name _ events reported (reporting.not_printed _ n g count _ _ named taken wrote) e = inr (prefix_failed (lines traced g) count reported wrote)
 
 file_failed : (F L : Type 0) (takes : Bool) (bytes : List ℕ) (r : Refusal) (events : List Event) → StopsAtFile F L takes bytes r events
-    → status_of_refusal r ≡ 4 → HadFailure events
+    → status_of_cause r.cause ≡ 4 → HadFailure events
 file_failed F L takes bytes _ _ (writing.too_large _ _ large) e = absurd (omega (arith, e))
-file_failed F L takes bytes r _ (writing.at_output _ _ events fit h) e = failed_at_output bytes r events h
+file_failed F L takes bytes r _ (writing.at_output _ _ events fit h) e = failed_at_output _ bytes r events h
 file_failed F L takes bytes _ _ (writing.no_memory _ _ count writes fit is lt h) e = absurd (omega (arith, e))
 
 write_failed_so : (format : Format) (out name : List ℕ) (outcome : Outcome) (events : List Event)
@@ -293,9 +295,8 @@ done_else settled false ge le = absurd (omega (arith, le))
 done_else true true ge le = absurd (omega (arith, ge))
 done_else false true ge le = absurd (omega (arith, ge))
 
-output_else : (bytes : List ℕ) (r : Refusal) (events : List Event) → StopsAtOutput bytes r events → status_of_refusal r ≤ 3 → ⊥
-output_else bytes _ _ (outputs.not_there _ _) le = absurd (omega (arith, le))
-output_else bytes _ _ (outputs.cut _ _ count writes h) le = absurd (omega (arith, le))
+output_else : (name bytes : List ℕ) (r : Refusal) (events : List Event) → StopsAtOutput name bytes r events → status_of_cause r.cause ≤ 3 → ⊥
+output_else name bytes r events h le = let k = output_is_4 name bytes r events h in absurd (omega (arith, k, le))
 
 join_creates_none : (source : Option ℕ) (out : List ℕ) (names : List (List ℕ)) (outcome : Outcome) (events : List Event)
     → Joins source out names outcome events
@@ -305,7 +306,7 @@ join_creates_none source out names _ events (joining.at_input _ _ _ r _ h) ge le
     none_as events (h.reading ++ h.last) h.events_are
     (none_both h.reading h.last (none_in_turn source h.before h.givens h.reading h.taken.in_turn) (none_at_input source h.givens r h.last h.stops))
 join_creates_none source out names _ events (joining.no_memory _ _ _ n p whole _ named h) ge le = none_in_turn source names h.givens events h.taken.in_turn
-join_creates_none source out names _ _ (joining.at_output _ _ _ r p whole reading written named h stops) ge le = absurd (output_else _ r written stops le)
+join_creates_none source out names _ _ (joining.at_output _ _ _ r p whole reading written h stops) ge le = absurd (output_else _ _ r written stops le)
 
 tell_creates_none : (traced : Bool) (name : List ℕ) (outcome : Outcome) (events reported : List Event)
     → PrintsReport (lines traced) name outcome events reported
@@ -318,9 +319,9 @@ tell_creates_none traced name _ events reported (reporting.not_printed _ n g cou
 
 file_creates_none : (F L : Type 0) (takes : Bool) (bytes : List ℕ) (r : Refusal) (events : List Event)
     → StopsAtFile F L takes bytes r events
-    → status_of_refusal r ≤ 3 → list_any is_creation events ≡ false
+    → status_of_cause r.cause ≤ 3 → list_any is_creation events ≡ false
 file_creates_none F L takes bytes _ _ (writing.too_large _ _ large) le = refl
-file_creates_none F L takes bytes r _ (writing.at_output _ _ events fit h) le = absurd (output_else bytes r events h le)
+file_creates_none F L takes bytes r _ (writing.at_output _ _ events fit h) le = absurd (output_else _ bytes r events h le)
 file_creates_none F L takes bytes _ _ (writing.no_memory _ _ count writes fit is lt h) le = absurd (omega (arith, le))
 
 write_creates_none : (format : Format) (out name : List ℕ) (outcome : Outcome) (events : List Event)
@@ -358,30 +359,35 @@ nothing_created words status desk desk' report report' faults faults' ran ge le 
 
 -- ---- runs that end with 5
 
-line_of_input : (name : List ℕ) (f : InputFault) → status_of_input f ≡ 5 → input_fault_line name f ≡ out_of_memory_line program
+line_of_input : (name : List ℕ) (f : InputFault) → status_of_input f ≡ 5 → input_fault_line program name f ≡ out_of_memory_line program
 line_of_input name (fault.Text f) e = absurd (omega (arith, e))
 line_of_input name (fault.NoPicture f offset) e = absurd (omega (arith, e))
 line_of_input name (fault.Read stop offset) e = absurd (omega (arith, e))
 line_of_input name fault.OutOfMemory e = refl
 
-line_of_memory : (r : Refusal) → status_of_refusal r ≡ 5 → refusal_line r ≡ out_of_memory_line program
-line_of_memory (refusal.NotOpened name) e = absurd (omega (arith, e))
-line_of_memory (refusal.Input name f) e = line_of_input name.now f e
-line_of_memory (refusal.ShapeDiffers name) e = absurd (omega (arith, e))
-line_of_memory (refusal.Unsettled name id line disputed) e = absurd (omega (arith, e))
-line_of_memory (refusal.TooLarge name) e = absurd (omega (arith, e))
-line_of_memory (refusal.NotCreated name) e = absurd (omega (arith, e))
-line_of_memory (refusal.NotWritten name count) e = absurd (omega (arith, e))
-line_of_memory (refusal.OutOfMemory name) e = refl
+line_of_memory : (name : List ℕ) (c : Cause) → status_of_cause c ≡ 5 → cause_line program name c ≡ out_of_memory_line program
+line_of_memory name cause.NotOpened e = absurd (omega (arith, e))
+line_of_memory name (cause.Input f) e = line_of_input name f e
+line_of_memory name cause.PartialPicture e = absurd (omega (arith, e))
+line_of_memory name (cause.NoPicture f offset) e = absurd (omega (arith, e))
+line_of_memory name cause.NotRead e = absurd (omega (arith, e))
+line_of_memory name cause.ShapeDiffers e = absurd (omega (arith, e))
+line_of_memory name (cause.Unsettled id line disputed) e = absurd (omega (arith, e))
+line_of_memory name cause.TooLarge e = absurd (omega (arith, e))
+line_of_memory name cause.NotCreated e = absurd (omega (arith, e))
+line_of_memory name (cause.NotWritten count) e = absurd (omega (arith, e))
+line_of_memory name (cause.FileNotCreated number) e = absurd (omega (arith, e))
+line_of_memory name (cause.FileNotWritten number count) e = absurd (omega (arith, e))
+line_of_memory name cause.OutOfMemory e = refl
 
 done_not_5 : (settled whole : Bool) → status_of_done settled whole ≡ 5 → ⊥
 done_not_5 settled false e = absurd (omega (arith, e))
 done_not_5 true true e = absurd (omega (arith, e))
 done_not_5 false true e = absurd (omega (arith, e))
 
-memory_line : (outcome : Outcome) → exit_status outcome ≡ 5 → fault_line outcome ≡ out_of_memory_line program
+memory_line : (outcome : Outcome) → exit_status outcome ≡ 5 → fault_line program outcome ≡ out_of_memory_line program
 memory_line (Ok d) e = absurd (done_not_5 d.settled d.whole e)
-memory_line (Err r) e = line_of_memory r e
+memory_line (Err r) e = line_of_memory r.name.now r.cause e
 
 run_out_of_memory : (words : List (List ℕ)) (status : ℕ) (desk report faults : List Event) → Run words status desk report faults
     → status ≡ 5 → Printed (out_of_memory_line program) faults

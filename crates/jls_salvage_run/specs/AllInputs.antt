@@ -12,10 +12,10 @@ use Rattle.jls_station.specs.InputFaults.{input_fault_of}
 use Rattle.jls_station.specs.Inputs.{ReadsGive, ReadsRefuse}
 use Rattle.jls_station.specs.declared.input.ReadStop.TheVariants.{Whole}
 use Rattle.jls_station.specs.declared.input.InputFault.{InputFault}
-use Rattle.jls_salvage_run.specs.declared.outcome.Refusal.{Refusal}
-use Rattle.jls_salvage_run.specs.declared.outcome.Refusal.TheVariants as refusal
+use Rattle.jls_cli.specs.declared.outcome.Refusal.{Refusal}
+use Rattle.jls_cli.specs.declared.outcome.Cause.TheVariants as cause
 use Rattle.jls_salvage_run.specs.declared.inputs.JoinInputs.{JoinInputs}
-use Rattle.jls_salvage_run.specs.Outcomes.{name_of}
+use Rattle.jls_cli.specs.Outcomes.{refusal_at}
 
 -- `source` is the number under which the readings of copies are taken, where there is one
 
@@ -74,21 +74,21 @@ pub record TakesUnion (source : Option ℕ) (names : List (List ℕ)) (joined : 
 -- shape, or memory ran out as it was joined
 pub data StopsAt : Option ℕ → List Given → Refusal → List Event → Type 0 where
   not_there : (source : Option ℕ) (before : List Given) (name : Bor (List ℕ))
-      → StopsAt source before (refusal.NotOpened name) (not_opened name.now ∷ [])
+      → StopsAt source before (refusal_at name cause.NotOpened) (not_opened name.now ∷ [])
   refused : (source : Option ℕ) (before : List Given) (name : Bor (List ℕ)) (f : InputFault) (reads : List Event)
-      → ReadsRefuse f reads → StopsAt source before (refusal.Input name f) (opened name.now ∷ reads)
+      → ReadsRefuse f reads → StopsAt source before (refusal_at name (cause.Input f)) (opened name.now ∷ reads)
   other_shape : (source : Option ℕ) (before : List Given) (name : Bor (List ℕ)) (g : Given) (events : List Event)
       → IsTaken source name.now g events → IsOfOtherShape (partials before) g.partial
-      → StopsAt source before (refusal.ShapeDiffers name) events
+      → StopsAt source before (refusal_at name cause.ShapeDiffers) events
   no_memory : (source : Option ℕ) (before : List Given) (name : Bor (List ℕ)) (g : Given) (events : List Event)
       → IsTaken source name.now g events → (IsOfOtherShape (partials before) g.partial → ⊥)
-      → StopsAt source before (refusal.OutOfMemory name) events
+      → StopsAt source before (refusal_at name cause.OutOfMemory) events
 
 -- the inputs before one were taken; that one, whose name the refusal has, stops the command for it; and nothing else was done
 pub record StopsAtInput (source : Option ℕ) (names : List (List ℕ)) (r : Refusal) (events : List Event) : Type 0 where
   pub before : List (List ℕ)
   pub after : List (List ℕ)
-  pub among : names ≡ before ++ name_of r ∷ after
+  pub among : names ≡ before ++ r.name.now ∷ after
   pub givens : List Given
   pub reading : List Event
   pub taken : TakesAll source before givens reading
@@ -128,13 +128,13 @@ pub record JoinsText (held : Option PartialPicture) (bytes : List ℕ) (new : Pa
 -- why this was not joined to what was held: it is of another shape; or it is not, and memory ran out
 pub data CantJoin : Option PartialPicture → PartialPicture → Refusal → Type 0 where
   differs : (old p : PartialPicture) (name : Bor (List ℕ)) → has_same_shape old p ≡ false
-      → CantJoin (Some old) p (refusal.ShapeDiffers name)
+      → CantJoin (Some old) p (refusal_at name cause.ShapeDiffers)
   runs_out : (old p : PartialPicture) (name : Bor (List ℕ)) → (has_same_shape old p ≡ false → ⊥)
-      → CantJoin (Some old) p (refusal.OutOfMemory name)
+      → CantJoin (Some old) p (refusal_at name cause.OutOfMemory)
 
 -- why the bytes were not joined to it as a text: this is their first fault, unless memory ran out; or what they say is of another shape
 pub data CantJoinText : Option PartialPicture → List ℕ → Refusal → Type 0 where
   refused_text : (held : Option PartialPicture) (bytes : List ℕ) (name : Bor (List ℕ)) (f : TextFault) → Fails f (read_text bytes)
-      → CantJoinText held bytes (refusal.Input name (input_fault_of f))
+      → CantJoinText held bytes (refusal_at name (cause.Input (input_fault_of f)))
   other_text : (old said : PartialPicture) (bytes : List ℕ) (name : Bor (List ℕ)) → IsTextOf bytes said
-      → has_same_shape old said ≡ false → CantJoinText (Some old) bytes (refusal.ShapeDiffers name)
+      → has_same_shape old said ≡ false → CantJoinText (Some old) bytes (refusal_at name cause.ShapeDiffers)

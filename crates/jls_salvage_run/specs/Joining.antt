@@ -7,10 +7,10 @@ use Rattle.jls_partial.specs.Text.{text}
 use Rattle.jls_io.specs.Event.{Event}
 use Rattle.jls_salvage_run.specs.AllInputs.{TakesUnion, StopsAtInput}
 use Rattle.jls_io.specs.Outputs.{HandsOut}
-use Rattle.jls_salvage_run.specs.Outputs.{StopsAtOutput}
-use Rattle.jls_salvage_run.specs.Outcomes.{Outcome, finished, name_of}
-use Rattle.jls_salvage_run.specs.declared.outcome.Refusal.{Refusal}
-use Rattle.jls_salvage_run.specs.declared.outcome.Refusal.TheVariants as refusal
+use Rattle.jls_cli.specs.Outputs.{StopsAtOutput}
+use Rattle.jls_cli.specs.Outcomes.{Outcome, finished, refusal_at}
+use Rattle.jls_cli.specs.declared.outcome.Refusal.{Refusal}
+use Rattle.jls_cli.specs.declared.outcome.Cause.TheVariants as cause
 
 -- a `join` that is done: the inputs were taken in turn; then the output was created and handed the text of the union of all
 -- that they gave
@@ -33,8 +33,8 @@ pub data Joins : Option ℕ → List ℕ → List (List ℕ) → Outcome → Lis
   no_memory : (source : Option ℕ) (out : List ℕ) (names : List (List ℕ)) (name : Bor (List ℕ))
       (joined : PartialPicture) (whole : Bool) (events : List Event)
       → name.now ≡ out → TakesUnion source names joined whole events
-      → Joins source out names (Err (refusal.OutOfMemory name)) events
+      → Joins source out names (Err (refusal_at name cause.OutOfMemory)) events
   at_output : (source : Option ℕ) (out : List ℕ) (names : List (List ℕ)) (r : Refusal)
       (joined : PartialPicture) (whole : Bool) (reading writing : List Event)
-      → name_of r ≡ out → TakesUnion source names joined whole reading → StopsAtOutput (text joined) r writing
+      → TakesUnion source names joined whole reading → StopsAtOutput out (text joined) r writing
       → Joins source out names (Err r) (reading ++ writing)

@@ -3,8 +3,6 @@ pub mod AllInputs
 pub mod Histories
 pub mod Joining
 pub mod CommandLaws
-pub mod Outcomes
-pub mod Outputs
 pub mod Reporting
 pub mod Tracing
 pub mod WritingFiles

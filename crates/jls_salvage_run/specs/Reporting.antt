@@ -10,9 +10,9 @@ use Rattle.jls_io.specs.Writing.{Wrote, WrotePrefix}
 use Rattle.jls_station.specs.Given.{Given}
 use Rattle.jls_salvage_run.specs.AllInputs.{IsTaken, StopsAt}
 use Rattle.jls_station.specs.declared.input.ReadStop.TheVariants.{Whole}
-use Rattle.jls_salvage_run.specs.Outcomes.{Outcome, finished, name_of}
-use Rattle.jls_salvage_run.specs.declared.outcome.Refusal.{Refusal}
-use Rattle.jls_salvage_run.specs.declared.outcome.Refusal.TheVariants as refusal
+use Rattle.jls_cli.specs.Outcomes.{Outcome, finished, refusal_at}
+use Rattle.jls_cli.specs.declared.outcome.Refusal.{Refusal}
+use Rattle.jls_cli.specs.declared.outcome.Cause.TheVariants as cause
 use Rattle.jls_salvage_run.specs.Tracing.{trace_lines}
 
 -- the lines that say what is known of a partial picture
@@ -35,9 +35,9 @@ pub data PrintsReport (lines : Given → List ℕ) : List ℕ → Outcome → Li
       → IsTaken None name g reading → Says g settled whole → Wrote (lines g) writing
       → PrintsReport lines name (finished settled whole) reading writing
   at_input : (name : List ℕ) (r : Refusal) (reading : List Event)
-      → name_of r ≡ name → StopsAt None [] r reading → PrintsReport lines name (Err r) reading []
+      → r.name.now ≡ name → StopsAt None [] r reading → PrintsReport lines name (Err r) reading []
   no_memory : (name : List ℕ) (file : Bor (List ℕ)) (g : Given) (reading : List Event)
-      → file.now ≡ name → IsTaken None name g reading → PrintsReport lines name (Err (refusal.OutOfMemory file)) reading []
+      → file.now ≡ name → IsTaken None name g reading → PrintsReport lines name (Err (refusal_at file cause.OutOfMemory)) reading []
   not_printed : (name : List ℕ) (out : Bor (List ℕ)) (g : Given) (count : ℕ) (reading writing : List Event)
       → out.now ≡ codes "-" → IsTaken None name g reading → WrotePrefix (lines g) count writing
-      → PrintsReport lines name (Err (refusal.NotWritten out count)) reading writing
+      → PrintsReport lines name (Err (refusal_at out (cause.NotWritten count))) reading writing

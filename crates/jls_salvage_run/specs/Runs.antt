@@ -5,7 +5,7 @@ use Rattle.clap.specs.declared.error.kind.ErrorKind.{ErrorKind}
 use Rattle.jls_io.specs.Event.{Event, History}
 use Rattle.jls_io.specs.Writing.{Wrote, WrotePrefix, Printed}
 use Rattle.jls_salvage_run.specs.Joining.{Joins}
-use Rattle.jls_salvage_run.specs.Outcomes.{Outcome, exit_status}
+use Rattle.jls_cli.specs.Outcomes.{Outcome, exit_status}
 use Rattle.jls_salvage_run.specs.Reporting.{PrintsReport, lines}
 use Rattle.jls_salvage_run.specs.WritingFiles.{WritesFile}
 use Rattle.jls_salvage_run.specs.declared.writing.Format.TheVariants.{Pnm, Jls}
@@ -13,7 +13,8 @@ use Rattle.jls_io.specs.FaultLines.{not_written_line, out_of_memory_line}
 use Rattle.jls_cli.specs.Answers.{is_help}
 use Rattle.jls_cli.specs.SalvageWords.{AreRefused}
 use Rattle.jls_cli.specs.SalvageAsking.{Asked, check, join, show, write_pnm, write_jls, AskFor, AskForNothing, format_is_known}
-use Rattle.jls_salvage_run.specs.FaultLines.{fault_line, program, unknown_value_line}
+use Rattle.jls_cli.specs.FaultLines.{fault_line}
+use Rattle.jls_salvage_run.specs.FaultLines.{program, unknown_value_line}
 
 -- the outcome of what was asked for, by the events of the desk and of the report output
 abbrev pub CameOf : Asked → Outcome → List Event → List Event → Type 0
@@ -27,7 +28,7 @@ CameOf (write_jls line ri out name) outcome desk report = WritesFile (Jls line r
 pub data Run : List Text → ℕ → List Event → List Event → List Event → Type 0 where
   -- the words ask for something: what came of it has the status and the fault line
   came_of : (words : List Text) (asked : Asked) (outcome : Outcome) (desk report faults : List Event)
-      → AskFor words asked → CameOf asked outcome desk report → Printed (fault_line outcome) faults
+      → AskFor words asked → CameOf asked outcome desk report → Printed (fault_line program outcome) faults
       → Run words (exit_status outcome) desk report faults
   -- clap refuses the words, and not to show help: some text, which may be any, goes to the fault output
   misused : (words : List Text) (k : ErrorKind) (usage : List ℕ) (faults : List Event)

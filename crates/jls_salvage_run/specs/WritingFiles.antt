@@ -20,10 +20,10 @@ use Rattle.jls_io.specs.Writing.{Wrote}
 use Rattle.jls_station.specs.Given.{Given}
 use Rattle.jls_salvage_run.specs.AllInputs.{IsTaken, StopsAt}
 use Rattle.jls_io.specs.Outputs.{HandsOut}
-use Rattle.jls_salvage_run.specs.Outputs.{StopsAtOutput}
-use Rattle.jls_salvage_run.specs.Outcomes.{Outcome, finished, name_of}
-use Rattle.jls_salvage_run.specs.declared.outcome.Refusal.{Refusal}
-use Rattle.jls_salvage_run.specs.declared.outcome.Refusal.TheVariants as refusal
+use Rattle.jls_cli.specs.Outputs.{StopsAtOutput}
+use Rattle.jls_cli.specs.Outcomes.{Outcome, finished, refusal_at}
+use Rattle.jls_cli.specs.declared.outcome.Refusal.{Refusal}
+use Rattle.jls_cli.specs.declared.outcome.Cause.TheVariants as cause
 use Rattle.jls_salvage_run.specs.Reporting.{Says}
 use Rattle.jls_salvage_run.specs.declared.writing.Format.{Format}
 use Rattle.jls_salvage_run.specs.declared.writing.Format.TheVariants.{Pnm, Jls}
@@ -65,23 +65,24 @@ takes_memory (Jls line ri) = true
 -- the file of these bytes stops the command for this refusal, which has the name of the output. It is too large, and nothing is created.
 -- The output stops it. Or memory runs out when so many first bytes went out, and not all
 pub data StopsAtFile (Fits TooLarge : Type 0) (takes : Bool) : List ℕ → Refusal → List Event → Type 0 where
-  too_large : (name : Bor (List ℕ)) (bytes : List ℕ) → TooLarge → StopsAtFile Fits TooLarge takes bytes (refusal.TooLarge name) []
-  at_output : (bytes : List ℕ) (r : Refusal) (events : List Event) → Fits → StopsAtOutput bytes r events
+  too_large : (name : Bor (List ℕ)) (bytes : List ℕ) → TooLarge → StopsAtFile Fits TooLarge takes bytes (refusal_at name cause.TooLarge) []
+  at_output : (bytes : List ℕ) (r : Refusal) (events : List Event) → Fits → StopsAtOutput r.name.now bytes r events
       → StopsAtFile Fits TooLarge takes bytes r events
   no_memory : (name : Bor (List ℕ)) (bytes : List ℕ) (count : ℕ) (writes : List Event) → Fits → takes ≡ true → count < length bytes
-      → Wrote (take count bytes) writes → StopsAtFile Fits TooLarge takes bytes (refusal.OutOfMemory name) (created name.now ∷ writes)
+      → Wrote (take count bytes) writes
+      → StopsAtFile Fits TooLarge takes bytes (refusal_at name cause.OutOfMemory) (created name.now ∷ writes)
 
 -- ---- the command
 
 -- the refusal for a line that is not settled: the identifier of its component, its number, and whether it has readings
 abbrev pub unsettled_refusal : Bor (List ℕ) → PartialPicture → PictureFault → Refusal
 unsettled_refusal name p (Unsettled component line) =
-    refusal.Unsettled name (get_or p.shape.ids component 0) line (is_disputed p component line)
+    refusal_at name (cause.Unsettled (get_or p.shape.ids component 0) line (is_disputed p component line))
 
 -- what is said of a file that was not handed out whole
 abbrev pub cut_refusal : Bor (List ℕ) → OutputFault → Refusal
-cut_refusal name (Write count) = refusal.NotWritten name count
-cut_refusal name (OutOfMemory count) = refusal.OutOfMemory name
+cut_refusal name (Write count) = refusal_at name (cause.NotWritten count)
+cut_refusal name (OutOfMemory count) = refusal_at name cause.OutOfMemory
 
 -- What comes of `write` in this format with this output and this input: it is done, and the output was created when the input
 -- was taken; the input stops it; the first line that is not settled does; or the file does
@@ -91,13 +92,13 @@ pub data WritesFile : Format → List ℕ → List ℕ → Outcome → List Even
       → HandsOut out (file f (picture_of g.partial)) writing
       → WritesFile f out name (finished true whole) (reading ++ writing)
   at_input : (f : Format) (out name : List ℕ) (r : Refusal) (reading : List Event)
-      → name_of r ≡ name → StopsAt None [] r reading → WritesFile f out name (Err r) reading
+      → r.name.now ≡ name → StopsAt None [] r reading → WritesFile f out name (Err r) reading
   unsettled : (f : Format) (out name : List ℕ) (r : Refusal) (input : Bor (List ℕ)) (g : Given) (fault : PictureFault)
       (reading : List Event)
       → input.now ≡ name → IsTaken None name g reading → NamesFirstUnsettled g.partial fault
       → r ≡ unsettled_refusal input g.partial fault → WritesFile f out name (Err r) reading
   at_file : (f : Format) (out name : List ℕ) (r : Refusal) (g : Given) (reading writing : List Event)
-      → name_of r ≡ out → IsTaken None name g reading → IsSettled g.partial
+      → r.name.now ≡ out → IsTaken None name g reading → IsSettled g.partial
       → StopsAtFile (FitsFormat f (picture_of g.partial)) (IsTooLarge f (picture_of g.partial)) (takes_memory f)
       (file f (picture_of g.partial)) r writing
       → WritesFile f out name (Err r) (reading ++ writing)

@@ -3,11 +3,11 @@
 ghost use Rattle.std.specs.Prelude.{◌≡◌, ◌++◌, ◌∷◌, [], List, OnOk, OnErr, IfOk, IfErr, None};
 ghost use Rattle.jls_io.specs.Event.{GrewBy, opened, not_opened};
 ghost use Rattle.jls_station.specs.Given.{Given};
-ghost use Rattle.jls_salvage_run.specs.Outcomes.{name_of};
+ghost use Rattle.jls_cli.specs.Outcomes.{refusal_at};
 ghost use Rattle.jls_salvage_run.specs.AllInputs.{names_of, partials, IsHeld, IsTaken, JoinsInput, JoinsText, JoinsWith, CantJoin};
 ghost use Rattle.jls_salvage_run.specs.AllInputs.{CantJoinText, TakesUnion, StopsAt, StopsAtInput};
 
-use crate::outcome::Refusal;
+use jls_cli::{Cause, Refusal};
 use jls_io::Desk;
 use jls_partial::{MergeTextFault, Partial};
 use jls_station::{InputForm, InputRead, Station, input_fault, read_form, read_input};
@@ -35,9 +35,12 @@ pub(crate) struct Taken {
 fn open<'a, D: Desk>(desk: &mut D, name: &'a str) -> Result<(), Refusal<'a>>
     ensures opened { OnOk result (D.history desk.new ≡ D.history desk.old ++ opened name.now ∷ []) }
     ensures not_opened { OnErr result (D.history desk.new ≡ D.history desk.old ++ not_opened name.now ∷ []) }
-    ensures refusal { IfErr result (λ refusal. refusal ≡ Refusal.NotOpened name.entry) }
+    ensures refusal { IfErr result (λ refusal. refusal ≡ refusal_at name.entry Cause.NotOpened) }
 {
-    desk.open_input(name).map_err(|_| Refusal::NotOpened(name))
+    desk.open_input(name).map_err(|_| Refusal {
+        name,
+        cause: Cause::NotOpened,
+    })
 }
 
 /// Opens one input and reads it. A copy has no source.
@@ -48,10 +51,13 @@ pub(crate) fn open_and_read<'a, D: Desk>(
 ) -> Result<InputRead, Refusal<'a>>
     ensures taken { IfOk result (λ given. GrewBy (IsTaken None name.now given) (D.history desk.old) (D.history desk.new)) }
     ensures stopped { IfErr result (λ refusal. GrewBy (StopsAt None [] refusal) (D.history desk.old) (D.history desk.new)) }
-    ensures named { IfErr result (λ refusal. name_of refusal ≡ name.now) }
+    ensures named { IfErr result (λ refusal. refusal.name.now ≡ name.now) }
 {
     open(desk, name)?;
-    read_input(alloc, None, desk).map_err(|fault| Refusal::Input(name, fault))
+    read_input(alloc, None, desk).map_err(|fault| Refusal {
+        name,
+        cause: Cause::Input(fault),
+    })
 }
 
 /// Joins what the text of an input says to what is held: to nothing at first.
@@ -63,20 +69,26 @@ fn join_text<'a>(
 ) -> Result<Station, Refusal<'a>>
     ensures joined { IfOk result (λ station. JoinsText held text.now station) }
     ensures refused { IfErr result (λ refusal. CantJoinText held text.now refusal) }
-    ensures named { IfErr result (λ refusal. name_of refusal ≡ name.now) }
+    ensures named { IfErr result (λ refusal. refusal.name.now ≡ name.now) }
 {
     match held {
         None => {
-            let partial = Partial::from_bytes(alloc, text).map_err(|fault| Refusal::Input(
+            let partial = Partial::from_bytes(alloc, text).map_err(|fault| Refusal {
                 name,
-                input_fault(fault),
-            ))?;
+                cause: Cause::Input(input_fault(fault)),
+            })?;
             Ok(Station::holding(alloc, partial))
         }
         Some(mut station) => match station.take_text(text) {
             Ok(()) => Ok(station),
-            Err(MergeTextFault::Text(fault)) => Err(Refusal::Input(name, input_fault(fault))),
-            Err(MergeTextFault::ShapeDiffers) => Err(Refusal::ShapeDiffers(name)),
+            Err(MergeTextFault::Text(fault)) => Err(Refusal {
+                name,
+                cause: Cause::Input(input_fault(fault)),
+            }),
+            Err(MergeTextFault::ShapeDiffers) => Err(Refusal {
+                name,
+                cause: Cause::ShapeDiffers,
+            }),
         },
     }
 }
@@ -90,14 +102,20 @@ fn join_copy<'a>(
 ) -> Result<Station, Refusal<'a>>
     ensures joined { IfOk result (λ station. JoinsWith held read.partial station) }
     ensures refused { IfErr result (λ refusal. CantJoin held read.partial refusal) }
-    ensures named { IfErr result (λ refusal. name_of refusal ≡ name.now) }
+    ensures named { IfErr result (λ refusal. refusal.name.now ≡ name.now) }
 {
     match held {
         None => Ok(Station::holding(alloc, read.into_partial())),
         Some(mut station) => match station.take(read.partial()) {
             Ok(()) => Ok(station),
-            Err(MergeFault::ShapeDiffers) => Err(Refusal::ShapeDiffers(name)),
-            Err(MergeFault::OutOfMemory) => Err(Refusal::OutOfMemory(name)),
+            Err(MergeFault::ShapeDiffers) => Err(Refusal {
+                name,
+                cause: Cause::ShapeDiffers,
+            }),
+            Err(MergeFault::OutOfMemory) => Err(Refusal {
+                name,
+                cause: Cause::OutOfMemory,
+            }),
         },
     }
 }
@@ -122,13 +140,14 @@ fn take_input<'a, D: Desk>(
     // Whatever the inputs before it gave, of which the union is held.
     ensures stopped { (before : List Given) → IsHeld (partials before) held → IfErr result (λ refusal.
         GrewBy (StopsAt room.old.source before refusal) (D.history desk.old) (D.history desk.new)) }
-    ensures named { IfErr result (λ refusal. name_of refusal ≡ name.now) }
+    ensures named { IfErr result (λ refusal. refusal.name.now ≡ name.now) }
     ensures source { room.new.source ≡ room.old.source }
 {
     open(desk, name)?;
-    let form = read_form(room.alloc, room.source, desk, &mut room.text).map_err(
-        |fault| Refusal::Input(name, fault),
-    )?;
+    let form = read_form(room.alloc, room.source, desk, &mut room.text).map_err(|fault| Refusal {
+        name,
+        cause: Cause::Input(fault),
+    })?;
     match form {
         InputForm::Text => {
             let station = join_text(room.alloc, held, &room.text, name)?;

@@ -5,8 +5,7 @@ ghost use Rattle.jls_salvage_run.specs.AllInputs.{names_of};
 ghost use Rattle.jls_salvage_run.specs.Joining.{Joins};
 
 use crate::inputs::{JoinInputs, Taken, take_inputs};
-use crate::outcome::{Done, Refusal};
-use crate::output::write_output;
+use jls_cli::{Cause, Done, Refusal, write_output};
 use jls_io::Desk;
 use std::alloc::Global;
 
@@ -25,9 +24,10 @@ pub fn join<'a, D: Desk>(
     let taken = take_inputs(alloc, desk, inputs)?;
     let (Taken { station, whole }, room) = taken;
     let joined = station.partial();
-    let text = joined
-        .to_bytes_in(room)
-        .map_err(|_| Refusal::OutOfMemory(out))?;
+    let text = joined.to_bytes_in(room).map_err(|_| Refusal {
+        name: out,
+        cause: Cause::OutOfMemory,
+    })?;
     write_output(desk, out, &text)?;
     let settled = joined.is_settled();
     Ok(Done { settled, whole })

@@ -5,17 +5,15 @@
 //! - `writing`: the command `write`
 //! - `joining`: the command `join`
 //! - `inputs`: opens inputs by their names, reads them, and takes those of `join` in turn
-//! - `output`: creates an output and writes it
-//! - `outcome`: `Done`, `Refusal`, and the exit status of both
 //! - `command_laws`: laws of the commands
 //! - `program`, `performing`: `run`: reads the words, does what they ask for, prints the line of the outcome and answers its status
-//! - `printing`: the lines on the fault output
+//! - `printing`: the lines on the fault output that this program alone has
 //! - `run_laws`: what a run of each command did that is done
 //!
 //! Each command answers `Done` or a `Refusal`, and prints nothing on the fault output. `check`, `show` and `write` take one input by
-//! `open_and_read`. Definitions: `AllInputs` (all inputs, and how one stops a command), `Outputs`, `Outcomes`, `Histories` (two devices),
-//! `Tracing` (the lines on a copy), `Reporting` (what comes of `check` and `show`), `Joining` (of `join`), `WritingFiles` (of `write`),
-//! `CommandLaws`.
+//! `open_and_read`. Definitions: `AllInputs` (all inputs, and how one stops a command), `Histories` (two devices), `Tracing` (the lines on
+//! a copy), `Reporting` (what comes of `check` and `show`), `Joining` (of `join`), `WritingFiles` (of `write`), `CommandLaws`. In jls_cli:
+//! `Outcomes` and `Outputs`.
 //!
 //! # What the commands do
 //!
@@ -35,8 +33,8 @@
 //! - As PNM, `write` can't run out of memory once the input is taken. As JPEG-LS it can while the file goes out. Then OUT was handed its
 //!   first bytes, not all, and no write failed.
 //!
-//! Definitions of runs: `Runs` (which runs there are), `FaultLines`, `RunLaws`, `Statuses`, `BrokenReads`. Its tests run it over files in
-//! memory (`jls_program_tests/src/program/memory.rt`).
+//! Definitions of runs: `Runs` (which runs there are), `FaultLines` (here and in jls_cli), `RunLaws`, `Statuses`, `BrokenReads`. Its tests
+//! run it over files in memory (`jls_program_tests/src/program/memory.rt`).
 //!
 //! # What a run does
 //!
@@ -92,8 +90,6 @@
 mod command_laws;
 mod inputs;
 mod joining;
-mod outcome;
-mod output;
 mod performing;
 mod printing;
 mod program;
@@ -105,8 +101,7 @@ mod writing;
 pub use command_laws::{same_inputs_same_output, surviving_lines_give_the_picture};
 pub use inputs::JoinInputs;
 pub use joining::join;
-pub use outcome::{Done, Refusal, exit_status};
-pub use printing::{print_not_created, print_not_replaced};
+pub use printing::{PROGRAM, print_not_replaced};
 pub use program::run;
 pub use reporting::print_report;
 pub use run_laws::{

@@ -6,10 +6,10 @@ ghost use Rattle.jls_salvage_run.specs.Runs.{CameOf};
 
 use crate::inputs::JoinInputs;
 use crate::joining::join;
-use crate::outcome::{Done, Refusal};
 use crate::reporting::print_report;
 use crate::writing::{Format, write};
 use jls_cli::salvage::Asked;
+use jls_cli::{Done, Refusal};
 use jls_io::{Desk, Sink};
 use std::alloc::Global;
 

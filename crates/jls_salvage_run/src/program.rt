@@ -4,11 +4,10 @@ ghost use Rattle.std.specs.Prelude.{map};
 ghost use Rattle.std.specs.String.{string_bytes};
 ghost use Rattle.jls_salvage_run.specs.Runs.{Ran};
 
-use crate::outcome::exit_status;
 use crate::performing::perform;
-use crate::printing::{PROGRAM, print_outcome, print_unknown_value};
-use jls_cli::answer;
+use crate::printing::{PROGRAM, print_unknown_value};
 use jls_cli::salvage::{asked_command, knows_format, matches};
+use jls_cli::{answer, exit_status, print_outcome};
 use jls_io::{Desk, Sink};
 use std::alloc::Global;
 
@@ -46,6 +45,6 @@ pub fn run<D: Desk, W: Sink, E: Sink>(
         }
     };
     let outcome = perform(alloc, desk, report, asked);
-    print_outcome(faults, &outcome);
+    print_outcome(faults, PROGRAM, &outcome);
     exit_status(outcome)
 }

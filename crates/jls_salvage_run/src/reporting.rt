@@ -6,8 +6,8 @@ ghost use Rattle.jls_salvage_run.specs.Reporting.{lines, report_lines, PrintsRep
 ghost use Rattle.jls_salvage_run.specs.Tracing.{trace_lines};
 
 use crate::inputs::open_and_read;
-use crate::outcome::{Done, Refusal};
 use crate::tracing::put_trace;
+use jls_cli::{Cause, Done, Refusal};
 use jls_io::{Desk, Sink, write_all};
 use jls_partial::Partial;
 use jls_report::Report;
@@ -67,12 +67,18 @@ pub fn print_report<'a, D: Desk, W: Sink>(
         (W.history report.old) (W.history report.new) }
 {
     let input = open_and_read(alloc, desk, file)?;
-    let text = lines_of(alloc, &input, traced).map_err(|_| Refusal::OutOfMemory(file))?;
+    let text = lines_of(alloc, &input, traced).map_err(|_| Refusal {
+        name: file,
+        cause: Cause::OutOfMemory,
+    })?;
     match write_all(report, &text) {
         Ok(()) => Ok(Done {
             settled: input.partial().is_settled(),
             whole: input.is_whole(),
         }),
-        Err(count) => Err(Refusal::NotWritten("-", count)),
+        Err(count) => Err(Refusal {
+            name: "-",
+            cause: Cause::NotWritten(count),
+        }),
     }
 }

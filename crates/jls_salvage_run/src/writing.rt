@@ -2,9 +2,8 @@
 
 ghost use Rattle.std.specs.Prelude.{◌≡◌, true, OnOk, IfErr};
 ghost use Rattle.jls_io.specs.Event.{GrewBy};
-ghost use Rattle.jls_salvage_run.specs.Outcomes.{name_of};
 ghost use Rattle.jls_io.specs.Outputs.{HandsOut};
-ghost use Rattle.jls_salvage_run.specs.Outputs.{StopsAtOutput};
+ghost use Rattle.jls_cli.specs.Outputs.{StopsAtOutput};
 ghost use Rattle.jls_write.specs.Unsettled.{NamesFirstUnsettled};
 ghost use Rattle.jls_write.specs.WrittenFile.{written_file};
 ghost use Rattle.jls_write.specs.Options.{OptionsFit};
@@ -13,8 +12,7 @@ ghost use Rattle.jls_salvage_run.specs.WritingFiles.{file, cut_refusal, FitsForm
 ghost use Rattle.jls_salvage_run.specs.WritingFiles.{unsettled_refusal, WritesFile};
 
 use crate::inputs::open_and_read;
-use crate::outcome::{Done, Refusal};
-use crate::output::create;
+use jls_cli::{Cause, Done, Refusal, create};
 use jls_io::Desk;
 use jls_partial::Partial;
 use jls_values::Params;
@@ -40,12 +38,12 @@ fn unsettled<'a>(name: &'a str, partial: &Partial, fault: PictureFault) -> Refus
     ensures { result ≡ unsettled_refusal name.entry partial.now fault }
 {
     let PictureFault::Unsettled(component, line) = fault;
-    Refusal::Unsettled {
-        name,
+    let cause = Cause::Unsettled {
         id: partial.shape().ids()[component as usize],
         line,
         disputed: partial.count(component, line) > 1,
-    }
+    };
+    Refusal { name, cause }
 }
 
 /// The refusal that tells what became of an output.
@@ -53,8 +51,14 @@ fn cut<'a>(name: &'a str, fault: OutputFault) -> Refusal<'a>
     ensures { result ≡ cut_refusal name.entry fault }
 {
     match fault {
-        OutputFault::Write(count) => Refusal::NotWritten(name, count),
-        OutputFault::OutOfMemory(_) => Refusal::OutOfMemory(name),
+        OutputFault::Write(count) => Refusal {
+            name,
+            cause: Cause::NotWritten(count),
+        },
+        OutputFault::OutOfMemory(_) => Refusal {
+            name,
+            cause: Cause::OutOfMemory,
+        },
     }
 }
 
@@ -77,8 +81,8 @@ fn hand_out_pnm<'a, D: Desk>(
 ) -> Result<(), Refusal<'a>>
     ensures written { OnOk result (GrewBy (HandsOut name.now (pnm picture.now)) (D.history desk.old) (D.history desk.new)) }
     ensures stopped { IfErr result (λ refusal.
-        GrewBy (StopsAtOutput (pnm picture.now) refusal) (D.history desk.old) (D.history desk.new)) }
-    ensures named { IfErr result (λ refusal. name_of refusal ≡ name.now) }
+        GrewBy (StopsAtOutput name.now (pnm picture.now) refusal) (D.history desk.old) (D.history desk.new)) }
+    ensures named { IfErr result (λ refusal. refusal.name.now ≡ name.now) }
 {
     create(desk, name)?;
     write_pnm(picture, desk).map_err(|fault| cut(name, fault))
@@ -98,10 +102,13 @@ fn hand_out_jls<'a, D: Desk>(
     ensures stopped { IfErr result (λ refusal. GrewBy (StopsAtFile (OptionsFit picture.now options.now)
         (OptionsFit picture.now options.now → ⊥) true (written_file picture.now options.now) refusal)
         (D.history desk.old) (D.history desk.new)) }
-    ensures named { IfErr result (λ refusal. name_of refusal ≡ name.now) }
+    ensures named { IfErr result (λ refusal. refusal.name.now ≡ name.now) }
 {
     if !options.fits(picture) {
-        return Err(Refusal::TooLarge(name));
+        return Err(Refusal {
+            name,
+            cause: Cause::TooLarge,
+        });
     }
     create(desk, name)?;
     write_jls(alloc, picture, options, desk).map_err(|fault| cut(name, fault))
@@ -119,7 +126,7 @@ fn hand_out<'a, D: Desk>(
     ensures written { OnOk result (GrewBy (HandsOut name.now (file format picture.now)) (D.history desk.old) (D.history desk.new)) }
     ensures stopped { IfErr result (λ refusal. GrewBy (StopsAtFile (FitsFormat format picture.now) (IsTooLarge format picture.now)
         (takes_memory format) (file format picture.now) refusal) (D.history desk.old) (D.history desk.new)) }
-    ensures named { IfErr result (λ refusal. name_of refusal ≡ name.now) }
+    ensures named { IfErr result (λ refusal. refusal.name.now ≡ name.now) }
 {
     match format {
         Format::Pnm => hand_out_pnm(desk, name, picture),

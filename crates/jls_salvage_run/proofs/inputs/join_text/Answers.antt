@@ -7,7 +7,8 @@ use Rattle.jls_partial.specs.TextMerging.{RefusesText}
 use Rattle.jls_partial.specs.declared.text_merging.MergeTextFault.{MergeTextFault}
 use Rattle.jls_station.specs.InputFaults.{input_fault_of}
 use Rattle.jls_station.proofs.Mapped.{error_at, value_at}
-use Rattle.jls_salvage_run.specs.declared.outcome.Refusal.TheVariants.{Input}
+use Rattle.jls_cli.specs.Outcomes.{refusal_at}
+use Rattle.jls_cli.specs.declared.outcome.Cause.TheVariants.{Input}
 use Rattle.jls_salvage_run.proofs.Held.{text_first, text_merged, text_fails, text_differs}
 use Rattle.jls_salvage_run.proofs.inputs.join_text.Goals as goal
 
@@ -21,7 +22,7 @@ returns-in-None-clause-joined c =
 pub returns-in_err-partial-in-None-clause-refused : goal.returns-in_err-partial-in-None-clause-refused
 returns-in_err-partial-in-None-clause-refused c =
     let text = c.args.text.now in
-    let made = error_at _ (λ fault. Input c.args.name (input_fault_of fault)) (λ fault r made. search rules) c.from_bytes.result c.map_err.result c.in_err-partial-in-None.field-0.0 c.map_err.ensures.cases c.in_err-partial-in-None.was in
+    let made = error_at _ (λ fault. refusal_at c.args.name (Input (input_fault_of fault))) (λ fault r made. search rules) c.from_bytes.result c.map_err.result c.in_err-partial-in-None.field-0.0 c.map_err.ensures.cases c.in_err-partial-in-None.was in
     let fails = subst (λ (r : Result PartialPicture TextFault). GivesText (λ q. q) r (read_text text)) made.2 c.from_bytes.ensures.exact in
     let p = err_from_is_err_and c.from_residual.result c.from_residual.ensures.1 in
     rw (p.1, p.2, made.1) (text_fails c.args.held text c.args.name made.0 (input_fault_of made.0) refl fails)

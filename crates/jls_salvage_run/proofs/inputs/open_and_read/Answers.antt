@@ -1,6 +1,7 @@
 use Rattle.std.proofs.Common.{None, [], rules}
 use Rattle.std.proofs.lemmas.Result.{err_from_is_err_and}
-use Rattle.jls_salvage_run.specs.declared.outcome.Refusal.TheVariants.{Input}
+use Rattle.jls_cli.specs.Outcomes.{refusal_at}
+use Rattle.jls_cli.specs.declared.outcome.Cause.TheVariants.{Input}
 use Rattle.jls_salvage_run.proofs.InTurn.{opened_and_given, opened_and_refused, not_opened_at_all}
 use Rattle.jls_station.proofs.Mapped.{error_so, value_so}
 use Rattle.jls_salvage_run.proofs.inputs.open_and_read.Goals as goal
@@ -22,6 +23,6 @@ returns-clause-taken g c =
 pub returns-clause-stopped : goal.returns-clause-stopped
 returns-clause-stopped g c =
     let history = g.D.Device.history in
-    error_so _ (λ fault. Input c.args.name fault) (λ fault r made. search rules) c.read_input.result c.map_err.result _ _
+    error_so _ (λ fault. refusal_at c.args.name (Input fault)) (λ fault r made. search rules) c.read_input.result c.map_err.result _ _
     (λ fault h. opened_and_refused None (history c.args.desk.now) (history c.open.new.desk) (history c.read_input.new.device) c.args.name fault [] c.in_ok-open.ensures.opened h)
     c.map_err.ensures.cases c.read_input.ensures.refused

@@ -6,7 +6,8 @@ use Rattle.jls_station.specs.Inputs.{ReadsGive}
 use Rattle.jls_station.specs.declared.input.InputForm.{InputForm}
 use Rattle.jls_station.proofs.Mapped.{error_at, value_at}
 use Rattle.jls_salvage_run.specs.AllInputs.{JoinsText, CantJoinText}
-use Rattle.jls_salvage_run.specs.declared.outcome.Refusal.TheVariants.{Input}
+use Rattle.jls_cli.specs.Outcomes.{refusal_at}
+use Rattle.jls_cli.specs.declared.outcome.Cause.TheVariants.{Input}
 use Rattle.jls_salvage_run.proofs.InTurn.{opened_and_refused, not_opened_at_all}
 use Rattle.jls_salvage_run.proofs.NextInputs.{given_joined, text_joined, given_stops, text_stops}
 use Rattle.jls_salvage_run.proofs.inputs.take_input.Goals as goal
@@ -21,7 +22,7 @@ returns-in_err-open-clause-stopped g c = λ before h.
 pub returns-in_err-form-clause-stopped : goal.returns-in_err-form-clause-stopped
 returns-in_err-form-clause-stopped g c = λ before h.
     let history = g.D.Device.history in
-    let made = error_at _ (λ fault. Input c.args.name fault) (λ fault r made. search rules) c.read_form.result c.map_err.result c.in_err-form.field-0.0 c.map_err.ensures.cases c.in_err-form.was in
+    let made = error_at _ (λ fault. refusal_at c.args.name (Input fault)) (λ fault r made. search rules) c.read_form.result c.map_err.result c.in_err-form.field-0.0 c.map_err.ensures.cases c.in_err-form.was in
     let refused = IfErr-at_err _ made.2 c.read_form.ensures.refused in
     let p = err_from_is_err_and c.from_residual-in_err-form.result c.from_residual-in_err-form.ensures.1 in
     rw (p.1, p.2, made.1) (opened_and_refused c.args.room.now.source (history c.args.desk.now) (history c.open.new.desk) (history c.read_form.new.device) c.args.name made.0 before c.in_ok-open.ensures.opened refused)

@@ -4,7 +4,8 @@ use Rattle.jls_io.specs.Event.{GrewBy}
 use Rattle.jls_partial.specs.Partial.{PartialPicture}
 use Rattle.jls_partial.specs.Text.{text}
 use Rattle.jls_salvage_run.specs.AllInputs.{names_of, TakesUnion}
-use Rattle.jls_salvage_run.specs.declared.outcome.Refusal.TheVariants.{OutOfMemory}
+use Rattle.jls_cli.specs.Outcomes.{refusal_at}
+use Rattle.jls_cli.specs.declared.outcome.Cause.TheVariants.{OutOfMemory}
 use Rattle.jls_salvage_run.proofs.JoinSteps.{ends_at_input, ends_for_memory, is_done, ends_at_output}
 use Rattle.jls_station.proofs.Mapped.{error_at, value_at}
 use Rattle.jls_salvage_run.proofs.joining.join.Goals as goal
@@ -18,7 +19,7 @@ returns-in_err-taken g c =
 pub returns-in_err-text : goal.returns-in_err-text
 returns-in_err-text g c =
     let history = g.D.Device.history in
-    let made = error_at _ (λ _. OutOfMemory c.args.out) (λ e r made. search rules) c.to_bytes_in.result c.map_err.result c.in_err-text.field-0.0 c.map_err.ensures.cases c.in_err-text.was in
+    let made = error_at _ (λ _. refusal_at c.args.out OutOfMemory) (λ e r made. search rules) c.to_bytes_in.result c.map_err.result c.in_err-text.field-0.0 c.map_err.ensures.cases c.in_err-text.was in
     let p = err_from_is_err_and c.from_residual-in_err-text.result c.from_residual-in_err-text.ensures.1 in
     rw (p.1, p.2, made.1) (ends_for_memory c.args.inputs.source c.args.out.now _ (history c.args.desk.now) (history c.take_inputs.new.desk) (history c.take_inputs.new.desk) c.in_ok-taken.taken.0.station c.in_ok-taken.taken.0.whole c.in_ok-taken.ensures.taken c.args.out refl)
 
@@ -43,4 +44,4 @@ returns-in_err-write_output g c =
     let is : c.in_ok-text.text.items ≡ text joined = IfOk-at_ok _ (value_at _ c.to_bytes_in.result c.map_err.result c.in_ok-text.text c.map_err.ensures.cases c.in_ok-text.was) c.to_bytes_in.ensures in
     let p = err_from_is_err_and c.from_residual-in_err-write_output.result c.from_residual-in_err-write_output.ensures.1 in
     rw (p.1, p.2) (ends_at_output source c.args.out.now names (history c.args.desk.now) (history c.take_inputs.new.desk) (history c.write_output.new.desk) joined c.in_ok-taken.taken.0.whole taken
-    c.in_err-write_output.field-0.0 c.deref.result.now c.in_err-write_output.ensures.named (c.deref.ensures.value ∙ is) c.in_err-write_output.ensures.stopped)
+    c.in_err-write_output.field-0.0 c.deref.result.now (c.deref.ensures.value ∙ is) c.in_err-write_output.ensures.stopped)

@@ -4,7 +4,8 @@ use Rattle.std.specs.Prelude.{◌↔◌, IsTrue}
 use Rattle.jls_partial.specs.Partial.{PartialPicture}
 use Rattle.jls_partial.specs.Status.{IsSettled}
 use Rattle.jls_salvage_run.specs.Reporting.{lines}
-use Rattle.jls_salvage_run.specs.declared.outcome.Refusal.TheVariants.{OutOfMemory}
+use Rattle.jls_cli.specs.Outcomes.{refusal_at}
+use Rattle.jls_cli.specs.declared.outcome.Cause.TheVariants.{OutOfMemory}
 use Rattle.jls_station.proofs.Mapped.{error_at, value_at}
 use Rattle.jls_salvage_run.proofs.Reported.{reported_at_input, reported_for_memory, reported, reported_in_part}
 use Rattle.jls_salvage_run.proofs.reporting.print_report.Goals as goal
@@ -20,7 +21,7 @@ pub returns-in_err-text : goal.returns-in_err-text
 returns-in_err-text g c =
     let desk = g.D.Device.history in
     let report = g.W.Device.history c.args.report.now in
-    let made = error_at _ (λ _. OutOfMemory c.args.file) (λ e r made. search rules) c.lines_of.result c.map_err.result c.in_err-text.field-0.0 c.map_err.ensures.cases c.in_err-text.was in
+    let made = error_at _ (λ _. refusal_at c.args.file OutOfMemory) (λ e r made. search rules) c.lines_of.result c.map_err.result c.in_err-text.field-0.0 c.map_err.ensures.cases c.in_err-text.was in
     let p = err_from_is_err_and c.from_residual-in_err-text.result c.from_residual-in_err-text.ensures.1 in
     rw (p.1, p.2, made.1) (reported_for_memory (lines c.args.traced) c.args.file.now (desk c.args.desk.now) (desk c.open_and_read.new.desk) report report c.in_ok-input.input c.in_ok-input.ensures.taken c.args.file refl)
 

@@ -3,7 +3,7 @@ use Rattle.std.proofs.lemmas.Result.{err_from_is_err_and}
 use Rattle.jls_write.specs.WrittenFile.{written_file}
 use Rattle.jls_write.specs.Options.{OptionsFit}
 use Rattle.jls_salvage_run.specs.WritingFiles.{cut_refusal}
-use Rattle.jls_salvage_run.proofs.JoinSteps.{not_created_at_all}
+use Rattle.jls_cli.proofs.OutputSteps.{not_created_at_all}
 use Rattle.jls_station.proofs.Mapped.{error_so}
 use Rattle.jls_salvage_run.proofs.Written.{cut_in_file, stops_before, stopped_by_output}
 use Rattle.jls_salvage_run.proofs.writing.hand_out_jls.Goals as goal
@@ -20,7 +20,7 @@ returns-in_err-create-clause-stopped g c =
     let F = OptionsFit c.args.picture.now c.args.options.now in
     let bytes = written_file c.args.picture.now c.args.options.now in
     let p = err_from_is_err_and c.from_residual.result c.from_residual.ensures.1 in
-    rw (p.1, p.2) (stopped_by_output F (F → ⊥) true (c.fits.ensures.0 c.if-not-fits.false) c.in_err-create.field-0.0 (desk c.args.desk.now) (desk c.create.new.desk) bytes
+    rw (p.1, p.2) (stopped_by_output F (F → ⊥) true (c.fits.ensures.0 c.if-not-fits.false) c.in_err-create.field-0.0 (desk c.args.desk.now) (desk c.create.new.desk) c.args.name.now bytes
     (not_created_at_all (desk c.args.desk.now) (desk c.create.new.desk) c.args.name bytes c.in_err-create.field-0.0 c.in_err-create.ensures.refusal c.in_err-create.ensures.not_created))
 
 pub returns-clause-stopped : goal.returns-clause-stopped

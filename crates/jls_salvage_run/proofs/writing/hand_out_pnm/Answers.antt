@@ -2,7 +2,7 @@ use Rattle.std.proofs.Common.{rules}
 use Rattle.std.proofs.lemmas.Result.{err_from_is_err_and}
 use Rattle.jls_write.specs.Pnm.{pnm}
 use Rattle.jls_salvage_run.specs.WritingFiles.{cut_refusal}
-use Rattle.jls_salvage_run.proofs.JoinSteps.{not_created_at_all}
+use Rattle.jls_cli.proofs.OutputSteps.{not_created_at_all}
 use Rattle.jls_station.proofs.Mapped.{error_so}
 use Rattle.jls_salvage_run.proofs.Written.{cut_after}
 use Rattle.jls_salvage_run.proofs.writing.hand_out_pnm.Goals as goal
