@@ -5,6 +5,7 @@
 
 use jls_host::{Guard, Program, run_program};
 use jls_io::{Desk, Sink};
+use jls_splice_run::PROGRAM;
 use std::alloc::Global;
 use std::process::ExitCode;
 
@@ -13,7 +14,7 @@ struct Splice;
 
 impl Program for Splice {
     fn name() -> &'static str {
-        "jls-splice"
+        PROGRAM
     }
 
     /// It replaces no JPEG file.
@@ -36,7 +37,7 @@ impl Program for Splice {
     }
 
     fn print_not_created<E: Sink>(faults: &mut E, name: &str) {
-        jls_splice_run::print_not_created(faults, name);
+        jls_cli::print_not_created(faults, PROGRAM, name);
     }
 }
 

@@ -15,40 +15,30 @@ use Rattle.jls_search.specs.Shapes.{IsShapeTaken}
 use Rattle.jls_search.specs.Stations.{TakesFiles}
 use Rattle.jls_splice_laws.specs.WholeFiles.{WholeFilesAreFaultless}
 use Rattle.jls_cli.specs.SpliceAsking.{Asked}
-use Rattle.jls_splice_run.specs.Outcomes.{exit_status, exit_status_of_cause}
-use Rattle.jls_splice_run.specs.declared.outcome.Cause.{Cause}
-use Rattle.jls_splice_run.specs.declared.outcome.Cause.TheVariants as cause
-use Rattle.jls_splice_run.specs.declared.outcome.Outcome.TheVariants.{Done}
+use Rattle.jls_cli.specs.Outcomes.{exit_status, finished}
 use Rattle.jls_splice_run.specs.Copies.{bytes_read}
 use Rattle.jls_splice_run.specs.Limits.{has_some}
 use Rattle.jls_splice_run.specs.Making.{IsCut, IsCutTaken, IsMade, IsPictureOf, IsPictureOfFiles, Made, cut_file, promise_of}
 use Rattle.jls_splice_run.specs.declared.found.Promise.TheVariants.{Picture, Lines}
 use Rattle.jls_copy_laws.proofs.Members.{none_in}
 use Rattle.jls_splice_run.specs.Runs.{Performs, came_of, no_names, at_copies, not_made, not_handed, done}
+use Rattle.jls_splice_laws.proofs.StoppedRuns.{copies_above, handing_above, unmade_above}
 use Rattle.jls_splice_laws.specs.SplicingLaws.{SplicedCopiesGiveNoOther}
 use Rattle.jls_splice_laws.specs.RunLaws.{DidMake, IsOfEachWholeSplice, SplicedRunsGiveNoOther, SplicedRunsTakeTheCut}
 
--- a cause has a status above 1
-not_done : (c : Cause) → exit_status_of_cause c ≤ 1 → ⊥
-not_done cause.NotOpened e = omega (arith, e)
-not_done cause.PartialPicture e = omega (arith, e)
-not_done (cause.NoPicture f offset) e = omega (arith, e)
-not_done cause.NotRead e = omega (arith, e)
-not_done cause.ShapeDiffers e = omega (arith, e)
-not_done cause.NotCreated e = omega (arith, e)
-not_done (cause.NotWritten count) e = omega (arith, e)
-not_done (cause.FileNotCreated number) e = omega (arith, e)
-not_done (cause.FileNotWritten number count) e = omega (arith, e)
-not_done cause.OutOfMemory e = omega (arith, e)
+-- a run that stops has a status above 1
+not_done : (status : ℕ) → 1 < status → status ≤ 1 → ⊥
+not_done status above e = omega (arith, above, e)
 
-was_whole : (settled whole : Bool) → exit_status (Done settled whole) ≤ 1 → IsTrue whole
+was_whole : (settled whole : Bool) → exit_status (finished settled whole) ≤ 1 → IsTrue whole
 was_whole settled true e = refl
 was_whole settled false e = absurd (omega (arith, e))
 
 did_make : (a : Asked) (status : ℕ) (desk report faults : List Event) → Performs a status desk report faults → status ≤ 1 → DidMake a desk report
-did_make a _ _ _ _ (came_of _ _ _ _ line (at_copies r desk stops) reported) e = absurd (not_done r.cause e)
-did_make a _ _ _ _ (came_of _ _ _ _ line (not_made r copies desk faults read cant) reported) e = absurd (not_done r.cause e)
-did_make a _ _ _ _ (came_of _ _ _ _ line (not_handed r copies m reading desk report faults noting read made tells noted stops) reported) e = absurd (not_done r.cause e)
+did_make a _ _ _ _ (came_of _ _ _ _ line (at_copies r desk stops) reported) e = absurd (not_done _ (copies_above _ r desk stops) e)
+did_make a _ _ _ _ (came_of _ _ _ _ line (not_made r copies desk faults read cant) reported) e = absurd (not_done _ (unmade_above a copies r faults cant) e)
+did_make a _ _ _ _ (came_of _ _ _ _ line (not_handed r copies m reading desk report faults noting read made tells noted stops) reported) e =
+    absurd (not_done _ (handing_above _ r desk report stops) e)
 did_make a _ _ _ _ (came_of _ _ _ _ line (done copies m settled whole reading desk report faults noting read made tells noted handed is_set is_read) reported) e = record {
   copies = copies;
   made = m;
@@ -63,7 +53,7 @@ did_make a _ _ _ _ (came_of _ _ _ _ line (done copies m settled whole reading de
 did_make a _ _ _ _ (no_names faults reported) e = absurd (omega (arith, e))
 
 -- a run that is done ends with status 0 only if each line is settled
-is_settled : (settled whole : Bool) → exit_status (Done settled whole) ≡ 0 → IsTrue settled
+is_settled : (settled whole : Bool) → exit_status (finished settled whole) ≡ 0 → IsTrue settled
 is_settled true true e = refl
 is_settled true false e = absurd (omega (arith, e))
 is_settled false true e = absurd (omega (arith, e))
@@ -74,10 +64,10 @@ at_most_1 n e = omega (arith, e)
 
 did_settle : (a : Asked) (status : ℕ) (desk report faults : List Event) → Performs a status desk report faults → status ≡ 0
     → (did : DidMake a desk report) × IsSettled did.made.picture
-did_settle a _ _ _ _ (came_of _ _ _ _ line (at_copies r desk stops) reported) e = absurd (not_done r.cause (at_most_1 _ e))
-did_settle a _ _ _ _ (came_of _ _ _ _ line (not_made r copies desk faults read cant) reported) e = absurd (not_done r.cause (at_most_1 _ e))
+did_settle a _ _ _ _ (came_of _ _ _ _ line (at_copies r desk stops) reported) e = absurd (not_done _ (copies_above _ r desk stops) (at_most_1 _ e))
+did_settle a _ _ _ _ (came_of _ _ _ _ line (not_made r copies desk faults read cant) reported) e = absurd (not_done _ (unmade_above a copies r faults cant) (at_most_1 _ e))
 did_settle a _ _ _ _ (came_of _ _ _ _ line (not_handed r copies m reading desk report faults noting read made tells noted stops) reported) e =
-    absurd (not_done r.cause (at_most_1 _ e))
+    absurd (not_done _ (handing_above _ r desk report stops) (at_most_1 _ e))
 did_settle a _ _ _ _ (came_of _ _ _ _ line (done copies m settled whole reading desk report faults noting read made tells noted handed is_set is_read) reported) e = (
   record {
     copies = copies;

@@ -8,3 +8,4 @@ pub mod HeldFiles
 pub mod SplicedCopies
 pub mod CutFiles
 pub mod DoneRuns
+mod StoppedRuns

@@ -1,5 +1,5 @@
 -- What comes of what was asked, put together.
-use Rattle.std.proofs.Common.{◌≡◌, ℕ, Bool, suc, List, [], ◌∷◌, ◌++◌, length, refl, sym, ap, subst}
+use Rattle.std.proofs.Common.{◌≡◌, ℕ, Bool, suc, List, [], ◌∷◌, ◌++◌, Err, length, refl, sym, ap, subst}
 use Rattle.std.specs.Prelude.{◌↔◌, IsTrue}
 use Rattle.std.proofs.lemmas.List.{append-nil}
 use Rattle.jls_io.specs.Event.{Event, History, GrewBy}
@@ -8,8 +8,8 @@ use Rattle.jls_io.proofs.Growing.{grew_twice}
 use Rattle.jls_partial.specs.Status.{IsSettled}
 use Rattle.jls_station.specs.CopyFiles.{AreCopiesRead, CopyBytes}
 use Rattle.jls_cli.specs.SpliceAsking.{Asked}
-use Rattle.jls_splice_run.specs.declared.outcome.Outcome.TheVariants.{Done, Refused}
-use Rattle.jls_splice_run.specs.declared.outcome.Refusal.{Refusal}
+use Rattle.jls_cli.specs.Outcomes.{finished}
+use Rattle.jls_cli.specs.declared.outcome.Refusal.{Refusal}
 use Rattle.jls_splice_run.specs.Copies.{AreWhole, bytes_read, StopsAtCopies}
 use Rattle.jls_splice_run.specs.Handing.{HandsAll, StopsInHanding, Texts}
 use Rattle.jls_splice_run.specs.Listing.{prefix_in}
@@ -40,7 +40,7 @@ texts_are a copies m v h = λ i. record {
 
 module _ (a : Asked) (desk mid new report report' faults faults' last : History) where
   pub stops_at_copies : (r : Refusal) → GrewBy (StopsAtCopies a.copies r) desk mid
-      → GrewAll (Splices a (Refused r)) desk mid report report faults faults
+      → GrewAll (Splices a (Err r)) desk mid report report faults faults
   stops_at_copies r h = record {
     desk_events = h.events;
     report_events = [];
@@ -52,7 +52,7 @@ module _ (a : Asked) (desk mid new report report' faults faults' last : History)
   }
 
   module _ (copies : List CopyBytes) (read : GrewBy (AreCopiesRead a.copies copies) desk mid) where
-    pub stops_unmade : (r : Refusal) → GrewBy (CantMake a copies r) faults faults' → GrewAll (Splices a (Refused r)) desk mid report report faults faults'
+    pub stops_unmade : (r : Refusal) → GrewBy (CantMake a copies r) faults faults' → GrewAll (Splices a (Err r)) desk mid report report faults faults'
     stops_unmade r cant = record {
       desk_events = read.events;
       report_events = [];
@@ -72,7 +72,7 @@ module _ (a : Asked) (desk mid new report report' faults faults' last : History)
         its_notes = subst (λ (t : List ℕ). Printed t noted.events) made.2.notes_are noted.they_are
 
         pub stops_in_handing : (r : Refusal) → GrewBoth (StopsInHanding (texts_held a v) r) mid new report report'
-            → GrewAll (Splices a (Refused r)) desk new report report' faults last
+            → GrewAll (Splices a (Err r)) desk new report report' faults last
         stops_in_handing r h = record {
           desk_events = read.events ++ h.desk_events;
           report_events = h.report_events;
@@ -85,7 +85,7 @@ module _ (a : Asked) (desk mid new report report' faults faults' last : History)
         }
 
         pub is_done : (whole : Bool) → (IsTrue whole ↔ AreWhole copies) → GrewBoth (HandsAll (texts_held a v)) mid new report report'
-            → GrewAll (Splices a (Done v.settled whole)) desk new report report' faults last
+            → GrewAll (Splices a (finished v.settled whole)) desk new report report' faults last
         is_done whole whole_is h = record {
           desk_events = read.events ++ h.desk_events;
           report_events = h.report_events;

@@ -1,21 +1,15 @@
 -- What is handed out, put together.
-use Rattle.std.proofs.Common.{◌≡◌, List, [], ◌∷◌, ◌++◌, refl, sym, subst}
+use Rattle.std.proofs.Common.{[], ◌++◌, refl, sym}
 use Rattle.std.proofs.lemmas.List.{append-nil}
-use Rattle.jls_io.specs.Event.{Event, History, GrewBy}
+use Rattle.jls_io.specs.Event.{History, GrewBy}
 use Rattle.jls_io.specs.Writing.{Wrote}
-use Rattle.jls_io.proofs.Growing.{grew_on, grew_twice}
+use Rattle.jls_io.proofs.Growing.{grew_twice}
 use Rattle.jls_io.specs.Outputs.{HandsOut}
-use Rattle.jls_splice_run.specs.declared.outcome.Refusal.{Refusal}
-use Rattle.jls_splice_run.specs.Handing.{HandsAll, HandsFile, HandsFiles, StopsAtFile, StopsAtFiles, StopsAtOutput, StopsAtReport}
+use Rattle.jls_cli.specs.Outputs.{StopsAtOutput}
+use Rattle.jls_cli.specs.declared.outcome.Refusal.{Refusal}
+use Rattle.jls_splice_run.specs.Handing.{HandsAll, HandsFile, HandsFiles, StopsAtFile, StopsAtFiles, StopsAtReport}
 use Rattle.jls_splice_run.specs.Handing.{StopsInHanding, Texts, at_file, at_files, at_output, at_report}
 use Rattle.jls_splice_run.specs.Runs.{GrewBoth}
-
--- one event, and then others
-pub grew_after : (A B : List Event → Type 0) (old mid new : History) (first : Event) → ((events : List Event) → A events → B (first ∷ events))
-    → mid ≡ old ++ first ∷ [] → GrewBy A mid new → GrewBy B old new
-grew_after A B old mid new first see e h =
-    grew_on (λ events. events ≡ first ∷ []) A B old mid new (λ a b is t. subst (λ (x : List Event). B (x ++ b)) (sym is) (see b t))
-    (record { events = first ∷ []; grew = e; they_are = refl }) h
 
 module _ (t : Texts) (desk mid new last report report' : History) where
   pub stops_at_report : (r : Refusal) → GrewBy (StopsAtReport t.lines r) report report'

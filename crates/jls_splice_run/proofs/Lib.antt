@@ -5,7 +5,6 @@ pub mod Rounds
 mod Turns
 mod LineBegins
 mod FaultLineExamples
-mod StatusExamples
 mod Done
 mod Handed
 mod MakingLemmas

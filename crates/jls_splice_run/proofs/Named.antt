@@ -7,7 +7,7 @@ use Rattle.std.proofs.lemmas.List.{map-append, take_more, take-append-drop}
 use Rattle.jls_io.specs.Event.{History, GrewBy}
 use Rattle.jls_io.proofs.Growing.{grew_on}
 use Rattle.jls_io.specs.Outputs.{HandsOut}
-use Rattle.jls_splice_run.specs.declared.outcome.Refusal.{Refusal}
+use Rattle.jls_cli.specs.declared.outcome.Refusal.{Refusal}
 use Rattle.jls_splice_run.specs.Handing.{HandsFiles, StopsAtFiles, StopsAtNumber, one_handed}
 use Rattle.jls_splice_run.specs.Listing.{NamedFile, is_named, named_file, named_files, numbered}
 use Rattle.jls_splice_run.specs.declared.listing.NumberedFile.{NumberedFile}

@@ -12,9 +12,9 @@ use Rattle.jls_cli.specs.SpliceAsking.{Asked, AskFor, AskForNothing}
 use Rattle.jls_cli.specs.SpliceWords.{AreRefused}
 use Rattle.jls_cli.specs.Answers.{is_help, is_want_of_memory, Answer, Answered, ran_out, usage, help, cut}
 use Rattle.jls_io.specs.FaultLines.{out_of_memory_line}
-use Rattle.jls_splice_run.specs.FaultLines.{fault_line, named_twice_line, not_understood_line, numbered_out_line, program}
-use Rattle.jls_splice_run.specs.Outcomes.{exit_status}
-use Rattle.jls_splice_run.specs.declared.outcome.Outcome.{Outcome}
+use Rattle.jls_cli.specs.FaultLines.{fault_line}
+use Rattle.jls_cli.specs.Outcomes.{Outcome, exit_status}
+use Rattle.jls_splice_run.specs.FaultLines.{named_twice_line, not_understood_line, numbered_out_line, program}
 use Rattle.jls_splice_run.specs.Runs.{GrewAll, IsFileOut, IsNumberedOut, Performs, Ran, Run, Splices, came_of, no_names, performed}
 use Rattle.jls_splice_run.specs.Runs.{named_twice, numbered_out, misused, helped, help_cut, nothing_begun, nothing_asked}
 
@@ -31,7 +31,7 @@ run_of_answer words k _ report faults (inl is) (cut _ text count _ _ n wrote lin
 
 module _ (a : Asked) (desk desk' report report' faults mid faults' : History) where
   pub performs : (status : ℕ) (outcome : Outcome) → status ≡ exit_status outcome → GrewAll (Splices a outcome) desk desk' report report' faults mid
-      → GrewBy (Printed (fault_line outcome)) mid faults' → GrewAll (Performs a status) desk desk' report report' faults faults'
+      → GrewBy (Printed (fault_line program outcome)) mid faults' → GrewAll (Performs a status) desk desk' report report' faults faults'
   performs status outcome is h line = record {
     desk_events = h.desk_events;
     report_events = h.report_events;

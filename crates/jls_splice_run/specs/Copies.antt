@@ -8,9 +8,9 @@ use Rattle.jls_station.specs.CopyFiles.{CopyBytes, StopsAmongCopies}
 use Rattle.jls_station.specs.declared.copy.CopyCause.{CopyCause}
 use Rattle.jls_station.specs.declared.copy.CopyCause.TheVariants as copy
 use Rattle.jls_station.specs.declared.copy.CopyRefusal.{CopyRefusal}
-use Rattle.jls_splice_run.specs.declared.outcome.Cause.{Cause}
-use Rattle.jls_splice_run.specs.declared.outcome.Cause.TheVariants as cause
-use Rattle.jls_splice_run.specs.declared.outcome.Refusal.{Refusal}
+use Rattle.jls_cli.specs.declared.outcome.Cause.{Cause}
+use Rattle.jls_cli.specs.declared.outcome.Cause.TheVariants as cause
+use Rattle.jls_cli.specs.declared.outcome.Refusal.{Refusal}
 
 -- the bytes of each copy
 abbrev pub bytes_read : List CopyBytes → List (List ℕ)

@@ -3,8 +3,9 @@ use Rattle.std.specs.Prelude.{◌≡◌, ℕ, ◌+◌, List, [], ◌∷◌, ◌+
 use Rattle.jls_io.specs.Event.{Event, created, not_created}
 use Rattle.jls_io.specs.Writing.{Wrote, WrotePrefix}
 use Rattle.jls_io.specs.Outputs.{HandsOut}
-use Rattle.jls_splice_run.specs.declared.outcome.Cause.TheVariants as cause
-use Rattle.jls_splice_run.specs.declared.outcome.Refusal.{Refusal}
+use Rattle.jls_cli.specs.Outputs.{StopsAtOutput}
+use Rattle.jls_cli.specs.declared.outcome.Cause.TheVariants as cause
+use Rattle.jls_cli.specs.declared.outcome.Refusal.{Refusal}
 use Rattle.jls_splice_run.specs.Listing.{NamedFile}
 
 -- the report output stops the run: it was handed so many of the bytes when a write failed
@@ -13,12 +14,6 @@ pub record StopsAtReport (bytes : List ℕ) (r : Refusal) (events : List Event) 
   pub wrote : WrotePrefix bytes count events
   pub name_is : r.name.now ≡ codes "-"
   pub cause_is : r.cause ≡ cause.NotWritten count
-
--- an output of this name stops the run. It is not created, or it was handed so many of the bytes when a write failed
-pub data StopsAtOutput (name bytes : List ℕ) (r : Refusal) : List Event → Type 0 where
-  not_there : r.name.now ≡ name → r.cause ≡ cause.NotCreated → StopsAtOutput name bytes r (not_created name ∷ [])
-  cut : (count : ℕ) (writes : List Event) → r.name.now ≡ name → r.cause ≡ cause.NotWritten count → WrotePrefix bytes count writes
-      → StopsAtOutput name bytes r (created name ∷ writes)
 
 -- an output is handed these bytes if there are a name and bytes. Else nothing is done
 abbrev pub HandsFile : Option (List ℕ) → Option (List ℕ) → List Event → Type 0

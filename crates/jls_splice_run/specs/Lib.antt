@@ -4,7 +4,6 @@ pub mod Limits
 pub mod Lines
 pub mod Telling
 pub mod FaultLines
-pub mod Outcomes
 pub mod Copies
 pub mod Files
 pub mod Handing

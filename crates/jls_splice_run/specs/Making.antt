@@ -34,9 +34,9 @@ use Rattle.jls_search.specs.Faultless.{IsSought}
 use Rattle.jls_search.specs.declared.shape_found.ShapeFound.{ShapeFound}
 use Rattle.jls_search.specs.declared.shape_found.ShapeFound.TheVariants.{Taken, Differ, NoFrame}
 use Rattle.jls_cli.specs.SpliceAsking.{Asked}
-use Rattle.jls_splice_run.specs.declared.outcome.Cause.{Cause}
-use Rattle.jls_splice_run.specs.declared.outcome.Cause.TheVariants as cause
-use Rattle.jls_splice_run.specs.declared.outcome.Refusal.{Refusal}
+use Rattle.jls_cli.specs.declared.outcome.Cause.{Cause}
+use Rattle.jls_cli.specs.declared.outcome.Cause.TheVariants as cause
+use Rattle.jls_cli.specs.declared.outcome.Refusal.{Refusal}
 use Rattle.jls_splice_run.specs.Copies.{bytes_read, stops_read}
 use Rattle.jls_splice_run.specs.Files.{count_new}
 use Rattle.jls_splice_run.specs.Listing.{AreNamedAsked, NamedFile, named_files}

@@ -1,5 +1,5 @@
 -- What a run of the program is.
-use Rattle.std.specs.Prelude.{◌≡◌, ◌↔◌, ℕ, Bool, true, false, IsTrue, List, [], ◌++◌, codes, option_map, Some}
+use Rattle.std.specs.Prelude.{◌≡◌, ◌↔◌, ℕ, Bool, true, false, IsTrue, List, [], ◌++◌, codes, option_map, Some, Err}
 use Rattle.clap.specs.Words.{Text}
 use Rattle.clap.specs.declared.error.kind.ErrorKind.{ErrorKind}
 use Rattle.jls_io.specs.Event.{Event, History}
@@ -11,11 +11,10 @@ use Rattle.jls_cli.specs.SpliceAsking.{Asked, AskFor, AskForNothing}
 use Rattle.jls_cli.specs.SpliceWords.{AreRefused}
 use Rattle.jls_cli.specs.Answers.{is_help}
 use Rattle.jls_io.specs.FaultLines.{not_written_line, out_of_memory_line}
-use Rattle.jls_splice_run.specs.FaultLines.{fault_line, named_twice_line, not_understood_line, numbered_out_line, program}
-use Rattle.jls_splice_run.specs.Outcomes.{exit_status}
-use Rattle.jls_splice_run.specs.declared.outcome.Outcome.{Outcome}
-use Rattle.jls_splice_run.specs.declared.outcome.Outcome.TheVariants.{Done, Refused}
-use Rattle.jls_splice_run.specs.declared.outcome.Refusal.{Refusal}
+use Rattle.jls_cli.specs.FaultLines.{fault_line}
+use Rattle.jls_cli.specs.Outcomes.{Outcome, exit_status, finished}
+use Rattle.jls_splice_run.specs.FaultLines.{named_twice_line, not_understood_line, numbered_out_line, program}
+use Rattle.jls_cli.specs.declared.outcome.Refusal.{Refusal}
 use Rattle.jls_splice_run.specs.Copies.{AreWhole, bytes_read, StopsAtCopies}
 use Rattle.jls_splice_run.specs.Handing.{HandsAll, StopsInHanding, Texts}
 use Rattle.jls_splice_run.specs.Listing.{IsNumbered, named_files, prefix_in}
@@ -69,24 +68,24 @@ texts_held a v = record {
 -- said whether each line is settled, and whether each copy was read to its end. The searches tell how far they are, if that is asked for.
 -- If the output is standard output, what was found is noted on the fault output
 pub data Splices (a : Asked) : Outcome → List Event → List Event → List Event → Type 0 where
-  at_copies : (r : Refusal) (desk : List Event) → StopsAtCopies a.copies r desk → Splices a (Refused r) desk [] []
+  at_copies : (r : Refusal) (desk : List Event) → StopsAtCopies a.copies r desk → Splices a (Err r) desk [] []
   not_made : (r : Refusal) (copies : List CopyBytes) (desk faults : List Event) → AreCopiesRead a.copies copies desk
-      → CantMake a copies r faults → Splices a (Refused r) desk [] faults
+      → CantMake a copies r faults → Splices a (Err r) desk [] faults
   not_handed : (r : Refusal) (copies : List CopyBytes) (m : Made) (reading desk report faults noting : List Event)
       → AreCopiesRead a.copies copies reading → IsMade a (bytes_read copies) m → Tells a m.searches faults
       → Printed (notes a (bytes_read copies) m) noting
-      → StopsInHanding (texts a copies m) r desk report → Splices a (Refused r) (reading ++ desk) report (faults ++ noting)
+      → StopsInHanding (texts a copies m) r desk report → Splices a (Err r) (reading ++ desk) report (faults ++ noting)
   done : (copies : List CopyBytes) (m : Made) (settled whole : Bool) (reading desk report faults noting : List Event)
       → AreCopiesRead a.copies copies reading → IsMade a (bytes_read copies) m → Tells a m.searches faults
       → Printed (notes a (bytes_read copies) m) noting
       → HandsAll (texts a copies m) desk report
       → (IsTrue settled ↔ IsSettled m.picture) → (IsTrue whole ↔ AreWhole copies)
-      → Splices a (Done settled whole) (reading ++ desk) report (faults ++ noting)
+      → Splices a (finished settled whole) (reading ++ desk) report (faults ++ noting)
 
 -- what was asked ends with this status, and its fault line is printed last; or memory ran out before a copy was opened
 pub data Performs (a : Asked) : ℕ → List Event → List Event → List Event → Type 0 where
   came_of : (outcome : Outcome) (desk report faults line : List Event)
-      → Splices a outcome desk report faults → Printed (fault_line outcome) line
+      → Splices a outcome desk report faults → Printed (fault_line program outcome) line
       → Performs a (exit_status outcome) desk report (faults ++ line)
   no_names : (faults : List Event) → Printed (out_of_memory_line program) faults → Performs a 5 [] [] faults
 

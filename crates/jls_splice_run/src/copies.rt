@@ -9,7 +9,7 @@ ghost use Rattle.jls_splice_run.specs.Copies.{AreWhole, bytes_read, StopsAtCopie
 ghost use Rattle.jls_splice_run.specs.Copies as spec;
 ghost use Rattle.jls_splice_run.specs.Tasks.{texts_of};
 
-use crate::outcome::{Cause, Refusal};
+use jls_cli::{Cause, Refusal};
 use jls_io::Desk;
 use jls_station::{CopyCause, CopyFile, CopyRefusal, ReadStop, read_copies};
 use std::alloc::{AllocError, Global};

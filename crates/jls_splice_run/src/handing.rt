@@ -5,12 +5,12 @@ ghost use Rattle.std.specs.String.{string_bytes};
 ghost use Rattle.jls_io.specs.Event.{GrewBy};
 ghost use Rattle.jls_io.specs.Writing.{Printed, Wrote};
 ghost use Rattle.jls_io.specs.Outputs.{HandsOut};
-ghost use Rattle.jls_splice_run.specs.Handing.{HandsFile, HandsFiles, StopsAtFile, StopsAtFiles, StopsAtNumber, StopsAtOutput};
+ghost use Rattle.jls_splice_run.specs.Handing.{HandsFile, HandsFiles, StopsAtFile, StopsAtFiles, StopsAtNumber};
 ghost use Rattle.jls_splice_run.specs.Handing.{StopsAtReport};
 ghost use Rattle.jls_splice_run.specs.Listing.{named_file, named_files};
 
 use crate::listing::NumberedFile;
-use crate::outcome::{Cause, Refusal};
+use jls_cli::{Cause, Refusal, write_output};
 use jls_io::{Desk, Sink, write_all};
 
 /// Prints lines to the report output.
@@ -33,32 +33,6 @@ pub(crate) fn print_notes<E: Sink>(faults: &mut E, notes: &[u8])
     ensures { GrewBy (Printed notes.now) (E.history faults.old) (E.history faults.new) }
 {
     let _ = write_all(faults, notes);
-}
-
-/// Creates an output and hands all of the bytes to it.
-pub(crate) fn write_output<'a, D: Desk>(
-    desk: &mut D,
-    name: &'a str,
-    bytes: &[u8],
-) -> Result<(), Refusal<'a>>
-    ensures written { OnOk result (GrewBy (HandsOut name.entry.now bytes.now) (D.history desk.old) (D.history desk.new)) }
-    ensures stopped { IfErr result (λ refusal.
-        GrewBy (StopsAtOutput name.entry.now bytes.now refusal) (D.history desk.old) (D.history desk.new)) }
-{
-    match desk.create_output(name) {
-        Ok(()) => {}
-        Err(_) => {
-            let cause = Cause::NotCreated;
-            return Err(Refusal { name, cause });
-        }
-    }
-    match write_all(desk, bytes) {
-        Ok(()) => Ok(()),
-        Err(count) => {
-            let cause = Cause::NotWritten(count);
-            Err(Refusal { name, cause })
-        }
-    }
 }
 
 /// Creates the output for the single file and hands that to it, if there are both.

@@ -12,11 +12,11 @@
 //! - `shallow`: the limit under which a cut file is sought, where the searches had none and found nothing
 //! - `differences`: where copies differ: the offset in the first copy, and how many bytes that one has there
 //! - `found`, `lines`: what is reported of a search, as one value; its lines, and the line that says how far a search is
-//! - `outcome`, `printing`: what came of a run, why it stopped, and the exit status; the fault line
+//! - `printing`: the lines on the fault output that this program alone has
 //!
 //! Definitions: `Tasks`, `Copies`, `Making`, `Single`, `Files`, `Listing`, `Handing`, `Runs`; `Limits`, `Telling`; `Differences`,
-//! `Lines`; `Outcomes`, `FaultLines`. `PrintedLineExamples` of `proofs/` has each line, and all lines of three runs, worked by hand.
-//! `FaultLineExamples` has a fault line of each kind.
+//! `Lines`; `FaultLines`. `PrintedLineExamples` of `proofs/` has each line, and all lines of three runs, worked by hand. What came of a
+//! run, why it stopped, its exit status and its fault line are in jls_cli.
 //!
 //! Not proved:
 //!
@@ -36,7 +36,6 @@ mod listing;
 mod made;
 mod noting;
 mod options;
-mod outcome;
 mod printed_lines;
 mod printing;
 mod program;
@@ -55,10 +54,8 @@ pub use listing::NumberedFile;
 pub use made::Made;
 pub use noting::put_noted;
 pub use options::SearchOptions;
-pub use outcome::{Cause, Outcome, Refusal};
 pub use printing::{
-    PROGRAM, print_named_twice, print_not_created, print_not_replaced, print_not_understood,
-    print_numbered_out, print_outcome,
+    PROGRAM, print_named_twice, print_not_replaced, print_not_understood, print_numbered_out,
 };
 pub use program::run;
 pub use splicing::splice;

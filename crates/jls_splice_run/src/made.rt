@@ -30,11 +30,11 @@ use crate::found::{CutEnd, GroupSearch, Promise, SearchReport};
 use crate::limits::search_and_tell;
 use crate::listing::{NumberedFile, name_files};
 use crate::options::SearchOptions;
-use crate::outcome::Refusal;
 use crate::printed_lines::{lines_of, notes_of};
 use crate::settling::{Taken, settle};
 use crate::single::single_file;
 use crate::task::{Task, want_of_memory};
+use jls_cli::Refusal;
 use jls_io::Sink;
 use jls_search::{
     Files, FoundSplices, GroupsReported, are_short, complete_by_groups, lone_path,

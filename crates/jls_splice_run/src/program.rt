@@ -5,13 +5,11 @@ ghost use Rattle.std.specs.String.{string_bytes};
 ghost use Rattle.jls_cli.specs.SpliceAsking.{asked_of};
 ghost use Rattle.jls_splice_run.specs.Runs.{GrewAll, Performs, Ran};
 
-use crate::printing::{
-    PROGRAM, print_named_twice, print_not_understood, print_numbered_out, print_outcome,
-};
+use crate::printing::{PROGRAM, print_named_twice, print_not_understood, print_numbered_out};
 use crate::splicing::splice;
 use crate::task::{Task, is_file_out, is_numbered_out, names_of};
-use jls_cli::answer;
 use jls_cli::splice::{Asked, asked_splice, matches};
+use jls_cli::{answer, exit_status, print_outcome};
 use jls_io::{Desk, Sink, print_out_of_memory};
 use std::alloc::Global;
 
@@ -39,8 +37,8 @@ fn perform<D: Desk, W: Sink, E: Sink>(
         names: &names,
     };
     let outcome = splice(alloc, desk, report, faults, &task);
-    print_outcome(faults, &outcome);
-    outcome.status()
+    print_outcome(faults, PROGRAM, &outcome);
+    exit_status(outcome)
 }
 
 /// The program `jls-splice`. The words begin with the program's own name, and the answer is the exit status:

@@ -13,8 +13,8 @@ ghost use Rattle.jls_splice_run.specs.Making.{IsPictureOf, IsPictureOfFiles, IsU
 ghost use Rattle.jls_splice_run.specs.Making as spec;
 ghost use Rattle.jls_splice_run.specs.Tasks.{task_of};
 
-use crate::outcome::{Cause, Refusal};
 use crate::task::{Task, want_of_memory};
+use jls_cli::{Cause, Refusal};
 use jls_marker::MarkerFault;
 use jls_search::{Files, Settled, settle_files, settle_with_cut};
 use jls_station::{CopyFile, ReadStop, Station};

@@ -6,10 +6,10 @@ ghost use Rattle.jls_splice_run.specs.Runs.{GrewAll, GrewBoth, Splices, texts_he
 ghost use Rattle.jls_splice_run.specs.Tasks.{task_of};
 
 use crate::copies::{are_whole, read_all};
-use crate::handing::{print_lines, print_notes, write_file, write_files, write_output};
+use crate::handing::{print_lines, print_notes, write_file, write_files};
 use crate::made::{Made, make};
-use crate::outcome::{Outcome, Refusal};
 use crate::task::{Task, prefix_of};
+use jls_cli::{Done, Refusal, write_output};
 use jls_io::{Desk, Sink};
 use std::alloc::Global;
 
@@ -64,25 +64,25 @@ pub fn splice<'a, D: Desk, W: Sink, E: Sink>(
     report: &mut W,
     faults: &mut E,
     task: &Task<'_, 'a>,
-) -> Outcome<'a>
+) -> Result<Done, Refusal<'a>>
     requires { 0 < length task.now.names.now }
     ensures { GrewAll (Splices (task_of task.now) result) (D.history desk.old) (D.history desk.new)
         (W.history report.old) (W.history report.new) (E.history faults.old) (E.history faults.new) }
 {
     let copies = match read_all(alloc, desk, task.names) {
         Ok(copies) => copies,
-        Err(refusal) => return Outcome::Refused(refusal),
+        Err(refusal) => return Err(refusal),
     };
     let made = match make(alloc, task, &copies, faults) {
         Ok(made) => made,
-        Err(refusal) => return Outcome::Refused(refusal),
+        Err(refusal) => return Err(refusal),
     };
     print_notes(faults, &made.notes);
     match hand_out(desk, report, task, &made) {
-        Ok(()) => Outcome::Done {
+        Ok(()) => Ok(Done {
             settled: made.settled,
             whole: are_whole(&copies),
-        },
-        Err(refusal) => Outcome::Refused(refusal),
+        }),
+        Err(refusal) => Err(refusal),
     }
 }

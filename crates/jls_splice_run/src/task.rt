@@ -1,15 +1,15 @@
 //! What a run is to do.
 
 ghost use Rattle.std.specs.Prelude.{◌≡◌, ◌<◌, ◌↔◌, length, IfOk, IsTrue, map};
-ghost use Rattle.jls_splice_run.specs.declared.outcome.Cause.TheVariants.{OutOfMemory};
+ghost use Rattle.jls_cli.specs.declared.outcome.Cause.TheVariants.{OutOfMemory};
 ghost use Rattle.jls_cli.specs.SpliceAsking.{asked_of};
 ghost use Rattle.jls_splice_run.specs.Listing.{prefix_in};
 ghost use Rattle.jls_splice_run.specs.Runs.{IsFileOut, IsNumberedOut};
 ghost use Rattle.jls_splice_run.specs.Tasks.{task_of, texts_of};
 
 use crate::listing::is_numbered;
-use crate::outcome::{Cause, Refusal};
 use jls_cli::splice::{Asked, Options};
+use jls_cli::{Cause, Refusal};
 use std::alloc::{AllocError, Global};
 
 /// What a run is to do: its options, the output, and the copies in their order.

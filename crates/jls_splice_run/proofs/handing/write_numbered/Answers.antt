@@ -5,7 +5,7 @@ use Rattle.jls_io.specs.Writing.{Wrote, WrotePrefix}
 use Rattle.jls_io.specs.Outputs.{HandsOut}
 use Rattle.jls_splice_run.specs.Handing.{StopsAtNumber, number_cut, number_not_there}
 use Rattle.jls_splice_run.specs.Listing.{named_file}
-use Rattle.jls_splice_run.proofs.Handed.{grew_after}
+use Rattle.jls_cli.proofs.OutputSteps.{grew_after}
 use Rattle.jls_splice_run.proofs.handing.write_numbered.Goals as goal
 
 pub returns-in-Err-clause-stopped : goal.returns-in-Err-clause-stopped

@@ -20,7 +20,7 @@ use Rattle.jls_splice_run.specs.Single.{IsSingleAsked}
 use Rattle.jls_splice_run.specs.Tasks.{task_of}
 use Rattle.jls_splice_run.specs.declared.made.FoundInTurn.{FoundInTurn}
 use Rattle.jls_splice_run.specs.declared.options.SearchOptions.{SearchOptions}
-use Rattle.jls_splice_run.specs.declared.outcome.Refusal.{Refusal}
+use Rattle.jls_cli.specs.declared.outcome.Refusal.{Refusal}
 use Rattle.jls_splice_run.proofs.MakingLemmas.{cut_mapped, found_mapped, mapped_twice, none_mapped}
 use Rattle.jls_splice_run.proofs.Turns.{nothing_reported, searched_before}
 use Rattle.jls_splice_run.proofs.made.make.Goals as goal

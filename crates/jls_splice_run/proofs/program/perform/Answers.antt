@@ -21,7 +21,7 @@ returns g c =
     let same = ap (λ (copies : List (List ℕ)). record { options = options_in asked.options; out = asked.out.now; copies = copies })
     (ap texts_of c.deref.ensures.value ∙ c.in-Ok.ensures) in
     performs (asked_of asked) (desk c.args.desk.now) (desk c.splice-outcome.new.desk) (report c.args.report.now) (report c.splice-outcome.new.report)
-    (faults c.args.faults.now) (faults c.splice-outcome.new.faults) (faults c.print_outcome.new.faults) c.status.result c.splice-outcome.result c.status.ensures
+    (faults c.args.faults.now) (faults c.splice-outcome.new.faults) (faults c.print_outcome.new.faults) c.exit_status.result c.splice-outcome.result c.exit_status.ensures
     (subst (λ (a : Asked). GrewAll (Splices a c.splice-outcome.result) (desk c.args.desk.now) (desk c.splice-outcome.new.desk) (report c.args.report.now) (report c.splice-outcome.new.report)
     (faults c.args.faults.now) (faults c.splice-outcome.new.faults)) same c.splice-outcome.ensures)
     c.print_outcome.ensures

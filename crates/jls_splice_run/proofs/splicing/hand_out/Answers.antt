@@ -2,7 +2,8 @@ use Rattle.std.proofs.Common.{ℕ, List, Option, subst}
 use Rattle.jls_io.specs.Event.{GrewBy}
 use Rattle.jls_io.specs.Writing.{Wrote}
 use Rattle.jls_io.specs.Outputs.{HandsOut}
-use Rattle.jls_splice_run.specs.Handing.{HandsFile, HandsFiles, StopsAtFile, StopsAtFiles, StopsAtOutput, StopsAtReport}
+use Rattle.jls_cli.specs.Outputs.{StopsAtOutput}
+use Rattle.jls_splice_run.specs.Handing.{HandsFile, HandsFiles, StopsAtFile, StopsAtFiles, StopsAtReport}
 use Rattle.jls_splice_run.specs.Listing.{named_files}
 use Rattle.jls_splice_run.specs.Runs.{texts_held}
 use Rattle.jls_splice_run.specs.declared.listing.NumberedFile.{NumberedFile}
