@@ -4,6 +4,7 @@ use Rattle.std.proofs.Common.{arith}
 use Rattle.std.specs.Prelude.{◌==◌}
 use Rattle.std.specs.List.{flat_map}
 use Rattle.std.proofs.lemmas.Bool.{or_right}
+use Rattle.std.proofs.lemmas.Option.{same_Some}
 use Rattle.jls_values.specs.Shape.{PictureShape}
 use Rattle.jls_marker.specs.HeaderState.{HeaderState, IsHeaderState, no_headers}
 use Rattle.jls_marker.specs.MarkerCodes.{sof55, sos, lse, dri, is_skipped, has_segment}
@@ -223,10 +224,6 @@ has_scans copy shape scans low h =
 pub scans_are_of_the_course : SomeCourse → ScansAreOfTheCourse
 scans_are_of_the_course some copy shape scans low = (has_course_with some copy shape scans, has_scans copy shape scans low)
 
--- two frames that are set are one
-same_frame : (shape shape' : PictureShape) → Some shape ≡ Some shape' → shape ≡ shape'
-same_frame shape shape' e = cc
-
 -- the law: a copy has one frame and one list of scans at most
 pub one_list_of_scans : OneListOfScans
 one_list_of_scans copy shape shape' scans scans' h k =
@@ -235,6 +232,6 @@ one_list_of_scans copy shape shape' scans scans' h k =
     let low : AreBytes k.after_soi = after_soi_bytes k.fill k.after_soi (subst AreBytes k.copy_is k.are_bytes) in
     let same = same_units no_headers k.after_soi h.units k.units h.headers k.headers no_headers_kept low
     (subst (λ x. AreCopyUnits no_headers x h.units h.headers) following h.are_units) k.are_units in (
-      same_frame shape shape' (sym h.framed ∙ ap (λ (x : HeaderState). x.frame) same.1 ∙ k.framed),
+      same_Some shape shape' (sym h.framed ∙ ap (λ (x : HeaderState). x.frame) same.1 ∙ k.framed),
       h.scans_are ∙ ap (λ us. flat_map scans_of_unit us) same.0 ∙ sym k.scans_are,
     )

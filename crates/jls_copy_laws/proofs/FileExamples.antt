@@ -1,10 +1,7 @@
 -- What files and copies that other programs wrote have and give, by the relations: their scans, and readings of their lines. The bytes, and
 -- where each comes from, stand with the worked values of jls_copy.
-use Rattle.std.proofs.Common.{◌≡◌, ℕ, Bool, ◌<◌, ◌≤◌, true, false, List, [], ◌∷◌, ◌++◌, length, replicate, refl, sym, ap, subst, ◌∙◌, lit<}
+use Rattle.std.proofs.Common.{◌≡◌, ℕ, Bool, ◌≤◌, true, false, List, [], ◌∷◌, ◌++◌, length, replicate, refl, sym, ap, subst, ◌∙◌, lit<}
 use Rattle.std.proofs.Common.{lit≤, arith, inl, inr}
-use Rattle.std.specs.Prelude.{nat_lt}
-use Rattle.std.specs.List.{AllByRecursion, list_all}
-use Rattle.std.proofs.lemmas.Bool.{and_parts, ltb-true}
 use Rattle.jls_values.specs.Params.{least_from}
 use Rattle.jls_bits.specs.Bits.{bits, width_after, bits_read_after, ends_data, is_whole_after, bits_read, is_whole}
 use Rattle.jls_bits.specs.Golomb.{golomb}
@@ -26,15 +23,11 @@ use Rattle.jls_copy.specs.Pieces.{Lines, IsOutcome}
 use Rattle.jls_copy_laws.specs.CopyScans.{ScanPiece, ScanWithData, HasScans}
 use Rattle.jls_copy_laws.specs.Gives.{GivesReading}
 use Rattle.jls_copy_laws.proofs.CopyScans.{course_has_scans}
+use Rattle.jls_copy_laws.proofs.Members.{bytes_of_test}
 use Rattle.jls_copy.proofs.TwoScanExamples as two
 use Rattle.jls_copy.proofs.ByLineExamples as three
 use Rattle.jls_copy.proofs.TwoByLineExamples as pair
 use Rattle.jls_copy.proofs.CutCopyExamples as cut
-
--- a list of numbers that pass the test are bytes
-bytes_of_test : (bytes : List ℕ) → list_all (λ b. nat_lt b 256) bytes ≡ true → AllByRecursion (λ b. b < 256) bytes
-bytes_of_test [] e = tt
-bytes_of_test (b ∷ bytes) e = let p = and_parts (nat_lt b 256) (list_all (λ c. nat_lt c 256) bytes) e in (ltb-true _ _ p.0, bytes_of_test bytes p.1)
 
 -- a piece that a marker ends
 abbrev whole_piece : List ℕ → ScanPiece

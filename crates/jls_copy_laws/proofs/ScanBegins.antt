@@ -11,6 +11,7 @@ use Rattle.jls_values.specs.Params.{CodingParameters, AreCodingParameters}
 use Rattle.jls_values.specs.ParamsOf.{in_force, param_fault, params_of, params_in_range}
 use Rattle.jls_values.specs.PresetParameters.{PresetParameters}
 use Rattle.jls_values.specs.Shape.{PictureShape, has_repeat}
+use Rattle.jls_interval.proofs.EventsApart.{true_false}
 use Rattle.jls_marker.specs.ComponentIndex.{index_of}
 use Rattle.jls_marker.specs.HeaderState.{HeaderState, IsHeaderState}
 use Rattle.jls_marker.specs.Headers.{begin_tests, scan_in, scan_judged, scan_under}
@@ -40,18 +41,13 @@ ids_again ids (id ∷ named) below =
     ap (λ (rest : List ℕ). id ∷ rest) (ids_again ids named below.1)
     ∙ ap (λ (first : ℕ). first ∷ ids_at ids (map (index_of ids) named)) (sym (id_at_index ids id below.0))
 
--- no test passes and fails
-not_both : (b : Bool) → b ≡ true → b ≡ false → ⊥
-not_both true h k = cc
-not_both false h k = cc
-
 -- an identifier that no other equals differs from each of them
 none_at : (id : ℕ) (ids : List ℕ) (i : ℕ) → list_any (λ other. other == id) ids ≡ false → i < length ids → (id == get_or ids i 0) ≡ false
 none_at id ids i none below =
     elim (cases_eq (get_or ids i 0) id) [
       | inl e ↦
           let same : (get_or ids i 0 == id) ≡ true = grind (arith, nat_tests, e) in
-          absurd (not_both (list_any (λ other. other == id) ids) (list_any_at (λ other. other == id) ids i 0 below same) none)
+          absurd (true_false (list_any (λ other. other == id) ids) (list_any_at (λ other. other == id) ids i 0 below same) none)
       | inr differs ↦ ne_eqb id (get_or ids i 0) (λ e. differs (sym e))
     ]
 

@@ -4,6 +4,7 @@ use Rattle.std.proofs.Common.{Err, ◌⊎◌, refl, sym, ◌∙◌, ap, subst, a
 use Rattle.std.specs.Prelude.{is_none}
 use Rattle.std.specs.List.{AllByRecursion}
 use Rattle.std.specs.Int.{from_be_bytes, w32}
+use Rattle.std.proofs.lemmas.Option.{same_Some}
 use Rattle.jls_values.specs.PresetParameters.{PresetParameters, ArePresetParameters}
 use Rattle.jls_values.specs.Shape.{PictureShape}
 use Rattle.jls_marker.specs.HeaderState.{HeaderState, IsHeaderState}
@@ -44,14 +45,10 @@ interval_read (a ∷ b ∷ c ∷ []) least most = refl
 interval_read (a ∷ b ∷ c ∷ d ∷ []) least most = refl
 interval_read (a ∷ b ∷ c ∷ d ∷ e ∷ more) least most = absurd (omega arith)
 
--- equal options have equal values
-some_is : (m n : ℕ) → Some m ≡ Some n → m ≡ n
-some_is m n e = cc
-
 -- a number that has the layout of a restart interval is the one that the bytes are
 interval_is : (payload : List ℕ) (n : ℕ) → HasRestartLayout payload n → interval_of payload ≡ n
 interval_is payload n l =
-    some_is (interval_of payload) n (sym (interval_read payload l.length_at_least l.length_at_most) ∙ restart_of_layout payload n l)
+    same_Some (interval_of payload) n (sym (interval_read payload l.length_at_least l.length_at_most) ∙ restart_of_layout payload n l)
 
 -- ---- what is taken is set
 
