@@ -87,7 +87,8 @@ unit_keeps h (scan fill code payload s closed last closing) after rest state low
     headers_kept h after code payload (Some s) state (scan_payload_bytes fill code payload (scan_data_bytes closed last closing) low) taken
 
 -- a unit that begins bytes consists of bytes, and so does what follows it
-pub unit_parts : (bytes rest : List ℕ) (u : CopyUnit) → AreBytes bytes → bytes ≡ unit_bytes u ++ rest → AreBytes (unit_bytes u) × AreBytes rest
+pub unit_parts : (bytes rest : List ℕ) (u : CopyUnit) → AreBytes bytes → bytes ≡ unit_bytes u ++ rest
+    → AreBytes (unit_bytes u) × AreBytes rest
 unit_parts bytes rest u low e = byte_parts (unit_bytes u) rest (subst AreBytes e low)
 
 -- ---- units one after the other

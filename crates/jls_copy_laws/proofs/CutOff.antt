@@ -91,21 +91,24 @@ all_cut Q U f (u ∷ []) index at h =
       | inr e ↦ subst (AllByRecursion Q) (sym (cut_of_none u index at e)) tt
     ]
 all_cut Q U f (u ∷ v ∷ us) index at h =
-    subst (AllByRecursion Q) (sym (cut_of_more u v us index at)) (all_cut Q U f (v ∷ us) (index + scans_in u) (at + length (unit_bytes u)) h.1)
+    subst (AllByRecursion Q) (sym (cut_of_more u v us index at))
+    (all_cut Q U f (v ∷ us) (index + scans_in u) (at + length (unit_bytes u)) h.1)
 
 -- A unit that is cut is the last one ---------------------------------------------------------------------------------
 
 no_segment : (n code : ℕ) (payload more : List ℕ) → segment_unit_bytes n code payload ++ more ≡ [] → ⊥
 no_segment n code payload more e =
     let k = ap length e in let a = length-append (segment_unit_bytes n code payload) more in
-    let b = length-append (fill_bytes n) (255 ∷ code ∷ (length payload + 2) / 256 ∷ (length payload + 2) % 256 ∷ payload) in omega (arith, k, a, b)
+    let b = length-append (fill_bytes n) (255 ∷ code ∷ (length payload + 2) / 256 ∷ (length payload + 2) % 256 ∷ payload) in
+    omega (arith, k, a, b)
 
 no_unit : (u : CopyUnit) (more : List ℕ) → unit_bytes u ++ more ≡ [] → ⊥
 no_unit (segment fill code payload) more e = no_segment fill code payload more e
 no_unit (scan fill code payload s closed last closing) more e =
     let k = ap length e in let a = length-append (segment_unit_bytes fill code payload ++ scan_data_bytes closed last closing) more in
     let b = length-append (segment_unit_bytes fill code payload) (scan_data_bytes closed last closing) in
-    no_segment fill code payload [] (empty (segment_unit_bytes fill code payload ++ []) (omega (arith, k, a, b, length-append (segment_unit_bytes fill code payload) [])))
+    no_segment fill code payload []
+    (empty (segment_unit_bytes fill code payload ++ []) (omega (arith, k, a, b, length-append (segment_unit_bytes fill code payload) [])))
   where
     empty : (xs : List ℕ) → length xs ≡ 0 → xs ≡ []
     empty [] e = refl
@@ -117,7 +120,8 @@ nothing_after h after (scan fill code payload s closed last (by_input n)) rest e
 nothing_after h after (scan fill code payload s closed last by_marker) rest e is = absurd cc
 
 -- so its last piece is that of the course
-pub cut_stands : (us : List CopyUnit) (index at : ℕ) (h : HeaderState) (from : ℕ) (bytes : List ℕ) (final : HeaderState) (e : End) (u : CopyUnit)
+pub cut_stands : (us : List CopyUnit) (index at : ℕ) (h : HeaderState) (from : ℕ) (bytes : List ℕ) (final : HeaderState) (e : End)
+    (u : CopyUnit)
     → AreUnits h from bytes us final e → Contains us u → is_cut u ≡ true
     → (i : ℕ) × (offset : ℕ) × ((p : FoundPiece) → Contains (last_piece (unit_pieces i offset u)) p → Contains (cut_of index at us) p)
 cut_stands [] index at h from bytes final e u are c cut = absurd (none_in u c)
@@ -135,7 +139,8 @@ cut_stands (v ∷ w ∷ us) index at h from bytes final e u (after, rest, whole,
     elim (first_or_rest u v (w ∷ us) c) [
       | inl same ↦ absurd (no_unit w rest' (sym whole' ∙ nothing_after h after v rest (subst (λ x. is_cut x ≡ true) (sym same) cut) is))
       | inr later ↦ (
-          let there = cut_stands (w ∷ us) (index + scans_in v) (at + length (unit_bytes v)) after _ rest final e u (after', rest', whole', is', more) later cut in
+          let there = cut_stands (w ∷ us) (index + scans_in v) (at + length (unit_bytes v)) after _ rest final e u
+          (after', rest', whole', is', more) later cut in
           (there.0, there.1, λ p m. subst (λ ps. Contains ps p) (sym (cut_of_more v w us index at)) (there.2 p m)))
     ]
 

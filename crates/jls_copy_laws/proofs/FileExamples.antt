@@ -59,13 +59,20 @@ record TwoScansRead : Type 0 where
   row_2 : IsOutcome two.piece_2 (Lines ((0 ∷ 4095 ∷ []) ∷ []))
 
 two_scans_read : TwoScansRead
-unfolding least_from bits width_after golomb quantized_gradient is_negative context modulo_reduced corrected_prediction golomb_k updated run_updated events_from events_after cell_before run_cell_before block_columns full_blocks blocks run_index_before event_bits bits_of_events code bits_read_after is_whole_after ends_data
+unfolding least_from bits width_after golomb quantized_gradient is_negative context modulo_reduced corrected_prediction golomb_k updated
+    run_updated events_from events_after cell_before run_cell_before block_columns full_blocks blocks run_index_before event_bits
+    bits_of_events code bits_read_after is_whole_after ends_data
 two_scans_read = record {
   first = record {
     unread = replicate 5 false;
     begins = record {
       are_bytes = (lit< tt, (lit< tt, (lit< tt, (lit< tt, (lit< tt, (lit< tt, tt))))));
-      are_lines = record { count_is = refl; each = ((refl, (lit≤ tt, (lit≤ tt, tt))), ((refl, (lit≤ tt, (lit≤ tt, tt))), ((refl, (lit≤ tt, (lit≤ tt, tt))), tt))) };
+      are_lines =
+          record {
+            count_is = refl;
+            each =
+                ((refl, (lit≤ tt, (lit≤ tt, tt))), ((refl, (lit≤ tt, (lit≤ tt, tt))), ((refl, (lit≤ tt, (lit≤ tt, tt))), tt)));
+          };
       data_bits = record { whole = refl; read = refl };
     };
     at_most_seven = lit≤ tt;
@@ -136,13 +143,28 @@ record ByLineRead : Type 0 where
   read : IsOutcome three.piece (Lines three.lines)
 
 by_line_read : ByLineRead
-unfolding least_from bits width_after golomb quantized_gradient is_negative context modulo_reduced corrected_prediction golomb_k updated run_updated events_from events_after cell_before run_cell_before block_columns full_blocks blocks run_index_before event_bits bits_of_events code bits_read_after is_whole_after ends_data
+unfolding least_from bits width_after golomb quantized_gradient is_negative context modulo_reduced corrected_prediction golomb_k updated
+    run_updated events_from events_after cell_before run_cell_before block_columns full_blocks blocks run_index_before event_bits
+    bits_of_events code bits_read_after is_whole_after ends_data
 by_line_read = record {
   read = record {
     unread = replicate 6 false;
     begins = record {
       are_bytes = (lit< tt, (lit< tt, (lit< tt, (lit< tt, (lit< tt, (lit< tt, tt))))));
-      are_lines = record { count_is = refl; each = ((refl, (lit≤ tt, (lit≤ tt, tt))), ((refl, (lit≤ tt, (lit≤ tt, tt))), ((refl, (lit≤ tt, (lit≤ tt, tt))), ((refl, (lit≤ tt, (lit≤ tt, tt))), ((refl, (lit≤ tt, (lit≤ tt, tt))), ((refl, (lit≤ tt, (lit≤ tt, tt))), tt)))))) };
+      are_lines =
+          record {
+            count_is = refl;
+            each = (
+              (refl, (lit≤ tt, (lit≤ tt, tt))),
+              (
+                (refl, (lit≤ tt, (lit≤ tt, tt))),
+                (
+                  (refl, (lit≤ tt, (lit≤ tt, tt))),
+                  ((refl, (lit≤ tt, (lit≤ tt, tt))), ((refl, (lit≤ tt, (lit≤ tt, tt))), ((refl, (lit≤ tt, (lit≤ tt, tt))), tt))),
+                ),
+              ),
+            );
+          };
       data_bits = record { whole = refl; read = refl };
     };
     at_most_seven = lit≤ tt;
@@ -157,7 +179,12 @@ gives_line_by_turns = (
   has_one_scan,
   three_data,
   (0, lit< tt, refl),
-  (0, whole_piece (0x5A ∷ 0x5A ∷ 0x2C ∷ 0x9A ∷ 0x5D ∷ 0x80 ∷ []), (0, lit< tt, refl), (three.lines, inl by_line_read.read, (4, lit< tt, refl))),
+  (
+    0,
+    whole_piece (0x5A ∷ 0x5A ∷ 0x2C ∷ 0x9A ∷ 0x5D ∷ 0x80 ∷ []),
+    (0, lit< tt, refl),
+    (three.lines, inl by_line_read.read, (4, lit< tt, refl)),
+  ),
 )
 
 -- Two components by line -----------------------------------------------------------------------------------------
@@ -173,13 +200,22 @@ record PairRead : Type 0 where
   read : IsOutcome pair.piece (Lines pair.lines)
 
 pair_read : PairRead
-unfolding least_from bits width_after golomb quantized_gradient is_negative context modulo_reduced corrected_prediction golomb_k updated run_updated events_from events_after cell_before run_cell_before block_columns full_blocks blocks run_index_before event_bits bits_of_events code bits_read_after is_whole_after ends_data
+unfolding least_from bits width_after golomb quantized_gradient is_negative context modulo_reduced corrected_prediction golomb_k updated
+    run_updated events_from events_after cell_before run_cell_before block_columns full_blocks blocks run_index_before event_bits
+    bits_of_events code bits_read_after is_whole_after ends_data
 pair_read = record {
   read = record {
     unread = replicate 2 false;
     begins = record {
       are_bytes = (lit< tt, (lit< tt, (lit< tt, tt)));
-      are_lines = record { count_is = refl; each = ((refl, (lit≤ tt, (lit≤ tt, tt))), ((refl, (lit≤ tt, (lit≤ tt, tt))), ((refl, (lit≤ tt, (lit≤ tt, tt))), ((refl, (lit≤ tt, (lit≤ tt, tt))), tt)))) };
+      are_lines =
+          record {
+            count_is = refl;
+            each = (
+              (refl, (lit≤ tt, (lit≤ tt, tt))),
+              ((refl, (lit≤ tt, (lit≤ tt, tt))), ((refl, (lit≤ tt, (lit≤ tt, tt))), ((refl, (lit≤ tt, (lit≤ tt, tt))), tt))),
+            );
+          };
       data_bits = record { whole = refl; read = refl };
     };
     at_most_seven = lit≤ tt;
@@ -228,7 +264,9 @@ record CutOff : Type 0 where
   whole : is_whole (0x50 ∷ []) ≡ true
 
 cut_off : CutOff
-unfolding least_from bits width_after golomb quantized_gradient is_negative context modulo_reduced corrected_prediction golomb_k updated run_updated events_from events_after cell_before run_cell_before block_columns full_blocks blocks run_index_before event_bits bits_of_events code bits_read_after is_whole_after ends_data
+unfolding least_from bits width_after golomb quantized_gradient is_negative context modulo_reduced corrected_prediction golomb_k updated
+    run_updated events_from events_after cell_before run_cell_before block_columns full_blocks blocks run_index_before event_bits
+    bits_of_events code bits_read_after is_whole_after ends_data
 cut_off = record {
   cut_code = record {
     lines = both;
@@ -256,8 +294,16 @@ longest (x ∷ y ∷ z ∷ zs) b = absurd (let n = ap length b.lines_are in omeg
 -- so the head is the first line
 is_head : IsHeadOfPiece (interval_of cut.plan 0) (0x50 ∷ []) ((1 ∷ []) ∷ [])
 is_head =
-    let own : AreWholeLines (interval_shape cut.bits_8 1 1 2) (bits_read (0x50 ∷ [])) both ((1 ∷ []) ∷ []) = record { begins = cut_off.begins; longest = longest } in
-    inl (cut_off.whole, inl (cut_off.cut_code, subst (λ lines. AreWholeLines (interval_shape cut.bits_8 1 1 2) (bits_read (0x50 ∷ [])) lines ((1 ∷ []) ∷ [])) (sym cut_off.lines_are) own))
+    let own : AreWholeLines (interval_shape cut.bits_8 1 1 2) (bits_read (0x50 ∷ [])) both ((1 ∷ []) ∷ []) =
+    record { begins = cut_off.begins; longest = longest } in
+    inl (
+      cut_off.whole,
+      inl (
+        cut_off.cut_code,
+        subst (λ lines. AreWholeLines (interval_shape cut.bits_8 1 1 2) (bits_read (0x50 ∷ [])) lines ((1 ∷ []) ∷ []))
+            (sym cut_off.lines_are) own,
+      ),
+    )
 
 -- the line whose code is whole is given
 gives_the_head : GivesReading cut.copy (reading_of 0 0 (1 ∷ []))

@@ -34,7 +34,8 @@ whole_piece c = record { bytes = c.piece; ended_by_input = false }
 
 -- the pieces of scan data, the last of them cut or not
 abbrev scan_pieces : List ClosedPiece → List ℕ → Bool → List ScanPiece
-scan_pieces closed last cut = map (λ c. record { bytes = c.piece; ended_by_input = false }) closed ++ record { bytes = last; ended_by_input = cut } ∷ []
+scan_pieces closed last cut =
+    map (λ c. record { bytes = c.piece; ended_by_input = false }) closed ++ record { bytes = last; ended_by_input = cut } ∷ []
 
 -- these pieces with their numbers, of which this is the first, where `given` was given last
 abbrev numbered_pieces : Scan → PieceNumber → ℕ → List ClosedPiece → List ℕ → Bool → List (PieceNumber × ScanPiece)
@@ -112,7 +113,8 @@ last_corresponds index s number given at (c ∷ closed) last cut p m =
     let next = number_after (intervals s) given c.mark in
     let following = at + length (closed_bytes c) in
     let others = numbered_pieces s next (given_last given next) closed last cut in
-    let later = after_first (found index s number at c.piece) (piece_begun index s next following) (given_last given next) closed last p m in
+    let later = after_first (found index s number at c.piece) (piece_begun index s next following)
+    (given_last given next) closed last p m in
     let r = last_corresponds index s next (given_last given next) following closed last cut p later in
     record {
       number = r.number;
@@ -157,7 +159,8 @@ number_found index s number given at (c ∷ closed) last cut n piece m =
 
 -- one that is cut is found last, and only where the last is cut
 cut_found : (index : ℕ) (s : Scan) (number : PieceNumber) (given at : ℕ) (closed : List ClosedPiece) (last : List ℕ) (cut : Bool)
-    (n : PieceNumber) (piece : ScanPiece) → Contains (numbered_pieces s number given closed last cut) (n, piece) → piece.ended_by_input ≡ true
+    (n : PieceNumber) (piece : ScanPiece) → Contains (numbered_pieces s number given closed last cut) (n, piece)
+    → piece.ended_by_input ≡ true
     → (offset : ℕ) × (cut ≡ true)
     × Contains (last_piece (pieces_from (piece_begun index s number at) given closed last)) (found index s n offset piece.bytes)
 cut_found index s number given at [] last cut n piece m is =
