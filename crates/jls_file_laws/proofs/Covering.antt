@@ -16,6 +16,7 @@ use Rattle.jls_copy.specs.Pieces.{placed}
 use Rattle.jls_write.specs.Picture.{WholePicture, line_of}
 use Rattle.jls_write.specs.Options.{WriteOptions}
 use Rattle.jls_write.specs.WrittenFile.{row_lines, scan_of}
+use Rattle.jls_write.proofs.OneMore.{range-append}
 use Rattle.jls_file_laws.specs.Covering.{row_readings, interval_readings, scan_readings, written_readings, count_at, IsLineOf}
 use Rattle.jls_file_laws.specs.Covering.{AreThePicture, ContainsThePicture, IntervalsAreRows, IntervalsCover}
 
@@ -26,14 +27,6 @@ rows_from pic components row n = flat_map (row_lines pic components) (range_with
 abbrev pub scan_components : ℕ → Bool → List (List ℕ)
 scan_components n line = if line then range_with_len 0 n ∷ [] else map (λ c. c ∷ []) (range_with_len 0 n)
 
-pub range_append : (a m n : ℕ) → range_with_len a (m + n) ≡ range_with_len a m ++ range_with_len (a + m) n
-range_append a zero n = let e : 0 + n ≡ n = omega arith in let f : a + 0 ≡ a = omega arith in rw (e, f) refl
-range_append a (suc m) n =
-    let e : a + 1 + m ≡ a + suc m = omega arith in
-    let f : suc m + n ≡ suc (m + n) = omega arith in
-    let h : range_with_len (a + 1) (m + n) ≡ range_with_len (a + 1) m ++ range_with_len (a + suc m) n = rw e at (range_append (a + 1) m n) in
-    rw f (ap (λ t. a ∷ t) h)
-
 pub all_append : {X : Type 0} (P : X → Type 0) (xs ys : List X) → AllByRecursion P xs → AllByRecursion P ys → AllByRecursion P (xs ++ ys)
 all_append P [] ys h k = k
 all_append P (x ∷ xs) ys h k = (h.0, all_append P xs ys h.1 k)
@@ -41,7 +34,8 @@ all_append P (x ∷ xs) ys h k = (h.0, all_append P xs ys h.1 k)
 module _ (pic : WholePicture) where
   -- one row, from the component after these on
   placed_row : (all pre : List ℕ) (c : ℕ) (cs : List ℕ) (row : ℕ) (rest : List (List ℕ)) → all ≡ pre ++ (c ∷ cs)
-      → placed all row (length pre) (map (λ x. line_of pic x row) (c ∷ cs) ++ rest) ≡ row_readings pic (c ∷ cs) row ++ placed all (row + 1) 0 rest
+      → placed all row (length pre) (map (λ x. line_of pic x row) (c ∷ cs) ++ rest) ≡ row_readings pic (c ∷ cs) row
+      ++ placed all (row + 1) 0 rest
   placed_row all pre c [] row rest e =
       let at : get_or all (length pre) 0 ≡ c = ap (λ xs. get_or xs (length pre) 0) e ∙ get_or-append_seam pre c [] 0 in
       let n : length pre + 1 ≡ length all = sym (ap length e ∙ length-append pre (c ∷ [])) in
@@ -55,7 +49,9 @@ module _ (pic : WholePicture) where
       let l : length (pre ++ c ∷ []) ≡ length pre + 1 = length-append pre (c ∷ []) in
       let f : all ≡ (pre ++ c ∷ []) ++ (d ∷ cs) = e ∙ sym (append_assoc pre (c ∷ []) (d ∷ cs)) in
       rw (at, t) (ap (λ z. reading_of c row (line_of pic c row) ∷ z)
-      (subst (λ i. placed all row i (map (λ x. line_of pic x row) (d ∷ cs) ++ rest) ≡ row_readings pic (d ∷ cs) row ++ placed all (row + 1) 0 rest) l (placed_row all (pre ++ c ∷ []) d cs row rest f)))
+      (subst
+      (λ i. placed all row i (map (λ x. line_of pic x row) (d ∷ cs) ++ rest) ≡ row_readings pic (d ∷ cs) row ++ placed all (row + 1) 0 rest)
+      l (placed_row all (pre ++ c ∷ []) d cs row rest f)))
 
   -- rows of a scan with one component at least
   pub placed_rows : (c : ℕ) (cs : List ℕ) (row n : ℕ)
@@ -68,16 +64,20 @@ module _ (pic : WholePicture) where
 -- ranges side by side: n intervals of r rows from interval k on, of y rows in all
 module _ {X : Type 0} (f : ℕ → List X) (r y : ℕ) where
   side_by_side : (k n : ℕ)
-      → flat_map (λ i. flat_map f (range_with_len (i * r) (min r (y - i * r)))) (range_with_len k n) ≡ flat_map f (range_with_len (k * r) (min (n * r) (y - k * r)))
+      → flat_map (λ i. flat_map f (range_with_len (i * r) (min r (y - i * r)))) (range_with_len k n)
+      ≡ flat_map f (range_with_len (k * r) (min (n * r) (y - k * r)))
   side_by_side k zero = let e : min (0 * r) (y - k * r) ≡ 0 = omega arith in rw e refl
   side_by_side k (suc n) =
       let next : (k + 1) * r ≡ k * r + r = omega arith in
-      let rest : flat_map (λ i. flat_map f (range_with_len (i * r) (min r (y - i * r)))) (range_with_len (k + 1) n) ≡ flat_map f (range_with_len (k * r + r) (min (n * r) (y - (k * r + r)))) = rw next at (side_by_side (k + 1) n) in
+      let rest : flat_map (λ i. flat_map f (range_with_len (i * r) (min r (y - i * r)))) (range_with_len (k + 1) n)
+      ≡ flat_map f (range_with_len (k * r + r) (min (n * r) (y - (k * r + r)))) = rw next at (side_by_side (k + 1) n) in
       ap (λ t. flat_map f (range_with_len (k * r) (min r (y - k * r))) ++ t) rest
       ∙ joined (cases_lt (y - k * r) r)
     where
       joined : (y - k * r < r) ⊎ (r ≤ y - k * r)
-          → flat_map f (range_with_len (k * r) (min r (y - k * r))) ++ flat_map f (range_with_len (k * r + r) (min (n * r) (y - (k * r + r)))) ≡ flat_map f (range_with_len (k * r) (min (suc n * r) (y - k * r)))
+          → flat_map f (range_with_len (k * r) (min r (y - k * r)))
+          ++ flat_map f (range_with_len (k * r + r) (min (n * r) (y - (k * r + r))))
+          ≡ flat_map f (range_with_len (k * r) (min (suc n * r) (y - k * r)))
       joined (inl few) =
           let a : min r (y - k * r) ≡ y - k * r = omega arith in
           let b : min (n * r) (y - (k * r + r)) ≡ 0 = omega arith in
@@ -88,7 +88,8 @@ module _ {X : Type 0} (f : ℕ → List X) (r y : ℕ) where
           let a : min r (y - k * r) ≡ r = omega arith in
           let more : suc n * r ≡ n * r + r = omega arith in
           let c : min (suc n * r) (y - k * r) ≡ r + min (n * r) (y - (k * r + r)) = rw more (omega arith) in
-          rw (a, c) (sym (ap (flat_map f) (range_append (k * r) r (min (n * r) (y - (k * r + r)))) ∙ flat_map-append f (range_with_len (k * r) r) _))
+          rw (a, c)
+          (sym (ap (flat_map f) (range-append (k * r) r (min (n * r) (y - (k * r + r)))) ∙ flat_map-append f (range_with_len (k * r) r) _))
 
 pub enough : (y r : ℕ) → 1 ≤ r → y ≤ ((y + r - 1) / r) * r
 enough y r h = let a = mod-add-div' (y + r - 1) r in let b = mod-lt (y + r - 1) {m = r} (omega (arith, h)) in omega (arith, a, b, h)
@@ -104,8 +105,11 @@ all_true (x ∷ xs) = (tt, all_true xs)
 
 -- an interval's rows
 interval_rows : (pic : WholePicture) (c : ℕ) (cs : List ℕ) (s : Scan) (k : ℕ) → s.components ≡ c ∷ cs → (s.restart_interval == 0) ≡ false
-    → interval_readings pic s k ≡ flat_map (row_readings pic (c ∷ cs)) (range_with_len (k * s.restart_interval) (min s.restart_interval (s.height - k * s.restart_interval)))
-interval_rows pic c cs s k e t = rw (t, e) (placed_rows pic c cs (k * s.restart_interval) (min s.restart_interval (s.height - k * s.restart_interval)))
+    → interval_readings pic s k
+    ≡ flat_map (row_readings pic (c ∷ cs))
+    (range_with_len (k * s.restart_interval) (min s.restart_interval (s.height - k * s.restart_interval)))
+interval_rows pic c cs s k e t =
+    rw (t, e) (placed_rows pic c cs (k * s.restart_interval) (min s.restart_interval (s.height - k * s.restart_interval)))
 
 one_interval : (pic : WholePicture) (c : ℕ) (cs : List ℕ) (s : Scan) (k : ℕ) → s.components ≡ c ∷ cs → s.restart_interval ≡ 0
     → (s.restart_interval == 0) ≡ true
@@ -132,8 +136,11 @@ scan_rows pic c cs s e (inr some) =
     let all : min (n * r) (y - 0 * r) ≡ y = omega (arith, enough y r (omega (arith, some))) in
     let zero_r : 0 * r ≡ 0 = omega arith in
     ap (λ m. flat_map (interval_readings pic s) (range_with_len 0 m)) (how_many s t)
-    ∙ same_map (λ k. Unit {0}) (interval_readings pic s) (λ k. flat_map (row_readings pic (c ∷ cs)) (range_with_len (k * r) (min r (y - k * r)))) (λ k u. interval_rows pic c cs s k e t) (range_with_len 0 n) (all_true _)
-    ∙ side_by_side (row_readings pic (c ∷ cs)) r y 0 n ∙ ap (λ m. flat_map (row_readings pic (c ∷ cs)) (range_with_len (0 * r) m)) all ∙ ap (λ m. flat_map (row_readings pic (c ∷ cs)) (range_with_len m y)) zero_r
+    ∙ same_map (λ k. Unit {0}) (interval_readings pic s)
+    (λ k. flat_map (row_readings pic (c ∷ cs)) (range_with_len (k * r) (min r (y - k * r)))) (λ k u. interval_rows pic c cs s k e t)
+    (range_with_len 0 n) (all_true _)
+    ∙ side_by_side (row_readings pic (c ∷ cs)) r y 0 n ∙ ap (λ m. flat_map (row_readings pic (c ∷ cs)) (range_with_len (0 * r) m)) all
+    ∙ ap (λ m. flat_map (row_readings pic (c ∷ cs)) (range_with_len m y)) zero_r
 
 with_first : (pic : WholePicture) (s : Scan) (cs : List ℕ) → s.components ≡ cs → 1 ≤ length cs
     → scan_readings pic s ≡ flat_map (row_readings pic cs) (range_with_len 0 s.height)
@@ -160,11 +167,13 @@ count_of_append c (x ∷ xs) ys = let e = count_of_append c xs ys in rw e (omega
 module _ (pic : WholePicture) (c y : ℕ) where
   in_row : (row : ℕ) (cs : List ℕ) → (row == y) ≡ true → count_at c y (row_readings pic cs row) ≡ count_of c cs
   in_row row [] t = refl
-  in_row row (x ∷ cs) t = let e = in_row row cs t in elim (cases_Bool (x == c)) [ inl h ↦ rw (h, t) (ap (λ n. 1 + n) e) | inr h ↦ rw h (ap (λ n. 0 + n) e) ]
+  in_row row (x ∷ cs) t =
+      let e = in_row row cs t in elim (cases_Bool (x == c)) [ inl h ↦ rw (h, t) (ap (λ n. 1 + n) e) | inr h ↦ rw h (ap (λ n. 0 + n) e) ]
 
   not_in_row : (row : ℕ) (cs : List ℕ) → (row == y) ≡ false → count_at c y (row_readings pic cs row) ≡ 0
   not_in_row row [] t = refl
-  not_in_row row (x ∷ cs) t = let e = not_in_row row cs t in elim (cases_Bool (x == c)) [ inl h ↦ rw (h, t) (ap (λ n. 0 + n) e) | inr h ↦ rw h (ap (λ n. 0 + n) e) ]
+  not_in_row row (x ∷ cs) t =
+      let e = not_in_row row cs t in elim (cases_Bool (x == c)) [ inl h ↦ rw (h, t) (ap (λ n. 0 + n) e) | inr h ↦ rw h (ap (λ n. 0 + n) e) ]
 
   in_rows : (cs rows : List ℕ) → count_at c y (flat_map (row_readings pic cs) rows) ≡ count_of y rows * count_of c cs
   in_rows cs [] = omega arith
@@ -195,7 +204,9 @@ one_in_range : (n a m : ℕ) → a ≤ n → n < a + m → count_of n (range_wit
 one_in_range n a zero h k = absurd (omega (arith, h, k))
 one_in_range n a (suc m) h k = elim (cases_eq a n) [
   | inl e ↦ (let t : (a == n) ≡ true = grind (arith, nat_tests, e) in let z = none_below n (a + 1) m (omega (arith, e)) in rw (t, z) refl)
-  | inr e ↦ (let t : (a == n) ≡ false = grind (arith, nat_tests, e) in let z = one_in_range n (a + 1) m (omega (arith, h, e)) (omega (arith, k)) in rw (t, z) refl)
+  | inr e ↦
+      (let t : (a == n) ≡ false = grind (arith, nat_tests, e) in
+      let z = one_in_range n (a + 1) m (omega (arith, h, e)) (omega (arith, k)) in rw (t, z) refl)
 ]
 
 -- The scans ---------------------------------------------------------------------------------------------
@@ -235,32 +246,39 @@ module _ (pic : WholePicture) where
   rows_lines : (cs rows : List ℕ) → AllByRecursion (λ row. row < pic.shape.height) rows → AllByRecursion (λ c. c < length pic.shape.ids) cs
       → AllByRecursion (IsLineOf pic) (flat_map (row_readings pic cs) rows)
   rows_lines cs [] h a = tt
-  rows_lines cs (row ∷ rows) h a = all_append (IsLineOf pic) (row_readings pic cs row) _ (lines_of_row row cs h.0 a) (rows_lines cs rows h.1 a)
+  rows_lines cs (row ∷ rows) h a =
+      all_append (IsLineOf pic) (row_readings pic cs row) _ (lines_of_row row cs h.0 a) (rows_lines cs rows h.1 a)
 
   scans_lines : (rows : List ℕ) (scans : List (List ℕ)) → AllByRecursion (λ row. row < pic.shape.height) rows
       → AllByRecursion (IsScanOf (length pic.shape.ids)) scans
       → AllByRecursion (IsLineOf pic) (flat_map (λ cs. flat_map (row_readings pic cs) rows) scans)
   scans_lines rows [] h a = tt
-  scans_lines rows (cs ∷ scans) h a = all_append (IsLineOf pic) (flat_map (row_readings pic cs) rows) _ (rows_lines cs rows h a.0.2) (scans_lines rows scans h a.1)
+  scans_lines rows (cs ∷ scans) h a =
+      all_append (IsLineOf pic) (flat_map (row_readings pic cs) rows) _ (rows_lines cs rows h a.0.2) (scans_lines rows scans h a.1)
 
 -- row by row in each scan
 pub written_rows : (pic : WholePicture) (o : WriteOptions) → 1 ≤ length pic.shape.ids
-    → written_readings pic o ≡ flat_map (λ cs. flat_map (row_readings pic cs) (range_with_len 0 pic.shape.height)) (scan_components (length pic.shape.ids) o.line)
+    → written_readings pic o ≡ flat_map (λ cs. flat_map (row_readings pic cs) (range_with_len 0 pic.shape.height))
+    (scan_components (length pic.shape.ids) o.line)
 written_rows pic o some =
-    same_map (IsScanOf (length pic.shape.ids)) (λ cs. scan_readings pic (scan_of pic o cs)) (λ cs. flat_map (row_readings pic cs) (range_with_len 0 pic.shape.height))
-    (λ cs h. intervals_are_rows pic (scan_of pic o cs) h.0) (scan_components (length pic.shape.ids) o.line) (scans_of (length pic.shape.ids) o.line some)
+    same_map (IsScanOf (length pic.shape.ids)) (λ cs. scan_readings pic (scan_of pic o cs))
+    (λ cs. flat_map (row_readings pic cs) (range_with_len 0 pic.shape.height))
+    (λ cs h. intervals_are_rows pic (scan_of pic o cs) h.0) (scan_components (length pic.shape.ids) o.line)
+    (scans_of (length pic.shape.ids) o.line some)
 
 pub intervals_cover : IntervalsCover
 intervals_cover pic o some =
     let n = length pic.shape.ids in
     let y = pic.shape.height in
     let lines : AllByRecursion (IsLineOf pic) (written_readings pic o) =
-    rw (written_rows pic o some) (scans_lines pic (range_with_len 0 y) (scan_components n o.line) (all_below 0 y y (omega arith)) (scans_of n o.line some)) in
+    rw (written_rows pic o some)
+    (scans_lines pic (range_with_len 0 y) (scan_components n o.line) (all_below 0 y y (omega arith)) (scans_of n o.line some)) in
     record {
       each = lines;
       once = λ c l h k.
           ap (count_at c l) (written_rows pic o some) ∙ in_scans pic c l (range_with_len 0 y) (scan_components n o.line)
-          ∙ (let a = all_components n o.line in let b = one_in_range c 0 n (omega arith) (omega (arith, h)) in let d = one_in_range l 0 y (omega arith) (omega (arith, k)) in rw (a, b, d) refl);
+          ∙ (let a = all_components n o.line in let b = one_in_range c 0 n (omega arith) (omega (arith, h)) in
+          let d = one_in_range l 0 y (omega arith) (omega (arith, k)) in rw (a, b, d) refl);
     }
 
 -- What a list of readings contains --------------------------------------------------------------------------

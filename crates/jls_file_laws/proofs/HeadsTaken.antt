@@ -1,14 +1,14 @@
 -- The header segments of a written file are taken: each reads as what was meant, and no test of a scan fails.
 use Rattle.std.proofs.Common.{◌≡◌, ℕ, zero, suc, ◌+◌, ◌-◌, ◌*◌, ◌^◌, ◌<◌, ◌≤◌, Bool, true, false, cond, List, [], ◌∷◌, ◌++◌, map, length}
 use Rattle.std.proofs.Common.{get_or, Some, None, Ok, refl, sym, ◌∙◌, ap, append_assoc, arith, inl, inr, length-append}
-use Rattle.std.specs.Prelude.{◌==◌, ◌&&◌, ◌||◌, nat_lt, min, max, is_ok, if◌then◌else◌}
+use Rattle.std.specs.Prelude.{◌==◌, ◌||◌, nat_lt, min, max, is_ok, if◌then◌else◌}
 use Rattle.std.specs.Int.{w32, to_be_bytes}
 use Rattle.std.specs.List.{flat_map, AllByRecursion, list_any, list_all, range_with_len}
 use Rattle.std.proofs.Math.Seq.{get_or-append_seam}
-use Rattle.std.proofs.lemmas.List.{length-drop}
+use Rattle.std.proofs.lemmas.List.{length-drop, length-map}
 use Rattle.std.proofs.lemmas.List.Folds.{list_any_at}
 use Rattle.std.proofs.lemmas.List.FromFn.{length-range_with_len}
-use Rattle.std.proofs.lemmas.Bool.{cases_eq, eqb-true, ne_eqb, lt-ltb, le-leb}
+use Rattle.std.proofs.lemmas.Bool.{and_parts, or_parts, cases_eq, eqb-true, ne_eqb, lt-ltb, le-leb}
 use Rattle.std.proofs.lemmas.Bool.Decides.{nat_tests}
 use Rattle.jls_values.specs.Shape.{PictureShape, has_repeat}
 use Rattle.jls_values.specs.Params.{CodingParameters, AreCodingParameters}
@@ -17,6 +17,7 @@ use Rattle.jls_context.proofs.Sizes.{maxval_small}
 use Rattle.jls_marker.specs.MarkerCodes.{has_segment}
 use Rattle.jls_marker.specs.ComponentIndex.{index_of}
 use Rattle.jls_values.specs.PresetParameters.{PresetParameters, no_presets}
+use Rattle.jls_interval.proofs.EventsApart.{true_false}
 use Rattle.jls_marker.specs.ScanSelection.{ScanSelection, IsScanSelection}
 use Rattle.jls_marker.specs.HeaderState.{HeaderState, no_headers}
 use Rattle.jls_marker.specs.Headers.{headers_after, accepted, taking, begun, scan_judged, scan_in, begin_tests}
@@ -34,26 +35,6 @@ use Rattle.jls_file_laws.specs.FileLaw.{IsWritable}
 use Rattle.jls_file_laws.proofs.Covering.{IsScanOf, scans_of, scan_components}
 use Rattle.jls_file_laws.proofs.WrittenUnits.{Steps, ScanSteps, AreTaken}
 
-or_left : (a b : Bool) → (a || b) ≡ false → a ≡ false
-or_left true b h = absurd cc
-or_left false b h = refl
-
-or_right : (a b : Bool) → (a || b) ≡ false → b ≡ false
-or_right true b h = absurd cc
-or_right false b h = h
-
-and_left : (a b : Bool) → (a && b) ≡ true → a ≡ true
-and_left true b h = refl
-and_left false b h = absurd cc
-
-and_right : (a b : Bool) → (a && b) ≡ true → b ≡ true
-and_right true b h = h
-and_right false b h = absurd cc
-
-not_both : (b : Bool) → b ≡ true → b ≡ false → ⊥
-not_both true h k = cc
-not_both false h k = cc
-
 -- ---- identifiers and indices
 
 abbrev ids_at : List ℕ → List ℕ → List ℕ
@@ -62,7 +43,9 @@ ids_at ids components = map (λ c. get_or ids c 0) components
 none_at : (x : ℕ) (xs : List ℕ) (i : ℕ) → list_any (λ other. other == x) xs ≡ false → i < length xs → (x == get_or xs i 0) ≡ false
 none_at x xs i h l =
     elim (cases_eq (get_or xs i 0) x) [
-      | inl e ↦ (let t : (get_or xs i 0 == x) ≡ true = grind (arith, nat_tests, e) in absurd (not_both (list_any (λ other. other == x) xs) (list_any_at (λ other. other == x) xs i 0 l t) h))
+      | inl e ↦
+          (let t : (get_or xs i 0 == x) ≡ true = grind (arith, nat_tests, e) in
+          absurd (true_false (list_any (λ other. other == x) xs) (list_any_at (λ other. other == x) xs i 0 l t) h))
       | inr ne ↦ ne_eqb x (get_or xs i 0) (λ e. ne (sym e))
     ]
 
@@ -71,20 +54,23 @@ unfolding index_of
 index_back [] c h l = absurd (omega (arith, l))
 index_back (x ∷ xs) zero h l = let t : (x == x) ≡ true = grind (arith, nat_tests) in rw t refl
 index_back (x ∷ xs) (suc c) h l =
-    let f = none_at x xs c (or_left _ _ h) (omega (arith, l)) in
+    let parts = or_parts _ _ h in
+    let f = none_at x xs c parts.0 (omega (arith, l)) in
     let next : 1 + c ≡ suc c = omega arith in
-    rw f (ap (λ n. 1 + n) (index_back xs c (or_right _ _ h) (omega (arith, l))) ∙ next)
+    rw f (ap (λ n. 1 + n) (index_back xs c parts.1 (omega (arith, l))) ∙ next)
 
 module _ (ids : List ℕ) (differ : has_repeat ids ≡ false) where
   components_back : (cs : List ℕ) → AllByRecursion (λ c. c < length ids) cs → map (index_of ids) (ids_at ids cs) ≡ cs
   components_back [] h = refl
-  components_back (c ∷ cs) h = ap (λ t. t ∷ map (index_of ids) (ids_at ids cs)) (index_back ids c differ h.0) ∙ ap (λ t. c ∷ t) (components_back cs h.1)
+  components_back (c ∷ cs) h =
+      ap (λ t. t ∷ map (index_of ids) (ids_at ids cs)) (index_back ids c differ h.0) ∙ ap (λ t. c ∷ t) (components_back cs h.1)
 
   known : (cs : List ℕ) → AllByRecursion (λ c. c < length ids) cs
       → list_all (λ id. nat_lt (index_of ids id) (length ids)) (ids_at ids cs) ≡ true
   known [] h = refl
   known (c ∷ cs) h =
-      let here : nat_lt (index_of ids (get_or ids c 0)) (length ids) ≡ true = ap (λ n. nat_lt n (length ids)) (index_back ids c differ h.0) ∙ lt-ltb c (length ids) h.0 in
+      let here : nat_lt (index_of ids (get_or ids c 0)) (length ids) ≡ true = ap (λ n. nat_lt n (length ids)) (index_back ids c differ h.0)
+      ∙ lt-ltb c (length ids) h.0 in
       rw here (known cs h.1)
 
 ids_range : (all pre xs : List ℕ) → all ≡ pre ++ xs → map (λ c. get_or all c 0) (range_with_len (length pre) (length xs)) ≡ xs
@@ -92,7 +78,8 @@ ids_range all pre [] e = refl
 ids_range all pre (x ∷ xs) e =
     let at : get_or all (length pre) 0 ≡ x = ap (λ t. get_or t (length pre) 0) e ∙ get_or-append_seam pre x xs 0 in
     let l : length (pre ++ x ∷ []) ≡ length pre + 1 = length-append pre (x ∷ []) in
-    let rest : map (λ c. get_or all c 0) (range_with_len (length pre + 1) (length xs)) ≡ xs = rw l at (ids_range all (pre ++ x ∷ []) xs (e ∙ sym (append_assoc pre (x ∷ []) xs))) in
+    let rest : map (λ c. get_or all c 0) (range_with_len (length pre + 1) (length xs)) ≡ xs =
+    rw l at (ids_range all (pre ++ x ∷ []) xs (e ∙ sym (append_assoc pre (x ∷ []) xs))) in
     ap (λ t. t ∷ map (λ c. get_or all c 0) (range_with_len (length pre + 1) (length xs))) at ∙ ap (λ t. x ∷ t) rest
 
 -- a scan's identifiers differ
@@ -114,13 +101,10 @@ scans_sized : (n : ℕ) (line : Bool) → AllByRecursion (λ cs. length cs ≡ c
 scans_sized n true = (length-range_with_len 0 n, tt)
 scans_sized n false = one_each (range_with_len 0 n)
 
-map_length : {X : Type 0} (f : ℕ → X) (xs : List ℕ) → length (map f xs) ≡ length xs
-map_length f [] = refl
-map_length f (x ∷ xs) = let e = map_length f xs in omega (arith, e)
-
 few_scans : (n : ℕ) (line : Bool) → n ≤ 4 → length (scan_components n line) ≤ 4
 few_scans n true few = omega arith
-few_scans n false few = let a = map_length (λ c. c ∷ []) (range_with_len 0 n) in let b = length-range_with_len 0 n in omega (arith, a, b, few)
+few_scans n false few =
+    let a = length-map (range_with_len 0 n) (λ c. c ∷ []) in let b = length-range_with_len 0 n in omega (arith, a, b, few)
 
 bytes_at : (ids cs : List ℕ) → AllByRecursion (λ id. id < 256) ids → AllByRecursion (λ c. c < length ids) cs
     → AllByRecursion (λ id. id < 256) (ids_at ids cs)
@@ -147,27 +131,32 @@ tail_length xs x = length-append xs (0 ∷ x ∷ 0 ∷ [])
 
 scan_short : (s : ScanSelection) → length s.ids ≤ 4 → length (written.scan_payload s) + 2 < 2 ^ 16
 scan_short s few =
-    let p = pairs_length s.ids in let t = tail_length (flat_map (λ id. id ∷ 0 ∷ []) s.ids) (if s.line then 1 else 0) in omega (arith, p, t, few)
+    let p = pairs_length s.ids in let t = tail_length (flat_map (λ id. id ∷ 0 ∷ []) s.ids) (if s.line then 1 else 0) in
+    omega (arith, p, t, few)
 
 frame_short : (s : PictureShape) → length s.ids ≤ 4 → length (written.frame_payload s) + 2 < 2 ^ 16
 frame_short s few = let l = threes_length s.ids in omega (arith, l, few)
 
 restart_short : (n : ℕ) → length (written.restart_payload n) + 2 < 2 ^ 16
 restart_short n =
-    let few = length-drop (written.unneeded_bytes n) (to_be_bytes w32 n) in let four : length (to_be_bytes w32 n) ≡ 4 = refl in omega (arith, few, four)
+    let few = length-drop (written.unneeded_bytes n) (to_be_bytes w32 n) in let four : length (to_be_bytes w32 n) ≡ 4 = refl in
+    omega (arith, few, four)
 
 -- ---- parameters
 
 params_eq : (p q : CodingParameters) → p.precision ≡ q.precision → p.maxval ≡ q.maxval → p.t1 ≡ q.t1 → p.t2 ≡ q.t2 → p.t3 ≡ q.t3
     → p.reset ≡ q.reset → p ≡ q
 params_eq p q a b c d e f =
-    let x : p ≡ record { precision = q.precision; maxval = q.maxval; t1 = q.t1; t2 = q.t2; t3 = q.t3; reset = q.reset } = rw (sym a, sym b, sym c, sym d, sym e, sym f) refl in x
+    let x : p ≡ record { precision = q.precision; maxval = q.maxval; t1 = q.t1; t2 = q.t2; t3 = q.t3; reset = q.reset } =
+    rw (sym a, sym b, sym c, sym d, sym e, sym f) refl in x
 
 in_range : (p : CodingParameters) → AreCodingParameters p → param_fault p ≡ None
 in_range p i =
     let a : (nat_lt p.precision 2 || nat_lt 16 p.precision) ≡ false = grind (arith, nat_tests, i.precision_at_least, i.precision_at_most) in
-    let b : (nat_lt p.maxval 1 || nat_lt (2 ^ p.precision - 1) p.maxval) ≡ false = grind (arith, nat_tests, i.maxval_at_least, i.maxval_below) in
-    let c : (nat_lt p.t1 1 || nat_lt p.maxval p.t1) ≡ false = grind (arith, nat_tests, i.t1_at_least, i.t2_at_least, i.t3_at_least, i.t3_at_most) in
+    let b : (nat_lt p.maxval 1 || nat_lt (2 ^ p.precision - 1) p.maxval) ≡ false =
+    grind (arith, nat_tests, i.maxval_at_least, i.maxval_below) in
+    let c : (nat_lt p.t1 1 || nat_lt p.maxval p.t1) ≡ false =
+    grind (arith, nat_tests, i.t1_at_least, i.t2_at_least, i.t3_at_least, i.t3_at_most) in
     let d : (nat_lt p.t2 p.t1 || nat_lt p.maxval p.t2) ≡ false = grind (arith, nat_tests, i.t2_at_least, i.t3_at_least, i.t3_at_most) in
     let e : (nat_lt p.t3 p.t2 || nat_lt p.maxval p.t3) ≡ false = grind (arith, nat_tests, i.t3_at_least, i.t3_at_most) in
     let f : (nat_lt p.reset 3 || nat_lt (max 255 p.maxval) p.reset) ≡ false = grind (arith, nat_tests, i.reset_at_least, i.reset_at_most) in
@@ -182,7 +171,8 @@ presets_of p = record { maxval = p.maxval; t1 = p.t1; t2 = p.t2; t3 = p.t3; rese
 given : (p : CodingParameters) (precision : ℕ) → AreCodingParameters p → p.precision ≡ precision
     → in_force precision (presets_of p) ≡ p
 given p precision i e =
-    params_eq _ p (sym e) (kept p.maxval _ i.maxval_at_least) (kept p.t1 _ i.t1_at_least) (kept p.t2 _ (omega (arith, i.t1_at_least, i.t2_at_least)))
+    params_eq _ p (sym e) (kept p.maxval _ i.maxval_at_least) (kept p.t1 _ i.t1_at_least)
+    (kept p.t2 _ (omega (arith, i.t1_at_least, i.t2_at_least)))
     (kept p.t3 _ (omega (arith, i.t1_at_least, i.t2_at_least, i.t3_at_least))) (kept p.reset _ (omega (arith, i.reset_at_least)))
 
 asked : (p q : CodingParameters) → AreCodingParameters q → p ≡ q → params_in_range p (param_fault p) ≡ Ok q
@@ -191,11 +181,12 @@ asked p q i e = ap (λ (r : CodingParameters). params_in_range r (param_fault r)
 -- parameters of one precision with the same values are the same
 same_values : (d p : CodingParameters) → are_values_of d p ≡ true → d.precision ≡ p.precision → d ≡ p
 same_values d p h precision =
-    let a = and_left _ _ h in let h1 = and_right _ _ h in
-    let b = and_left _ _ h1 in let h2 = and_right _ _ h1 in
-    let c = and_left _ _ h2 in let h3 = and_right _ _ h2 in
-    let e = and_left _ _ h3 in let f = and_right _ _ h3 in
-    params_eq d p precision (sym (eqb-true p.maxval d.maxval a)) (sym (eqb-true p.t1 d.t1 b)) (sym (eqb-true p.t2 d.t2 c)) (sym (eqb-true p.t3 d.t3 e)) (sym (eqb-true p.reset d.reset f))
+    let a = and_parts _ _ h in
+    let b = and_parts _ _ a.1 in
+    let c = and_parts _ _ b.1 in
+    let e = and_parts _ _ c.1 in
+    params_eq d p precision (sym (eqb-true p.maxval d.maxval a.0)) (sym (eqb-true p.t1 d.t1 b.0)) (sym (eqb-true p.t2 d.t2 c.0))
+    (sym (eqb-true p.t3 d.t3 e.0)) (sym (eqb-true p.reset d.reset e.1))
 
 -- what is written of them asks for them
 abbrev written_presets : CodingParameters → Bool → PresetParameters
@@ -234,7 +225,8 @@ step h s is can = ap (taking h) (written_reads_back s is can)
 
 rows_zero : (h r : ℕ) → (if r == 0 then h else min r (h - 0 * r)) ≡ (if r == 0 then h else min r h)
 rows_zero h zero = refl
-rows_zero h (suc r) = let all : h - 0 * suc r ≡ h = omega arith in rw (ne_eqb (suc r) 0 (λ e. absurd (omega (arith, e)))) (ap (min (suc r)) all)
+rows_zero h (suc r) =
+    let all : h - 0 * suc r ≡ h = omega arith in rw (ne_eqb (suc r) 0 (λ e. absurd (omega (arith, e)))) (ap (min (suc r)) all)
 
 module _ (pic : WholePicture) (o : WriteOptions) (can : IsWritable pic o) where
   abbrev taken_so : PresetParameters → ℕ → ℕ → HeaderState
@@ -245,11 +237,18 @@ module _ (pic : WholePicture) (o : WriteOptions) (can : IsWritable pic o) where
       elim (cases_eq o.restart_interval 0) [
         | inl e ↦ (let t : (o.restart_interval == 0) ≡ true = grind (arith, nat_tests, e) in rw t (ap (λ r. taken_so pr r 0) e))
         | inr e ↦ (let t : (o.restart_interval == 0) ≡ false = grind (arith, nat_tests, e) in
-            rw t (taken_so pr o.restart_interval 0, (dri_code, restart_short o.restart_interval), step (taken_so pr 0 0) (segment.Restart o.restart_interval) can.restart_below tt, refl))
+            rw t (
+              taken_so pr o.restart_interval 0,
+              (dri_code, restart_short o.restart_interval),
+              step (taken_so pr 0 0) (segment.Restart o.restart_interval) can.restart_below tt,
+              refl,
+            ))
       ]
 
   before_steps : (same : Bool)
-      → Steps (taken_so no_presets 0 0) (cond same [] (segment.Preset o.params.maxval o.params.t1 o.params.t2 o.params.t3 o.params.reset ∷ []) ++ restart_segments o.restart_interval)
+      → Steps (taken_so no_presets 0 0)
+      (cond same [] (segment.Preset o.params.maxval o.params.t1 o.params.t2 o.params.t3 o.params.reset ∷ [])
+      ++ restart_segments o.restart_interval)
       (taken_so (written_presets o.params same) o.restart_interval 0)
   before_steps true = restart_steps no_presets
   before_steps false =
@@ -258,7 +257,14 @@ module _ (pic : WholePicture) (o : WriteOptions) (can : IsWritable pic o) where
         taken_so (presets_of o.params) 0 0,
         (lse_code, omega arith),
         step (taken_so no_presets 0 0) (segment.Preset o.params.maxval o.params.t1 o.params.t2 o.params.t3 o.params.reset)
-            (record { maxval_below = small; t1_below = omega arith; t2_below = omega arith; t3_below = omega arith; reset_below = omega arith }) tt,
+            (record {
+              maxval_below = small;
+              t1_below = omega arith;
+              t2_below = omega arith;
+              t3_below = omega arith;
+              reset_below =
+                  omega arith;
+            }) tt,
         restart_steps (presets_of o.params),
       )
 
@@ -272,7 +278,7 @@ module _ (pic : WholePicture) (o : WriteOptions) (can : IsWritable pic o) where
     selected : (cs : List ℕ) → IsScanOf (length pic.shape.ids) cs → has_repeat (ids_at pic.shape.ids cs) ≡ false
         → IsScanSelection (selection cs)
     selected cs are differ =
-        let size = map_length (λ c. get_or pic.shape.ids c 0) cs in
+        let size = length-map cs (λ c. get_or pic.shape.ids c 0) in
         let few = can.whole.shape.ids_at_most in
         record {
           ids_at_least = omega (arith, size, are.0);
@@ -285,7 +291,8 @@ module _ (pic : WholePicture) (o : WriteOptions) (can : IsWritable pic o) where
     small_enough : (cs : List ℕ) → length cs ≡ components_of_scan pic.shape o
         → pic.shape.width * length (ids_at pic.shape.ids cs) * row_count (scan_of pic o cs) 0 ≤ 2 ^ 28
     small_enough cs sized =
-        let size : length (ids_at pic.shape.ids cs) ≡ components_of_scan pic.shape o = map_length (λ c. get_or pic.shape.ids c 0) cs ∙ sized in
+        let size : length (ids_at pic.shape.ids cs) ≡ components_of_scan pic.shape o = length-map cs (λ c. get_or pic.shape.ids c 0)
+        ∙ sized in
         let rows : row_count (scan_of pic o cs) 0 ≡ rows_of_interval pic.shape o = rows_zero pic.shape.height o.restart_interval in
         rw (size, rows) can.fit.interval
 
@@ -297,7 +304,8 @@ module _ (pic : WholePicture) (o : WriteOptions) (can : IsWritable pic o) where
         none_fails (begin_tests pic.shape pr o.restart_interval i (selection cs)) (scan_in pic.shape pr o.restart_interval (selection cs))
         (known pic.shape.ids differ cs are.2, (ap is_ok asks_them, (le-leb _ _ (small_enough cs sized), (lt-ltb i 16 few, tt))))
         ∙ ap (λ (s : Scan). Ok s)
-        (ap (λ (xs : List ℕ). scan_with pic.shape xs (in_force pic.shape.precision pr) o.restart_interval) (components_back pic.shape.ids differ cs are.2)
+        (ap (λ (xs : List ℕ). scan_with pic.shape xs (in_force pic.shape.precision pr) o.restart_interval)
+        (components_back pic.shape.ids differ cs are.2)
         ∙ ap (λ (p : CodingParameters). scan_with pic.shape cs p o.restart_interval) under)
 
     scan_step : (cs : List ℕ) (i : ℕ) → i < 16 → IsScanOf (length pic.shape.ids) cs → has_repeat (ids_at pic.shape.ids cs) ≡ false
@@ -307,7 +315,8 @@ module _ (pic : WholePicture) (o : WriteOptions) (can : IsWritable pic o) where
         step (now i) (segment.Scan (selection cs)) (selected cs are differ) tt ∙ ap (begun (now i)) (judged cs i few are sized)
 
     scan_steps : (scans : List (List ℕ)) (i : ℕ) → i + length scans ≤ 16 → AllByRecursion (IsScanOf (length pic.shape.ids)) scans
-        → AllByRecursion (λ cs. has_repeat (ids_at pic.shape.ids cs) ≡ false) scans → AllByRecursion (λ cs. length cs ≡ components_of_scan pic.shape o) scans
+        → AllByRecursion (λ cs. has_repeat (ids_at pic.shape.ids cs) ≡ false) scans
+        → AllByRecursion (λ cs. length cs ≡ components_of_scan pic.shape o) scans
         → ScanSteps pic o (now i) scans (now (i + length scans))
     scan_steps [] i few are differ sized = let e : i + 0 ≡ i = omega arith in ap now e
     scan_steps (cs ∷ scans) i few are differ sized =
@@ -335,6 +344,7 @@ heads_are_taken pic o can =
       );
       last = taken_so pic o can pr o.restart_interval (0 + length scans);
       scans = scan_steps pic o can pr (asks pic.shape o.params same can.params can.fit.precision refl) scans 0 (omega (arith, few))
-          (scans_of (length pic.shape.ids) o.line shape.ids_at_least) (scans_differ pic.shape.ids o.line shape.ids_differ) (scans_sized (length pic.shape.ids) o.line);
+          (scans_of (length pic.shape.ids) o.line shape.ids_at_least) (scans_differ pic.shape.ids o.line shape.ids_differ)
+          (scans_sized (length pic.shape.ids) o.line);
       framed = refl;
     }

@@ -8,12 +8,14 @@ use Rattle.std.proofs.lemmas.List.{length-map}
 use Rattle.jls_values.specs.Shape.{PictureShape, IsShape}
 use Rattle.jls_values.specs.Params.{CodingParameters}
 use Rattle.jls_bits.proofs.Padding.{pad_is_pad}
+use Rattle.jls_bits.proofs.Appending.{bytes_append}
 use Rattle.jls_interval.specs.Code.{code}
 use Rattle.jls_marker.specs.Scan.{Scan, intervals}
 use Rattle.jls_marker.specs.ScanSelection.{ScanSelection}
 use Rattle.jls_marker.specs.Written.{code_of, payload_of, unneeded_bytes}
 use Rattle.jls_marker.specs.declared.segment.Segment.{Segment}
 use Rattle.jls_marker.specs.declared.segment.Segment.TheVariants as segment
+use Rattle.jls_marker.specs.SegmentLaws.{AreBytes}
 use Rattle.jls_write.specs.Picture.{WholePicture}
 use Rattle.jls_write.specs.Options.{WriteOptions}
 use Rattle.jls_write.specs.WrittenFile.{bytes_of, are_defaults, preset_segments, restart_segments, header_segments, header_bytes}
@@ -22,20 +24,12 @@ use Rattle.jls_write.specs.WrittenFile.{before_interval, marked_interval, scan_b
 use Rattle.jls_file_laws.specs.FileLaw.{IsWritable}
 use Rattle.jls_file_laws.proofs.Covering.{IsScanOf, scans_of, all_append}
 
--- numbers that are bytes
-abbrev AreBytes : List ℕ → Type 0
-AreBytes xs = AllByRecursion (λ b. b < 256) xs
-
 -- ---- lists of bytes
-
--- bytes after bytes are bytes
-joined : (xs ys : List ℕ) → AreBytes xs → AreBytes ys → AreBytes (xs ++ ys)
-joined xs ys h k = all_append (λ b. b < 256) xs ys h k
 
 -- where each element gives bytes, all of them one after the other are bytes
 each_joined : {X : Type 0} (f : X → List ℕ) (xs : List X) → AllByRecursion (λ x. AreBytes (f x)) xs → AreBytes (flat_map f xs)
 each_joined f [] h = tt
-each_joined f (x ∷ xs) h = joined (f x) (flat_map f xs) h.0 (each_joined f xs h.1)
+each_joined f (x ∷ xs) h = bytes_append (f x) (flat_map f xs) h.0 (each_joined f xs h.1)
 
 -- what holds of everything holds of each element
 all_of : {X : Type 0} (P : X → Type 0) (xs : List X) → ((x : X) → P x) → AllByRecursion P xs
@@ -96,11 +90,11 @@ interleave_small false = omega arith
 segment_joined : (s : Segment) → code_of s < 256 → AreBytes (payload_of s) → AreBytes (bytes_of s)
 segment_joined s small payload =
     let size = length (payload_of s) + 2 in
-    (omega arith, (small, joined (to_be_bytes w16 size) (payload_of s) (number_bytes w16 size) payload))
+    (omega arith, (small, bytes_append (to_be_bytes w16 size) (payload_of s) (number_bytes w16 size) payload))
 
 -- a number of two bytes before bytes
 number_before : (n : ℕ) (xs : List ℕ) → AreBytes xs → AreBytes (to_be_bytes w16 n ++ xs)
-number_before n xs h = joined (to_be_bytes w16 n) xs (number_bytes w16 n) h
+number_before n xs h = bytes_append (to_be_bytes w16 n) xs (number_bytes w16 n) h
 
 -- SOF55 consists of bytes
 frame_bytes : (s : PictureShape) → IsShape s → AreBytes (bytes_of (segment.Frame s))
@@ -119,7 +113,7 @@ selection_bytes s few are =
     let end : List ℕ = 0 ∷ (if s.line then 1 else 0) ∷ 0 ∷ [] in
     let small : AreBytes end = (omega arith, (interleave_small s.line, (omega arith, tt))) in
     let components = flat_map (λ id. id ∷ 0 ∷ []) s.ids in
-    segment_joined (segment.Scan s) (omega arith) (omega (arith, few), joined components end (scan_components s.ids are) small)
+    segment_joined (segment.Scan s) (omega arith) (omega (arith, few), bytes_append components end (scan_components s.ids are) small)
 
 -- LSE consists of bytes
 preset_bytes : (p : CodingParameters) → AreBytes (bytes_of (segment.Preset p.maxval p.t1 p.t2 p.t3 p.reset))
@@ -195,7 +189,7 @@ module _ (pic : WholePicture) (is : IsShape pic.shape) (s : Scan) (few : length 
   scan_part =
       each_joined (marked_interval pic s) (range_with_len 0 (intervals s))
       (all_of (λ k. AreBytes (marked_interval pic s k)) (range_with_len 0 (intervals s))
-      (λ k. joined (before_interval pic s k) (interval_code pic s k) (marks k (k == 0)) (code_bytes k)))
+      (λ k. bytes_append (before_interval pic s k) (interval_code pic s k) (marks k (k == 0)) (code_bytes k)))
 
 -- the scans consist of bytes
 scans_part : (pic : WholePicture) (o : WriteOptions) → IsShape pic.shape → AreBytes (scans_bytes pic o)
@@ -213,5 +207,5 @@ written_bytes pic o can =
     let is = can.whole.shape in
     let end : List ℕ = 0xFF ∷ 0xD9 ∷ [] in
     let are : AreBytes end = (omega arith, (omega arith, tt)) in
-    let rest = joined (scans_bytes pic o) end (scans_part pic o is) are in
-    joined (header_bytes pic o) (scans_bytes pic o ++ end) (header_part pic o is) rest
+    let rest = bytes_append (scans_bytes pic o) end (scans_part pic o is) are in
+    bytes_append (header_bytes pic o) (scans_bytes pic o ++ end) (header_part pic o is) rest

@@ -1,10 +1,12 @@
 -- An interval's bytes: they are a piece of scan data, and read as the interval's lines and as nothing else.
-use Rattle.std.proofs.Common.{◌≡◌, ℕ, zero, suc, ◌+◌, ◌-◌, ◌*◌, ◌<◌, ◌≤◌, false, List, [], ◌∷◌, ◌++◌, map, length, refl, ap, arith, inl}
+use Rattle.std.proofs.Common.{◌≡◌, ℕ, zero, suc, ◌+◌, ◌-◌, ◌*◌, ◌<◌, ◌≤◌, false, List, [], ◌∷◌, ◌++◌, length, ap, arith, inl}
 use Rattle.std.proofs.Common.{inr, length-append}
 use Rattle.std.specs.Prelude.{◌==◌, true}
 use Rattle.std.proofs.lemmas.Bool.{cases_eq}
 use Rattle.std.proofs.lemmas.Bool.Decides.{nat_tests}
-use Rattle.std.specs.List.{All, AllByRecursion, flat_map, range_with_len}
+use Rattle.std.specs.List.{AllByRecursion, flat_map, range_with_len}
+use Rattle.std.proofs.lemmas.List.{length-map}
+use Rattle.std.proofs.lemmas.List.Elements.{recursion_from_All}
 use Rattle.jls_values.specs.Params.{CodingParameters}
 use Rattle.jls_bits.specs.Bits.{BelowMarkers}
 use Rattle.jls_bits.specs.Pad.{IsPad}
@@ -24,6 +26,7 @@ use Rattle.jls_write.specs.Picture.{WholePicture, line_of}
 use Rattle.jls_write.specs.Options.{WriteOptions}
 use Rattle.jls_write.specs.WrittenFile.{row_lines, interval_lines, interval_code, scan_of}
 use Rattle.jls_file_laws.specs.FileLaw.{IsWritable}
+use Rattle.jls_file_laws.proofs.Covering.{all_append}
 
 -- ---- packed bytes are a piece
 
@@ -35,7 +38,8 @@ piece_of [] below last = tt
 piece_of (b ∷ []) below last = λ e. last [] (ap (λ x. x ∷ []) e)
 piece_of (b ∷ c ∷ more) below last = (
   λ e. closes_none c (below [] more c (ap (λ x. x ∷ c ∷ more) e)),
-  piece_of (c ∷ more) (λ prefix back x e. below (b ∷ prefix) back x (ap (λ t. b ∷ t) e)) (λ prefix e. last (b ∷ prefix) (ap (λ t. b ∷ t) e)),
+  piece_of (c ∷ more) (λ prefix back x e. below (b ∷ prefix) back x (ap (λ t. b ∷ t) e))
+      (λ prefix e. last (b ∷ prefix) (ap (λ t. b ∷ t) e)),
 )
 
 pub packed_is_piece : (p : CodingParameters) (w c : ℕ) (lines : List (List ℕ)) → IsPiece (packed p w c lines)
@@ -45,21 +49,10 @@ packed_is_piece p w c lines =
 
 -- ---- the interval's lines have its number and width
 
-all_appended : {X : Type 0} (P : X → Type 0) (xs ys : List X) → AllByRecursion P xs → AllByRecursion P ys → AllByRecursion P (xs ++ ys)
-all_appended P [] ys h k = k
-all_appended P (x ∷ xs) ys h k = (h.0, all_appended P xs ys h.1 k)
-
-all_by : (P : ℕ → Type 0) (xs : List ℕ) → All P xs → AllByRecursion P xs
-all_by P [] h = tt
-all_by P (x ∷ xs) h = (h 0 x (omega arith), all_by P xs (λ k d lt. h (suc k) d (omega arith)))
-
-map_length : (f : ℕ → List ℕ) (xs : List ℕ) → length (map f xs) ≡ length xs
-map_length f [] = refl
-map_length f (x ∷ xs) = let e = map_length f xs in omega (arith, e)
-
 module _ (pic : WholePicture) (o : WriteOptions) (can : IsWritable pic o) where
   line_is : (c row : ℕ) → c < length pic.shape.ids → row < pic.shape.height → IsLine o.params pic.shape.width (line_of pic c row)
-  line_is c row h k = (can.whole.widths c row h k, all_by (λ sample. sample ≤ o.params.maxval) (line_of pic c row) (can.fit.samples c h row k))
+  line_is c row h k =
+      (can.whole.widths c row h k, recursion_from_All (λ sample. sample ≤ o.params.maxval) (line_of pic c row) (can.fit.samples c h row k))
 
   row_is : (cs : List ℕ) (row : ℕ) → AllByRecursion (λ c. c < length pic.shape.ids) cs → row < pic.shape.height
       → AllByRecursion (IsLine o.params pic.shape.width) (row_lines pic cs row)
@@ -70,14 +63,15 @@ module _ (pic : WholePicture) (o : WriteOptions) (can : IsWritable pic o) where
       → AllByRecursion (IsLine o.params pic.shape.width) (flat_map (row_lines pic cs) (range_with_len row n))
   rows_are cs row zero h k = tt
   rows_are cs row (suc n) h k =
-      all_appended (IsLine o.params pic.shape.width) (row_lines pic cs row) (flat_map (row_lines pic cs) (range_with_len (row + 1) n)) (row_is cs row h (omega (arith, k)))
+      all_append (IsLine o.params pic.shape.width) (row_lines pic cs row) (flat_map (row_lines pic cs) (range_with_len (row + 1) n))
+      (row_is cs row h (omega (arith, k)))
       (rows_are cs (row + 1) n h (omega (arith, k)))
 
 how_many : (pic : WholePicture) (cs : List ℕ) (row n : ℕ) → length (flat_map (row_lines pic cs) (range_with_len row n)) ≡ n * length cs
 how_many pic cs row zero = omega arith
 how_many pic cs row (suc n) =
     let e = length-append (row_lines pic cs row) (flat_map (row_lines pic cs) (range_with_len (row + 1) n)) in
-    let l = map_length (λ c. line_of pic c row) cs in
+    let l = length-map cs (λ c. line_of pic c row) in
     let r = how_many pic cs (row + 1) n in
     let m : suc n * length cs ≡ n * length cs + length cs = omega arith in
     rw m (omega (arith, e, l, r))
@@ -91,7 +85,8 @@ rows_within s k =
 
 -- ---- the piece is judged in one way only
 
-module _ (pic : WholePicture) (o : WriteOptions) (can : IsWritable pic o) (components : List ℕ) (inside : AllByRecursion (λ c. c < length pic.shape.ids) components) (k : ℕ) where
+module _ (pic : WholePicture) (o : WriteOptions) (can : IsWritable pic o) (components : List ℕ)
+    (inside : AllByRecursion (λ c. c < length pic.shape.ids) components) (k : ℕ) where
   abbrev plan : Scan
   plan = scan_of pic o components
 
@@ -102,13 +97,18 @@ module _ (pic : WholePicture) (o : WriteOptions) (can : IsWritable pic o) (compo
   }
 
   pub reads_lines : IsOutcomeAt plan (Interval k) (interval_code pic plan k) (Lines (interval_lines pic plan k))
-  reads_lines = packed_reads o.params pic.shape.width (length components) (row_count plan k * length components) (interval_lines pic plan k) intervals_fit
+  reads_lines =
+      packed_reads o.params pic.shape.width (length components) (row_count plan k * length components)
+      (interval_lines pic plan k) intervals_fit
 
   pub only_lines : (out : PieceOutcome) → IsOutcomeAt plan (Interval k) (interval_code pic plan k) out
       → out ≡ Lines (interval_lines pic plan k)
   only_lines (Lines lines) h =
-      ap Lines (reads_once o.params can.params pic.shape.width (length components) (row_count plan k * length components) can.whole.shape.width_at_least (interval_code pic plan k) lines (interval_lines pic plan k) h reads_lines)
+      ap Lines
+      (reads_once o.params can.params pic.shape.width (length components) (row_count plan k * length components)
+      can.whole.shape.width_at_least (interval_code pic plan k) lines (interval_lines pic plan k) h reads_lines)
   only_lines (Fault kind.Long) h =
-      absurd (read_not_long o.params can.params pic.shape.width (length components) (row_count plan k * length components) can.whole.shape.width_at_least (interval_code pic plan k) (interval_lines pic plan k) reads_lines h)
+      absurd (read_not_long o.params can.params pic.shape.width (length components) (row_count plan k * length components)
+      can.whole.shape.width_at_least (interval_code pic plan k) (interval_lines pic plan k) reads_lines h)
   only_lines (Fault kind.Broken) h = absurd (h.not_read (interval_lines pic plan k) reads_lines)
   only_lines (Fault kind.Beyond) h = absurd h

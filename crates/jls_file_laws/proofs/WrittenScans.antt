@@ -36,7 +36,8 @@ module _ (pic : WholePicture) (s : Scan) where
       rw (ne_eqb (k + 1) 0 (λ e. absurd (omega (arith, e)))) (ap restart_marker back)
 
   pub bytes_are : (k n : ℕ)
-      → interval_code pic s k ++ flat_map (marked_interval pic s) (range_with_len (k + 1) n) ≡ flat_map closed_bytes (closed_from k n) ++ last_from k n
+      → interval_code pic s k ++ flat_map (marked_interval pic s) (range_with_len (k + 1) n) ≡ flat_map closed_bytes (closed_from k n)
+      ++ last_from k n
   bytes_are k zero = append-nil (interval_code pic s k)
   bytes_are k (suc n) =
       let later : List ℕ = flat_map (marked_interval pic s) (range_with_len (k + 1 + 1) n) in
@@ -48,7 +49,8 @@ module _ (pic : WholePicture) (s : Scan) where
 
   pub each_closed : (k n : ℕ) → AllByRecursion IsClosedPiece (closed_from k n)
   each_closed k zero = tt
-  each_closed k (suc n) = ((packed_is_piece s.params s.width (length s.components) (interval_lines pic s k), omega arith), each_closed (k + 1) n)
+  each_closed k (suc n) =
+      ((packed_is_piece s.params s.width (length s.components) (interval_lines pic s k), omega arith), each_closed (k + 1) n)
 
   pub last_piece : (k n : ℕ) → IsPiece (last_from k n)
   last_piece k zero = packed_is_piece s.params s.width (length s.components) (interval_lines pic s k)
@@ -66,7 +68,8 @@ number_is n k h =
 -- a piece is that of an interval, and is judged to be the picture's lines of it and nothing else
 abbrev pub GivesLines : WholePicture → FoundPiece → Type 0
 GivesLines pic p =
-    (k : ℕ) × (p.number ≡ Interval k) × IsOutcome p (Lines (interval_lines pic p.plan k)) × ((out : PieceOutcome) → IsOutcome p out → out ≡ Lines (interval_lines pic p.plan k))
+    (k : ℕ) × (p.number ≡ Interval k) × IsOutcome p (Lines (interval_lines pic p.plan k))
+    × ((out : PieceOutcome) → IsOutcome p out → out ≡ Lines (interval_lines pic p.plan k))
 
 abbrev lines_at : WholePicture → Scan → PieceNumber → List Reading
 lines_at pic s (Interval k) = interval_readings pic s k
@@ -94,11 +97,13 @@ module _ (pic : WholePicture) where
   some_outcomes [] h = ([], tt)
   some_outcomes (p ∷ ps) h = let rest = some_outcomes ps h.1 in (Lines (interval_lines pic p.plan h.0.0) ∷ rest.0, (h.0.2, rest.1))
 
-module _ (pic : WholePicture) (o : WriteOptions) (can : IsWritable pic o) (components : List ℕ) (inside : AllByRecursion (λ c. c < length pic.shape.ids) components) (index : ℕ) where
+module _ (pic : WholePicture) (o : WriteOptions) (can : IsWritable pic o) (components : List ℕ)
+    (inside : AllByRecursion (λ c. c < length pic.shape.ids) components) (index : ℕ) where
   abbrev s : Scan
   s = scan_of pic o components
 
-  piece_gives : (k at : ℕ) → GivesLines pic (record { scan = index; plan = s; number = Interval k; offset = at; bytes = interval_code pic s k })
+  piece_gives : (k at : ℕ)
+      → GivesLines pic (record { scan = index; plan = s; number = Interval k; offset = at; bytes = interval_code pic s k })
   piece_gives k at = (k, refl, reads_lines pic o can components inside k, only_lines pic o can components inside k)
 
   pub pieces_give : (k n at : ℕ) → k + n < intervals s
@@ -109,7 +114,8 @@ module _ (pic : WholePicture) (o : WriteOptions) (can : IsWritable pic o) (compo
       (piece_gives k at, rw e (pieces_give (k + 1) n _ (omega (arith, h))))
 
   pub pieces_lines : (k n at : ℕ) → k + n < intervals s
-      → flat_map (lines_of pic) (pieces_from (piece_begun index s (Interval k) at) k (closed_from pic s k n) (last_from pic s k n)) ≡ flat_map (interval_readings pic s) (range_with_len k (suc n))
+      → flat_map (lines_of pic) (pieces_from (piece_begun index s (Interval k) at) k (closed_from pic s k n) (last_from pic s k n))
+      ≡ flat_map (interval_readings pic s) (range_with_len k (suc n))
   pieces_lines k zero at h = refl
   pieces_lines k (suc n) at h =
       let e = number_is (intervals s) k (omega (arith, h)) in

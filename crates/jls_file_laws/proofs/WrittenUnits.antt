@@ -27,13 +27,9 @@ use Rattle.jls_write.specs.WrittenFile.{bytes_of, header_segments, components_of
 use Rattle.jls_write.specs.WrittenFile.{marked_interval, scan_bytes, written_file}
 use Rattle.jls_file_laws.specs.Covering.{interval_readings, scan_readings, written_readings}
 use Rattle.jls_file_laws.specs.FileLaw.{IsWritable, ReadsBack}
-use Rattle.jls_file_laws.proofs.Covering.{IsScanOf, scans_of}
+use Rattle.jls_file_laws.proofs.Covering.{IsScanOf, scans_of, all_append}
 use Rattle.jls_file_laws.proofs.WrittenScans.{closed_from, last_from, bytes_are, each_closed, last_piece, GivesLines, lines_of, all_give}
 use Rattle.jls_file_laws.proofs.WrittenScans.{some_outcomes, pieces_give, pieces_lines}
-
-all_append : {X : Type 0} (P : X → Type 0) (xs ys : List X) → AllByRecursion P xs → AllByRecursion P ys → AllByRecursion P (xs ++ ys)
-all_append P [] ys h k = k
-all_append P (x ∷ xs) ys h k = (h.0, all_append P xs ys h.1 k)
 
 -- ---- segments
 
@@ -51,7 +47,9 @@ segment_is s short = ap (λ t. 0xFF ∷ code_of s ∷ (t ++ payload_of s)) (two_
 -- the segments before the scans are taken, one after the other
 abbrev pub Steps : HeaderState → List Segment → HeaderState → Type 0
 Steps h [] last = last ≡ h
-Steps h (s ∷ more) last = (after : HeaderState) × IsWholeSegment (code_of s) (payload_of s) × (headers_after h (code_of s) (payload_of s) ≡ Ok (after, None)) × Steps after more last
+Steps h (s ∷ more) last =
+    (after : HeaderState) × IsWholeSegment (code_of s) (payload_of s) × (headers_after h (code_of s) (payload_of s) ≡ Ok (after, None))
+    × Steps after more last
 
 module _ (pic : WholePicture) (o : WriteOptions) where
   -- and those of the scans, each of which begins the scan that is meant
@@ -59,7 +57,8 @@ module _ (pic : WholePicture) (o : WriteOptions) where
   ScanSteps h [] last = last ≡ h
   ScanSteps h (components ∷ more) last =
       (after : HeaderState) × IsWholeSegment 0xDA (payload_of (scan_segment pic components))
-      × (headers_after h 0xDA (payload_of (scan_segment pic components)) ≡ Ok (after, Some (scan_of pic o components))) × ScanSteps after more last
+      × (headers_after h 0xDA (payload_of (scan_segment pic components)) ≡ Ok (after, Some (scan_of pic o components)))
+      × ScanSteps after more last
 
   pub record AreTaken : Type 0 where
     pub following : HeaderState
@@ -73,7 +72,8 @@ module _ (pic : WholePicture) (o : WriteOptions) where
   abbrev scan_unit : List ℕ → CopyUnit
   scan_unit components =
       let s : Scan = scan_of pic o components in
-      scan 0 0xDA (payload_of (scan_segment pic components)) s (closed_from pic s 0 (intervals s - 1)) (last_from pic s 0 (intervals s - 1)) by_marker
+      scan 0 0xDA (payload_of (scan_segment pic components)) s (closed_from pic s 0 (intervals s - 1))
+      (last_from pic s 0 (intervals s - 1)) by_marker
 
   abbrev head_unit : Segment → CopyUnit
   head_unit s = segment 0 (code_of s) (payload_of s)
@@ -106,7 +106,8 @@ module _ (pic : WholePicture) (o : WriteOptions) where
       ap (λ m. flat_map (marked_interval pic s) (range_with_len 0 m)) all
       ∙ append_assoc (bytes_of (scan_segment pic components)) (interval_code pic s 0) later
       ∙ ap (λ t. t ++ (interval_code pic s 0 ++ later)) (segment_is (scan_segment pic components) short)
-      ∙ ap (λ t. head ++ t) (bytes_are pic s 0 n ∙ ap (λ t. flat_map closed_bytes (closed_from pic s 0 n) ++ t) (sym (append-nil (last_from pic s 0 n))))
+      ∙ ap (λ t. head ++ t)
+      (bytes_are pic s 0 n ∙ ap (λ t. flat_map closed_bytes (closed_from pic s 0 n) ++ t) (sym (append-nil (last_from pic s 0 n))))
 
   -- a marker that ends scan data follows each scan
   after_scan : (scans : List (List ℕ)) → 1 ≤ pic.shape.height → (last h : HeaderState) → ScanSteps h scans last
@@ -119,25 +120,36 @@ module _ (pic : WholePicture) (o : WriteOptions) where
   from_scans : (h : HeaderState) (at : ℕ) (scans : List (List ℕ)) (last : HeaderState) → 1 ≤ pic.shape.height → ScanSteps h scans last
       → is_some last.frame ≡ true
       → AreUnits h at (flat_map scan_part scans ++ eoi) (map scan_unit scans) last (Eoi (end_of at (map scan_unit scans)))
-  from_scans h at [] last some steps framed = (steps, for_good h at eoi (Eoi (at + 0)) (at_eoi h at 0 [] (rw (ap (λ (t : HeaderState). is_some t.frame) (sym steps)) framed)))
+  from_scans h at [] last some steps framed =
+      (steps, for_good h at eoi (Eoi (at + 0)) (at_eoi h at 0 [] (rw (ap (λ (t : HeaderState). is_some t.frame) (sym steps)) framed)))
   from_scans h at (c ∷ scans) last some steps framed =
       let s : Scan = scan_of pic o c in (
         steps.0,
         flat_map scan_part scans ++ eoi,
-        append_assoc (scan_part c) (flat_map scan_part scans) eoi ∙ ap (λ t. t ++ (flat_map scan_part scans ++ eoi)) (scan_is c some steps.1.1),
-        (steps.1, steps.2, each_closed pic s 0 (intervals s - 1), last_piece pic s 0 (intervals s - 1), after_scan scans some last steps.0 steps.3),
+        append_assoc (scan_part c) (flat_map scan_part scans) eoi
+            ∙ ap (λ t. t ++ (flat_map scan_part scans ++ eoi)) (scan_is c some steps.1.1),
+        (
+          steps.1,
+          steps.2,
+          each_closed pic s 0 (intervals s - 1),
+          last_piece pic s 0 (intervals s - 1),
+          after_scan scans some last steps.0 steps.3,
+        ),
         from_scans steps.0 (at + length (unit_bytes (scan_unit c))) scans last some steps.3 framed,
       )
 
   from_heads : (h : HeaderState) (at : ℕ) (before : List Segment) (following : HeaderState) (scans : List (List ℕ)) (last : HeaderState)
       → 1 ≤ pic.shape.height → Steps h before following → ScanSteps following scans last → is_some last.frame ≡ true
-      → AreUnits h at (flat_map bytes_of before ++ (flat_map scan_part scans ++ eoi)) (units before scans) last (Eoi (end_of at (units before scans)))
-  from_heads h at [] following scans last some steps scan_steps framed = from_scans h at scans last some (subst (λ (t : HeaderState). ScanSteps t scans last) steps scan_steps) framed
+      → AreUnits h at (flat_map bytes_of before ++ (flat_map scan_part scans ++ eoi)) (units before scans) last
+      (Eoi (end_of at (units before scans)))
+  from_heads h at [] following scans last some steps scan_steps framed =
+      from_scans h at scans last some (subst (λ (t : HeaderState). ScanSteps t scans last) steps scan_steps) framed
   from_heads h at (x ∷ before) following scans last some steps scan_steps framed =
       let rest : List ℕ = flat_map bytes_of before ++ (flat_map scan_part scans ++ eoi) in (
         steps.0,
         rest,
-        append_assoc (bytes_of x) (flat_map bytes_of before) (flat_map scan_part scans ++ eoi) ∙ ap (λ t. t ++ rest) (segment_is x steps.1.1),
+        append_assoc (bytes_of x) (flat_map bytes_of before) (flat_map scan_part scans ++ eoi)
+            ∙ ap (λ t. t ++ rest) (segment_is x steps.1.1),
         (steps.1, steps.2),
         from_heads steps.0 (at + length (unit_bytes (head_unit x))) before following scans last some steps.3 scan_steps framed,
       )
@@ -150,19 +162,23 @@ module _ (pic : WholePicture) (o : WriteOptions) where
   scans_give can (c ∷ scans) are index at =
       let s : Scan = scan_of pic o c in
       let some = some_interval c can.whole.shape.height_at_least in
-      all_append (GivesLines pic) (pieces_from (piece_begun index s (Interval 0) _) 0 (closed_from pic s 0 (intervals s - 1)) (last_from pic s 0 (intervals s - 1))) _
+      all_append (GivesLines pic)
+      (pieces_from (piece_begun index s (Interval 0) _) 0 (closed_from pic s 0 (intervals s - 1)) (last_from pic s 0 (intervals s - 1))) _
       (pieces_give pic o can c are.0.2 index 0 (intervals s - 1) _ (omega (arith, some))) (scans_give can scans are.1 _ _)
 
   scans_lines : (can : IsWritable pic o) (scans : List (List ℕ)) → AllByRecursion (IsScanOf (length pic.shape.ids)) scans → (index at : ℕ)
-      → flat_map (lines_of pic) (pieces_in index at (map scan_unit scans)) ≡ flat_map (λ components. scan_readings pic (scan_of pic o components)) scans
+      → flat_map (lines_of pic) (pieces_in index at (map scan_unit scans))
+      ≡ flat_map (λ components. scan_readings pic (scan_of pic o components)) scans
   scans_lines can [] are index at = refl
   scans_lines can (c ∷ scans) are index at =
       let s : Scan = scan_of pic o c in
       let some = some_interval c can.whole.shape.height_at_least in
       let all : suc (intervals s - 1) ≡ intervals s = omega (arith, some) in
-      flat_map-append (lines_of pic) (pieces_from (piece_begun index s (Interval 0) _) 0 (closed_from pic s 0 (intervals s - 1)) (last_from pic s 0 (intervals s - 1))) _
+      flat_map-append (lines_of pic)
+      (pieces_from (piece_begun index s (Interval 0) _) 0 (closed_from pic s 0 (intervals s - 1)) (last_from pic s 0 (intervals s - 1))) _
       ∙ ap (λ t. t ++ flat_map (lines_of pic) (pieces_in (index + 1) (at + length (unit_bytes (scan_unit c))) (map scan_unit scans)))
-      (pieces_lines pic o can c are.0.2 index 0 (intervals s - 1) _ (omega (arith, some)) ∙ ap (λ n. flat_map (interval_readings pic s) (range_with_len 0 n)) all)
+      (pieces_lines pic o can c are.0.2 index 0 (intervals s - 1) _ (omega (arith, some))
+      ∙ ap (λ n. flat_map (interval_readings pic s) (range_with_len 0 n)) all)
       ∙ ap (λ t. scan_readings pic s ++ t) (scans_lines can scans are.1 _ _)
 
   -- segments alone have none
@@ -196,18 +212,22 @@ module _ (pic : WholePicture) (o : WriteOptions) where
       let before = header_segments pic o in
       let scans = components_of_scans pic o in
       let us = units before scans in
-      let are : AllByRecursion (IsScanOf (length pic.shape.ids)) scans = scans_of (length pic.shape.ids) o.line can.whole.shape.ids_at_least in
+      let are : AllByRecursion (IsScanOf (length pic.shape.ids)) scans =
+      scans_of (length pic.shape.ids) o.line can.whole.shape.ids_at_least in
       let following = pieces_after before (map scan_unit scans) 0 2 in
       let give : AllByRecursion (GivesLines pic) (pieces_in 0 2 us) = rw following.1 (scans_give can scans are _ following.0) in
-      let lines : flat_map (lines_of pic) (pieces_in 0 2 us) ≡ written_readings pic o = ap (flat_map (lines_of pic)) following.1 ∙ scans_lines can scans are _ following.0 in
+      let lines : flat_map (lines_of pic) (pieces_in 0 2 us) ≡ written_readings pic o = ap (flat_map (lines_of pic)) following.1
+      ∙ scans_lines can scans are _ following.0 in
       let outs = some_outcomes pic (pieces_in 0 2 us) give in
       record {
         course = record { begin = 2; units = us; headers = taken.last; end = Eoi (end_of 2 us) };
         is_course = with_soi 0 (flat_map bytes_of before ++ (flat_map scan_part scans ++ eoi)) us taken.last (Eoi (end_of 2 us))
-            (from_heads no_headers 2 before taken.following scans taken.last can.whole.shape.height_at_least taken.before taken.scans (ap is_some taken.framed));
+            (from_heads no_headers 2 before taken.following scans taken.last can.whole.shape.height_at_least taken.before taken.scans
+            (ap is_some taken.framed));
         framed = taken.framed;
         uncut = uncut_pieces 2 us taken.last (Eoi (end_of 2 us))
-            (none_cut us (all_append (λ u. is_cut u ≡ false) (map head_unit before) (map scan_unit scans) (heads_uncut before) (scans_uncut scans)));
+            (none_cut us
+            (all_append (λ u. is_cut u ≡ false) (map head_unit before) (map scan_unit scans) (heads_uncut before) (scans_uncut scans)));
         offset = end_of 2 us;
         ended = refl;
         outcomes = outs.0;
