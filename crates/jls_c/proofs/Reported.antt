@@ -39,7 +39,8 @@ no_picture copy OutOfMemory old new answer none is info two = absurd (omega (ari
 no_picture copy (NoPicture f offset) old new answer none is info two =
     record { fault = f; offset = offset; gives_none = none; info_is = info }
 
-pub kept : (fault : CopyFault) (old new : JlsInfo) (answer : ℕ) → answer ≡ answer_of fault → new ≡ refused_info fault old → answer ≡ 1 → new ≡ old
+pub kept : (fault : CopyFault) (old new : JlsInfo) (answer : ℕ) → answer ≡ answer_of fault → new ≡ refused_info fault old → answer ≡ 1
+    → new ≡ old
 kept OutOfMemory old new answer is info one = info
 kept (NoPicture f offset) old new answer is info one = absurd (omega (arith, is, one))
 

@@ -1,27 +1,12 @@
 -- Rows of one length, one after the other, and a list whose prefix they take row by row.
 use Rattle.std.proofs.Common.{◌≡◌, ℕ, zero, suc, ◌+◌, ◌*◌, ◌<◌, ◌≤◌, List, [], ◌∷◌, ◌++◌, length, map, take, drop, ap, sym, ◌∙◌, arith}
-use Rattle.std.proofs.Common.{add-zero, zero-add}
+use Rattle.std.proofs.Common.{zero-add}
 use Rattle.std.proofs.Math.Nat.{suc-mul}
 use Rattle.std.specs.List.{range_with_len, flat_map}
-use Rattle.std.proofs.lemmas.Grind.{flat_map-append}
-use Rattle.std.proofs.lemmas.List.{append-nil, append_assoc, length-append, take_at, drop_at, drop-drop, length-map, length-take, take_all}
+use Rattle.std.proofs.lemmas.List.{append_assoc, length-append, take_at, drop_at, drop-drop, length-map, length-take, take_all}
 use Rattle.std.proofs.lemmas.List.FromFn.{map-range_with_len_more}
+use Rattle.jls_write.proofs.OneMore.{flat_map_more}
 use borrow.Rule.Slice.PartMut.{put_mid}
-
-pub range-append : (a m n : ℕ) → range_with_len a (m + n) ≡ range_with_len a m ++ range_with_len (a + m) n
-range-append a zero n = ap (range_with_len a) (zero-add n) ∙ ap (λ k. range_with_len k n) (sym (add-zero a))
-range-append a (suc m) n =
-    let more : suc m + n ≡ suc (m + n) = omega arith in
-    let same : a + 1 + m ≡ a + suc m = omega arith in
-    ap (range_with_len a) more ∙ ap (λ t. a ∷ t) (range-append (a + 1) m n) ∙ ap (λ k. a ∷ (range_with_len (a + 1) m ++ range_with_len k n)) same
-
--- one row more
-pub rows_more : {X : Type 0} (f : ℕ → List X) (n : ℕ) → flat_map f (range_with_len 0 (n + 1)) ≡ flat_map f (range_with_len 0 n) ++ f n
-rows_more f n =
-    let from : 0 + n ≡ n = omega arith in
-    ap (flat_map f) (range-append 0 n 1) ∙ flat_map-append f (range_with_len 0 n) (range_with_len (0 + n) 1)
-    ∙ ap (λ k. flat_map f (range_with_len 0 n) ++ flat_map f (range_with_len k 1)) from
-    ∙ ap (λ t. flat_map f (range_with_len 0 n) ++ t) (append-nil (f n))
 
 -- how long they are
 pub length_rows : {X : Type 0} (f : ℕ → List X) (w n : ℕ) → ((k : ℕ) → k < n → length (f k) ≡ w)
@@ -31,7 +16,8 @@ length_rows f w (suc n) each =
     let more : suc n ≡ n + 1 = omega arith in
     let here = each n (omega arith) in
     let rest = length_rows f w n (λ k below. each k (omega arith)) in
-    let both = ap (λ m. length (flat_map f (range_with_len 0 m))) more ∙ (ap length (rows_more f n) ∙ length-append (flat_map f (range_with_len 0 n)) (f n)) in
+    let both = ap (λ m. length (flat_map f (range_with_len 0 m))) more
+    ∙ (ap length (flat_map_more f n) ∙ length-append (flat_map f (range_with_len 0 n)) (f n)) in
     let product = suc-mul n w in
     let all : length (flat_map f (range_with_len 0 n)) + length (f n) ≡ suc n * w = omega (arith, here, rest, product) in
     both ∙ all
@@ -45,17 +31,19 @@ put_row f w k a m old now new row long so_far is at wide put =
     let here : length prefix ≡ a = long ∙ sym at in
     let before : take a now ≡ prefix = ap (take a) so_far ∙ take_at prefix (drop (k * w) old) a here in
     let following : drop a now ≡ drop (k * w) old = ap (drop a) so_far ∙ drop_at prefix (drop (k * w) old) a here in
-    let end : k * w + m ≡ (k + 1) * w = let one : k + 1 ≡ suc k = omega arith in ap (λ n. k * w + n) wide ∙ (sym (suc-mul k w) ∙ ap (λ n. n * w) (sym one)) in
-    let rest : drop m (drop a now) ≡ drop ((k + 1) * w) old = ap (drop m) following ∙ (drop-drop m (k * w) old ∙ ap (λ n. drop n old) end) in
+    let end : k * w + m ≡ (k + 1) * w = let one : k + 1 ≡ suc k = omega arith in
+    ap (λ n. k * w + n) wide ∙ (sym (suc-mul k w) ∙ ap (λ n. n * w) (sym one)) in
+    let rest : drop m (drop a now) ≡ drop ((k + 1) * w) old = ap (drop m) following
+    ∙ (drop-drop m (k * w) old ∙ ap (λ n. drop n old) end) in
     put ∙ (ap (λ t. t ++ (row ++ drop m (drop a now))) before ∙ (ap (λ t. prefix ++ (row ++ t)) rest
     ∙ (ap (λ t. prefix ++ (t ++ drop ((k + 1) * w) old)) is ∙ (sym (append_assoc prefix (f k) (drop ((k + 1) * w) old))
-    ∙ ap (λ t. t ++ drop ((k + 1) * w) old) (sym (rows_more f k))))))
+    ∙ ap (λ t. t ++ drop ((k + 1) * w) old) (sym (flat_map_more f k))))))
 
 -- one row more, and how long they are then
 pub length_rows_more : {X : Type 0} (f : ℕ → List X) (w k : ℕ) (row : List X) → length (flat_map f (range_with_len 0 k)) ≡ k * w
     → row ≡ f k → length row ≡ w → length (flat_map f (range_with_len 0 (k + 1))) ≡ (k + 1) * w
 length_rows_more f w k row long is wide =
-    let both = ap length (rows_more f k) ∙ length-append (flat_map f (range_with_len 0 k)) (f k) in
+    let both = ap length (flat_map_more f k) ∙ length-append (flat_map f (range_with_len 0 k)) (f k) in
     let here : length (f k) ≡ w = sym (ap length is) ∙ wide in
     let one : k + 1 ≡ suc k = omega arith in
     let product = ap (λ n. n * w) one ∙ suc-mul k w in
@@ -67,7 +55,8 @@ pub numbers_more : {X : Type 0} (f : ℕ → X) (n : ℕ) → map f (range_with_
 numbers_more f n = map-range_with_len_more f 0 n n (zero-add n)
 
 -- what is written to the start of a list leaves the rest
-pub prefix_put : {X : Type 0} (k m : ℕ) (old row new : List X) → k ≡ 0 → length row ≡ m → new ≡ put_mid k m old row → new ≡ row ++ drop (length row) old
+pub prefix_put : {X : Type 0} (k m : ℕ) (old row new : List X) → k ≡ 0 → length row ≡ m → new ≡ put_mid k m old row
+    → new ≡ row ++ drop (length row) old
 prefix_put k m old row new first long put =
     let prefix : take k old ≡ [] = ap (λ n. take n old) first in
     let rest : drop k old ≡ old = ap (λ n. drop n old) first in

@@ -6,26 +6,25 @@ use Rattle.std.proofs.lemmas.List.FromFn.{length-map-range_with_len}
 use Rattle.jls_partial.specs.Partial.{PartialPicture}
 use Rattle.jls_partial.specs.Status.{status_of}
 use Rattle.jls_partial.specs.declared.status.Status.TheVariants.{Missing, Settled, Disputed}
+use Rattle.jls_write.proofs.Lending.{one_reading}
 use Rattle.jls_c.specs.Lines.{shown, line_status, component_statuses, line_statuses, line_of, lines_of_component, lines_of}
 use Rattle.jls_c.specs.Info.{line_count}
 use Rattle.jls_c.proofs.Rows.{length_rows}
 
-pub one_reading : (xs : List (List ℕ)) → status_of xs ≡ Settled → length xs ≡ 1
-one_reading [] e = absurd cc
-one_reading (x ∷ []) e = refl
-one_reading (x ∷ y ∷ xs) e = absurd cc
-
 pub length_statuses : (p : PartialPicture) → length (line_statuses p) ≡ line_count p.shape
 length_statuses p =
-    length_rows (component_statuses p) p.shape.height (length p.shape.ids) (λ k below. length-map-range_with_len (line_status p k) 0 p.shape.height)
+    length_rows (component_statuses p) p.shape.height (length p.shape.ids)
+    (λ k below. length-map-range_with_len (line_status p k) 0 p.shape.height)
 
 pub length_lines : (p : PartialPicture) → length (lines_of p) ≡ line_count p.shape
 length_lines p =
-    length_rows (lines_of_component p) p.shape.height (length p.shape.ids) (λ k below. length-map-range_with_len (line_of p k) 0 p.shape.height)
+    length_rows (lines_of_component p) p.shape.height (length p.shape.ids)
+    (λ k below. length-map-range_with_len (line_of p k) 0 p.shape.height)
 
 -- ---- a line
 
-pub shown_settled : (width : ℕ) (xs : List (List ℕ)) (samples : List ℕ) → status_of xs ≡ Settled → slice_get xs 0 ≡ Some samples → samples ≡ shown width xs
+pub shown_settled : (width : ℕ) (xs : List (List ℕ)) (samples : List ℕ) → status_of xs ≡ Settled → slice_get xs 0 ≡ Some samples
+    → samples ≡ shown width xs
 shown_settled width [] samples e g = absurd cc
 shown_settled width (x ∷ []) samples e g = sym (get_or_from_slice_get (x ∷ []) 0 samples [] g)
 shown_settled width (x ∷ y ∷ xs) samples e g = absurd cc

@@ -73,11 +73,13 @@ no_partial OutOfMemory bytes info number four answer is fails = absurd (omega (a
 
 -- ---- the lines of a text
 
-pub lines_of_text : (bytes : List ℕ) (p : PartialPicture) (info : JlsInfo) (old_samples new_samples : List ℕ) (old_lines new_lines : List JlsLine)
+pub lines_of_text : (bytes : List ℕ) (p : PartialPicture) (info : JlsInfo) (old_samples new_samples : List ℕ)
+    (old_lines new_lines : List JlsLine)
     → IsTextOf bytes p → AreLinesShown p info old_samples new_samples old_lines new_lines
     → AreLinesOfText bytes info old_samples new_samples old_lines new_lines
 lines_of_text bytes p info old_samples new_samples old_lines new_lines is_text shown = record { p = p; is_text = is_text; shown = shown }
 
-pub lines_more : (bytes : List ℕ) (p : PartialPicture) (info : JlsInfo) (samples lines : ℕ) → IsTextOf bytes p → AreLinesMore p info samples lines
+pub lines_more : (bytes : List ℕ) (p : PartialPicture) (info : JlsInfo) (samples lines : ℕ) → IsTextOf bytes p
+    → AreLinesMore p info samples lines
     → AreLinesOfTextMore bytes info samples lines
 lines_more bytes p info samples lines is_text more = record { p = p; is_text = is_text; more = more }

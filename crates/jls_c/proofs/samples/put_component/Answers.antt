@@ -12,7 +12,9 @@ loop-line-preserved c =
     let start = c.from.result * c.from-width.result in
     let at : c.from.result * c.from-width.result ≡ c.loop-line.line * p.shape.width = cc in
     record {
-      long = length_rows_more f p.shape.width c.loop-line.line c.put_line.new.out so_far.long c.put_line.ensures.shown c.put_line.ensures.wide;
-      out = put_row f p.shape.width c.loop-line.line start (start + c.from-width.result - start) c.args.out.now c.loop-line.out _ c.put_line.new.out
+      long = length_rows_more f p.shape.width c.loop-line.line c.put_line.new.out so_far.long c.put_line.ensures.shown
+          c.put_line.ensures.wide;
+      out = put_row f p.shape.width c.loop-line.line start
+          (start + c.from-width.result - start) c.args.out.now c.loop-line.out _ c.put_line.new.out
           so_far.long so_far.out c.put_line.ensures.shown at (omega (arith, width)) refl;
     }

@@ -11,7 +11,8 @@ slice_bounds-put_component-end c =
     let count : length c.ids.result.now ≡ length p.shape.ids = cc in
     let below : c.loop-component.component < length p.shape.ids = omega (arith, count) in
     let area : c.from.result * c.from-2.result ≡ p.shape.height * p.shape.width = cc in
-    let at : c.from-in-loop-component.result * (c.from.result * c.from-2.result) ≡ c.loop-component.component * (p.shape.height * p.shape.width) = cc in
+    let at : c.from-in-loop-component.result * (c.from.result * c.from-2.result)
+    ≡ c.loop-component.component * (p.shape.height * p.shape.width) = cc in
     let row = row_fits c.loop-component.component size (length p.shape.ids) size below (omega arith) in
     omega (arith, row, at, area, c.requires)
 
@@ -23,10 +24,12 @@ loop-component-preserved c =
     let size = c.from.result * c.from-2.result in
     let area : c.from.result * c.from-2.result ≡ p.shape.height * p.shape.width = cc in
     let start = c.from-in-loop-component.result * size in
-    let at : c.from-in-loop-component.result * (c.from.result * c.from-2.result) ≡ c.loop-component.component * (p.shape.height * p.shape.width) = cc in
+    let at : c.from-in-loop-component.result * (c.from.result * c.from-2.result)
+    ≡ c.loop-component.component * (p.shape.height * p.shape.width) = cc in
     record {
       long = length_rows_more f (p.shape.height * p.shape.width) c.loop-component.component c.put_component.new.out so_far.long
           c.put_component.ensures.shown c.put_component.ensures.long;
-      out = put_row f (p.shape.height * p.shape.width) c.loop-component.component start (start + size - start) c.args.out.now c.loop-component.out _
+      out = put_row f (p.shape.height * p.shape.width) c.loop-component.component start
+          (start + size - start) c.args.out.now c.loop-component.out _
           c.put_component.new.out so_far.long so_far.out c.put_component.ensures.shown at (omega (arith, area)) refl;
     }

@@ -10,7 +10,8 @@ use Rattle.jls_c.proofs.write.file_of.Goals as goal
 
 pub returns-clause-fit : goal.returns-clause-fit
 returns-clause-fit c =
-    let shape_is : c.take_all.new.partial.shape ≡ c.args.shape = c.take_all.ensures ∙ ap (λ (p : PartialPicture). p.shape) c.empty-partial.ensures in
+    let shape_is : c.take_all.new.partial.shape ≡ c.args.shape = c.take_all.ensures
+    ∙ ap (λ (p : PartialPicture). p.shape) c.empty-partial.ensures in
     let same : c.in-Ok.picture ≡ picture_in c.args.shape c.args.samples.now =
     is_picture_in c.take_all.new.partial c.args.shape c.in-Ok.picture c.args.samples.now shape_is c.in-Ok.ensures.picture
     (c.has_lines-same.ensures.0 c.if-not-same.false) in
@@ -20,7 +21,8 @@ returns-clause-fit c =
 
 pub returns-clause-file : goal.returns-clause-file
 returns-clause-file c =
-    let shape_is : c.take_all.new.partial.shape ≡ c.args.shape = c.take_all.ensures ∙ ap (λ (p : PartialPicture). p.shape) c.empty-partial.ensures in
+    let shape_is : c.take_all.new.partial.shape ≡ c.args.shape = c.take_all.ensures
+    ∙ ap (λ (p : PartialPicture). p.shape) c.empty-partial.ensures in
     let same : c.in-Ok.picture ≡ picture_in c.args.shape c.args.samples.now =
     is_picture_in c.take_all.new.partial c.args.shape c.in-Ok.picture c.args.samples.now shape_is c.in-Ok.ensures.picture
     (c.has_lines-same.ensures.0 c.if-not-same.false) in
