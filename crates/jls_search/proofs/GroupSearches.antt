@@ -21,7 +21,7 @@ use Rattle.jls_search.specs.declared.setting.Setting.{Setting}
 use Rattle.jls_search.specs.declared.whole_search.Searched.{Searched}
 use Rattle.jls_search.specs.Search.{lists_of}
 use Rattle.jls_search.proofs.Lists.{all_more}
-use Rattle.jls_search.proofs.Members.{is_first, in_rest, none_in}
+use Rattle.jls_diff.proofs.Members.{is_first, in_rest, none_in}
 use Rattle.jls_search.proofs.Paths.{length-map, order}
 
 pub count_of : (vs : List (Vec ℕ Global)) → length (lists_of vs) ≡ length vs

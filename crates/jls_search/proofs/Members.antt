@@ -1,26 +1,14 @@
 -- Members of lists, and what holds of one more of them.
-use Rattle.std.proofs.Common.{◌≡◌, ℕ, zero, suc, ◌+◌, ◌<◌, List, [], ◌∷◌, ◌++◌, map, length, take, get_or, refl, ap, ◌∙◌, subst, arith, ◌⊎◌}
-use Rattle.std.proofs.Common.{inl, inr, Vec, Global, sym}
+use Rattle.std.proofs.Common.{◌≡◌, ℕ, zero, suc, ◌+◌, ◌<◌, List, [], ◌∷◌, ◌++◌, map, length, take, get_or, ap, ◌∙◌, subst, arith}
+use Rattle.std.proofs.Common.{Vec, Global, sym}
 use Rattle.std.specs.List.{AllByRecursion, Contains}
 use Rattle.std.proofs.lemmas.List.{map-append, take_more}
+use Rattle.jls_diff.proofs.Members.{in_rest, none_in}
 use Rattle.jls_diff.specs.Parts.{Part}
 use Rattle.jls_search.specs.Choices.{IsWhole, prefix_of}
 use Rattle.jls_search.specs.Search.{files_of, lists_of}
 
 module _ {X : Type 0} where
-  pub is_first : (x : X) (xs : List X) → Contains (x ∷ xs) x
-  is_first x xs = (0, omega arith, refl)
-
-  pub in_rest : (x y : X) (xs : List X) → Contains xs x → Contains (y ∷ xs) x
-  in_rest x y xs (k, l, e) = (suc k, omega (arith, l), e)
-
-  pub none_in : (x : X) → Contains [] x → ⊥
-  none_in x (k, l, e) = omega (arith, l)
-
-  pub first_or_rest : (x y : X) (xs : List X) → Contains (y ∷ xs) x → (y ≡ x) ⊎ Contains xs x
-  first_or_rest x y xs (zero, l, e) = inl e
-  first_or_rest x y xs (suc k, l, e) = inr (k, omega (arith, l), e)
-
   -- the item at a place is a member
   pub is_member : (xs : List X) (i : ℕ) (x d : X) → i < length xs → get_or xs i d ≡ x → Contains xs x
   is_member [] i x d l e = absurd (omega (arith, l))

@@ -10,7 +10,8 @@ use Rattle.jls_search.specs.Levels.{AreJudged, IsFirstDead, IsLevel, IsLone, IsN
 use Rattle.jls_search.specs.Search.{lists_of}
 use Rattle.jls_search.proofs.LevelPaths.{also_next, dead_on, each_taken, first_choices, judged_more, judged_taken, one_length, still_lives}
 use Rattle.jls_search.proofs.Lists.{all_at as all_from}
-use Rattle.jls_search.proofs.Members.{all_at, all_one_more, first_or_rest, none_in}
+use Rattle.jls_diff.proofs.Members.{first_or_rest, none_in}
+use Rattle.jls_search.proofs.Members.{all_at, all_one_more}
 use Rattle.jls_search.proofs.Paths.{order}
 
 module _ {X : Type 0} where
