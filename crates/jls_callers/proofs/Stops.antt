@@ -148,7 +148,8 @@ pub taken_shows : (source : Option ℕ) (p : PartialPicture) (report : CopyRepor
     → CopyGives source p report reads
     → Shows report.stop report.found.count reads
 taken_shows source p report reads h =
-    subst (λ (n : ℕ). Shows report.stop n reads) (sym (ap (λ (f : FoundCopy). f.count) h.found_is)) (shown IsCopyDone reads h.bytes report.stop h.is_read)
+    subst (λ (n : ℕ). Shows report.stop n reads) (sym (ap (λ (f : FoundCopy). f.count) h.found_is))
+    (shown IsCopyDone reads h.bytes report.stop h.is_read)
 
 abbrev pub RefusalShows : TakeFault → List Event → Type 0
 RefusalShows (take.Read stop count) reads = Shows stop count reads

@@ -44,7 +44,8 @@ module _ (one : OneCourse) (stay : FinalEndsStay) where
   none_given : (prefix following : List ℕ) (f : MarkerFault) (offset : ℕ) → IsCopyDone prefix ⊎ (following ≡ [])
       → CopyGivesNone prefix (copy.NoPicture f offset) → CopyGivesNone (prefix ++ following) (copy.NoPicture f offset)
   none_given prefix following f offset (inr none) h =
-      subst (λ (t : List ℕ). CopyGivesNone t (copy.NoPicture f offset)) (sym (append-nil prefix) ∙ ap (λ (t : List ℕ). prefix ++ t) (sym none)) h
+      subst (λ (t : List ℕ). CopyGivesNone t (copy.NoPicture f offset))
+      (sym (append-nil prefix) ∙ ap (λ (t : List ℕ). prefix ++ t) (sym none)) h
   none_given prefix following f offset (inl (c, is, final)) (d, is_course, framed, fault_is) =
       let same : c ≡ d = one prefix c d is is_course in
       let ends : is_final_end d.end ≡ true = ap (λ (x : Course). is_final_end x.end) (sym same) ∙ sym final in
@@ -58,4 +59,5 @@ module _ (one : OneCourse) (stay : FinalEndsStay) where
   pub whole_gives_none : (bytes prefix : List ℕ) (f : MarkerFault) (offset : ℕ) → IsPrefixOf bytes prefix Whole
       → CopyGivesNone prefix (copy.NoPicture f offset) → CopyGivesNone bytes (copy.NoPicture f offset)
   whole_gives_none bytes prefix f offset is h =
-      subst (λ (t : List ℕ). CopyGivesNone t (copy.NoPicture f offset)) (sym is.bytes_are) (none_given prefix is.following f offset (is.enough refl) h)
+      subst (λ (t : List ℕ). CopyGivesNone t (copy.NoPicture f offset)) (sym is.bytes_are)
+      (none_given prefix is.following f offset (is.enough refl) h)

@@ -5,6 +5,7 @@ use Rattle.std.specs.List.{AllByRecursion, Contains, list_any}
 use Rattle.std.specs.Ordering.{eq_by_cmp}
 use Rattle.std.proofs.lemmas.List.{append-nil}
 use Rattle.std.proofs.lemmas.List.Elements.{Contains-append_cases}
+use Rattle.std.proofs.lemmas.Bool.{or_left}
 use Rattle.jls_values.specs.Join.{IsBetween}
 use Rattle.jls_values.specs.OrderedSetLaws.{contains-empty, contains-insert_all}
 use Rattle.jls_values.specs.Shape.{PictureShape}
@@ -15,6 +16,7 @@ use Rattle.jls_partial.specs.Partial.{PartialPicture, nothing_known, union, with
 use Rattle.jls_partial.specs.PartialLaws.{one_shape}
 use Rattle.jls_partial.specs.Text.{IsTextOf}
 use Rattle.jls_partial.proofs.TextLaws.{one_text}
+use Rattle.jls_partial.proofs.Unions.{either}
 use Rattle.jls_copy.specs.CopyReads.{CopyReads}
 use Rattle.jls_copy.specs.ReadCopy.{ReadCopy}
 use Rattle.jls_io.specs.Event.{Event, bytes_given}
@@ -35,7 +37,7 @@ use Rattle.jls_headline.specs.Collected.{HoldsEntry, Collected, new_station, rea
 use Rattle.jls_headline.specs.Collected.{copy_taken, copy_refused, copy_ran_out, partial_taken, partial_ran_out, text_taken, text_ran_out}
 use Rattle.jls_headline.specs.Collected.{text_cut_short}
 use Rattle.jls_headline.specs.CollectedLaws.{CollectedHoldsExactly, CollectedHoldsExactlyUnder}
-use Rattle.jls_headline.proofs.Held.{either, or_first, item_of_any}
+use Rattle.jls_headline.proofs.Held.{item_of_any}
 use Rattle.jls_headline.proofs.SameCopies.{among_gives}
 use Rattle.jls_headline.proofs.Stations.{is_read, union_read}
 use Rattle.jls_headline.proofs.SourcedStations.{Mark, GivesMark, is_marked, union_marked, copy_holds_under, among_mark, among_aside}
@@ -50,12 +52,14 @@ no_text bytes e f = (let d : false ≡ true = sym e ∙ f in absurd cc)
 -- what is kept by these five steps is kept by all calls
 module _ (P : PartialPicture → List SourcedCopy → List SourcedCopy → Type 0)
     (nothing : (s : PictureShape) → P (nothing_known s) [] [])
-    (one : (copy : SourcedCopy) (read : ReadCopy) → AreBytes copy.bytes → CopyReads copy.bytes read → P (marked copy.source read.partial) (copy ∷ []) [])
+    (one : (copy : SourcedCopy) (read : ReadCopy) → AreBytes copy.bytes → CopyReads copy.bytes read
+    → P (marked copy.source read.partial) (copy ∷ []) [])
     (both : (p q : PartialPicture) (copies over more further : List SourcedCopy) → P p copies over → P q more further → q.shape ≡ p.shape
     → P (union p q) (copies ++ more) (over ++ further))
     (part : (p q new : PartialPicture) (copies over more further : List SourcedCopy) → P p copies over → P q more further
     → IsBetween union p new (union p q) → P new copies (over ++ (more ++ further)))
-    (prefix : (p q : PartialPicture) (ks : List (Reading × List ℕ)) (copies over more further : List SourcedCopy) → P p copies over → P q more further
+    (prefix : (p q : PartialPicture) (ks : List (Reading × List ℕ)) (copies over more further : List SourcedCopy) → P p copies over
+    → P q more further
     → AllByRecursion (HoldsEntry q) ks → P (with_all p ks) copies (over ++ (more ++ further)))
     (weaker : (p : PartialPicture) (copies over more : List SourcedCopy) → P p copies over → P p copies (over ++ more)) where
   -- one copy, of the bytes that reads gave
@@ -144,9 +148,11 @@ module _ (P : PartialPicture → List SourcedCopy → List SourcedCopy → Type 
 abbrev readings_of : List (Reading × List ℕ) → List Reading
 readings_of ks = map (λ k. k.0) ks
 
-prefix_keeps_readings : (p : PartialPicture) (ks : List (Reading × List ℕ)) (r : Reading) → is_read p r ≡ true → is_read (with_all p ks) r ≡ true
+prefix_keeps_readings : (p : PartialPicture) (ks : List (Reading × List ℕ)) (r : Reading) → is_read p r ≡ true
+    → is_read (with_all p ks) r ≡ true
 prefix_keeps_readings p ks r h =
-    contains-insert_all reading_total p.readings (readings_of ks) r ∙ or_first (is_read p r) (list_any (eq_by_cmp reading_cmp r) (readings_of ks)) h
+    contains-insert_all reading_total p.readings (readings_of ks) r
+    ∙ or_left (is_read p r) (list_any (eq_by_cmp reading_cmp r) (readings_of ks)) h
 
 prefix_has_readings : (p q : PartialPicture) (ks : List (Reading × List ℕ)) → AllByRecursion (HoldsEntry q) ks → (r : Reading)
     → is_read (with_all p ks) r ≡ true → (is_read p r ≡ true) ⊎ (is_read q r ≡ true)
@@ -160,9 +166,11 @@ prefix_has_readings p q ks held r h =
         let from = of_map (λ (k : Reading × List ℕ). k.0) ks r c in
         subst (λ x. is_read q x ≡ true) from.2 (all_at (HoldsEntry q) ks from.0 held from.1).0
 
-prefix_keeps_marks : (p : PartialPicture) (ks : List (Reading × List ℕ)) (m : Mark) → is_marked p m ≡ true → is_marked (with_all p ks) m ≡ true
+prefix_keeps_marks : (p : PartialPicture) (ks : List (Reading × List ℕ)) (m : Mark) → is_marked p m ≡ true
+    → is_marked (with_all p ks) m ≡ true
 prefix_keeps_marks p ks m h =
-    contains-insert_all marks_total p.marks (marks_of ks) m ∙ or_first (is_marked p m) (list_any (eq_by_cmp (mark_cmp reading_cmp) m) (marks_of ks)) h
+    contains-insert_all marks_total p.marks (marks_of ks) m
+    ∙ or_left (is_marked p m) (list_any (eq_by_cmp (mark_cmp reading_cmp) m) (marks_of ks)) h
 
 held_marks : (q : PartialPicture) (ks : List (Reading × List ℕ)) → AllByRecursion (HoldsEntry q) ks → (m : Mark) → Contains (marks_of ks) m
     → is_marked q m ≡ true
@@ -178,7 +186,8 @@ held_marks q (k ∷ ks) held m c =
 prefix_has_marks : (p q : PartialPicture) (ks : List (Reading × List ℕ)) → AllByRecursion (HoldsEntry q) ks → (m : Mark)
     → is_marked (with_all p ks) m ≡ true → (is_marked p m ≡ true) ⊎ (is_marked q m ≡ true)
 prefix_has_marks p q ks held m h =
-    either ((is_marked p m ≡ true) ⊎ (is_marked q m ≡ true)) (is_marked p m) (list_any (eq_by_cmp (mark_cmp reading_cmp) m) (marks_of ks)) (λ x. inl x)
+    either ((is_marked p m ≡ true) ⊎ (is_marked q m ≡ true)) (is_marked p m) (list_any (eq_by_cmp (mark_cmp reading_cmp) m) (marks_of ks))
+    (λ x. inl x)
     (λ x. inr (held_marks q ks held m (item_of_any marks_total marks_exact (marks_of ks) m x)))
     (sym (contains-insert_all marks_total p.marks (marks_of ks) m) ∙ h)
 
@@ -198,7 +207,8 @@ of_bytes copies r (bytes, c, g) =
 to_bytes : (copies : List SourcedCopy) (r : Reading) → GivenBy GivesOwn is_read union_read copies r → ReadingsOf (copies_of copies) r
 to_bytes copies r (copy, c, g) = (copy.bytes, in_map (λ (copy : SourcedCopy). copy.bytes) copies copy c, g)
 
-are_of_shape : (shape : PictureShape) (copies : List SourcedCopy) → AllOfOneShape shape copies → AllByRecursion (HasShape shape) (copies_of copies)
+are_of_shape : (shape : PictureShape) (copies : List SourcedCopy) → AllOfOneShape shape copies
+    → AllByRecursion (HasShape shape) (copies_of copies)
 are_of_shape shape [] h = tt
 are_of_shape shape (copy ∷ copies) h = (h.0, are_of_shape shape copies h.1)
 
@@ -212,7 +222,8 @@ after_new : (s : PictureShape) → After (nothing_known s) [] []
 after_new s = record {
   shapes = tt;
   readings = (λ r g. absurd (none_in g.0 g.1), λ r h. (let none : false ≡ true = sym (contains-empty reading_cmp r) ∙ h in absurd cc));
-  marks = (λ m g. absurd (none_in g.0 g.1), λ m h. (let none : false ≡ true = sym (contains-empty (mark_cmp reading_cmp) m) ∙ h in absurd cc));
+  marks =
+      (λ m g. absurd (none_in g.0 g.1), λ m h. (let none : false ≡ true = sym (contains-empty (mark_cmp reading_cmp) m) ∙ h in absurd cc));
 }
 
 after_copy : (copy : SourcedCopy) (read : ReadCopy) → AreBytes copy.bytes → CopyReads copy.bytes read
@@ -227,7 +238,8 @@ after_copy copy read low reads =
       marks = at_first GivesMark is_marked union_marked p (copy ∷ []) (λ m. h.sources m.0 m.1);
     }
 
-after_both : (p q : PartialPicture) (copies over more further : List SourcedCopy) → After p copies over → After q more further → q.shape ≡ p.shape
+after_both : (p q : PartialPicture) (copies over more further : List SourcedCopy) → After p copies over → After q more further
+    → q.shape ≡ p.shape
     → After (union p q) (copies ++ more) (over ++ further)
 after_both p q copies over more further h k e = record {
   shapes = all_append _ copies more h.shapes (subst (λ s. AllOfOneShape s more) e k.shapes);

@@ -8,7 +8,7 @@ use Rattle.jls_partial.specs.PartialLaws.{shape_itself}
 use Rattle.jls_partial.specs.Partial.{PartialPicture, nothing_known, union, has_same_shape, with_source}
 use Rattle.jls_copy.specs.CopyReads.{CopyReads}
 use Rattle.jls_copy.specs.ReadCopy.{ReadCopy}
-use Rattle.jls_copy_laws.proofs.Members.{is_first, first_or_rest, none_in}
+use Rattle.jls_copy_laws.proofs.Members.{is_first, first_or_rest, none_in, bytes_of_test}
 use Rattle.jls_headline.specs.Headline.{WritesThePicture}
 use Rattle.jls_headline.specs.Damaged.{picture_reading}
 use Rattle.jls_headline.specs.Sources.{SourcedCopy, copies_of}
@@ -19,7 +19,6 @@ use Rattle.jls_headline.specs.Collected.{new_station, reader_finished, partial_t
 use Rattle.jls_headline.proofs.Collected.{collected_holds, collected_holds_under}
 use Rattle.jls_headline.proofs.CollectedPictures.{damaged_copies_write_the_picture}
 use Rattle.jls_headline.proofs.TwoLineCopies.{shape, pic, is_picture, first, second, first_data, second_data, first_scans, second_scans}
-use Rattle.jls_headline.proofs.TwoLineCopies.{bytes_of_test}
 use Rattle.jls_headline.proofs.TwoLineExamples.{shape_read, line_0, both_are_damaged, each_line_survives}
 
 -- a new station takes what `finish` gives of both
@@ -49,7 +48,7 @@ module _ (a b : ReadCopy) (ra : CopyReads first a) (rb : CopyReads second b) whe
     λ copy c. absurd (none_in copy c),
   )
 
-  writes_both : WritesThePicture with_both pic
+  pub writes_both : WritesThePicture with_both pic
   writes_both =
       damaged_copies_write_the_picture pic is_picture with_both both_copies collected_both
       (both_are_damaged []) (each_line_survives [])
@@ -69,12 +68,14 @@ of_none : (copy : SourcedCopy) (bytes : List ℕ) (n : ℕ) → sourced_copy Non
 of_none copy bytes n e f = no_source n (ap (λ (c : SourcedCopy). c.source) e ∙ f)
 
 -- What holds exactly the readings of copies needs no history: it can have sources of which no copy was taken. So `Collected` says more
-held_and_marked : (a : ReadCopy) → CopyReads first a → CollectedUnder (with_source a.partial 7) (sourced_copy None first ∷ []) → ⊥
+pub held_and_marked : (a : ReadCopy) → CopyReads first a → CollectedUnder (with_source a.partial 7) (sourced_copy None first ∷ []) → ⊥
 held_and_marked a ra collected =
     let holds = collected_holds_under (with_source a.partial 7) (sourced_copy None first ∷ []) collected in
     let line = picture_reading pic 0 0 in
     let read = (copy_holds_under (sourced_copy (Some 7) first) a (bytes_of_test first refl) ra).sources line 7 in
-    let marked = read.1 (sourced_copy (Some 7) first, is_first (sourced_copy (Some 7) first) [], (refl, surviving_lines_are_given pic first 0 0 (line_0 []))) in
+    let marked =
+    read.1
+    (sourced_copy (Some 7) first, is_first (sourced_copy (Some 7) first) [], (refl, surviving_lines_are_given pic first 0 0 (line_0 []))) in
     let from = (holds.sources line 7).0 marked in
     elim (first_or_rest from.0 (sourced_copy None first) [] from.1) [
       | inl e ↦ of_none from.0 first 7 e from.2.0

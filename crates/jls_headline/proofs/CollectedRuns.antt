@@ -31,8 +31,10 @@ all_of_shape p q e (x ∷ xs) h = (subst (λ (s : PictureShape). same_shape s x.
 
 -- what is said of each input is said of their union
 module _ {C : Type 0} (Exactly : PartialPicture → List C → Type 0) (StandsFor : List ℕ → List C → Type 0) (source : Option ℕ)
-    (union_exactly : (p q : PartialPicture) (copies more : List C) → Exactly p copies → Exactly q more → q.shape ≡ p.shape → Exactly (union p q) (copies ++ more))
-    (given_exactly : (bytes : List ℕ) (p : PartialPicture) (copies : List C) → AreBytes bytes → GivesPartial source bytes p → StandsFor bytes copies → Exactly p copies) where
+    (union_exactly : (p q : PartialPicture) (copies more : List C) → Exactly p copies → Exactly q more → q.shape ≡ p.shape
+    → Exactly (union p q) (copies ++ more))
+    (given_exactly : (bytes : List ℕ) (p : PartialPicture) (copies : List C) → AreBytes bytes → GivesPartial source bytes p
+    → StandsFor bytes copies → Exactly p copies) where
   joined_holds : (p : PartialPicture) (ps : List PartialPicture) (copies : List C) (inputs : List (List ℕ)) (more : List C)
       → Exactly p copies → AreGiven source inputs ps → InputsStand StandsFor inputs more → AllOfShape has_same_shape p ps
       → Exactly (join_all union p ps) (copies ++ more)
@@ -85,8 +87,11 @@ union_from p q copies more (over, g, among) (further, k, among') shape = (
 
 pub union_under : (p q : PartialPicture) (copies more : List SourcedCopy) → CollectedUnder p copies → CollectedUnder q more
     → q.shape ≡ p.shape → CollectedUnder (union p q) (copies ++ more)
-union_under p q copies more (over, g, among) (further, k, among') shape =
-    (over ++ further, joined_collected p q copies over more further g k shape, among_append IsSameUnder over further copies more among among')
+union_under p q copies more (over, g, among) (further, k, among') shape = (
+  over ++ further,
+  joined_collected p q copies over more further g k shape,
+  among_append IsSameUnder over further copies more among among',
+)
 
 -- under their sources, so without them
 pub collected_aside : (p : PartialPicture) (copies : List SourcedCopy) → CollectedUnder p copies → CollectedFrom p copies
@@ -99,7 +104,8 @@ copy_under source bytes p low none (g, gives, e) = by g gives e
   where
     by : (g : Given) → Gives source bytes g → g.partial ≡ p → CollectedUnder p (sourced_copy source bytes ∷ [])
     by _ (by_text _ _ q is) e = no_text bytes none (ap is_text is.bytes_are)
-    by _ (by_copy _ _ read stop copied reads) e = ([], reader_finished source bytes read p low reads (sym e), λ copy c. absurd (none_in copy c))
+    by _ (by_copy _ _ read stop copied reads) e =
+        ([], reader_finished source bytes read p low reads (sym e), λ copy c. absurd (none_in copy c))
 
 pub given_holds : (source : Option ℕ) (bytes : List ℕ) (p : PartialPicture) → AreBytes bytes → is_text bytes ≡ false
     → GivesPartial source bytes p → HoldsExactly p (bytes ∷ [])
@@ -131,10 +137,12 @@ given_under source bytes p copies low given (inr (q, is, (over, collected, among
 
 pub runs_are_collected : RunsAreCollected
 runs_are_collected source out names joined settled whole events h copies stand =
-    union_of_inputs CollectedFrom (InputStandsFor source) source union_from (given_from source) (partials h.taken.givens) joined (input_bytes events) copies
+    union_of_inputs CollectedFrom (InputStandsFor source) source union_from (given_from source) (partials h.taken.givens) joined
+    (input_bytes events) copies
     (inputs_of_join source out names joined settled whole events h) stand h.taken.taken.one_shape h.taken.union_is
 
 pub runs_are_collected_under : RunsAreCollectedUnder
 runs_are_collected_under source out names joined settled whole events h copies stand =
-    union_of_inputs CollectedUnder (InputStandsUnder source) source union_under (given_under source) (partials h.taken.givens) joined (input_bytes events) copies
+    union_of_inputs CollectedUnder (InputStandsUnder source) source union_under (given_under source) (partials h.taken.givens) joined
+    (input_bytes events) copies
     (inputs_of_join source out names joined settled whole events h) stand h.taken.taken.one_shape h.taken.union_is

@@ -45,8 +45,11 @@ listed (p ∷ ps) [] r are c = absurd are
 listed (p ∷ ps) (o ∷ os) r are c =
     elim (Contains-append_cases (readings_of p o) (readings ps os) r c) [
       | inl here ↦ (
-          let f = faults_give_none p.plan p.number r o here in
-          (p, is_first p ps, record { lines = f.0; reads = subst (IsOutcome p) f.1 are.0; among = subst (λ x. Contains (readings_of p x) r) f.1 here }))
+          let f = faults_give_none p.plan p.number r o here in (
+            p,
+            is_first p ps,
+            record { lines = f.0; reads = subst (IsOutcome p) f.1 are.0; among = subst (λ x. Contains (readings_of p x) r) f.1 here },
+          ))
       | inr later ↦ (let f = listed ps os r are.1 later in (f.0, in_rest f.0 p ps f.1, f.2))
     ]
 
@@ -119,7 +122,9 @@ course_gives copy low read reads r = (there, back)
         let reported = made_holds (readings ps reads.outcomes ++ head_readings cs reads.head) r in
         subst (λ (p : PartialPicture). set.contains p.readings r ≡ true) (sym reads.partial_is)
         (reported.1 (elim g [
-          | inl m ↦ Contains-append_left (readings ps reads.outcomes) (head_readings cs reads.head) r (given ps reads.outcomes m.0 r has reads.each m.1 m.2)
+          | inl m ↦
+              Contains-append_left (readings ps reads.outcomes) (head_readings cs reads.head) r
+              (given ps reads.outcomes m.0 r has reads.each m.1 m.2)
           | inr m ↦ Contains-append_right (readings ps reads.outcomes) (head_readings cs reads.head) r
               (head_given cs reads.head m.0 r (cut_short reads.course) (cut_has reads.course has) reads.head_is m.1 m.2)
         ]))
@@ -134,4 +139,5 @@ copy_gives copy low read reads r =
 
 pub copy_has_shape : (copy : List ℕ) → AllByRecursion (λ b. b < 256) copy → (read : ReadCopy) → CopyReads copy read
     → HasShape read.partial.shape copy
-copy_has_shape copy low read reads = (_, course_has_scans copy reads.course read.partial.shape low reads.is_course (frame_is copy read reads))
+copy_has_shape copy low read reads =
+    (_, course_has_scans copy reads.course read.partial.shape low reads.is_course (frame_is copy read reads))

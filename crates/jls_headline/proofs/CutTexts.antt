@@ -3,7 +3,7 @@ use Rattle.std.proofs.Common.{◌≡◌, ℕ, zero, suc, ◌≤◌, Bool, true, 
 use Rattle.std.proofs.Common.{Option, Some, None, Result, Ok, Err, refl, sym, subst, ◌∙◌, arith, length-append, inl, inr}
 use Rattle.std.specs.Int.{Width, w16, w32, w64, byte_len, from_be_bytes}
 use Rattle.std.specs.List.{Contains}
-use Rattle.std.proofs.lemmas.Bool.{cases_Bool, ltb-false, le-ltb}
+use Rattle.std.proofs.lemmas.Bool.{cases_Bool, ltb-false, le-ltb, or_left, or_right}
 use Rattle.std.proofs.lemmas.List.{take-append-le, drop-append-le, append-nil}
 use Rattle.std.proofs.lemmas.List.Elements.{Contains-append_left, Contains-append_right, Contains-append_cases}
 use Rattle.jls_values.specs.OrderedSet as set
@@ -28,10 +28,11 @@ use Rattle.jls_partial.specs.TextReading.{unless_bad_shape, shape_or_fault, shap
 use Rattle.jls_partial.specs.TextReading.{reading_fields, is_source_above, source_field, sources_fields, own_sources_fields, kept_fields}
 use Rattle.jls_partial.specs.TextReading.{readings_fields, place_fields, count_field, entry_fields}
 use Rattle.jls_partial.proofs.TextMerges.{text_between}
+use Rattle.jls_partial.proofs.Unions.{either}
 use Rattle.jls_copy_laws.proofs.Members.{in_rest, none_in, first_or_rest, in_map, of_map, all_from}
 use Rattle.jls_headline.specs.Collected.{HoldsEntry}
 use Rattle.jls_headline.specs.CollectedLaws.{CutTextsAreHeld}
-use Rattle.jls_headline.proofs.Held.{or_first, or_second, either, any_of_item}
+use Rattle.jls_headline.proofs.Held.{any_of_item}
 use Rattle.jls_headline.proofs.Stations.{is_read}
 use Rattle.jls_headline.proofs.SourcedStations.{Mark, is_marked}
 
@@ -40,7 +41,8 @@ use Rattle.jls_headline.proofs.SourcedStations.{Mark, is_marked}
 abbrev mark : Reading → ℕ → Mark
 mark r source = (r, source)
 
-in_marks : (ks : List (Reading × List ℕ)) (k : Reading × List ℕ) (source : ℕ) → Contains ks k → Contains k.1 source → Contains (marks_of ks) (mark k.0 source)
+in_marks : (ks : List (Reading × List ℕ)) (k : Reading × List ℕ) (source : ℕ) → Contains ks k → Contains k.1 source
+    → Contains (marks_of ks) (mark k.0 source)
 in_marks [] k source c d = absurd (none_in k c)
 in_marks (x ∷ xs) k source c d =
     elim (first_or_rest k x xs c) [
@@ -63,7 +65,8 @@ module _ (p : PartialPicture) (bytes : List ℕ) (is : IsTextOf bytes p) where
       either (is_read p r ≡ true) (is_read (nothing_known p.shape) r) (is_read p r) (λ n. none n) (λ x. x)
       (sym (contains-union reading_total (nothing_known p.shape).readings p.readings r)
       ∙ subst (λ (q : PartialPicture). is_read q r ≡ true) below
-      (contains-union reading_total all_of_it.readings (union (nothing_known p.shape) p).readings r ∙ or_first (is_read all_of_it r) (is_read (union (nothing_known p.shape) p) r) h))
+      (contains-union reading_total all_of_it.readings (union (nothing_known p.shape) p).readings r
+      ∙ or_left (is_read all_of_it r) (is_read (union (nothing_known p.shape) p) r) h))
     where
       none : is_read (nothing_known p.shape) r ≡ true → is_read p r ≡ true
       none n = (let bad : false ≡ true = sym (contains-empty reading_cmp r) ∙ n in absurd cc)
@@ -73,7 +76,8 @@ module _ (p : PartialPicture) (bytes : List ℕ) (is : IsTextOf bytes p) where
       either (is_marked p m ≡ true) (is_marked (nothing_known p.shape) m) (is_marked p m) (λ n. none n) (λ x. x)
       (sym (contains-union marks_total (nothing_known p.shape).marks p.marks m)
       ∙ subst (λ (q : PartialPicture). is_marked q m ≡ true) below
-      (contains-union marks_total all_of_it.marks (union (nothing_known p.shape) p).marks m ∙ or_first (is_marked all_of_it m) (is_marked (union (nothing_known p.shape) p) m) h))
+      (contains-union marks_total all_of_it.marks (union (nothing_known p.shape) p).marks m
+      ∙ or_left (is_marked all_of_it m) (is_marked (union (nothing_known p.shape) p) m) h))
     where
       none : is_marked (nothing_known p.shape) m ≡ true → is_marked p m ≡ true
       none n = (let bad : false ≡ true = sym (contains-empty (mark_cmp reading_cmp) m) ∙ n in absurd cc)
@@ -81,10 +85,12 @@ module _ (p : PartialPicture) (bytes : List ℕ) (is : IsTextOf bytes p) where
   each_held : (k : Reading × List ℕ) → Contains (text_prefix bytes) k → HoldsEntry p k
   each_held k c = (
     read_there k.0 (contains-insert_all reading_total set.empty (map (λ k. k.0) (text_prefix bytes)) k.0
-        ∙ or_second (set.contains {R = reading_cmp} set.empty k.0) _
-        (any_of_item reading_total reading_exact (map (λ k. k.0) (text_prefix bytes)) k.0 (in_map (λ (k : Reading × List ℕ). k.0) (text_prefix bytes) k c))),
-    all_from _ k.1 (λ source d. mark_there (k.0, source) (contains-insert_all marks_total set.empty (marks_of (text_prefix bytes)) (k.0, source)
-        ∙ or_second (set.contains {R = mark_cmp reading_cmp} set.empty (k.0, source)) _
+        ∙ or_right (set.contains {R = reading_cmp} set.empty k.0) _
+        (any_of_item reading_total reading_exact (map (λ k. k.0) (text_prefix bytes)) k.0
+        (in_map (λ (k : Reading × List ℕ). k.0) (text_prefix bytes) k c))),
+    all_from _ k.1
+        (λ source d. mark_there (k.0, source) (contains-insert_all marks_total set.empty (marks_of (text_prefix bytes)) (k.0, source)
+        ∙ or_right (set.contains {R = mark_cmp reading_cmp} set.empty (k.0, source)) _
         (any_of_item marks_total marks_exact (marks_of (text_prefix bytes)) (k.0, source) (in_marks (text_prefix bytes) k source c d)))),
   )
 
@@ -123,7 +129,8 @@ module _ (following : List ℕ) where
     -- enough bytes of the prefix are enough of the whole
     parted : {X : Type 0} (f : List ℕ → X) (n : ℕ) (bytes : List ℕ)
         → Prefix (cond (ltb (length bytes) n) (Err (fault.Truncated size)) (Ok (f (take n bytes), drop n bytes)))
-        (cond (ltb (length (bytes ++ following)) n) (Err (fault.Truncated full)) (Ok (f (take n (bytes ++ following)), drop n (bytes ++ following))))
+        (cond (ltb (length (bytes ++ following)) n) (Err (fault.Truncated full))
+        (Ok (f (take n (bytes ++ following)), drop n (bytes ++ following))))
     unfolding Prefix
     parted f n bytes =
         elim (cases_Bool (ltb (length bytes) n)) [
@@ -148,10 +155,15 @@ module _ (following : List ℕ) where
     shape_at_last (Err e) rest = tt
 
     ids_prefix : {E G : Type 0} (o : Option G) (s : List ℕ → Result PictureShape E) (n : ℕ) (rest : List ℕ)
-        → Prefix (unless_bad_shape o rest >>= λ id_bytes. bytes_field size n id_bytes >>= λ ids. shape_or_fault (s ids.0) >>= λ shape. Ok (shape, ids.1))
-        (unless_bad_shape o (rest ++ following) >>= λ id_bytes. bytes_field full n id_bytes >>= λ ids. shape_or_fault (s ids.0) >>= λ shape. Ok (shape, ids.1))
+        → Prefix
+        (unless_bad_shape o rest >>= λ id_bytes. bytes_field size n id_bytes >>= λ ids. shape_or_fault (s ids.0) >>= λ shape.
+        Ok (shape, ids.1))
+        (unless_bad_shape o (rest ++ following) >>= λ id_bytes. bytes_field full n id_bytes >>= λ ids. shape_or_fault (s ids.0) >>= λ shape.
+        Ok (shape, ids.1))
     unfolding Prefix
-    ids_prefix None s n rest = then (bytes_field size n rest) (bytes_field full n (rest ++ following)) _ _ (bytes_prefix n rest) (λ ids rest. shape_at_last (s ids) rest)
+    ids_prefix None s n rest =
+        then (bytes_field size n rest) (bytes_field full n (rest ++ following)) _ _ (bytes_prefix n rest)
+        (λ ids rest. shape_at_last (s ids) rest)
     ids_prefix (Some e) s n rest = tt
 
     shape_prefix : (bytes : List ℕ) → Prefix (shape_fields size bytes) (shape_fields full (bytes ++ following))
@@ -165,11 +177,14 @@ module _ (following : List ℕ) where
 
     version_prefix : (bytes : List ℕ) → Prefix (version_field size bytes) (version_field full (bytes ++ following))
     unfolding Prefix version_field
-    version_prefix bytes = then (byte_field size bytes) (byte_field full (bytes ++ following)) _ _ (byte_prefix bytes) (λ byte rest. by (eqb byte 1) (eqb byte 2) rest)
+    version_prefix bytes =
+        then (byte_field size bytes) (byte_field full (bytes ++ following)) _ _ (byte_prefix bytes)
+        (λ byte rest. by (eqb byte 1) (eqb byte 2) rest)
       where
         by : (b c : Bool) (rest : List ℕ)
             → Prefix (cond b (Ok (One, rest)) (cond c (Ok (Two, rest)) (Err (fault.Magic (offset size bytes)))))
-            (cond b (Ok (One, rest ++ following)) (cond c (Ok (Two, rest ++ following)) (Err (fault.Magic (offset full (bytes ++ following))))))
+            (cond b (Ok (One, rest ++ following))
+            (cond c (Ok (Two, rest ++ following)) (Err (fault.Magic (offset full (bytes ++ following))))))
         by true c rest = refl
         by false true rest = refl
         by false false rest = tt
@@ -177,73 +192,94 @@ module _ (following : List ℕ) where
     sample_prefix : (limit : ℕ) (bytes : List ℕ) → Prefix (sample_field size limit bytes) (sample_field full limit (bytes ++ following))
     unfolding sample_field
     sample_prefix limit bytes =
-        then (number_field size w16 bytes) (number_field full w16 (bytes ++ following)) _ _ (number_prefix w16 bytes) (λ sample rest. fails _ sample rest _ _)
+        then (number_field size w16 bytes) (number_field full w16 (bytes ++ following)) _ _ (number_prefix w16 bytes)
+        (λ sample rest. fails _ sample rest _ _)
 
-    samples_prefix : (limit n : ℕ) (bytes : List ℕ) → Prefix (samples_fields size limit n bytes) (samples_fields full limit n (bytes ++ following))
+    samples_prefix : (limit n : ℕ) (bytes : List ℕ)
+        → Prefix (samples_fields size limit n bytes) (samples_fields full limit n (bytes ++ following))
     unfolding Prefix samples_fields
     samples_prefix limit zero bytes = refl
     samples_prefix limit (suc n) bytes =
         then (sample_field size limit bytes) (sample_field full limit (bytes ++ following)) _ _ (sample_prefix limit bytes)
-        (λ first rest. then (samples_fields size limit n rest) (samples_fields full limit n (rest ++ following)) _ _ (samples_prefix limit n rest) (λ others rest. refl))
+        (λ first rest. then (samples_fields size limit n rest) (samples_fields full limit n (rest ++ following)) _ _
+        (samples_prefix limit n rest) (λ others rest. refl))
 
     reading_prefix : (shape : PictureShape) (before : Option (List ℕ)) (bytes : List ℕ)
         → Prefix (reading_fields size shape before bytes) (reading_fields full shape before (bytes ++ following))
     unfolding reading_fields
     reading_prefix shape before bytes =
-        then (samples_fields size _ shape.width bytes) (samples_fields full _ shape.width (bytes ++ following)) _ _ (samples_prefix _ shape.width bytes)
+        then (samples_fields size _ shape.width bytes) (samples_fields full _ shape.width (bytes ++ following)) _ _
+        (samples_prefix _ shape.width bytes)
         (λ samples rest. passes (is_above before samples) samples rest _ _)
 
-    source_prefix : (before : Option ℕ) (bytes : List ℕ) → Prefix (source_field size before bytes) (source_field full before (bytes ++ following))
+    source_prefix : (before : Option ℕ) (bytes : List ℕ)
+        → Prefix (source_field size before bytes) (source_field full before (bytes ++ following))
     unfolding source_field
     source_prefix before bytes =
         then (number_field size w32 bytes) (number_field full w32 (bytes ++ following)) _ _ (number_prefix w32 bytes)
         (λ source rest. passes (is_source_above before source) source rest _ _)
 
-    sources_prefix : (before : Option ℕ) (n : ℕ) (bytes : List ℕ) → Prefix (sources_fields size before n bytes) (sources_fields full before n (bytes ++ following))
+    sources_prefix : (before : Option ℕ) (n : ℕ) (bytes : List ℕ)
+        → Prefix (sources_fields size before n bytes) (sources_fields full before n (bytes ++ following))
     unfolding Prefix sources_fields
     sources_prefix before zero bytes = refl
     sources_prefix before (suc n) bytes =
         then (source_field size before bytes) (source_field full before (bytes ++ following)) _ _ (source_prefix before bytes)
-        (λ first rest. then (sources_fields size (Some first) n rest) (sources_fields full (Some first) n (rest ++ following)) _ _ (sources_prefix (Some first) n rest) (λ others rest. refl))
+        (λ first rest. then (sources_fields size (Some first) n rest) (sources_fields full (Some first) n (rest ++ following)) _ _
+        (sources_prefix (Some first) n rest) (λ others rest. refl))
 
-    own_prefix : (version : Version) (bytes : List ℕ) → Prefix (own_sources_fields size version bytes) (own_sources_fields full version (bytes ++ following))
+    own_prefix : (version : Version) (bytes : List ℕ)
+        → Prefix (own_sources_fields size version bytes) (own_sources_fields full version (bytes ++ following))
     unfolding Prefix own_sources_fields
     own_prefix One bytes = refl
     own_prefix Two bytes =
-        then (number_field size w64 bytes) (number_field full w64 (bytes ++ following)) _ _ (number_prefix w64 bytes) (λ count rest. sources_prefix None count rest)
+        then (number_field size w64 bytes) (number_field full w64 (bytes ++ following)) _ _ (number_prefix w64 bytes)
+        (λ count rest. sources_prefix None count rest)
 
     kept_prefix : (version : Version) (shape : PictureShape) (before : Option (List ℕ)) (bytes : List ℕ)
         → Prefix (kept_fields size version shape before bytes) (kept_fields full version shape before (bytes ++ following))
     unfolding Prefix kept_fields
     kept_prefix version shape before bytes =
-        then (reading_fields size shape before bytes) (reading_fields full shape before (bytes ++ following)) _ _ (reading_prefix shape before bytes)
-        (λ samples rest. then (own_sources_fields size version rest) (own_sources_fields full version (rest ++ following)) _ _ (own_prefix version rest) (λ sources rest. refl))
+        then (reading_fields size shape before bytes) (reading_fields full shape before (bytes ++ following)) _ _
+        (reading_prefix shape before bytes)
+        (λ samples rest. then (own_sources_fields size version rest) (own_sources_fields full version (rest ++ following)) _ _
+        (own_prefix version rest) (λ sources rest. refl))
 
     kepts_prefix : (version : Version) (shape : PictureShape) (before : Option (List ℕ)) (n : ℕ) (bytes : List ℕ)
         → Prefix (readings_fields size version shape before n bytes) (readings_fields full version shape before n (bytes ++ following))
     unfolding Prefix readings_fields
     kepts_prefix version shape before zero bytes = refl
     kepts_prefix version shape before (suc n) bytes =
-        then (kept_fields size version shape before bytes) (kept_fields full version shape before (bytes ++ following)) _ _ (kept_prefix version shape before bytes)
-        (λ first rest. then (readings_fields size version shape (Some first.0) n rest) (readings_fields full version shape (Some first.0) n (rest ++ following)) _ _ (kepts_prefix version shape (Some first.0) n rest) (λ others rest. refl))
+        then (kept_fields size version shape before bytes) (kept_fields full version shape before (bytes ++ following)) _ _
+        (kept_prefix version shape before bytes)
+        (λ first rest. then (readings_fields size version shape (Some first.0) n rest)
+        (readings_fields full version shape (Some first.0) n (rest ++ following)) _ _ (kepts_prefix version shape (Some first.0) n rest)
+        (λ others rest. refl))
 
-    place_prefix : (shape : PictureShape) (before : Option LinePlace) (bytes : List ℕ) → Prefix (place_fields size shape before bytes) (place_fields full shape before (bytes ++ following))
+    place_prefix : (shape : PictureShape) (before : Option LinePlace) (bytes : List ℕ)
+        → Prefix (place_fields size shape before bytes) (place_fields full shape before (bytes ++ following))
     unfolding place_fields
     place_prefix shape before bytes =
         then (byte_field size bytes) (byte_field full (bytes ++ following)) _ _ (byte_prefix bytes)
-        (λ component rest. then (number_field size w16 rest) (number_field full w16 (rest ++ following)) _ _ (number_prefix w16 rest) (λ line rest. passes _ _ rest _ _))
+        (λ component rest. then (number_field size w16 rest) (number_field full w16 (rest ++ following)) _ _ (number_prefix w16 rest)
+        (λ line rest. passes _ _ rest _ _))
 
     count_prefix : (bytes : List ℕ) → Prefix (count_field size bytes) (count_field full (bytes ++ following))
     unfolding count_field
-    count_prefix bytes = then (number_field size w64 bytes) (number_field full w64 (bytes ++ following)) _ _ (number_prefix w64 bytes) (λ count rest. fails _ count rest _ _)
+    count_prefix bytes =
+        then (number_field size w64 bytes) (number_field full w64 (bytes ++ following)) _ _ (number_prefix w64 bytes)
+        (λ count rest. fails _ count rest _ _)
 
     entry_fields_prefix : (version : Version) (shape : PictureShape) (before : Option LinePlace) (bytes : List ℕ)
         → Prefix (entry_fields size version shape before bytes) (entry_fields full version shape before (bytes ++ following))
     unfolding Prefix entry_fields
     entry_fields_prefix version shape before bytes =
-        then (place_fields size shape before bytes) (place_fields full shape before (bytes ++ following)) _ _ (place_prefix shape before bytes)
+        then (place_fields size shape before bytes) (place_fields full shape before (bytes ++ following)) _ _
+        (place_prefix shape before bytes)
         (λ place rest. then (count_field size rest) (count_field full (rest ++ following)) _ _ (count_prefix rest)
-        (λ count rest. then (readings_fields size version shape None count rest) (readings_fields full version shape None count (rest ++ following)) _ _ (kepts_prefix version shape None count rest) (λ readings rest. refl)))
+        (λ count rest. then (readings_fields size version shape None count rest)
+        (readings_fields full version shape None count (rest ++ following)) _ _ (kepts_prefix version shape None count rest)
+        (λ readings rest. refl)))
 
   -- Readings of the prefix ----------------------------------------------------------------------------------------
 
@@ -253,7 +289,8 @@ module _ (following : List ℕ) where
   among_unless : {X B : Type 0} (r whole : Result (X × List ℕ) TextFault) (f g : X × List ℕ → List B) → Prefix r whole
       → ((x : X) (rest : List ℕ) → Among (f (x, rest)) (g (x, rest ++ following))) → Among (unless_fault r f) (unless_fault whole g)
   unfolding Prefix Among
-  among_unless {X = X} (Ok x) whole f g h k = subst (λ (z : Result (X × List ℕ) TextFault). Among (f x) (unless_fault z g)) (sym h) (k x.0 x.1)
+  among_unless {X = X} (Ok x) whole f g h k =
+      subst (λ (z : Result (X × List ℕ) TextFault). Among (f x) (unless_fault z g)) (sym h) (k x.0 x.1)
   among_unless (Err e) whole f g h k = λ b c. absurd (none_in b c)
 
   among_more : {B : Type 0} (x : B) (xs ys : List B) → Among xs ys → Among (x ∷ xs) (x ∷ ys)
@@ -278,14 +315,16 @@ module _ (following : List ℕ) where
     unfolding Among readings_prefix
     readings_among version shape before zero bytes = λ b c. absurd (none_in b c)
     readings_among version shape before (suc n) bytes =
-        among_unless (kept_fields size version shape before bytes) (kept_fields full version shape before (bytes ++ following)) _ _ (kept_prefix size full version shape before bytes)
+        among_unless (kept_fields size version shape before bytes) (kept_fields full version shape before (bytes ++ following)) _ _
+        (kept_prefix size full version shape before bytes)
         (λ first rest. among_more first _ _ (readings_among version shape (Some first.0) n rest))
 
     entry_among : (version : Version) (shape : PictureShape) (before : Option LinePlace) (bytes : List ℕ)
         → Among (entry_prefix size version shape before bytes) (entry_prefix full version shape before (bytes ++ following))
     unfolding entry_prefix
     entry_among version shape before bytes =
-        among_unless (place_fields size shape before bytes) (place_fields full shape before (bytes ++ following)) _ _ (place_prefix size full shape before bytes)
+        among_unless (place_fields size shape before bytes) (place_fields full shape before (bytes ++ following)) _ _
+        (place_prefix size full shape before bytes)
         (λ place rest. among_unless (count_field size rest) (count_field full (rest ++ following)) _ _ (count_prefix size full rest)
         (λ count rest. among_map (kept_at_place place) _ _ (readings_among version shape None count rest)))
 
@@ -294,29 +333,39 @@ module _ (following : List ℕ) where
     unfolding Among entries_prefix
     entries_among version shape before zero bytes = λ b c. absurd (none_in b c)
     entries_among version shape before (suc n) bytes =
-        among_both (entry_prefix size version shape before bytes) _ (entry_prefix full version shape before (bytes ++ following)) _ (entry_among version shape before bytes)
-        (among_unless (entry_fields size version shape before bytes) (entry_fields full version shape before (bytes ++ following)) _ _ (entry_fields_prefix size full version shape before bytes)
+        among_both (entry_prefix size version shape before bytes) _ (entry_prefix full version shape before (bytes ++ following)) _
+        (entry_among version shape before bytes)
+        (among_unless (entry_fields size version shape before bytes) (entry_fields full version shape before (bytes ++ following)) _ _
+        (entry_fields_prefix size full version shape before bytes)
         (λ first rest. entries_among version shape (Some first.0) n rest))
 
-    among_then : {X Y B : Type 0} (r whole : Result (X × List ℕ) TextFault) (f g : X × List ℕ → Result Y TextFault) (reported : Y → List B) → Prefix r whole
+    among_then : {X Y B : Type 0} (r whole : Result (X × List ℕ) TextFault) (f g : X × List ℕ → Result Y TextFault) (reported : Y → List B)
+        → Prefix r whole
         → ((x : X) (rest : List ℕ) → Among (unless_fault (f (x, rest)) reported) (unless_fault (g (x, rest ++ following)) reported))
         → Among (unless_fault (r >>= f) reported) (unless_fault (whole >>= g) reported)
     unfolding Prefix Among
-    among_then {X = X} (Ok x) whole f g reported h k = subst (λ (z : Result (X × List ℕ) TextFault). Among (unless_fault (f x) reported) (unless_fault (z >>= g) reported)) (sym h) (k x.0 x.1)
+    among_then {X = X} (Ok x) whole f g reported h k =
+        subst (λ (z : Result (X × List ℕ) TextFault). Among (unless_fault (f x) reported) (unless_fault (z >>= g) reported)) (sym h)
+        (k x.0 x.1)
     among_then (Err e) whole f g reported h k = λ b c. absurd (none_in b c)
 
     -- the magic has no value
     magic_among : {Y B : Type 0} (wanted bytes : List ℕ) (f g : List ℕ → Result Y TextFault) (reported : Y → List B)
         → ((rest : List ℕ) → Among (unless_fault (f rest) reported) (unless_fault (g (rest ++ following)) reported))
-        → Among (unless_fault (magic_field size wanted bytes >>= f) reported) (unless_fault (magic_field full wanted (bytes ++ following) >>= g) reported)
+        → Among (unless_fault (magic_field size wanted bytes >>= f) reported)
+        (unless_fault (magic_field full wanted (bytes ++ following) >>= g) reported)
     unfolding Among magic_field byte_field
     magic_among [] bytes f g reported k = k bytes
     magic_among (wanted ∷ others) [] f g reported k = λ b c. absurd (none_in b c)
     magic_among (wanted ∷ others) (x ∷ rest) f g reported k = test (eqb x wanted) (magic_among others rest f g reported k)
       where
-        test : (b : Bool) → Among (unless_fault (magic_field size others rest >>= f) reported) (unless_fault (magic_field full others (rest ++ following) >>= g) reported)
+        test : (b : Bool)
+            → Among (unless_fault (magic_field size others rest >>= f) reported)
+            (unless_fault (magic_field full others (rest ++ following) >>= g) reported)
             → Among (unless_fault (cond b (magic_field size others rest) (Err (fault.Magic (offset size (x ∷ rest)))) >>= f) reported)
-            (unless_fault (cond b (magic_field full others (rest ++ following)) (Err (fault.Magic (offset full (x ∷ (rest ++ following))))) >>= g) reported)
+            (unless_fault
+            (cond b (magic_field full others (rest ++ following)) (Err (fault.Magic (offset full (x ∷ (rest ++ following))))) >>= g)
+            reported)
         test true h = h
         test false h = λ b c. absurd (none_in b c)
 
@@ -332,9 +381,12 @@ prefix_among prefix following =
     let size = length prefix in
     let full = length (prefix ++ following) in
     magic_among following size full magic prefix _ _ reported
-    (λ rest. among_then following size full (version_field size rest) (version_field full (rest ++ following)) _ _ reported (version_prefix following size full rest)
-    (λ version rest. among_then following size full (shape_fields size rest) (shape_fields full (rest ++ following)) _ _ reported (shape_prefix following size full rest)
-    (λ shape rest. among_then following size full (number_field size w32 rest) (number_field full w32 (rest ++ following)) _ _ reported (number_prefix following size full w32 rest)
+    (λ rest. among_then following size full (version_field size rest) (version_field full (rest ++ following)) _ _ reported
+    (version_prefix following size full rest)
+    (λ version rest. among_then following size full (shape_fields size rest) (shape_fields full (rest ++ following)) _ _ reported
+    (shape_prefix following size full rest)
+    (λ shape rest. among_then following size full (number_field size w32 rest) (number_field full w32 (rest ++ following)) _ _ reported
+    (number_prefix following size full w32 rest)
     (λ count rest. entries_among following size full version shape None count rest))))
 
 pub cut_texts_are_held : CutTextsAreHeld

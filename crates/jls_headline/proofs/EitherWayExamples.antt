@@ -65,7 +65,8 @@ one = reading_of 0 0 (1 ∷ [])
 -- the piece of the third copy has it, and no line of the picture
 has_no_line_of_the_picture : HasPictureLines pic plan (0, piece_of (0x50 ∷ [])) → ⊥
 has_no_line_of_the_picture has =
-    (let e = ap (λ (lines : List (List ℕ)). get_or (get_or lines 0 []) 0 0) (has ((1 ∷ []) ∷ []) (inl pieces_read.one_read)) in omega (arith, e))
+    (let e = ap (λ (lines : List (List ℕ)). get_or (get_or lines 0 []) 0 0) (has ((1 ∷ []) ∷ []) (inl pieces_read.one_read)) in
+    omega (arith, e))
 
 no_numbers : AreNumbers third_data []
 no_numbers = record { rise = tt; marks_are = refl }
@@ -78,7 +79,8 @@ third_scan_gives : ScanGives third_data one
 third_scan_gives = (0, piece_of (0x50 ∷ []), (0, lit< tt, refl), ((1 ∷ []) ∷ [], inl pieces_read.one_read, (0, lit< tt, refl)))
 
 third_scan_survives : SurvivesInScan third_data one
-third_scan_survives = ([], no_numbers, 0, piece_of (0x50 ∷ []), (0, lit< tt, refl), ((1 ∷ []) ∷ [], inl pieces_read.one_read, (0, lit< tt, refl)))
+third_scan_survives =
+    ([], no_numbers, 0, piece_of (0x50 ∷ []), (0, lit< tt, refl), ((1 ∷ []) ∷ [], inl pieces_read.one_read, (0, lit< tt, refl)))
 
 first_scan_is_damaged : DamagedScan pic first_data
 first_scan_is_damaged =
@@ -158,7 +160,8 @@ not_collected_of_third : Collected known (sourced_copy None third ∷ []) [] →
 not_collected_of_third collected = not_collected_from_third ([], collected, λ copy c. absurd (none_in copy c))
 
 says_the_same : SayTheSame known known
-says_the_same = record { readings = refl; report = refl; picture = refl; pnm_file = refl; jls_file = λ o. refl; of_same_sources = λ e. refl }
+says_the_same =
+    record { readings = refl; report = refl; picture = refl; pnm_file = refl; jls_file = λ o. refl; of_same_sources = λ e. refl }
 
 says_another : SayTheSame known (nothing_known taller) → ⊥
 says_another same = shapes_differ same.picture
@@ -225,7 +228,9 @@ fits_longer = record {
 
 files_read_not_as_another : FilesReadAs held longer → ⊥
 files_read_not_as_another files =
-    longer_is_another ((files options parameters_8 (lit< tt) fits_longer).no_other pic is_picture (files_read_as_it options parameters_8 (lit< tt) options_fit).reads)
+    longer_is_another
+    ((files options parameters_8 (lit< tt) fits_longer).no_other pic is_picture
+    (files_read_as_it options parameters_8 (lit< tt) options_fit).reads)
 
 -- Under sources --------------------------------------------------------------------------------------------------
 

@@ -54,7 +54,9 @@ record Written : Type 0 where
   bytes_are : written_file pic options ≡ file
 
 written : Written
-unfolding least_from bits value_of_bits width_after golomb pad_after quantized_gradient is_negative context modulo_reduced corrected_prediction golomb_k updated run_updated events_from events_after cell_before run_cell_before block_columns full_blocks blocks run_index_before event_bits bits_of_events code
+unfolding least_from bits value_of_bits width_after golomb pad_after quantized_gradient is_negative context modulo_reduced
+    corrected_prediction golomb_k updated run_updated events_from events_after cell_before run_cell_before block_columns full_blocks blocks
+    run_index_before event_bits bits_of_events code
 written = record { bytes_are = refl }
 
 pub file_reads : ReadsAsOnly file pic
@@ -63,9 +65,10 @@ file_reads =
     (files_read_back pic is_picture options parameters_8 (lit< tt) options_fit)
 
 -- and that of a new station that took what was read of both copies reads as the picture
-file_comes_back : (a b : ReadCopy) (ra : CopyReads first a) (rb : CopyReads second b)
+pub file_comes_back : (a b : ReadCopy) (ra : CopyReads first a) (rb : CopyReads second b)
     → ReadsAsOnly (written_file (picture_of (with_both a b ra rb)) options) pic
 file_comes_back a b ra rb =
     (exactly_gives_the_picture pic is_picture (with_both a b ra rb) (first ∷ second ∷ [])
-    (collected_holds (with_both a b ra rb) (both_copies a b ra rb) (collected_both a b ra rb)) (both_are_damaged []) (each_line_survives [])).1
+    (collected_holds (with_both a b ra rb) (both_copies a b ra rb) (collected_both a b ra rb)) (both_are_damaged [])
+    (each_line_survives [])).1
     options parameters_8 (lit< tt) options_fit

@@ -1,5 +1,5 @@
 -- A line that survives in the head of the piece that the input's end cuts off, and what else that head gives, which is nothing.
-use Rattle.std.proofs.Common.{◌≡◌, ℕ, true, false, List, [], ◌∷◌, replicate, Some, refl, ap, lit<, lit≤, arith, inr}
+use Rattle.std.proofs.Common.{◌≡◌, ℕ, true, false, List, [], ◌∷◌, replicate, refl, ap, lit<, lit≤, arith, inr}
 use Rattle.std.specs.Prelude.{get_or}
 use Rattle.jls_values.specs.Params.{least_from}
 use Rattle.jls_bits.specs.Bits.{bits, width_after, bits_read_after, ends_data, is_whole_after}
@@ -18,7 +18,7 @@ use Rattle.jls_interval.specs.Lines.{interval_shape}
 use Rattle.jls_partial.specs.Reading.{reading_of}
 use Rattle.jls_marker.specs.ComponentIndex.{index_of}
 use Rattle.jls_marker.specs.MarkerCodes.{has_segment}
-use Rattle.jls_marker.specs.HeaderState.{HeaderState, no_headers}
+use Rattle.jls_marker.specs.HeaderState.{HeaderState}
 use Rattle.jls_marker.specs.Headers.{headers_after}
 use Rattle.jls_copy.specs.Course.{by_input, CopyUnit, segment, scan, Course, IsCourse, with_soi, with_the_input}
 use Rattle.jls_copy.specs.declared.end.End.TheVariants.{Input}
@@ -26,12 +26,13 @@ use Rattle.jls_write.specs.Picture.{WholePicture}
 use Rattle.jls_copy_laws.specs.CopyScans.{ScanPiece, ScanWithData, HasScans}
 use Rattle.jls_copy_laws.specs.Gives.{GivesReading}
 use Rattle.jls_copy_laws.proofs.CopyScans.{course_has_scans}
+use Rattle.jls_copy_laws.proofs.Members.{bytes_of_test}
 use Rattle.jls_headline.specs.Damaged.{Damaged, picture_reading, Survives}
 use Rattle.jls_headline.specs.Trimmed.{prefix, TrimmedCopy}
 use Rattle.jls_headline.proofs.LostIntervals.{damaged_copies_give_no_other, surviving_lines_are_given}
 use Rattle.jls_headline.proofs.Trims.{trimmed_copies_are_damaged}
 use Rattle.jls_headline.proofs.PremiseExamples.{both_lines, another_head}
-use Rattle.jls_headline.proofs.TwoLineCopies.{shape, bits_8, frame_payload, scan_payload, bytes_of_test}
+use Rattle.jls_headline.proofs.TwoLineCopies.{shape, bits_8, frame_payload, scan_payload, framed}
 
 -- a column of the samples 1 and 9, in one interval
 abbrev pic : WholePicture
@@ -42,9 +43,6 @@ abbrev copy : List ℕ
 copy =
     0xFF ∷ 0xD8 ∷ 0xFF ∷ 0xF7 ∷ 0 ∷ 0x0B ∷ 8 ∷ 0 ∷ 2 ∷ 0 ∷ 1 ∷ 1 ∷ 1 ∷ 0x11 ∷ 0
     ∷ 0xFF ∷ 0xDA ∷ 0 ∷ 8 ∷ 1 ∷ 1 ∷ 0 ∷ 0 ∷ 0 ∷ 0 ∷ 0x50 ∷ []
-
-abbrev framed : HeaderState
-framed = record no_headers { frame = Some shape }
 
 abbrev final : HeaderState
 final = record framed { scans = 1 }
@@ -103,11 +101,18 @@ record BothRead : Type 0 where
   both_read : Reads (interval_shape bits_8 1 1 2) (0x50 ∷ 0x80 ∷ []) ((1 ∷ []) ∷ (9 ∷ []) ∷ [])
 
 both : BothRead
-unfolding least_from bits width_after golomb quantized_gradient is_negative context modulo_reduced corrected_prediction golomb_k updated run_updated events_from events_after cell_before run_cell_before block_columns full_blocks blocks run_index_before event_bits bits_of_events code bits_read_after is_whole_after ends_data
+unfolding least_from bits width_after golomb quantized_gradient is_negative context modulo_reduced corrected_prediction golomb_k updated
+    run_updated events_from events_after cell_before run_cell_before block_columns full_blocks blocks run_index_before event_bits
+    bits_of_events code bits_read_after is_whole_after ends_data
 both = record {
   both_read = record {
     unread = replicate 5 false;
-    begins = record { are_bytes = (lit< tt, (lit< tt, tt)); are_lines = record { count_is = refl; each = ((refl, (lit≤ tt, tt)), ((refl, (lit≤ tt, tt)), tt)) }; data_bits = record { whole = refl; read = refl } };
+    begins =
+        record {
+          are_bytes = (lit< tt, (lit< tt, tt));
+          are_lines = record { count_is = refl; each = ((refl, (lit≤ tt, tt)), ((refl, (lit≤ tt, tt)), tt)) };
+          data_bits = record { whole = refl; read = refl };
+        };
     at_most_seven = lit≤ tt;
   };
 }

@@ -1,15 +1,13 @@
 -- What sets of readings hold, and lines with one reading.
-use Rattle.std.proofs.Common.{◌≡◌, ℕ, Bool, true, false, T, ◌&&◌, ◌||◌, List, [], ◌∷◌, map, refl, sym, ap, ◌∙◌, subst, arith, inl, inr}
+use Rattle.std.proofs.Common.{◌≡◌, ℕ, Bool, true, false, ◌&&◌, ◌||◌, List, [], ◌∷◌, map, refl, sym, ap, ◌∙◌, subst, arith, inl, inr}
 use Rattle.std.specs.Prelude.{filter, ◌==◌, ◌↔◌}
 use Rattle.std.specs.declared.cmp.Ordering.{Ordering}
 use Rattle.std.specs.declared.cmp.Ordering.TheVariants.{Less, Equal, Greater}
-use Rattle.std.specs.Ordering.{is_eq, is_lt, eq_by_cmp}
+use Rattle.std.specs.Ordering.{is_eq, eq_by_cmp}
 use Rattle.std.specs.Cmp.{IsTotalOrder}
-use Rattle.std.specs.FinMap as fin
-use Rattle.std.specs.FinMap.Entries as sorted
 use Rattle.std.specs.List.{list_any, AllByRecursion, Contains}
 use Rattle.std.specs.List.Sorted.{IsStrictlySortedBy}
-use Rattle.std.proofs.lemmas.Bool.{and_parts, eqb-true, eq-eqb, cases_Bool}
+use Rattle.std.proofs.lemmas.Bool.{and_parts, eqb-true, eq-eqb, cases_Bool, or_left, or_right}
 use Rattle.std.proofs.lemmas.Cmp.{tied_itself}
 use Rattle.std.proofs.lemmas.Map.Lookups.{CmpEqualImpliesEq}
 use Rattle.jls_values.specs.OrderedSet as set
@@ -17,22 +15,9 @@ use Rattle.jls_values.specs.OrderedSetLaws.{contains-items, contains-insert_all,
 use Rattle.jls_partial.specs.Partial.{PartialPicture, readings_at}
 use Rattle.jls_partial.specs.Reading.{Reading, reading_cmp, reading_of}
 use Rattle.jls_partial.specs.ReadingOrder.{reading_total, reading_exact}
+use Rattle.jls_partial.proofs.BareEntries.{items_rise}
+use Rattle.jls_partial.proofs.Unions.{either}
 use Rattle.jls_copy_laws.proofs.Members.{is_first, in_rest, none_in, first_or_rest, in_map}
-
-abbrev pub ReadingSet : Type 0
-ReadingSet = set.OrderedSet reading_cmp
-
--- what either of two tests tells
-pub either : (P : Type 0) (b c : Bool) → (b ≡ true → P) → (c ≡ true → P) → (b || c) ≡ true → P
-either P true c f g e = f refl
-either P false c f g e = g e
-
-pub or_first : (b c : Bool) → b ≡ true → (b || c) ≡ true
-or_first b c e = rw e refl
-
-pub or_second : (b c : Bool) → c ≡ true → (b || c) ≡ true
-or_second true c e = refl
-or_second false c e = e
 
 -- the test of a list tells its members
 module _ {K : Type 0} {R : K → K → Ordering} (total : IsTotalOrder R) (exact : CmpEqualImpliesEq R) where
@@ -48,15 +33,16 @@ module _ {K : Type 0} {R : K → K → Ordering} (total : IsTotalOrder R) (exact
   any_of_item [] k c = absurd (none_in k c)
   any_of_item (q ∷ qs) k c =
       elim (first_or_rest k q qs c) [
-        | inl e ↦ or_first (eq_by_cmp R k q) _ (subst (λ x. eq_by_cmp R k x ≡ true) (sym e) (ap is_eq (tied_itself total k)))
-        | inr later ↦ or_second (eq_by_cmp R k q) _ (any_of_item qs k later)
+        | inl e ↦ or_left (eq_by_cmp R k q) _ (subst (λ x. eq_by_cmp R k x ≡ true) (sym e) (ap is_eq (tied_itself total k)))
+        | inr later ↦ or_right (eq_by_cmp R k q) _ (any_of_item qs k later)
       ]
 
   pub item_of_any : (ks : List K) (k : K) → list_any (eq_by_cmp R k) ks ≡ true → Contains ks k
   item_of_any [] k e = absurd cc
   item_of_any (q ∷ qs) k e =
       either (Contains (q ∷ qs) k) (eq_by_cmp R k q) (list_any (eq_by_cmp R k) qs)
-      (λ here. subst (λ x. Contains (q ∷ qs) x) (sym (one_item k q here)) (is_first q qs)) (λ later. in_rest k q qs (item_of_any qs k later)) e
+      (λ here. subst (λ x. Contains (q ∷ qs) x) (sym (one_item k q here)) (is_first q qs))
+      (λ later. in_rest k q qs (item_of_any qs k later)) e
 
   -- a set made of a list holds the members of the list
   pub set_of_list_holds : (ks : List K) (k : K) → (set.contains (set.insert_all {R = R} set.empty ks) k ≡ true) ↔ Contains ks k
@@ -67,7 +53,8 @@ module _ {K : Type 0} {R : K → K → Ordering} (total : IsTotalOrder R) (exact
 
   -- what a set holds are its items
   pub set_holds_items : (s : set.OrderedSet R) (k : K) → (set.contains s k ≡ true) ↔ Contains (set.items s) k
-  set_holds_items s k = (λ h. item_of_any (set.items s) k (sym (contains-items s k) ∙ h), λ c. contains-items s k ∙ any_of_item (set.items s) k c)
+  set_holds_items s k =
+      (λ h. item_of_any (set.items s) k (sym (contains-items s k) ∙ h), λ c. contains-items s k ∙ any_of_item (set.items s) k c)
 
 pub any_of_member : (rs : List Reading) (r : Reading) → Contains rs r → list_any (eq_by_cmp reading_cmp r) rs ≡ true
 any_of_member = any_of_item reading_total reading_exact
@@ -77,34 +64,6 @@ member_of_any = item_of_any reading_total reading_exact
 
 pub made_holds : (rs : List Reading) (r : Reading) → (set.contains (set.insert_all {R = reading_cmp} set.empty rs) r ≡ true) ↔ Contains rs r
 made_holds = set_of_list_holds reading_total reading_exact
-
--- Items in order -------------------------------------------------------------------------------------------------
-
-both_pass : (a b : Bool) → T (a && b) → T a × T b
-both_pass true b h = (tt, h)
-both_pass false b h = absurd h
-
-less_from_test : (r : Ordering) → T (is_lt r) → r ≡ Less
-less_from_test Less h = refl
-less_from_test Equal h = absurd h
-less_from_test Greater h = absurd h
-
-below_from_test : {K X : Type 0} (R : K → K → Ordering) (k : K) (es : List (K × X)) → T (sorted.below_all R k es)
-    → AllByRecursion (λ y. R k y ≡ Less) (map (λ e. e.0) es)
-below_from_test R k [] h = tt
-below_from_test R k (e ∷ es) h =
-    let p = both_pass (is_lt (R k e.0)) (sorted.below_all R k es) h in (less_from_test (R k e.0) p.0, below_from_test R k es p.1)
-
-sorted_from_test : {K X : Type 0} (R : K → K → Ordering) (es : List (K × X)) → T (sorted.is_sorted R es)
-    → IsStrictlySortedBy R (map (λ e. e.0) es)
-unfolding IsStrictlySortedBy
-sorted_from_test R [] h = tt
-sorted_from_test R (e ∷ es) h =
-    let p = both_pass (sorted.below_all R e.0 es) (sorted.is_sorted R es) h in
-    (below_from_test R e.0 es p.0, sorted_from_test R es p.1)
-
-items_rise : (s : ReadingSet) → IsStrictlySortedBy reading_cmp (set.items s)
-items_rise s = sorted_from_test reading_cmp (fin.entries s) (fin.entries_sorted s)
 
 -- Lines with one reading -----------------------------------------------------------------------------------------
 
@@ -143,7 +102,9 @@ one_passes pass r (q ∷ qs) rise passes c same =
     elim (cases_Bool (pass q)) [
       | inl e ↦ (
           let is : q ≡ r = same q (is_first q qs) e in
-          let rest : filter pass qs ≡ [] = none_passes pass r qs (subst (λ x. AllByRecursion (λ y. reading_cmp x y ≡ Less) qs) is rise.0) (λ x m. same x (in_rest x q qs m)) in
+          let rest : filter pass qs ≡ [] =
+          none_passes pass r qs (subst (λ x. AllByRecursion (λ y. reading_cmp x y ≡ Less) qs) is rise.0)
+          (λ x m. same x (in_rest x q qs m)) in
           rw (e, rest) (ap (λ x. x ∷ []) is))
       | inr e ↦ (
           elim (first_or_rest r q qs c) [
@@ -161,7 +122,8 @@ one_reading p component line samples held same =
     let r = reading_of component line samples in
     let among : Contains (set.items p.readings) r = member_of_any (set.items p.readings) r (sym (contains-items p.readings r) ∙ held) in
     let one = one_passes (is_there component line) r (set.items p.readings) (items_rise p.readings) (is_itself component line samples) among
-    (λ q c e. same q (contains-items p.readings q ∙ any_of_member (set.items p.readings) q c) (there_is component line q e).0 (there_is component line q e).1) in
+    (λ q c e. same q (contains-items p.readings q ∙ any_of_member (set.items p.readings) q c) (there_is component line q e).0
+    (there_is component line q e).1) in
     ap (map (λ (x : Reading). x.samples)) one
 
 -- what is held is among the readings of its line
@@ -169,7 +131,13 @@ pub held_among : (pass : Reading → Bool) (r : Reading) (rs : List Reading) →
 held_among pass r [] e c = absurd (none_in r c)
 held_among pass r (q ∷ qs) e c =
     elim (cases_Bool (pass q)) [
-      | inl t ↦ rw t (elim (first_or_rest r q qs c) [ inl is ↦ (0, omega arith, is) | inr later ↦ in_rest r q (filter pass qs) (held_among pass r qs e later) ])
+      | inl t ↦
+          rw t
+          (elim (first_or_rest r q qs c) [
+            | inl is ↦ (0, omega arith, is)
+            | inr later ↦ in_rest r q (filter pass qs)
+                (held_among pass r qs e later)
+          ])
       | inr t ↦ rw t (elim (first_or_rest r q qs c) [
         | inl is ↦ (let f : false ≡ true = sym t ∙ ap pass is ∙ e in absurd cc)
         | inr later ↦ held_among pass r qs e later

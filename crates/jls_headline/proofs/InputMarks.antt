@@ -1,12 +1,14 @@
 -- The sources in what is joined of texts and copies.
 use Rattle.std.proofs.Common.{◌≡◌, ℕ, ◌<◌, ◌^◌, true, List, [], ◌∷◌, Option, Some, sym, ap, ◌∙◌, subst, inl, inr}
 use Rattle.std.specs.List.{Contains}
+use Rattle.std.proofs.lemmas.Bool.{or_left, or_right}
 use Rattle.jls_values.specs.OrderedSet as set
 use Rattle.jls_values.specs.OrderedSetLaws.{contains-union}
 use Rattle.jls_values.specs.Join.{join_all}
 use Rattle.jls_partial.specs.Reading.{Reading}
 use Rattle.jls_partial.specs.ReadingOrder.{reading_total, marks_total}
 use Rattle.jls_partial.specs.Partial.{PartialPicture, union}
+use Rattle.jls_partial.proofs.Unions.{either}
 use Rattle.jls_station.specs.Given.{Given, Gives, by_text, by_copy, GivesPartial}
 use Rattle.jls_station.specs.Reading.{AreBytes}
 use Rattle.jls_salvage_run.specs.AllInputs.{IsUnionOf}
@@ -14,7 +16,6 @@ use Rattle.jls_salvage_run.proofs.InputBytes.{AreGiven}
 use Rattle.jls_copy_laws.specs.Gives.{GivesReading}
 use Rattle.jls_headline.specs.Sources.{SourcedCopy}
 use Rattle.jls_headline.specs.Sources.{sourced_copy}
-use Rattle.jls_headline.proofs.Held.{either, or_first, or_second}
 use Rattle.jls_copy_laws.proofs.Members.{is_first, none_in, first_or_rest}
 use Rattle.jls_headline.proofs.SourcedStations.{copy_holds_under}
 
@@ -25,11 +26,12 @@ AreMarksSmall p = (r : Reading) (source : ℕ) → set.contains p.marks (r, sour
 
 union_small : (p q : PartialPicture) → AreMarksSmall p → AreMarksSmall q → AreMarksSmall (union p q)
 union_small p q h k r source m =
-    either ((set.contains (union p q).readings r ≡ true) × (source < 2 ^ 32)) (set.contains p.marks (r, source)) (set.contains q.marks (r, source))
+    either ((set.contains (union p q).readings r ≡ true) × (source < 2 ^ 32)) (set.contains p.marks (r, source))
+    (set.contains q.marks (r, source))
     (λ e. let t = h r source e in
-    (contains-union reading_total p.readings q.readings r ∙ or_first (set.contains p.readings r) (set.contains q.readings r) t.0, t.1))
+    (contains-union reading_total p.readings q.readings r ∙ or_left (set.contains p.readings r) (set.contains q.readings r) t.0, t.1))
     (λ e. let t = k r source e in
-    (contains-union reading_total p.readings q.readings r ∙ or_second (set.contains p.readings r) (set.contains q.readings r) t.0, t.1))
+    (contains-union reading_total p.readings q.readings r ∙ or_right (set.contains p.readings r) (set.contains q.readings r) t.0, t.1))
     (sym (contains-union marks_total p.marks q.marks (r, source)) ∙ m)
 
 module _ (source : Option ℕ) (small : (number : ℕ) → source ≡ Some number → number < 2 ^ 32) where

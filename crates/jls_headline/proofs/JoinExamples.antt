@@ -6,6 +6,7 @@ use Rattle.std.specs.Prelude.{All}
 use Rattle.std.specs.List.{Contains}
 use Rattle.std.proofs.lemmas.List.{append-nil}
 use Rattle.std.proofs.lemmas.List.Elements.{All-cons, All-nil}
+use Rattle.std.proofs.lemmas.Bool.{or_left, or_right}
 use Rattle.jls_values.specs.OrderedSetLaws.{contains-union}
 use Rattle.jls_values.specs.Shape.{PictureShape}
 use Rattle.jls_values.specs.SameShape.{same_shape}
@@ -46,12 +47,12 @@ use Rattle.jls_headline.proofs.Collected.{collected_holds}
 use Rattle.jls_headline.proofs.CollectedRuns.{collected_aside, union_under}
 use Rattle.jls_headline.proofs.JoinThenWrite.{text_of_copies}
 use Rattle.jls_headline.proofs.LostIntervals.{surviving_lines_are_given}
-use Rattle.jls_headline.proofs.Held.{is_at_line, or_first, or_second}
-use Rattle.jls_copy_laws.proofs.Members.{in_rest, is_first, none_in}
+use Rattle.jls_headline.proofs.Held.{is_at_line}
+use Rattle.jls_copy_laws.proofs.Members.{in_rest, is_first, none_in, bytes_of_test}
 use Rattle.jls_headline.proofs.StationPictures.{exactly_gives_the_picture}
 use Rattle.jls_headline.proofs.Stations.{copy_holds}
 use Rattle.jls_headline.proofs.TwoLineCopies.{shape, pic, is_picture, first, second, first_course, second_course, course_with, lost_first}
-use Rattle.jls_headline.proofs.TwoLineCopies.{bytes_of_test, first_data, second_data, first_scans, second_scans}
+use Rattle.jls_headline.proofs.TwoLineCopies.{first_data, second_data, first_scans, second_scans}
 use Rattle.jls_headline.proofs.TwoLineExamples.{shape_read, both_are_damaged, line_0, line_1, each_line_survives}
 
 -- One input that is a copy ---------------------------------------------------------------------------------------
@@ -106,7 +107,8 @@ module _ (a b : ReadCopy) (ra : CopyReads first a) (rb : CopyReads second b) whe
   second_shape = shape_read second (second_data ∷ []) b second_scans rb
 
   one_shape : has_same_shape a.partial b.partial ≡ true
-  one_shape = subst (λ (s : PictureShape). same_shape a.partial.shape s ≡ true) (first_shape ∙ sym second_shape) (shape_itself a.partial.shape)
+  one_shape =
+      subst (λ (s : PictureShape). same_shape a.partial.shape s ≡ true) (first_shape ∙ sym second_shape) (shape_itself a.partial.shape)
 
   -- what `finish` gave of both copies was joined
   abbrev both_copies : List SourcedCopy
@@ -171,7 +173,7 @@ module _ (a b : ReadCopy) (ra : CopyReads first a) (rb : CopyReads second b) whe
     };
   }
 
-  abbrev joins : JoinsDamagedCopies pic joining
+  abbrev pub joins : JoinsDamagedCopies pic joining
   joins = record {
     is_picture = is_picture;
     source = None;
@@ -203,7 +205,12 @@ module _ (a b : ReadCopy) (ra : CopyReads first a) (rb : CopyReads second b) whe
       let s = each_line_survives [] component line c l in (
         text both,
         is_first (text both) [],
-        inr (both, text_is, first_shape, (holds_both.readings (picture_reading pic component line)).1 (s.0, s.1, surviving_lines_are_given pic s.0 component line s.2)),
+        inr (
+          both,
+          text_is,
+          first_shape,
+          (holds_both.readings (picture_reading pic component line)).1 (s.0, s.1, surviving_lines_are_given pic s.0 component line s.2),
+        ),
       )
 
   -- the copies give parts of what was joined, and one of these has each line
@@ -211,18 +218,23 @@ module _ (a b : ReadCopy) (ra : CopyReads first a) (rb : CopyReads second b) whe
   parts =
       All-cons (IsPartOf both) a.partial (b.partial ∷ []) (record {
         shape = refl;
-        readings = λ component line samples h. contains-union reading_total a.partial.readings b.partial.readings (reading_of component line samples)
-            ∙ or_first (holds a.partial component line samples) (holds b.partial component line samples) h;
+        readings = λ component line samples h. contains-union reading_total a.partial.readings b.partial.readings
+            (reading_of component line samples)
+            ∙ or_left (holds a.partial component line samples) (holds b.partial component line samples) h;
       }) (All-cons (IsPartOf both) b.partial [] (record {
         shape = second_shape ∙ sym first_shape;
-        readings = λ component line samples h. contains-union reading_total a.partial.readings b.partial.readings (reading_of component line samples)
-            ∙ or_second (holds a.partial component line samples) (holds b.partial component line samples) h;
+        readings = λ component line samples h. contains-union reading_total a.partial.readings b.partial.readings
+            (reading_of component line samples)
+            ∙ or_right (holds a.partial component line samples) (holds b.partial component line samples) h;
       }) (All-nil (IsPartOf both)))
 
-  has_line : (p : PartialPicture) (copy : List ℕ) (line : ℕ) → HoldsExactly p (copy ∷ []) → Survives pic copy 0 line → readings_at p 0 line ≡ [] → ⊥
+  has_line : (p : PartialPicture) (copy : List ℕ) (line : ℕ) → HoldsExactly p (copy ∷ []) → Survives pic copy 0 line
+      → readings_at p 0 line ≡ [] → ⊥
   has_line p copy line holds survives none =
-      let held = (holds.readings (picture_reading pic 0 line)).1 (copy, is_first copy [], surviving_lines_are_given pic copy 0 line survives) in
-      none_in (line_of pic 0 line) (subst (λ (xs : List (List ℕ)). Contains xs (line_of pic 0 line)) none (is_at_line p 0 line (line_of pic 0 line) held))
+      let held = (holds.readings (picture_reading pic 0 line)).1
+      (copy, is_first copy [], surviving_lines_are_given pic copy 0 line survives) in
+      none_in (line_of pic 0 line)
+      (subst (λ (xs : List (List ℕ)). Contains xs (line_of pic 0 line)) none (is_at_line p 0 line (line_of pic 0 line) held))
 
   each_is_held : EachLineIsHeld both.shape (a.partial ∷ b.partial ∷ [])
   each_is_held zero c zero l = (
@@ -291,10 +303,10 @@ module _ (a b : ReadCopy) (ra : CopyReads first a) (rb : CopyReads second b) whe
     }
 
     -- and a `join` reads it alone, and hands out the same text
-    abbrev joined_again : List Event
+    abbrev pub joined_again : List Event
     joined_again = text_reading ++ (created (113 ∷ []) ∷ took (text both) ∷ [])
 
-    joins_the_text : JoinsForDamagedCopies pic joined_again
+    pub joins_the_text : JoinsForDamagedCopies pic joined_again
     joins_the_text = record {
       is_picture = is_picture;
       source = None;

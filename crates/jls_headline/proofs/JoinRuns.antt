@@ -59,9 +59,11 @@ pub runs_under_sources_hand_out_the_same : RunsUnderSourcesHandOutTheSame
 runs_under_sources_hand_out_the_same run again copies others stand stand' shape same =
     let one = same_under run.joined again.joined copies others
     (runs_hold_exactly_under run.source run.out run.names run.joined run.settled run.whole run.events run.is_done copies stand)
-    (runs_hold_exactly_under again.source again.out again.names again.joined again.settled again.whole again.events again.is_done others stand') shape same.0 same.1 in (
+    (runs_hold_exactly_under again.source again.out again.names again.joined again.settled again.whole again.events again.is_done
+    others stand') shape same.0 same.1 in (
       one,
-      output_of_join run.source run.out run.names run.joined run.settled run.whole run.events run.is_done ∙ ap (λ (p : PartialPicture). text p ∷ []) one
+      output_of_join run.source run.out run.names run.joined run.settled run.whole run.events run.is_done
+          ∙ ap (λ (p : PartialPicture). text p ∷ []) one
           ∙ sym (output_of_join again.source again.out again.names again.joined again.settled again.whole again.events again.is_done),
     )
 
@@ -94,7 +96,8 @@ runs_give_the_picture source out names joined settled whole events h pic is dama
     let none : AreNoTexts (input_bytes events) =
     all_map (Damaged pic) (λ bytes. is_text bytes ≡ false) (input_bytes events)
     (λ bytes d. scans_are_no_text bytes pic.shape d.0 d.1) damaged in
-    exactly_gives_the_picture pic is joined (input_bytes events) (runs_hold_exactly source out names joined settled whole events h none) damaged each
+    exactly_gives_the_picture pic is joined (input_bytes events)
+    (runs_hold_exactly source out names joined settled whole events h none) damaged each
 
 -- Two runs -------------------------------------------------------------------------------------------------------
 
@@ -114,10 +117,12 @@ shape_of_input p copies bytes h c = all_at (HasShape p.shape) copies bytes h.are
 -- the readings of copies alone have the source of the run, and no other
 pub marks_of_run : (source : Option ℕ) (out : List ℕ) (names : List (List ℕ)) (joined : PartialPicture) (settled whole : Bool)
     (events : List Event) → JoinIsDone source out names joined settled whole events → AreNoTexts (input_bytes events)
-    → (r : Reading) (number : ℕ) → set.contains joined.marks (r, number) ≡ true → (set.contains joined.readings r ≡ true) × (source ≡ Some number)
+    → (r : Reading) (number : ℕ) → set.contains joined.marks (r, number) ≡ true
+    → (set.contains joined.readings r ≡ true) × (source ≡ Some number)
 marks_of_run source out names joined settled whole events h none r number marked =
     let copies = map (sourced_copy source) (input_bytes events) in
-    let under = runs_hold_exactly_under source out names joined settled whole events h copies (copies_stand_under source (input_bytes events) none) in
+    let under = runs_hold_exactly_under source out names joined settled whole events h copies
+    (copies_stand_under source (input_bytes events) none) in
     let from = (under.sources r number).0 marked in
     let own = of_map (sourced_copy source) (input_bytes events) from.0 from.1 in (
       (under.readings.readings r).1 (from.0.bytes, in_map (λ (copy : SourcedCopy). copy.bytes) copies from.0 from.1, from.2.1),
@@ -137,16 +142,21 @@ among_under source source' copies others e among copy c =
 
 pub runs_with_texts_say_the_same : RunsWithTextsSayTheSame
 runs_with_texts_say_the_same run again copies others stand stand' shape same =
-    let one = runs_with_texts_hold_exactly run.source run.out run.names run.joined run.settled run.whole run.events run.is_done copies stand in
-    let other = runs_with_texts_hold_exactly again.source again.out again.names again.joined again.settled again.whole again.events again.is_done others stand' in
-    say_the_same run.joined again.joined shape (same_readings run.joined again.joined (copies_of copies) (copies_of others) one other same.0 same.1)
+    let one = runs_with_texts_hold_exactly run.source run.out run.names run.joined run.settled run.whole run.events run.is_done
+    copies stand in
+    let other = runs_with_texts_hold_exactly again.source again.out again.names again.joined again.settled again.whole
+    again.events again.is_done others stand' in
+    say_the_same run.joined again.joined shape
+    (same_readings run.joined again.joined (copies_of copies) (copies_of others) one other same.0 same.1)
 
 pub runs_say_the_same : RunsSayTheSame
 runs_say_the_same run again none none' same =
     let one = runs_hold_exactly run.source run.out run.names run.joined run.settled run.whole run.events run.is_done none in
-    let other = runs_hold_exactly again.source again.out again.names again.joined again.settled again.whole again.events again.is_done none' in
+    let other = runs_hold_exactly again.source again.out again.names again.joined again.settled again.whole again.events
+    again.is_done none' in
     let given = inputs_of_join run.source run.out run.names run.joined run.settled run.whole run.events run.is_done in
-    let first = some_input run.source (partials run.is_done.taken.givens) run.joined (input_bytes run.events) given run.is_done.taken.union_is in
+    let first = some_input run.source (partials run.is_done.taken.givens) run.joined (input_bytes run.events) given
+    run.is_done.taken.union_is in
     let there = same.0 first.0 first.1 in
     let shape : run.joined.shape ≡ again.joined.shape =
     one_shape_of there.0 run.joined.shape again.joined.shape
@@ -156,6 +166,9 @@ runs_say_the_same run again none none' same =
       say_the_same run.joined again.joined shape readings,
       λ e. ap text (runs_under_sources_hand_out_the_same run again
           (map (sourced_copy run.source) (input_bytes run.events)) (map (sourced_copy again.source) (input_bytes again.events))
-          (copies_stand_under run.source (input_bytes run.events) none) (copies_stand_under again.source (input_bytes again.events) none') shape
-          (among_under run.source again.source (input_bytes run.events) (input_bytes again.events) e same.0, among_under again.source run.source (input_bytes again.events) (input_bytes run.events) (sym e) same.1)).0,
+          (copies_stand_under run.source (input_bytes run.events) none)
+          (copies_stand_under again.source (input_bytes again.events) none') shape (
+            among_under run.source again.source (input_bytes run.events) (input_bytes again.events) e same.0,
+            among_under again.source run.source (input_bytes again.events) (input_bytes run.events) (sym e) same.1,
+          )).0,
     )

@@ -1,17 +1,15 @@
 -- What comes of a `write` whose input gives what a `join` of damaged copies handed to its output: the picture, read again.
-use Rattle.std.proofs.Common.{◌≡◌, ℕ, ◌-◌, ◌<◌, ◌≤◌, ◌^◌, ◌||◌, Bool, false, List, [], ◌∷◌, max, Option, Some, None, Ok, Err, refl, sym, ap}
-use Rattle.std.proofs.Common.{◌∙◌, subst, arith}
-use Rattle.std.specs.Prelude.{nat_lt}
-use Rattle.std.proofs.lemmas.Bool.Decides.{nat_tests}
+use Rattle.std.proofs.Common.{◌≡◌, ℕ, ◌<◌, ◌≤◌, ◌^◌, Bool, false, List, [], ◌∷◌, Option, Some, None, Ok, Err, refl, sym, ap}
+use Rattle.std.proofs.Common.{◌∙◌, subst}
 use Rattle.std.proofs.lemmas.List.{append-nil}
 use Rattle.jls_values.specs.Params.{CodingParameters, AreCodingParameters}
 use Rattle.jls_values.specs.ParamsOf.{in_force, param_fault, params_in_range}
 use Rattle.jls_values.specs.PresetParameters.{no_presets}
 use Rattle.jls_values.specs.declared.params.ParamFault.{ParamFault}
+use Rattle.jls_marker.proofs.ParamRanges.{faultless}
 use Rattle.jls_partial.specs.Partial.{PartialPicture}
 use Rattle.jls_partial.specs.Status.{IsSettled}
 use Rattle.jls_partial.specs.Text.{text, IsTextOf}
-use Rattle.jls_partial.proofs.BareEntries.{first_none}
 use Rattle.jls_io.specs.Event.{Event}
 use Rattle.jls_write.specs.Picture.{WholePicture, picture_of}
 use Rattle.jls_write.specs.Options.{OptionsFit}
@@ -49,46 +47,13 @@ use Rattle.jls_headline.proofs.WrittenFiles.{files_read_back}
 
 -- The default parameters of a precision --------------------------------------------------------------------------
 
-in_bounds : (low high value : ℕ) → (nat_lt value low || nat_lt high value) ≡ false → (low ≤ value) × (value ≤ high)
-in_bounds low high value e = (grind (arith, nat_tests, e), grind (arith, nat_tests, e))
-
-without_fault : (p : CodingParameters) → param_fault p ≡ None → AreCodingParameters p
-without_fault p e =
-    let a = first_none (nat_lt p.precision 2 || nat_lt 16 p.precision) _ _ e in
-    let b = first_none (nat_lt p.maxval 1 || nat_lt (2 ^ p.precision - 1) p.maxval) _ _ a.1 in
-    let c = first_none (nat_lt p.t1 1 || nat_lt p.maxval p.t1) _ _ b.1 in
-    let d = first_none (nat_lt p.t2 p.t1 || nat_lt p.maxval p.t2) _ _ c.1 in
-    let f = first_none (nat_lt p.t3 p.t2 || nat_lt p.maxval p.t3) _ _ d.1 in
-    let g = first_none (nat_lt p.reset 3 || nat_lt (max 255 p.maxval) p.reset) _ _ f.1 in
-    let precision = in_bounds 2 16 p.precision a.0 in
-    let maxval = in_bounds 1 (2 ^ p.precision - 1) p.maxval b.0 in
-    let t1 = in_bounds 1 p.maxval p.t1 c.0 in
-    let t2 = in_bounds p.t1 p.maxval p.t2 d.0 in
-    let t3 = in_bounds p.t2 p.maxval p.t3 f.0 in
-    let reset = in_bounds 3 (max 255 p.maxval) p.reset g.0 in
-    record {
-      precision_at_least = precision.0;
-      precision_at_most = precision.1;
-      maxval_at_least = maxval.0;
-      maxval_below = below p.maxval (2 ^ p.precision) maxval.0 maxval.1;
-      t1_at_least = t1.0;
-      t2_at_least = t2.0;
-      t3_at_least = t3.0;
-      t3_at_most = t3.1;
-      reset_at_least = reset.0;
-      reset_at_most = reset.1;
-    }
-  where
-    below : (m n : ℕ) → 1 ≤ m → m ≤ n - 1 → m < n
-    below m n h k = omega (arith, h, k)
-
 passed : (p : CodingParameters) (f : Option ParamFault) → params_in_range p f ≡ Ok p → f ≡ None
 passed p None e = refl
 passed p (Some f) e = absurd cc
 
 defaults_in_range : (p : ℕ) → 2 ≤ p → p ≤ 16 → AreCodingParameters (in_force p no_presets)
 defaults_in_range p low high =
-    without_fault (in_force p no_presets) (passed (in_force p no_presets) (param_fault (in_force p no_presets)) (defaults_are p low high))
+    faultless (in_force p no_presets) (passed (in_force p no_presets) (param_fault (in_force p no_presets)) (defaults_are p low high))
 
 -- What a write that is done did ----------------------------------------------------------------------------------
 
@@ -158,7 +123,8 @@ pub text_of_copies : (pic : WholePicture) (joining : List Event) (j : JoinsDamag
 text_of_copies pic joining j = (
   gives,
   its_text pic j.is_picture j.joined gives
-      (held_are_lines pic j.joined (input_bytes joining) (runs_hold_exactly j.source j.out j.names j.joined j.settled j.whole joining j.is_done none) j.damaged)
+      (held_are_lines pic j.joined (input_bytes joining)
+      (runs_hold_exactly j.source j.out j.names j.joined j.settled j.whole joining j.is_done none) j.damaged)
       (λ r source held. let m = marks_of_run j.source j.out j.names j.joined j.settled j.whole joining j.is_done none r source held in
       (m.0, j.small source m.1)),
 )
@@ -169,7 +135,8 @@ text_of_copies pic joining j = (
         (λ bytes d. scans_are_no_text bytes pic.shape d.0 d.1) j.damaged
 
     gives : GivesPicture j.joined pic
-    gives = (runs_give_the_picture j.source j.out j.names j.joined j.settled j.whole joining j.is_done pic j.is_picture j.damaged j.each_line).0
+    gives =
+        (runs_give_the_picture j.source j.out j.names j.joined j.settled j.whole joining j.is_done pic j.is_picture j.damaged j.each_line).0
 
 gave_of_copies : (pic : WholePicture) (joining : List Event) → JoinsDamagedCopies pic joining → GaveThePicture pic joining
 gave_of_copies pic joining j = record {
@@ -195,7 +162,8 @@ gave_of_texts pic joining j = record {
   where
     gives : GivesPicture j.joined pic
     gives =
-        (runs_with_texts_give_the_picture j.source j.out j.names j.joined j.settled j.whole joining j.is_done j.copies j.stand pic j.is_picture j.damaged j.each_line).0
+        (runs_with_texts_give_the_picture j.source j.out j.names j.joined j.settled j.whole joining j.is_done j.copies j.stand pic
+        j.is_picture j.damaged j.each_line).0
 
 module _ (pic : WholePicture) (joining : List Event) (j : GaveThePicture pic joining) where
   -- an input that gave the bytes of the output gave what was joined
@@ -285,14 +253,17 @@ refused_as_unsettled pic joining j _ _ _ _ _ (writing.unsettled f out name r n g
     let p = read_again pic joining j name g reading reading taken bytes same in
     none_named g.partial fault (subst IsSettled (sym p) j.gives.0) names
 refused_as_unsettled pic joining j _ _ _ _ _ (writing.at_file f out name r g reading handing e taken settled stops) same u =
-    not_at_file (FitsFormat f (picture_of g.partial)) (writing.IsTooLarge f (picture_of g.partial)) (writing.takes_memory f) (file f (picture_of g.partial)) r handing stops u
+    not_at_file (FitsFormat f (picture_of g.partial)) (writing.IsTooLarge f (picture_of g.partial)) (writing.takes_memory f)
+    (file f (picture_of g.partial)) r handing stops u
 
 pub written_joins_are_settled : WrittenJoinsAreSettled
 unfolding IsUnsettledRefusal IsRefusedFor
 written_joins_are_settled pic joining j f name id line disputed events w =
-    refused_as_unsettled pic joining (gave_of_copies pic joining j) f w.out w.name (Err (refusal_at name (Unsettled id line disputed))) events w.writes w.same_bytes (id, line, disputed, refl)
+    refused_as_unsettled pic joining (gave_of_copies pic joining j) f w.out w.name
+    (Err (refusal_at name (Unsettled id line disputed))) events w.writes w.same_bytes (id, line, disputed, refl)
 
 pub written_text_joins_are_settled : WrittenTextJoinsAreSettled
 unfolding IsUnsettledRefusal IsRefusedFor
 written_text_joins_are_settled pic joining j f name id line disputed events w =
-    refused_as_unsettled pic joining (gave_of_texts pic joining j) f w.out w.name (Err (refusal_at name (Unsettled id line disputed))) events w.writes w.same_bytes (id, line, disputed, refl)
+    refused_as_unsettled pic joining (gave_of_texts pic joining j) f w.out w.name
+    (Err (refusal_at name (Unsettled id line disputed))) events w.writes w.same_bytes (id, line, disputed, refl)

@@ -11,8 +11,6 @@ use Rattle.jls_values.specs.Shape.{PictureShape, IsShape}
 use Rattle.jls_partial.specs.InsertFaults.{reading_fault, samples_fault}
 use Rattle.jls_partial.specs.Reading.{Reading, reading_of}
 use Rattle.jls_partial.specs.Partial.{PartialPicture, readings_at}
-use Rattle.jls_partial.specs.Status.{status_of}
-use Rattle.jls_partial.specs.declared.status.Status.TheVariants.{Settled}
 use Rattle.jls_partial.specs.Text.{text, IsPartial, IsTextOf}
 use Rattle.jls_partial.specs.TextReading.{byte_field, version_field}
 use Rattle.jls_partial.proofs.TextEntries.{fits_there}
@@ -24,6 +22,7 @@ use Rattle.jls_station.specs.Given.{Given, Gives, by_text, by_copy}
 use Rattle.jls_headline.specs.Damaged.{Damaged}
 use Rattle.jls_headline.specs.Stations.{HoldsExactly}
 use Rattle.jls_write.specs.WholePictures.{IsLineIn, IsPicture}
+use Rattle.jls_write.proofs.Lending.{one_reading}
 use Rattle.jls_headline.specs.ReadsAs.{GivesPicture}
 use Rattle.jls_copy_laws.proofs.Members.{is_first, in_rest, all_at}
 use Rattle.jls_headline.proofs.Held.{any_of_member}
@@ -74,11 +73,6 @@ none_or P pass (r ∷ rs) tells =
       | inr e ↦ rw e (none_or P pass rs (λ q c. tells q (in_rest q r rs c)))
     ]
 
-settled_one : (xs : List (List ℕ)) → status_of xs ≡ Settled → length xs ≡ 1
-settled_one [] s = absurd cc
-settled_one (x ∷ []) s = refl
-settled_one (x ∷ y ∷ xs) s = absurd cc
-
 few : (n : ℕ) → n ≤ 1 → n < 2 ^ 64
 few n h = omega (arith, h)
 
@@ -102,7 +96,8 @@ held_are_lines pic p copies h damaged r held =
 
 module _ (pic : WholePicture) (is : IsPicture pic) (p : PartialPicture) (gives : GivesPicture p pic)
     (lines : (r : Reading) → set.contains p.readings r ≡ true → IsLineOf pic r)
-    (marks : (r : Reading) (source : ℕ) → set.contains p.marks (r, source) ≡ true → (set.contains p.readings r ≡ true) × (source < 2 ^ 32)) where
+    (marks : (r : Reading) (source : ℕ) → set.contains p.marks (r, source) ≡ true → (set.contains p.readings r ≡ true)
+    × (source < 2 ^ 32)) where
   same_shape : p.shape ≡ pic.shape
   same_shape = ap (λ (x : WholePicture). x.shape) gives.1
 
@@ -126,7 +121,7 @@ module _ (pic : WholePicture) (is : IsPicture pic) (p : PartialPicture) (gives :
           let y : line < p.shape.height =
           subst (λ (s : PictureShape). line < s.height) (sym same_shape)
           (subst (λ n. n < pic.shape.height) (eqb-true r.line line there.1) of.1) in
-          settled_one (readings_at p component line) (gives.0 component k line y)
+          one_reading (readings_at p component line) (gives.0 component k line y)
 
   is_partial : IsPartial p
   is_partial = record {

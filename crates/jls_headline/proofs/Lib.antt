@@ -14,7 +14,7 @@ mod CollectedRuns
 mod CutTexts
 mod Pictures
 mod WrittenFiles
-mod StationPictures
+pub mod StationPictures
 mod JoinRuns
 pub mod CollectedPictures
 pub mod OneLine
@@ -35,3 +35,4 @@ mod TenLineExamples
 mod HeadExamples
 mod EitherWayExamples
 pub mod JoinExamples
+pub mod ClosedExamples

@@ -26,9 +26,11 @@ given_by_scan copy shape scans has r (shape', scans', has', d, among, gives) =
     (d, subst (λ xs. Contains xs d) one.1 among, gives)
 
 -- what a piece of a damaged scan gives is a line of the picture
-pub piece_gives_no_other : (pic : WholePicture) (d : ScanWithData) → IsScanUnder pic.shape d.scan → (numbers : List ℕ) → AreNumbers d numbers
+pub piece_gives_no_other : (pic : WholePicture) (d : ScanWithData) → IsScanUnder pic.shape d.scan → (numbers : List ℕ)
+    → AreNumbers d numbers
     → AllByRecursion (HasPictureLines pic d.scan) (numbered_pieces d numbers)
-    → (k : ℕ) (piece : ScanPiece) → Contains (numbered_pieces d numbers) (k, piece) → (r : Reading) → PieceGives d.scan k piece r → IsLineOf pic r
+    → (k : ℕ) (piece : ScanPiece) → Contains (numbered_pieces d numbers) (k, piece) → (r : Reading) → PieceGives d.scan k piece r
+    → IsLineOf pic r
 piece_gives_no_other pic d under numbers are each k piece c r gives =
     let lines = gives.0 in
     let e : lines ≡ take (length lines) (interval_lines pic d.scan k) =
@@ -38,7 +40,8 @@ piece_gives_no_other pic d under numbers are each k piece c r gives =
     (subst (λ xs. Contains (placed_in_interval d.scan k xs) r) e gives.2))
 
 -- what a damaged scan gives is a line of the picture
-scan_gives_no_other : (pic : WholePicture) (d : ScanWithData) → IsScanUnder pic.shape d.scan → DamagedScan pic d → (r : Reading) → ScanGives d r
+scan_gives_no_other : (pic : WholePicture) (d : ScanWithData) → IsScanUnder pic.shape d.scan → DamagedScan pic d → (r : Reading)
+    → ScanGives d r
     → IsLineOf pic r
 scan_gives_no_other pic d under (numbers, are, each) r gives =
     let g = (numbered_pieces_give d numbers are r).0 gives in
@@ -47,7 +50,8 @@ scan_gives_no_other pic d under (numbers, are, each) r gives =
 pub damaged_copies_give_no_other : DamagedCopiesGiveNoOther
 damaged_copies_give_no_other pic copy (scans, has, damaged) r gives =
     let g = given_by_scan copy pic.shape scans has r gives in
-    scan_gives_no_other pic g.0 (all_at (λ d. IsScanUnder pic.shape d.scan) scans g.0 (scans_are_of_the_frame copy pic.shape scans has).1 g.1)
+    scan_gives_no_other pic g.0
+    (all_at (λ d. IsScanUnder pic.shape d.scan) scans g.0 (scans_are_of_the_frame copy pic.shape scans has).1 g.1)
     (all_at (DamagedScan pic) scans g.0 damaged g.1) r g.2
 
 -- a scan gives what survives in it

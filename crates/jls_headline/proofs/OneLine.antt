@@ -8,9 +8,8 @@ use Rattle.jls_values.specs.Shape.{PictureShape}
 use Rattle.jls_partial.specs.Partial.{PartialPicture, readings_at}
 use Rattle.jls_partial.specs.Reading.{Reading, reading_of}
 use Rattle.jls_partial.specs.ReadingOrder.{reading_total, reading_exact}
-use Rattle.jls_partial.specs.Status.{status_of}
-use Rattle.jls_partial.specs.declared.status.Status.TheVariants.{Settled}
 use Rattle.jls_write.specs.Picture.{WholePicture, line_of}
+use Rattle.jls_write.proofs.Lending.{settled_by}
 use Rattle.jls_report.specs.Lines.{is_settled_line}
 use Rattle.jls_report.specs.Report.{PictureReport, report_entries}
 use Rattle.jls_report.specs.Ranges.{speaks_of}
@@ -39,10 +38,11 @@ of_filter : {X : Type 0} (pass : X → Bool) (xs : List X) (x : X) → Contains 
 of_filter pass [] x c = absurd (none_in x c)
 of_filter pass (y ∷ ys) x c =
     elim (cases_Bool (pass y)) [
-      | inl e ↦ (elim (first_or_rest x y (filter pass ys) (subst (λ (b : Bool). Contains (cond b (y ∷ filter pass ys) (filter pass ys)) x) e c)) [
-        | inl is ↦ ((0, omega arith, is), subst (λ z. pass z ≡ true) is e)
-        | inr later ↦ (let from = of_filter pass ys x later in (in_rest x y ys from.0, from.1))
-      ])
+      | inl e ↦
+          (elim (first_or_rest x y (filter pass ys) (subst (λ (b : Bool). Contains (cond b (y ∷ filter pass ys) (filter pass ys)) x) e c)) [
+            | inl is ↦ ((0, omega arith, is), subst (λ z. pass z ≡ true) is e)
+            | inr later ↦ (let from = of_filter pass ys x later in (in_rest x y ys from.0, from.1))
+          ])
       | inr e ↦ (
           let from = of_filter pass ys x (subst (λ (b : Bool). Contains (cond b (y ∷ filter pass ys) (filter pass ys)) x) e c) in
           (in_rest x y ys from.0, from.1))
@@ -55,9 +55,11 @@ held_of_line p component line samples c =
     let passed = of_filter (is_there component line) (set.items p.readings) from.0 from.1 in
     let at = there_is component line from.0 passed.1 in
     let is : from.0 ≡ reading_of component line samples = λ i. reading_of (at.0 i) (at.1 i) (from.2 i) in
-    subst (λ (r : Reading). set.contains p.readings r ≡ true) is ((set_holds_items reading_total reading_exact p.readings from.0).1 passed.0)
+    subst (λ (r : Reading). set.contains p.readings r ≡ true) is
+    ((set_holds_items reading_total reading_exact p.readings from.0).1 passed.0)
 
-module _ (pic : WholePicture) (station : PartialPicture) (copies : List (List ℕ)) (h : HoldsExactly station copies) (component line : ℕ) where
+module _ (pic : WholePicture) (station : PartialPicture) (copies : List (List ℕ)) (h : HoldsExactly station copies)
+    (component line : ℕ) where
   -- no copy gives another reading of the line, so none is held
   only : AllByRecursion (SaysNoOther pic component line) copies → (r : Reading) → set.contains station.readings r ≡ true
       → r.component ≡ component → r.line ≡ line → r ≡ picture_reading pic component line
@@ -72,11 +74,13 @@ module _ (pic : WholePicture) (station : PartialPicture) (copies : List (List �
       → set.contains station.readings (picture_reading pic component line) ≡ true
   held copy c g = (h.readings (picture_reading pic component line)).1 (copy, c, g)
 
-  settled_so : AllByRecursion (SaysNoOther pic component line) copies → set.contains station.readings (picture_reading pic component line) ≡ true
+  settled_so : AllByRecursion (SaysNoOther pic component line) copies
+      → set.contains station.readings (picture_reading pic component line) ≡ true
       → readings_at station component line ≡ line_of pic component line ∷ []
   settled_so others x = one_reading station component line (line_of pic component line) x (only others)
 
-  missing_or_settled : AllByRecursion (SaysNoOther pic component line) copies → (xs : List (List ℕ)) → readings_at station component line ≡ xs
+  missing_or_settled : AllByRecursion (SaysNoOther pic component line) copies → (xs : List (List ℕ))
+      → readings_at station component line ≡ xs
       → (readings_at station component line ≡ []) ⊎ (readings_at station component line ≡ line_of pic component line ∷ [])
   missing_or_settled others [] e = inl e
   missing_or_settled others (x ∷ xs) e =
@@ -86,13 +90,19 @@ module _ (pic : WholePicture) (station : PartialPicture) (copies : List (List �
 
   among : (copy : List ℕ) → Contains copies copy → Survives pic copy component line
       → Contains (readings_at station component line) (line_of pic component line)
-  among copy c s = is_at_line station component line (line_of pic component line) (held copy c (surviving_lines_are_given pic copy component line s))
+  among copy c s =
+      is_at_line station component line (line_of pic component line) (held copy c (surviving_lines_are_given pic copy component line s))
 
   tells_of_line : TellsOfLine pic station copies component line
   tells_of_line = record {
     settled = λ others copy c g. settled_so others (held copy c g);
     no_other = λ others. missing_or_settled others (readings_at station component line) refl;
-    survives = λ copy c s. (among copy c s, λ one. only_one (readings_at station component line) (line_of pic component line) one (among copy c s));
+    survives =
+        λ copy c s. (
+          among copy c s,
+          λ one. only_one (readings_at station component line) (line_of pic component line) one
+              (among copy c s),
+        );
   }
 
 pub stations_tell_of_lines : StationsTellOfLines
@@ -101,14 +111,10 @@ stations_tell_of_lines pic station copies collected component line =
 
 pub runs_tell_of_lines : RunsTellOfLines
 runs_tell_of_lines source out names joined settled whole events done copies stand pic component line =
-    stations_tell_of_lines pic joined copies (runs_are_collected source out names joined settled whole events done copies stand) component line
+    stations_tell_of_lines pic joined copies
+    (runs_are_collected source out names joined settled whole events done copies stand) component line
 
 -- The report -----------------------------------------------------------------------------------------------------
-
-one_long : (xs : List (List ℕ)) → length xs ≡ 1 → status_of xs ≡ Settled
-one_long [] e = absurd (omega (arith, e))
-one_long (x ∷ []) e = refl
-one_long (x ∷ y ∷ xs) e = absurd (omega (arith, e))
 
 pub unnamed_lines_have_one_reading : UnnamedLinesHaveOneReading
 unnamed_lines_have_one_reading station report is component line l k unnamed =
@@ -125,7 +131,7 @@ unnamed_lines_have_one_reading station report is component line l k unnamed =
 pub unnamed_lines_are_the_picture : UnnamedLinesAreThePicture
 unnamed_lines_are_the_picture pic station copies collected report is component line l k unnamed copy c s =
     ((stations_tell_of_lines pic station copies collected component line).survives copy c s).1
-    (one_long (readings_at station component line)
+    (settled_by (readings_at station component line)
     (unnamed_lines_have_one_reading station report is component line (subst (λ (z : PictureShape). component < length z.ids) (sym shape) l)
     (subst (λ (z : PictureShape). line < z.height) (sym shape) k) unnamed))
   where
@@ -150,7 +156,8 @@ damaged_is_damaged_at_each pic copy (scans, has, damaged) component line = (
   scans,
   has,
   all_from (DamagedScanAt pic component line) scans (λ d c.
-      at d (all_at (λ d. IsScanUnder pic.shape d.scan) scans d (scans_are_of_the_frame copy pic.shape scans has).1 c) (all_at (DamagedScan pic) scans d damaged c)),
+      at d (all_at (λ d. IsScanUnder pic.shape d.scan) scans d (scans_are_of_the_frame copy pic.shape scans has).1 c)
+      (all_at (DamagedScan pic) scans d damaged c)),
 )
   where
     at : (d : ScanWithData) → IsScanUnder pic.shape d.scan → DamagedScan pic d → DamagedScanAt pic component line d

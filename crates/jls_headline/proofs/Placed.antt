@@ -31,13 +31,16 @@ module _ (pic : WholePicture) where
       → AllByRecursion (IsIn P first n) (flat_map (row_readings pic components) (range_with_len row m))
   rows_are P components row zero first n low high h = tt
   rows_are P components row (suc m) first n low high h =
-      all_append (IsIn P first n) (row_readings pic components row) (flat_map (row_readings pic components) (range_with_len (row + 1) m)) (row_is P components row first n low (omega arith) h)
+      all_append (IsIn P first n) (row_readings pic components row) (flat_map (row_readings pic components) (range_with_len (row + 1) m))
+      (row_is P components row first n low (omega arith) h)
       (rows_are P components (row + 1) m first n (omega arith) (omega arith) h)
 
   placed_are : (P : ℕ → Type 0) (components : List ℕ) (row n : ℕ) → 1 ≤ length components → AllByRecursion P components
       → AllByRecursion (IsIn P row n) (placed components row 0 (rows_from pic components row n))
   placed_are P [] row n some h = absurd (omega arith)
-  placed_are P (c ∷ cs) row n some h = subst (AllByRecursion (IsIn P row n)) (sym (placed_rows pic c cs row n)) (rows_are P (c ∷ cs) row n row n (omega arith) (omega arith) h)
+  placed_are P (c ∷ cs) row n some h =
+      subst (AllByRecursion (IsIn P row n)) (sym (placed_rows pic c cs row n))
+      (rows_are P (c ∷ cs) row n row n (omega arith) (omega arith) h)
 
 -- a reading of first lines is one of all
 pub first_among : (components : List ℕ) (n : ℕ) (lines : List (List ℕ)) (row place : ℕ) (r : Reading)
@@ -47,7 +50,10 @@ first_among components (suc n) [] row place r c = absurd (none_in r c)
 first_among components (suc n) (line ∷ lines) row place r c =
     elim (first_or_rest r (reading_of (get_or components place 0) row line) _ c) [
       | inl e ↦ (0, omega arith, e)
-      | inr later ↦ in_rest r (reading_of (get_or components place 0) row line) _ (first_among components n lines (if place + 1 == length components then row + 1 else row) (if place + 1 == length components then 0 else place + 1) r later)
+      | inr later ↦
+          in_rest r (reading_of (get_or components place 0) row line) _
+          (first_among components n lines (if place + 1 == length components then row + 1 else row)
+          (if place + 1 == length components then 0 else place + 1) r later)
     ]
 
 -- a reading of the interval's lines is a line of the picture
@@ -55,7 +61,9 @@ pub are_lines_of : (pic : WholePicture) (s : Scan) (k : ℕ) (r : Reading) → I
     → Contains (placed_in_interval s k (interval_lines pic s k)) r → IsLineOf pic r
 unfolding IsIn
 are_lines_of pic s k r is of low c =
-    let at = all_at (IsIn pic (λ c. c < length pic.shape.ids) (first_row s k) (row_count s k)) (placed_in_interval s k (interval_lines pic s k)) r
-    (placed_are pic (λ c. c < length pic.shape.ids) s.components (first_row s k) (row_count s k) is.components_at_least of.components_below) c in
+    let at = all_at (IsIn pic (λ c. c < length pic.shape.ids) (first_row s k) (row_count s k))
+    (placed_in_interval s k (interval_lines pic s k)) r
+    (placed_are pic (λ c. c < length pic.shape.ids) s.components (first_row s k) (row_count s k) is.components_at_least of.components_below)
+    c in
     let within = (part_the_lines s is.height_at_least).within r.line k low (at.1, at.2) in
     (at.0, subst (λ n. r.line < n) of.height within, at.3)

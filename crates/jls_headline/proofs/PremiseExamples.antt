@@ -39,10 +39,10 @@ use Rattle.jls_headline.specs.Stations.{HoldsExactly}
 use Rattle.jls_headline.specs.Sources.{sourced_copy}
 use Rattle.jls_headline.specs.Collected.{Collected, new_station, reader_finished, partial_ran_out, CollectedFrom}
 use Rattle.jls_headline.specs.ReadsAs.{GivesPicture, ReadsAs}
-use Rattle.jls_copy_laws.proofs.Members.{none_in}
+use Rattle.jls_copy_laws.proofs.Members.{none_in, bytes_of_test}
 use Rattle.jls_headline.proofs.CopyGives.{copy_gives}
 use Rattle.jls_headline.proofs.LostIntervals.{surviving_lines_are_given}
-use Rattle.jls_headline.proofs.TwoLineCopies.{shape, bits_8, parameters_8, pic_and, pic, first, bytes_of_test, piece_of, first_data}
+use Rattle.jls_headline.proofs.TwoLineCopies.{shape, bits_8, parameters_8, pic_and, pic, first, piece_of, first_data}
 use Rattle.jls_headline.proofs.TwoLineCopies.{first_scans}
 use Rattle.jls_headline.proofs.TwoLineExamples.{shape_read, line_0}
 
@@ -102,7 +102,8 @@ read_of_first a reads =
 first_is_not_none : (a : ReadCopy) → CopyReads first a → a.partial.readings ≡ set.empty → ⊥
 first_is_not_none a reads e =
     (let held = read_of_first a reads in
-    let none : false ≡ true = sym (contains-empty reading_cmp (picture_reading pic 0 0)) ∙ subst (λ rs. set.contains rs (picture_reading pic 0 0) ≡ true) e held in cc)
+    let none : false ≡ true = sym (contains-empty reading_cmp (picture_reading pic 0 0))
+    ∙ subst (λ rs. set.contains rs (picture_reading pic 0 0) ≡ true) e held in cc)
 
 -- a station that ran out of memory for the first copy, which was not read again, can hold all of it, and no copy counts as read
 abbrev pub known : PartialPicture
@@ -110,10 +111,13 @@ known = nothing_known shape
 
 between : (p q : PartialPicture) → p.shape ≡ q.shape → IsBetween union p (union p q) (union p q)
 between p q e =
-    let same : has_same_shape p q ≡ true = subst (λ (s : PictureShape). same_shape p.shape s ≡ true) e (shape_itself p.shape) in
-    (sym (partial_laws.associative p p q (shape_itself p.shape) same) ∙ ap (λ (x : PartialPicture). union x q) (partial_laws.idempotent p), partial_laws.idempotent (union p q))
+    let same : has_same_shape p q ≡ true = subst (λ (s : PictureShape). same_shape p.shape s ≡ true) e (shape_itself p.shape) in (
+      sym (partial_laws.associative p p q (shape_itself p.shape) same)
+          ∙ ap (λ (x : PartialPicture). union x q) (partial_laws.idempotent p),
+      partial_laws.idempotent (union p q),
+    )
 
-ran_out_over_first : (a : ReadCopy) → CopyReads first a → Collected (union known a.partial) [] (sourced_copy None first ∷ [])
+pub ran_out_over_first : (a : ReadCopy) → CopyReads first a → Collected (union known a.partial) [] (sourced_copy None first ∷ [])
 ran_out_over_first a reads =
     partial_ran_out known (union known a.partial) a.partial [] [] (sourced_copy None first ∷ []) [] (new_station shape known refl)
     (reader_finished None first a a.partial (bytes_of_test first refl) reads refl)
@@ -140,7 +144,9 @@ record CutOff : Type 0 where
   whole : is_whole (0x50 ∷ []) ≡ true
 
 cut_off : CutOff
-unfolding least_from bits width_after golomb quantized_gradient is_negative context modulo_reduced corrected_prediction golomb_k updated run_updated events_from events_after cell_before run_cell_before block_columns full_blocks blocks run_index_before event_bits bits_of_events code bits_read_after is_whole_after ends_data
+unfolding least_from bits width_after golomb quantized_gradient is_negative context modulo_reduced corrected_prediction golomb_k updated
+    run_updated events_from events_after cell_before run_cell_before block_columns full_blocks blocks run_index_before event_bits
+    bits_of_events code bits_read_after is_whole_after ends_data
 cut_off = record {
   cut = record {
     lines = one_and_nine;
@@ -156,7 +162,8 @@ cut_off = record {
 }
 
 -- of the first lines of these two that the bits begin with, the longest list is the first line
-longest : (first : List (List ℕ)) → BeginsWithFirst (interval_shape bits_8 1 1 2) (bits_read (0x50 ∷ [])) one_and_nine first → length first ≤ 1
+longest : (first : List (List ℕ)) → BeginsWithFirst (interval_shape bits_8 1 1 2) (bits_read (0x50 ∷ [])) one_and_nine first
+    → length first ≤ 1
 longest [] b = lit≤ tt
 longest (x ∷ []) b = lit≤ tt
 longest (x ∷ y ∷ []) b =
@@ -169,17 +176,27 @@ longest (x ∷ y ∷ z ∷ zs) b = absurd (let n = ap length b.lines_are in omeg
 -- so its head is another line than the picture's
 pub another_head : IsHeadOfPiece (interval_of both_lines 0) (0x50 ∷ []) ((1 ∷ []) ∷ [])
 another_head =
-    let own : AreWholeLines (interval_shape bits_8 1 1 2) (bits_read (0x50 ∷ [])) one_and_nine ((1 ∷ []) ∷ []) = record { begins = cut_off.begins; longest = longest } in
-    inl (cut_off.whole, inl (cut_off.cut, subst (λ lines. AreWholeLines (interval_shape bits_8 1 1 2) (bits_read (0x50 ∷ [])) lines ((1 ∷ []) ∷ [])) (sym cut_off.lines_are) own))
+    let own : AreWholeLines (interval_shape bits_8 1 1 2) (bits_read (0x50 ∷ [])) one_and_nine ((1 ∷ []) ∷ []) =
+    record { begins = cut_off.begins; longest = longest } in
+    inl (
+      cut_off.whole,
+      inl (
+        cut_off.cut,
+        subst (λ lines. AreWholeLines (interval_shape bits_8 1 1 2) (bits_read (0x50 ∷ [])) lines ((1 ∷ []) ∷ []))
+            (sym cut_off.lines_are) own,
+      ),
+    )
 
 no_lines_of_the_picture : HasPictureLines pic both_lines (0, record { bytes = 0x50 ∷ []; ended_by_input = true }) → ⊥
 no_lines_of_the_picture h =
-    (let e = ap (λ (lines : List (List ℕ)). get_or (get_or lines 0 []) 0 0) (h ((1 ∷ []) ∷ []) (inr (refl, another_head))) in omega (arith, e))
+    (let e = ap (λ (lines : List (List ℕ)). get_or (get_or lines 0 []) 0 0) (h ((1 ∷ []) ∷ []) (inr (refl, another_head))) in
+    omega (arith, e))
 
 -- though it reads as no lines
 reads_as_none : (lines : List (List ℕ)) → Reads (interval_of both_lines 0) (0x50 ∷ []) lines → ⊥
 reads_as_none lines reads =
-    (let e = ap length (read_has_none bits_8 1 1 2 parameters_8 (lit< tt) (0x50 ∷ []) lines ((1 ∷ []) ∷ []) reads another_head) in omega (arith, e))
+    (let e = ap length (read_has_none bits_8 1 1 2 parameters_8 (lit< tt) (0x50 ∷ []) lines ((1 ∷ []) ∷ []) reads another_head) in
+    omega (arith, e))
 
 -- and would give no reading if the input went on
 none_if_not_cut : HasPictureLines pic both_lines (0, record { bytes = 0x50 ∷ []; ended_by_input = false })
@@ -200,11 +217,18 @@ record ReadAfter : Type 0 where
   fifteen_read : Reads (interval_shape small_samples 1 1 1) (0x40 ∷ []) ((15 ∷ []) ∷ [])
 
 read_after : ReadAfter
-unfolding least_from bits width_after golomb quantized_gradient is_negative context modulo_reduced corrected_prediction golomb_k updated run_updated events_from events_after cell_before run_cell_before block_columns full_blocks blocks run_index_before event_bits bits_of_events code bits_read_after is_whole_after ends_data
+unfolding least_from bits width_after golomb quantized_gradient is_negative context modulo_reduced corrected_prediction golomb_k updated
+    run_updated events_from events_after cell_before run_cell_before block_columns full_blocks blocks run_index_before event_bits
+    bits_of_events code bits_read_after is_whole_after ends_data
 read_after = record {
   fifteen_read = record {
     unread = replicate 5 false;
-    begins = record { are_bytes = (lit< tt, tt); are_lines = record { count_is = refl; each = ((refl, (lit≤ tt, tt)), tt) }; data_bits = record { whole = refl; read = refl } };
+    begins =
+        record {
+          are_bytes = (lit< tt, tt);
+          are_lines = record { count_is = refl; each = ((refl, (lit≤ tt, tt)), tt) };
+          data_bits = record { whole = refl; read = refl };
+        };
     at_most_seven = lit≤ tt;
   };
 }
@@ -212,4 +236,5 @@ read_after = record {
 -- which is no line of the picture
 another_line_read : HasPictureLines pic changed (1, piece_of (0x40 ∷ [])) → ⊥
 another_line_read h =
-    (let e = ap (λ (lines : List (List ℕ)). get_or (get_or lines 0 []) 0 0) (h ((15 ∷ []) ∷ []) (inl read_after.fifteen_read)) in omega (arith, e))
+    (let e = ap (λ (lines : List (List ℕ)). get_or (get_or lines 0 []) 0 0) (h ((15 ∷ []) ∷ []) (inl read_after.fifteen_read)) in
+    omega (arith, e))

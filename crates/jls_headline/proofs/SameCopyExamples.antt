@@ -5,11 +5,12 @@ use Rattle.jls_copy.specs.Course.{IsCourse}
 use Rattle.jls_copy.proofs.FinalEnds.{final_ends_stay}
 use Rattle.jls_copy_laws.specs.CopyScans.{HasScans}
 use Rattle.jls_copy_laws.proofs.CopyScans.{course_has_scans}
+use Rattle.jls_copy_laws.proofs.Members.{bytes_of_test}
 use Rattle.jls_salvage_run.specs.CommandLaws.{HaveSameMembers}
 use Rattle.jls_headline.specs.Stations.{IsSameCopy, AreAmong, SameCopies}
 use Rattle.jls_headline.specs.Sources.{SourcedCopy, IsSameUnder, SameCopiesUnder}
 use Rattle.jls_headline.specs.Sources.{sourced_copy}
-use Rattle.jls_headline.proofs.TwoLineCopies.{shape, first, second, lost_first, course_with, second_course, bytes_of_test, second_data}
+use Rattle.jls_headline.proofs.TwoLineCopies.{shape, first, second, lost_first, course_with, second_course, second_data}
 use Rattle.jls_headline.proofs.TwoLineCopies.{second_scans}
 
 -- the second copy, with bytes after EOI
@@ -23,7 +24,8 @@ more_course = final_ends_stay second (1 ∷ 2 ∷ []) (course_with (lost_first �
 -- they are one copy, though other bytes
 more_scans : HasScans second_and_more shape (second_data ∷ [])
 more_scans =
-    course_has_scans second_and_more (course_with (lost_first ∷ []) (0x40 ∷ []) 34) shape (bytes_of_test second_and_more refl) more_course refl
+    course_has_scans second_and_more (course_with (lost_first ∷ []) (0x40 ∷ []) 34) shape
+    (bytes_of_test second_and_more refl) more_course refl
 
 one_copy : IsSameCopy second second_and_more
 one_copy = inr (shape, second_data ∷ [], second_scans, more_scans)
@@ -76,8 +78,11 @@ abbrev also_taken_under : List SourcedCopy
 also_taken_under = sourced_copy (Some 2) second_and_more ∷ sourced_copy (Some 1) first ∷ sourced_copy (Some 1) first ∷ []
 
 among_under : AreAmong IsSameUnder taken_under also_taken_under
-among_under copy (zero, l, e) =
-    (sourced_copy (Some 1) first, (1, lit< tt, refl), (ap (λ (c : SourcedCopy). c.source) (sym e), inl (ap (λ (c : SourcedCopy). c.bytes) (sym e))))
+among_under copy (zero, l, e) = (
+  sourced_copy (Some 1) first,
+  (1, lit< tt, refl),
+  (ap (λ (c : SourcedCopy). c.source) (sym e), inl (ap (λ (c : SourcedCopy). c.bytes) (sym e))),
+)
 among_under copy (suc zero, l, e) = (
   sourced_copy (Some 2) second_and_more,
   (0, lit< tt, refl),
@@ -91,10 +96,16 @@ among_back_under copy (zero, l, e) = (
   (1, lit< tt, refl),
   (ap (λ (c : SourcedCopy). c.source) (sym e), subst (λ (c : SourcedCopy). IsSameCopy c.bytes second) e back_again),
 )
-among_back_under copy (suc zero, l, e) =
-    (sourced_copy (Some 1) first, (0, lit< tt, refl), (ap (λ (c : SourcedCopy). c.source) (sym e), inl (ap (λ (c : SourcedCopy). c.bytes) (sym e))))
-among_back_under copy (suc (suc zero), l, e) =
-    (sourced_copy (Some 1) first, (0, lit< tt, refl), (ap (λ (c : SourcedCopy). c.source) (sym e), inl (ap (λ (c : SourcedCopy). c.bytes) (sym e))))
+among_back_under copy (suc zero, l, e) = (
+  sourced_copy (Some 1) first,
+  (0, lit< tt, refl),
+  (ap (λ (c : SourcedCopy). c.source) (sym e), inl (ap (λ (c : SourcedCopy). c.bytes) (sym e))),
+)
+among_back_under copy (suc (suc zero), l, e) = (
+  sourced_copy (Some 1) first,
+  (0, lit< tt, refl),
+  (ap (λ (c : SourcedCopy). c.source) (sym e), inl (ap (λ (c : SourcedCopy). c.bytes) (sym e))),
+)
 among_back_under copy (suc (suc (suc k)), l, e) = absurd (omega (arith, l))
 
 same_copies_under : SameCopiesUnder taken_under also_taken_under

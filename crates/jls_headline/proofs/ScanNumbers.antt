@@ -7,18 +7,16 @@ use Rattle.jls_marker.specs.Scan.{intervals}
 use Rattle.jls_copy.specs.Numbers.{PieceNumber, Interval, next_number, number_after, given_last, RiseByEightAtMost, mark_before}
 use Rattle.jls_copy.specs.Numbers.{numbers_after}
 use Rattle.jls_copy.specs.Pieces.{value_of}
+use Rattle.jls_copy.proofs.NumbersGiven.{number_given_back}
 use Rattle.jls_copy_laws.specs.CopyScans.{ScanPiece, ScanWithData}
 use Rattle.jls_headline.specs.Damaged.{AreNumbers, numbered_pieces}
 use Rattle.jls_headline.specs.LostIntervalLaws.{NumbersComeBack, NumberedPiecesGive}
 use Rattle.jls_copy_laws.proofs.Members.{is_first, in_rest, none_in, first_or_rest}
 
-given_back : (number next : ℕ) → number < next → next ≤ number + 8 → next_number number (mark_before next) ≡ next
-given_back number next above near = omega arith
-
 -- a mark gives its number
 after_is : (n number next : ℕ) → number < next → next ≤ number + 8 → next < n → number_after n number (mark_before next) ≡ Interval next
 after_is n number next above near low =
-    let back : next_number number (mark_before next) ≡ next = given_back number next above near in
+    let back : next_number number (mark_before next) ≡ next = number_given_back number next above near in
     let under : nat_lt next n ≡ true = grind (arith, nat_tests) in
     rw (back, under) refl
 
@@ -82,7 +80,8 @@ numbered_pieces_give d numbers are r = (
 -- Numbers of intervals -----------------------------------------------------------------------------------------
 
 -- each number is that of an interval, where the first is
-all_low : (n number : ℕ) (numbers : List ℕ) → number < n → RiseByEightAtMost n number numbers → AllByRecursion (λ k. k < n) (number ∷ numbers)
+all_low : (n number : ℕ) (numbers : List ℕ) → number < n → RiseByEightAtMost n number numbers
+    → AllByRecursion (λ k. k < n) (number ∷ numbers)
 all_low n number [] low rise = (low, tt)
 all_low n number (next ∷ numbers) low rise = (low, all_low n next numbers rise.2 rise.3)
 

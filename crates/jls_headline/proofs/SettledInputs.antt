@@ -1,6 +1,7 @@
 -- What is settled, where some input has each line of a picture.
 use Rattle.std.proofs.Common.{◌≡◌, ℕ, zero, suc, ◌<◌, true, List, [], ◌∷◌, length, Option, refl, sym, ap, ◌∙◌, subst, arith, inl, inr}
 use Rattle.std.specs.List.{Contains}
+use Rattle.std.proofs.lemmas.Bool.{or_left, or_right}
 use Rattle.jls_values.specs.OrderedSet as set
 use Rattle.jls_values.specs.OrderedSetLaws.{contains-union}
 use Rattle.jls_values.specs.Join.{join_all, AllOfShape}
@@ -23,7 +24,7 @@ use Rattle.jls_headline.specs.NoOtherLaws.{InputHasLine, SomeInputHasEachLine, S
 use Rattle.jls_headline.specs.Damaged.{picture_reading, Survives}
 use Rattle.jls_headline.specs.ReadsAs.{GivesPicture}
 use Rattle.jls_headline.specs.Stations.{HasShape}
-use Rattle.jls_headline.proofs.Held.{or_first, or_second, is_at_line}
+use Rattle.jls_headline.proofs.Held.{is_at_line}
 use Rattle.jls_headline.proofs.Collected.{no_text}
 use Rattle.jls_headline.proofs.CollectedRuns.{given_holds, all_of_shape}
 use Rattle.jls_headline.proofs.JoinRuns.{scans_are_no_text, one_shape_of}
@@ -48,7 +49,7 @@ held_on : (p : PartialPicture) (ps : List PartialPicture) (r : Reading) → set.
 held_on p [] r h = h
 held_on p (q ∷ qs) r h =
     held_on (union p q) qs r
-    (contains-union reading_total p.readings q.readings r ∙ or_first (set.contains p.readings r) (set.contains q.readings r) h)
+    (contains-union reading_total p.readings q.readings r ∙ or_left (set.contains p.readings r) (set.contains q.readings r) h)
 
 shape_on : (p : PartialPicture) (ps : List PartialPicture) → (join_all union p ps).shape ≡ p.shape
 shape_on p [] = refl
@@ -65,7 +66,7 @@ given_later source p (q ∷ qs) (x ∷ inputs) bytes given shapes (zero, l, e) =
   gives = subst (λ (b : List ℕ). GivesPartial source b q) e given.1;
   shape_is = sym (one_shape p.shape q.shape shapes.0) ∙ sym (shape_on (union p q) qs);
   held = λ r h. held_on (union p q) qs r
-      (contains-union reading_total p.readings q.readings r ∙ or_second (set.contains p.readings r) (set.contains q.readings r) h);
+      (contains-union reading_total p.readings q.readings r ∙ or_right (set.contains p.readings r) (set.contains q.readings r) h);
 }
 given_later source p (q ∷ qs) (x ∷ inputs) bytes given shapes (suc k, l, e) =
     given_later source (union p q) qs inputs bytes given.2 (all_of_shape p (union p q) refl qs shapes.1) (k, omega (arith, l), e)
@@ -100,7 +101,8 @@ module _ (pic : WholePicture) (source : Option ℕ) (bytes : List ℕ) (joined :
       let shape : HasShape is.partial.shape bytes = h.are_copies.0 in (
         sym is.shape_is ∙ one_shape_of bytes is.partial.shape pic.shape shape (s.0, s.1),
         is.held (picture_reading pic component line)
-            ((h.readings (picture_reading pic component line)).1 (bytes, is_first bytes [], surviving_lines_are_given pic bytes component line s)),
+            ((h.readings (picture_reading pic component line)).1
+            (bytes, is_first bytes [], surviving_lines_are_given pic bytes component line s)),
       )
 
   text_held : (p : PartialPicture) → IsTextOf bytes p → p.shape ≡ pic.shape
@@ -143,5 +145,6 @@ settled_joins_are_the_picture source out names joined whole events h pic is each
     let given = inputs_of_join source out names joined true whole events h in
     let gives : GivesPicture joined pic =
     settled_is_the_picture pic is source (input_bytes events) joined
-    (λ bytes c. is_joined source (partials h.taken.givens) joined (input_bytes events) bytes given h.taken.taken.one_shape h.taken.union_is c) each (h.settled_is.0 refl) in
+    (λ bytes c. is_joined source (partials h.taken.givens) joined
+    (input_bytes events) bytes given h.taken.taken.one_shape h.taken.union_is c) each (h.settled_is.0 refl) in
     (gives, files_read_as joined pic is gives.1, output_of_join source out names joined true whole events h)

@@ -65,7 +65,8 @@ marks_of_readings source rs m = (there, back)
     there h =
         let from = of_map (with_number source) (set.items rs) m (reported.0 h) in (
           ap (λ (x : Mark). x.1) from.2,
-          subst (λ (r : Reading). set.contains rs r ≡ true) (ap (λ (x : Mark). x.0) from.2) ((set_holds_items reading_total reading_exact rs from.0).1 from.1),
+          subst (λ (r : Reading). set.contains rs r ≡ true) (ap (λ (x : Mark). x.0) from.2)
+              ((set_holds_items reading_total reading_exact rs from.0).1 from.1),
         )
 
     back : (source ≡ m.1) × (set.contains rs m.0 ≡ true)
@@ -88,7 +89,9 @@ with_those source rs marks = set.insert_all marks (map (with_number source) (set
 marks_of_copy : (source : Option ℕ) (bytes : List ℕ) (read : ReadCopy) → AllByRecursion (λ b. b < 256) bytes → CopyReads bytes read
     → (m : Mark) → (is_marked (marked source read.partial) m ≡ true) ↔ ((source ≡ Some m.1) × GivesReading bytes m.0)
 marks_of_copy None bytes read low reads m = (
-  λ h. (let none : false ≡ true = sym (contains-empty (mark_cmp reading_cmp) m) ∙ subst (λ (ms : set.OrderedSet (mark_cmp reading_cmp)). set.contains ms m ≡ true) (unmarked bytes read reads) h in absurd cc),
+  λ h.
+      (let none : false ≡ true = sym (contains-empty (mark_cmp reading_cmp) m)
+      ∙ subst (λ (ms : set.OrderedSet (mark_cmp reading_cmp)). set.contains ms m ≡ true) (unmarked bytes read reads) h in absurd cc),
   λ g. (let none = g.0 in absurd cc),
 )
 marks_of_copy (Some source) bytes read low reads m = (there, back)
@@ -112,16 +115,21 @@ pub copy_holds_under : (copy : SourcedCopy) (read : ReadCopy) → AllByRecursion
 copy_holds_under copy read low reads = record {
   readings = copy_holds (marked copy.source read.partial) copy.bytes read low reads
       (marked_shape copy.source read.partial) (marked_readings copy.source read.partial);
-  sources = λ r source. one_exactly GivesMark is_marked union_marked (marked copy.source read.partial) copy (marks_of_copy copy.source copy.bytes read low reads) (r, source);
+  sources = λ r source. one_exactly GivesMark is_marked union_marked (marked copy.source read.partial) copy
+      (marks_of_copy copy.source copy.bytes read low reads) (r, source);
 }
 
 -- The same copies ----------------------------------------------------------------------------------------------
 
-pub among_aside : (copies others : List SourcedCopy) → AreAmong IsSameUnder copies others → AreAmong IsSameCopy (copies_of copies) (copies_of others)
+pub among_aside : (copies others : List SourcedCopy) → AreAmong IsSameUnder copies others
+    → AreAmong IsSameCopy (copies_of copies) (copies_of others)
 among_aside copies others among bytes c =
     let from = of_map (λ (copy : SourcedCopy). copy.bytes) copies bytes c in
-    let there = among from.0 from.1 in
-    (there.0.bytes, in_map (λ (copy : SourcedCopy). copy.bytes) others there.0 there.1, subst (λ x. IsSameCopy x there.0.bytes) from.2 there.2.1)
+    let there = among from.0 from.1 in (
+      there.0.bytes,
+      in_map (λ (copy : SourcedCopy). copy.bytes) others there.0 there.1,
+      subst (λ x. IsSameCopy x there.0.bytes) from.2 there.2.1,
+    )
 
 -- what copies give under sources, the same copies give under the same
 pub among_mark : (copies others : List SourcedCopy) → AreAmong IsSameUnder copies others → (m : Mark)
@@ -135,7 +143,8 @@ pub same_under : (station other : PartialPicture) (copies others : List SourcedC
     → HoldsExactlyUnder other others
     → station.shape ≡ other.shape → AreAmong IsSameUnder copies others → AreAmong IsSameUnder others copies → station ≡ other
 same_under station other copies others h k shape among back =
-    let readings = same_readings station other (copies_of copies) (copies_of others) h.readings k.readings (among_aside copies others among) (among_aside others copies back) in
+    let readings = same_readings station other (copies_of copies) (copies_of others) h.readings k.readings (among_aside copies others among)
+    (among_aside others copies back) in
     let marks = same_set marks_total marks_exact station.marks other.marks (λ m. both_ways (is_marked station m) (is_marked other m)
     (λ x. (k.sources m.0 m.1).1 (among_mark copies others among m ((h.sources m.0 m.1).0 x)))
     (λ x. (h.sources m.0 m.1).1 (among_mark others copies back m ((k.sources m.0 m.1).0 x)))) in

@@ -15,11 +15,12 @@ use Rattle.jls_write.specs.Picture.{WholePicture}
 use Rattle.jls_copy_laws.specs.CopyScans.{ScanWithData, HasScans}
 use Rattle.jls_copy_laws.specs.Gives.{GivesReading}
 use Rattle.jls_copy_laws.proofs.CopyScans.{course_has_scans}
+use Rattle.jls_copy_laws.proofs.Members.{bytes_of_test}
 use Rattle.jls_headline.specs.Damaged.{AreNumbers, Damaged, Survives}
 use Rattle.jls_headline.specs.Trimmed.{whole, TrimmedCopy}
 use Rattle.jls_headline.proofs.LostIntervals.{damaged_copies_give_no_other}
 use Rattle.jls_headline.proofs.Trims.{trimmed_copies_are_damaged}
-use Rattle.jls_headline.proofs.TwoLineCopies.{bits_8, scan_payload, bytes_of_test, piece_of, pieces_read}
+use Rattle.jls_headline.proofs.TwoLineCopies.{bits_8, scan_payload, piece_of, pieces_read}
 
 abbrev shape : PictureShape
 shape = record { precision = 8; width = 1; height = 10; ids = 1 ∷ [] }

@@ -34,7 +34,8 @@ rows_of_placed components (line ∷ lines) row place (suc n) low few r c =
         | inl e ↦ (
             let full : place + 1 ≡ length components = eqb-true (place + 1) (length components) e in
             let more : suc n * length components ≡ n * length components + length components = omega arith in
-            let rest = rows_of_placed components lines (row + 1) 0 n (omega (arith, low)) (omega (arith, few, full, more)) r (subst (λ (b : Bool). Contains (placed components (cond b (row + 1) row) (cond b 0 (place + 1)) lines) r) e later) in
+            let rest = rows_of_placed components lines (row + 1) 0 n (omega (arith, low)) (omega (arith, few, full, more)) r
+            (subst (λ (b : Bool). Contains (placed components (cond b (row + 1) row) (cond b 0 (place + 1)) lines) r) e later) in
             (omega (arith, rest.0), omega (arith, rest.1)))
         | inr e ↦ (
             rows_of_placed components lines row (place + 1) (suc n) (next e) (omega (arith, few)) r
@@ -60,8 +61,10 @@ few_lines s k piece lines (inr (cut, inl (whole, inl (code, first)))) =
     let parts : length code.lines ≡ length lines + length first.begins.others =
     ap length first.begins.lines_are ∙ length-append lines first.begins.others in
     omega (arith, all, parts)
-few_lines s k piece lines (inr (cut, inl (whole, inr (none, e)))) = subst (λ (xs : List (List ℕ)). length xs ≤ row_count s k * length s.components) (sym e) (omega arith)
-few_lines s k piece lines (inr (cut, inr (broken, e))) = subst (λ (xs : List (List ℕ)). length xs ≤ row_count s k * length s.components) (sym e) (omega arith)
+few_lines s k piece lines (inr (cut, inl (whole, inr (none, e)))) =
+    subst (λ (xs : List (List ℕ)). length xs ≤ row_count s k * length s.components) (sym e) (omega arith)
+few_lines s k piece lines (inr (cut, inr (broken, e))) =
+    subst (λ (xs : List (List ℕ)). length xs ≤ row_count s k * length s.components) (sym e) (omega arith)
 
 -- so what it gives is of rows of the interval
 rows_of_piece : (s : Scan) (k : ℕ) (piece : ScanPiece) (r : Reading) → 1 ≤ length s.components → PieceGives s k piece r → HasRow s k r.line
@@ -93,6 +96,7 @@ trimmed_at_is_damaged_at pic component line copy (scans, has, each) = (
   scans,
   has,
   all_from (DamagedScanAt pic component line) scans (λ d c.
-      scan_at pic component line d (all_at (λ d. IsScanUnder pic.shape d.scan) scans d (scans_are_of_the_frame copy pic.shape scans has).1 c)
+      scan_at pic component line d
+      (all_at (λ d. IsScanUnder pic.shape d.scan) scans d (scans_are_of_the_frame copy pic.shape scans has).1 c)
       (all_at (TrimmedScanAt pic line) scans d each c)),
 )

@@ -43,24 +43,30 @@ own_prefix (y ∷ ys) zs = ap (λ t. y ∷ t) (own_prefix ys zs)
 
 module _ (p : CodingParameters) (ok : AreCodingParameters p) (w c n : ℕ) (some : 0 < w) where
   -- bytes, and the same with more after them, read as the same lines
-  same_prefix : (bytes more : List ℕ) (xs ys : List (List ℕ)) → Reads (interval_shape p w c n) bytes xs → Reads (interval_shape p w c n) (bytes ++ more) ys → xs ≡ ys
+  same_prefix : (bytes more : List ℕ) (xs ys : List (List ℕ)) → Reads (interval_shape p w c n) bytes xs
+      → Reads (interval_shape p w c n) (bytes ++ more) ys → xs ≡ ys
   same_prefix bytes more xs ys a b =
       let rest : List Bool = bits_read_after (last_after 0 bytes) more in
       let e : code p w c ys ++ b.unread ≡ (code p w c xs ++ a.unread) ++ rest =
       sym b.begins.data_bits.read ∙ data_append 0 bytes more a.begins.data_bits.whole ∙ ap (λ z. z ++ rest) a.begins.data_bits.read in
-      sym (codes_apart p w c n ok some ys xs b.unread (a.unread ++ rest) b.begins.are_lines a.begins.are_lines (e ∙ append_assoc (code p w c xs) a.unread rest)).0
+      sym
+      (codes_apart p w c n ok some ys xs b.unread (a.unread ++ rest) b.begins.are_lines a.begins.are_lines
+      (e ∙ append_assoc (code p w c xs) a.unread rest)).0
 
-  trimmed_reads : (bytes piece : List ℕ) (xs ys : List (List ℕ)) → Trimmed bytes piece → Reads (interval_shape p w c n) bytes xs → Reads (interval_shape p w c n) piece ys
+  trimmed_reads : (bytes piece : List ℕ) (xs ys : List (List ℕ)) → Trimmed bytes piece → Reads (interval_shape p w c n) bytes xs
+      → Reads (interval_shape p w c n) piece ys
       → ys ≡ xs
   trimmed_reads _ _ xs ys (whole bytes) a b = reads_once p ok w c n some bytes ys xs b a
   trimmed_reads _ _ xs ys (prefix piece lost) a b = same_prefix piece lost ys xs b a
   trimmed_reads _ _ xs ys (longer bytes first more) a b = sym (same_prefix bytes (first ∷ more) xs ys a b)
 
   -- Bits that are a whole code, and perhaps more, lack none of any code
-  none_missing : (given t : List Bool) (xs : List (List ℕ)) → AreLines p w n xs → given ≡ code p w c xs ++ t → IsCutCode (interval_shape p w c n) given → ⊥
+  none_missing : (given t : List Bool) (xs : List (List ℕ)) → AreLines p w n xs → given ≡ code p w c xs ++ t
+      → IsCutCode (interval_shape p w c n) given → ⊥
   none_missing given t xs are e cut =
       let more = cut.missing ∷ cut.more_missing in
-      let both : code p w c xs ++ (t ++ more) ≡ code p w c cut.lines ++ [] = sym (append_assoc (code p w c xs) t more) ∙ ap (λ z. z ++ more) (sym e) ∙ cut.code_is ∙ sym (append-nil (code p w c cut.lines)) in
+      let both : code p w c xs ++ (t ++ more) ≡ code p w c cut.lines ++ [] = sym (append_assoc (code p w c xs) t more)
+      ∙ ap (λ z. z ++ more) (sym e) ∙ cut.code_is ∙ sym (append-nil (code p w c cut.lines)) in
       nothing_is t cut.missing cut.more_missing (codes_apart p w c n ok some xs cut.lines (t ++ more) [] are cut.are_lines both).1
 
   abbrev Lacks : List Bool → List (List ℕ) → Type 0
@@ -73,7 +79,8 @@ module _ (p : CodingParameters) (ok : AreCodingParameters p) (w c n : ℕ) (some
   cut_in_own _ _ xs (longer bytes first more) a cut =
       let rest = bits_read_after (last_after 0 bytes) (first ∷ more) in
       absurd (none_missing (bits_read (bytes ++ first ∷ more)) (a.unread ++ rest) xs a.begins.are_lines
-      (data_append 0 bytes (first ∷ more) a.begins.data_bits.whole ∙ ap (λ z. z ++ rest) a.begins.data_bits.read ∙ append_assoc (code p w c xs) a.unread rest) cut)
+      (data_append 0 bytes (first ∷ more) a.begins.data_bits.whole ∙ ap (λ z. z ++ rest) a.begins.data_bits.read
+      ∙ append_assoc (code p w c xs) a.unread rest) cut)
   cut_in_own _ _ xs (prefix piece lost) a cut =
       let rest = bits_read_after (last_after 0 piece) lost in
       let own = (whole_prefix 0 piece lost a.begins.data_bits.whole).0 in
@@ -81,7 +88,8 @@ module _ (p : CodingParameters) (ok : AreCodingParameters p) (w c n : ℕ) (some
       by_length rest (one_begins (bits_read piece) rest (code p w c xs) a.unread both)
     where
       by_length : (rest : List Bool) → ((t : List Bool) × (bits_read piece ≡ code p w c xs ++ t) × (t ++ rest ≡ a.unread))
-          ⊎ ((t : List Bool) × (b : Bool) × (code p w c xs ≡ bits_read piece ++ (b ∷ t)) × (rest ≡ (b ∷ t) ++ a.unread)) → Lacks (bits_read piece) xs
+          ⊎ ((t : List Bool) × (b : Bool) × (code p w c xs ≡ bits_read piece ++ (b ∷ t)) × (rest ≡ (b ∷ t) ++ a.unread))
+          → Lacks (bits_read piece) xs
       by_length rest (inl t) = absurd (none_missing (bits_read piece) t.0 xs a.begins.are_lines t.1 cut)
       by_length rest (inr t) = (t.1, t.0, sym t.2)
 
@@ -90,20 +98,25 @@ module _ (p : CodingParameters) (ok : AreCodingParameters p) (w c n : ℕ) (some
   own_cut given xs are l = record { lines = xs; are_lines = are; missing = l.0; more_missing = l.1; code_is = l.2 }
 
   -- the first of lines in whose code bits are cut are the first of all such lines
-  first_of_others : (given : List Bool) (a b : IsCutCode (interval_shape p w c n) given) (xs : List (List ℕ)) → BeginsWithFirst (interval_shape p w c n) given b.lines xs
+  first_of_others : (given : List Bool) (a b : IsCutCode (interval_shape p w c n) given) (xs : List (List ℕ))
+      → BeginsWithFirst (interval_shape p w c n) given b.lines xs
       → BeginsWithFirst (interval_shape p w c n) given a.lines xs
   first_of_others given a b xs f =
-      let l = length-append xs f.others in let l1 = ap length f.lines_are in let l2 = b.are_lines.count_is in let l3 = a.are_lines.count_is in
+      let l = length-append xs f.others in let l1 = ap length f.lines_are in let l2 = b.are_lines.count_is in
+      let l3 = a.are_lines.count_is in
       let t = first_lines (length xs) a.lines (omega (arith, l, l1, l2, l3)) in
       let more = a.missing ∷ a.more_missing in
       let parts = code_parts p w c t.0 t.1 in
-      let bits_are : code p w c xs ++ (f.unread ++ more) ≡ code p w c t.0 ++ parts.0 = sym (append_assoc (code p w c xs) f.unread more) ∙ ap (λ v. v ++ more) (sym f.given_is) ∙ a.code_is ∙ ap (code p w c) t.2 ∙ parts.1 in
+      let bits_are : code p w c xs ++ (f.unread ++ more) ≡ code p w c t.0 ++ parts.0 = sym (append_assoc (code p w c xs) f.unread more)
+      ∙ ap (λ v. v ++ more) (sym f.given_is) ∙ a.code_is ∙ ap (code p w c) t.2 ∙ parts.1 in
       let wide : AreLines p w (length xs) t.0 = subst (λ k. AreLines p w k t.0) t.3 (prefix_lines p w n a.lines t.0 t.1 a.are_lines t.2) in
-      let same = codes_apart p w c (length xs) ok some xs t.0 (f.unread ++ more) parts.0 (prefix_lines p w n b.lines xs f.others b.are_lines f.lines_are) wide bits_are in
+      let same = codes_apart p w c (length xs) ok some xs t.0 (f.unread ++ more) parts.0
+      (prefix_lines p w n b.lines xs f.others b.are_lines f.lines_are) wide bits_are in
       record { others = t.1; lines_are = t.2 ∙ ap (λ v. v ++ t.1) (sym same.0); unread = f.unread; given_is = f.given_is }
 
   -- the head of bits that lack a bit of these lines' code is those of them that stand whole
-  whole_lines : (given : List Bool) (xs head : List (List ℕ)) → AreLines p w n xs → Lacks given xs → IsHead (interval_shape p w c n) given head
+  whole_lines : (given : List Bool) (xs head : List (List ℕ)) → AreLines p w n xs → Lacks given xs
+      → IsHead (interval_shape p w c n) given head
       → AreWholeLines (interval_shape p w c n) given xs head
   unfolding own_cut
   whole_lines given xs head are l (inl (cut, f)) = record {
@@ -120,7 +133,8 @@ module _ (p : CodingParameters) (ok : AreCodingParameters p) (w c n : ℕ) (some
   lacking_is_whole _ _ xs (longer bytes first more) a l =
       let rest = bits_read_after (last_after 0 bytes) (first ∷ more) in
       absurd (none_missing (bits_read (bytes ++ first ∷ more)) (a.unread ++ rest) xs a.begins.are_lines
-      (data_append 0 bytes (first ∷ more) a.begins.data_bits.whole ∙ ap (λ z. z ++ rest) a.begins.data_bits.read ∙ append_assoc (code p w c xs) a.unread rest)
+      (data_append 0 bytes (first ∷ more) a.begins.data_bits.whole ∙ ap (λ z. z ++ rest) a.begins.data_bits.read
+      ∙ append_assoc (code p w c xs) a.unread rest)
       (own_cut (bits_read (bytes ++ first ∷ more)) xs a.begins.are_lines l))
 
   module _ (bytes piece : List ℕ) (xs : List (List ℕ)) (trim : Trimmed bytes piece) (a : Reads (interval_shape p w c n) bytes xs) where
@@ -145,12 +159,15 @@ module _ (p : CodingParameters) (ok : AreCodingParameters p) (w c n : ℕ) (some
 
 pub trimmed_pieces_are_harmless : TrimmedPiecesAreHarmless
 trimmed_pieces_are_harmless pic s k piece is t lines reads =
-    trimmed_reads s.params is.params s.width (length s.components) (row_count s k * length s.components) is.width_at_least t.bytes piece (interval_lines pic s k) lines t.trimmed t.reads reads
+    trimmed_reads s.params is.params s.width (length s.components) (row_count s k * length s.components) is.width_at_least t.bytes piece
+    (interval_lines pic s k) lines t.trimmed t.reads reads
 
 pub trimmed_pieces_have_heads : TrimmedPiecesHaveHeads
 trimmed_pieces_have_heads pic s k piece is t head h = (
-  λ l. head_there s.params is.params s.width (length s.components) (row_count s k * length s.components) is.width_at_least t.bytes piece (interval_lines pic s k) t.trimmed t.reads head h (l.missing, l.more_missing, l.code_is),
-  λ lacks_none. head_none s.params is.params s.width (length s.components) (row_count s k * length s.components) is.width_at_least t.bytes piece (interval_lines pic s k) t.trimmed t.reads head h
+  λ l. head_there s.params is.params s.width (length s.components) (row_count s k * length s.components) is.width_at_least t.bytes piece
+      (interval_lines pic s k) t.trimmed t.reads head h (l.missing, l.more_missing, l.code_is),
+  λ lacks_none. head_none s.params is.params s.width (length s.components)
+      (row_count s k * length s.components) is.width_at_least t.bytes piece (interval_lines pic s k) t.trimmed t.reads head h
       (λ l. lacks_none (record { missing = l.0; more_missing = l.1; code_is = l.2 })),
 )
 
@@ -163,7 +180,8 @@ trimmed_pieces_have_picture_lines pic s k piece is t lines (inl reads) =
     let e : lines ≡ interval_lines pic s k = trimmed_pieces_are_harmless pic s k piece.bytes is t lines reads in
     sym (all_taken lines) ∙ ap (take (length lines)) e
 trimmed_pieces_have_picture_lines pic s k piece is t lines (inr (cut, head)) =
-    head_of_these s.params is.params s.width (length s.components) (row_count s k * length s.components) is.width_at_least t.bytes piece.bytes (interval_lines pic s k) t.trimmed t.reads lines head
+    head_of_these s.params is.params s.width (length s.components)
+    (row_count s k * length s.components) is.width_at_least t.bytes piece.bytes (interval_lines pic s k) t.trimmed t.reads lines head
 
 -- Copies ---------------------------------------------------------------------------------------------------------
 

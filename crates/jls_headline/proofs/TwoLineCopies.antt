@@ -1,8 +1,5 @@
 -- A picture of two lines, and copies of it as bytes: their courses, their scans, and what their pieces read as.
-use Rattle.std.proofs.Common.{◌≡◌, ℕ, ◌<◌, true, false, List, [], ◌∷◌, ◌++◌, replicate, Some, refl, lit<, lit≤, arith}
-use Rattle.std.specs.Prelude.{nat_lt}
-use Rattle.std.specs.List.{AllByRecursion, list_all}
-use Rattle.std.proofs.lemmas.Bool.{and_parts, ltb-true}
+use Rattle.std.proofs.Common.{◌≡◌, ℕ, false, List, [], ◌∷◌, ◌++◌, replicate, Some, refl, lit<, lit≤, arith}
 use Rattle.jls_values.specs.Shape.{PictureShape}
 use Rattle.jls_values.specs.Params.{CodingParameters, AreCodingParameters, least_from}
 use Rattle.jls_bits.specs.Bits.{bits, width_after, bits_read_after, ends_data, is_whole_after}
@@ -29,6 +26,7 @@ use Rattle.jls_copy.specs.declared.end.End.TheVariants.{Eoi}
 use Rattle.jls_write.specs.Picture.{WholePicture}
 use Rattle.jls_copy_laws.specs.CopyScans.{ScanPiece, ScanWithData, HasScans}
 use Rattle.jls_copy_laws.proofs.CopyScans.{course_has_scans}
+use Rattle.jls_copy_laws.proofs.Members.{bytes_of_test}
 use Rattle.jls_write.specs.WholePictures.{IsPicture}
 
 -- The picture ----------------------------------------------------------------------------------------------------
@@ -109,13 +107,13 @@ second = copy_with (0xFF ∷ 0xD0 ∷ 0x40 ∷ [])
 abbrev pub third : List ℕ
 third = copy_with (0x50 ∷ [])
 
-abbrev framed : HeaderState
+abbrev pub framed : HeaderState
 framed = record no_headers { frame = Some shape }
 
-abbrev restarting : HeaderState
+abbrev pub restarting : HeaderState
 restarting = record framed { restart_interval = 1 }
 
-abbrev final : HeaderState
+abbrev pub final : HeaderState
 final = record restarting { scans = 1 }
 
 abbrev units_with : List ClosedPiece → List ℕ → List CopyUnit
@@ -146,7 +144,13 @@ first_course =
           final,
           0xFF ∷ 0xD9 ∷ [],
           refl,
-          ((refl, lit< tt), refl, tt, (λ (h : 0x80 ≡ 0xFF). omega (arith, h)), record { fill = 0; code = 0xD9; following = []; bytes_are = refl; ends = refl }),
+          (
+            (refl, lit< tt),
+            refl,
+            tt,
+            (λ (h : 0x80 ≡ 0xFF). omega (arith, h)),
+            record { fill = 0; code = 0xD9; following = []; bytes_are = refl; ends = refl },
+          ),
           (refl, for_good final 32 (0xFF ∷ 0xD9 ∷ []) (Eoi 32) (at_eoi final 32 0 [] refl)),
         ),
       ),
@@ -169,7 +173,13 @@ second_course =
           final,
           0xFF ∷ 0xD9 ∷ [],
           refl,
-          ((refl, lit< tt), refl, ((tt, lit< tt), tt), (λ (h : 0x40 ≡ 0xFF). omega (arith, h)), record { fill = 0; code = 0xD9; following = []; bytes_are = refl; ends = refl }),
+          (
+            (refl, lit< tt),
+            refl,
+            ((tt, lit< tt), tt),
+            (λ (h : 0x40 ≡ 0xFF). omega (arith, h)),
+            record { fill = 0; code = 0xD9; following = []; bytes_are = refl; ends = refl },
+          ),
           (refl, for_good final 34 (0xFF ∷ 0xD9 ∷ []) (Eoi 34) (at_eoi final 34 0 [] refl)),
         ),
       ),
@@ -192,16 +202,17 @@ third_course =
           final,
           0xFF ∷ 0xD9 ∷ [],
           refl,
-          ((refl, lit< tt), refl, tt, (λ (h : 0x50 ≡ 0xFF). omega (arith, h)), record { fill = 0; code = 0xD9; following = []; bytes_are = refl; ends = refl }),
+          (
+            (refl, lit< tt),
+            refl,
+            tt,
+            (λ (h : 0x50 ≡ 0xFF). omega (arith, h)),
+            record { fill = 0; code = 0xD9; following = []; bytes_are = refl; ends = refl },
+          ),
           (refl, for_good final 32 (0xFF ∷ 0xD9 ∷ []) (Eoi 32) (at_eoi final 32 0 [] refl)),
         ),
       ),
     )
-
--- a list of numbers that pass the test are bytes
-pub bytes_of_test : (bytes : List ℕ) → list_all (λ b. nat_lt b 256) bytes ≡ true → AllByRecursion (λ b. b < 256) bytes
-bytes_of_test [] e = tt
-bytes_of_test (b ∷ bytes) e = let p = and_parts (nat_lt b 256) (list_all (λ c. nat_lt c 256) bytes) e in (ltb-true _ _ p.0, bytes_of_test bytes p.1)
 
 -- so they have these scans
 abbrev pub piece_of : List ℕ → ScanPiece
@@ -238,21 +249,38 @@ pub record PiecesRead : Type 0 where
   pub one_read : Reads (interval_shape bits_8 1 1 1) (0x50 ∷ []) ((1 ∷ []) ∷ [])
 
 pub pieces_read : PiecesRead
-unfolding least_from bits width_after golomb quantized_gradient is_negative context modulo_reduced corrected_prediction golomb_k updated run_updated events_from events_after cell_before run_cell_before block_columns full_blocks blocks run_index_before event_bits bits_of_events code bits_read_after is_whole_after ends_data
+unfolding least_from bits width_after golomb quantized_gradient is_negative context modulo_reduced corrected_prediction golomb_k updated
+    run_updated events_from events_after cell_before run_cell_before block_columns full_blocks blocks run_index_before event_bits
+    bits_of_events code bits_read_after is_whole_after ends_data
 pieces_read = record {
   zero_read = record {
     unread = replicate 7 false;
-    begins = record { are_bytes = (lit< tt, tt); are_lines = record { count_is = refl; each = ((refl, (lit≤ tt, tt)), tt) }; data_bits = record { whole = refl; read = refl } };
+    begins =
+        record {
+          are_bytes = (lit< tt, tt);
+          are_lines = record { count_is = refl; each = ((refl, (lit≤ tt, tt)), tt) };
+          data_bits = record { whole = refl; read = refl };
+        };
     at_most_seven = lit≤ tt;
   };
   largest_read = record {
     unread = replicate 4 false;
-    begins = record { are_bytes = (lit< tt, tt); are_lines = record { count_is = refl; each = ((refl, (lit≤ tt, tt)), tt) }; data_bits = record { whole = refl; read = refl } };
+    begins =
+        record {
+          are_bytes = (lit< tt, tt);
+          are_lines = record { count_is = refl; each = ((refl, (lit≤ tt, tt)), tt) };
+          data_bits = record { whole = refl; read = refl };
+        };
     at_most_seven = lit≤ tt;
   };
   one_read = record {
     unread = replicate 4 false;
-    begins = record { are_bytes = (lit< tt, tt); are_lines = record { count_is = refl; each = ((refl, (lit≤ tt, tt)), tt) }; data_bits = record { whole = refl; read = refl } };
+    begins =
+        record {
+          are_bytes = (lit< tt, tt);
+          are_lines = record { count_is = refl; each = ((refl, (lit≤ tt, tt)), tt) };
+          data_bits = record { whole = refl; read = refl };
+        };
     at_most_seven = lit≤ tt;
   };
 }

@@ -129,13 +129,16 @@ piece_has_no_line_1 (lines, inr (cut, head), c) = absurd cc
 scan_has_no_line_1 : ScanGives first_data (picture_reading pic 0 1) → ⊥
 scan_has_no_line_1 (k, piece, c, gives) =
     elim (first_or_rest (Interval k, piece) (Interval 0, piece_of (0x80 ∷ [])) [] c) [
-      | inl e ↦ piece_has_no_line_1 (subst (λ (x : PieceNumber × ScanPiece). PieceGives plan (value_of x.0) x.1 (picture_reading pic 0 1)) (sym e) gives)
+      | inl e ↦
+          piece_has_no_line_1
+          (subst (λ (x : PieceNumber × ScanPiece). PieceGives plan (value_of x.0) x.1 (picture_reading pic 0 1)) (sym e) gives)
       | inr later ↦ none_in (Interval k, piece) later
     ]
 
 pub line_1_is_lost : Survives pic first 0 1 → ⊥
 line_1_is_lost survives =
-    let g = given_by_scan first shape (first_data ∷ []) first_scans (picture_reading pic 0 1) (surviving_lines_are_given pic first 0 1 survives) in
+    let g = given_by_scan first shape (first_data ∷ []) first_scans (picture_reading pic 0 1)
+    (surviving_lines_are_given pic first 0 1 survives) in
     elim (first_or_rest g.0 first_data [] g.1) [
       | inl e ↦ scan_has_no_line_1 (subst (λ (d : ScanWithData). ScanGives d (picture_reading pic 0 1)) (sym e) g.2)
       | inr later ↦ none_in g.0 later

@@ -3,10 +3,11 @@ use Rattle.std.proofs.Common.{◌≡◌, Bool, true, List, [], ◌∷◌, ◌++�
 use Rattle.std.specs.Prelude.{◌||◌, ◌↔◌}
 use Rattle.std.specs.List.{Contains}
 use Rattle.std.proofs.lemmas.List.Elements.{Contains-append_left, Contains-append_right, Contains-append_cases}
+use Rattle.std.proofs.lemmas.Bool.{or_left, or_right}
 use Rattle.jls_values.specs.Join.{IsBetween}
 use Rattle.jls_partial.specs.Partial.{PartialPicture, union}
+use Rattle.jls_partial.proofs.Unions.{either}
 use Rattle.jls_copy_laws.proofs.Members.{is_first, first_or_rest, none_in}
-use Rattle.jls_headline.proofs.Held.{either, or_first, or_second}
 
 -- copies give items of this kind, and this tells which of them a partial picture holds; a union holds those of both
 module _ {C M : Type 0} (Gives : C → M → Type 0) (contains : PartialPicture → M → Bool)
@@ -24,10 +25,10 @@ module _ {C M : Type 0} (Gives : C → M → Type 0) (contains : PartialPicture 
 
   -- what a union has
   left_has : (p q : PartialPicture) (m : M) → has p m → has (union p q) m
-  left_has p q m h = union_contains p q m ∙ or_first (contains p m) (contains q m) h
+  left_has p q m h = union_contains p q m ∙ or_left (contains p m) (contains q m) h
 
   right_has : (p q : PartialPicture) (m : M) → has q m → has (union p q) m
-  right_has p q m h = union_contains p q m ∙ or_second (contains p m) (contains q m) h
+  right_has p q m h = union_contains p q m ∙ or_right (contains p m) (contains q m) h
 
   one_has : (Claim : Type 0) (p q : PartialPicture) (m : M) → (has p m → Claim) → (has q m → Claim) → has (union p q) m → Claim
   one_has Claim p q m f g h = either Claim (contains p m) (contains q m) f g (sym (union_contains p q m) ∙ h)
@@ -93,7 +94,8 @@ module _ {C M : Type 0} (Gives : C → M → Type 0) (contains : PartialPicture 
 
   pub between_only : (p q new : PartialPicture) → IsBetween union p new (union p q) → (m : M) → has new m → has p m ⊎ has q m
   between_only p q new between m x =
-      one_has (has p m ⊎ has q m) p q m (λ s. inl s) (λ t. inr t) (subst (λ (z : PartialPicture). has z m) between.1 (left_has new (union p q) m x))
+      one_has (has p m ⊎ has q m) p q m (λ s. inl s) (λ t. inr t)
+      (subst (λ (z : PartialPicture). has z m) between.1 (left_has new (union p q) m x))
 
   -- memory may have run out over more
   pub over_more : (p : PartialPicture) (copies over more : List C) → Holds p copies over → Holds p copies (over ++ more)

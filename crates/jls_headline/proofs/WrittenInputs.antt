@@ -31,7 +31,8 @@ written_picture f events did pic is each =
 
     joined : (bytes : List ℕ) → Contains (input_bytes events) bytes → IsJoined None bytes did.g.partial
     joined bytes c =
-        let among : Contains (did.is_taken.give.bytes ∷ []) bytes = subst (λ (inputs : List (List ℕ)). Contains inputs bytes) did.bytes_are c in
+        let among : Contains (did.is_taken.give.bytes ∷ []) bytes =
+        subst (λ (inputs : List (List ℕ)). Contains inputs bytes) did.bytes_are c in
         elim (first_or_rest bytes did.is_taken.give.bytes [] among) [
           | inl e ↦ subst (λ (b : List ℕ). IsJoined None b did.g.partial) e own
           | inr later ↦ absurd (none_in bytes later)

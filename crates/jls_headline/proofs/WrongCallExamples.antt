@@ -1,6 +1,6 @@
--- What wrong calls would come to: a station that keeps the first reading of each line only, one that drops a copy, one that takes a line of a
--- copy that it refuses, one that forgets a source, and a file without its last interval. None is what the laws say. So no proof of them
--- could stand if the contract of such a call, and the step of the history, allowed it.
+-- What wrong calls would come to: a station that keeps the first reading of each line only, one that drops a copy, one that takes a line
+-- of a copy that it refuses, one that forgets a source, and a file without its last interval. None is what the laws say. So no proof of
+-- them could stand if the contract of such a call, and the step of the history, allowed it.
 use Rattle.std.proofs.Common.{◌≡◌, ℕ, true, false, List, [], ◌∷◌, ◌++◌, ◌<◌, Option, Some, refl, sym, subst, ◌∙◌, lit<}
 use Rattle.std.specs.List.{AllByRecursion}
 use Rattle.std.proofs.lemmas.List.{append-nil}
@@ -42,7 +42,8 @@ keeps_the_second_alone p holds none =
 -- nor is a new station after the first copy
 drops_the_copy : HoldsExactly (nothing_known shape) (first ∷ []) → ⊥
 drops_the_copy holds =
-    not_one (nothing_known shape) own ((holds.readings own).1 (first, is_first first [], surviving_lines_are_given pic first 0 0 (line_0 [])))
+    not_one (nothing_known shape) own
+    ((holds.readings own).1 (first, is_first first [], surviving_lines_are_given pic first 0 0 (line_0 [])))
     (contains-empty reading_cmp own)
 
 -- nor one that took a line of no copy, as of one that it refused
@@ -50,7 +51,8 @@ takes_what_it_refused : (p : PartialPicture) (r : Reading) → set.contains p.re
 takes_what_it_refused p r held holds = (let from = (holds.readings r).0 held in none_in from.0 from.1)
 
 -- nor one that took the first copy under a source, and has none
-forgets_the_source : (p : PartialPicture) → HoldsExactlyUnder p (sourced_copy (Some 7) first ∷ []) → set.contains p.marks (own, 7) ≡ false → ⊥
+forgets_the_source : (p : PartialPicture) → HoldsExactlyUnder p (sourced_copy (Some 7) first ∷ []) → set.contains p.marks (own, 7) ≡ false
+    → ⊥
 forgets_the_source p holds none =
     let copy = sourced_copy (Some 7) first in
     let held = (holds.sources own 7).1 (copy, is_first copy [], (refl, surviving_lines_are_given pic first 0 0 (line_0 []))) in
@@ -64,8 +66,8 @@ ends_an_interval_early reads =
     let from = (damaged_copies_give_exactly pic first damaged.0 damaged.1 damaged.2 (picture_reading pic 0 1)).0 given in
     line_1_is_lost (damaged.0, damaged.1, from.0, from.1, from.2)
 
--- What no law on histories sees: a `take_copy` that reads fewer bytes, under a contract that allows it. Whatever bytes the reads gave, if the
--- station took what they read as, these other calls give the same history: `CopyReader::finish` after these bytes, and `Station::take`
+-- What no law on histories sees: a `take_copy` that reads fewer bytes, under a contract that allows it. Whatever bytes the reads gave, if
+-- the station took what they read as, these other calls give the same history: `CopyReader::finish` after these bytes, and `Station::take`
 reads_less : (source : Option ℕ) (old new : PartialPicture) (bytes : List ℕ) (read : ReadCopy) (copies over : List SourcedCopy)
     → Collected old copies over → AllByRecursion (λ b. b < 256) bytes → CopyReads bytes read
     → has_same_shape old (marked source read.partial) ≡ true → new ≡ union old (marked source read.partial)
@@ -73,7 +75,8 @@ reads_less : (source : Option ℕ) (old new : PartialPicture) (bytes : List ℕ)
 reads_less source old new bytes read copies over g low reads same is =
     let given = marked source read.partial in
     subst (Collected new (copies ++ sourced_copy source bytes ∷ [])) (append-nil over)
-    (partial_taken old new given copies over (sourced_copy source bytes ∷ []) [] g (reader_finished source bytes read given low reads refl) same is)
+    (partial_taken old new given copies over (sourced_copy source bytes ∷ []) [] g
+    (reader_finished source bytes read given low reads refl) same is)
 
 -- nor one that refuses a copy for another reason than there is, and leaves the station as it was
 refuses_for_any_reason : (old : PartialPicture) (copies over : List SourcedCopy) → Collected old copies over → Collected old copies over

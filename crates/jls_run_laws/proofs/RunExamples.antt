@@ -9,6 +9,7 @@ use Rattle.jls_salvage_run.specs.Joining as joining
 use Rattle.jls_cli.specs.Outcomes.{finished}
 use Rattle.jls_cli.specs.SalvageAsking.{AskFor, join}
 use Rattle.jls_salvage_run.specs.Runs.{came_of}
+use Rattle.jls_headline.proofs.ClosedExamples.{first_read, second_read, first_reads, second_reads}
 use Rattle.jls_headline.proofs.JoinExamples as runs
 use Rattle.jls_headline.proofs.TwoLineCopies.{pic, is_picture, first, second}
 use Rattle.jls_headline.proofs.TwoLineExamples.{both_are_damaged, each_line_survives}
@@ -41,8 +42,12 @@ module _ (a b : ReadCopy) (ra : CopyReads first a) (rb : CopyReads second b) whe
         desk_is = refl;
         report_is = refl;
         faults_are = refl;
-        run = came_of join_words (join None (111 ∷ []) ((97 ∷ []) ∷ (98 ∷ []) ∷ [])) (finished true true) (runs.joining a b ra rb) [] [] asks_join
-            (joining.done None (111 ∷ []) ((97 ∷ []) ∷ (98 ∷ []) ∷ []) (runs.both a b ra rb) true true (runs.joining a b ra rb) (runs.is_done a b ra rb), refl)
+        run = came_of join_words (join None (111 ∷ []) ((97 ∷ []) ∷ (98 ∷ []) ∷ [])) (finished true true)
+            (runs.joining a b ra rb) [] [] asks_join (
+              joining.done None (111 ∷ []) ((97 ∷ []) ∷ (98 ∷ []) ∷ []) (runs.both a b ra rb) true true (runs.joining a b ra rb)
+                  (runs.is_done a b ra rb),
+              refl,
+            )
             (inl (record { are_writes = tt; they_took = refl }));
       };
       they_are = refl;
@@ -56,3 +61,7 @@ module _ (a b : ReadCopy) (ra : CopyReads first a) (rb : CopyReads second b) whe
     damaged = both_are_damaged [];
     each_line = each_line_survives [];
   }
+
+-- and of what is read of the two copies, with nothing assumed
+run_of_both : JoinRun pic 0 (runs.joining first_read second_read first_reads second_reads)
+run_of_both = join_run first_read second_read first_reads second_reads

@@ -11,7 +11,7 @@ use Rattle.jls_partial.specs.Partial.{PartialPicture, nothing_known, union}
 use Rattle.jls_partial.specs.Reading.{Reading, reading_of}
 use Rattle.jls_marker.specs.ComponentIndex.{index_of}
 use Rattle.jls_marker.specs.MarkerCodes.{has_segment}
-use Rattle.jls_marker.specs.HeaderState.{HeaderState, no_headers}
+use Rattle.jls_marker.specs.HeaderState.{no_headers}
 use Rattle.jls_marker.specs.Headers.{headers_after}
 use Rattle.jls_marker.specs.declared.fault.MarkerFault.TheVariants as fault
 use Rattle.jls_copy.specs.CopyReads.{CopyReads}
@@ -25,10 +25,10 @@ use Rattle.jls_copy.specs.Prefixes.{Gives}
 use Rattle.jls_copy.proofs.OneCourse.{one_course}
 use Rattle.jls_copy_laws.specs.Gives.{GivesReading}
 use Rattle.jls_copy_laws.proofs.Gives.{readings_are_of_the_course}
-use Rattle.jls_copy_laws.proofs.Members.{none_in, first_or_rest, all_at}
+use Rattle.jls_copy_laws.proofs.Members.{none_in, first_or_rest, all_at, bytes_of_test}
 use Rattle.jls_headline.specs.Damaged.{picture_reading}
 use Rattle.jls_headline.proofs.TwoLineCopies.{shape, pic, plan, frame_payload, scan_payload, pieces_read, first, first_course, course_with}
-use Rattle.jls_headline.proofs.TwoLineCopies.{bytes_of_test}
+use Rattle.jls_headline.proofs.TwoLineCopies.{final}
 use Rattle.jls_diff.specs.Parts.{Part, Same, Differ, made, AreParts, IsSplice}
 use Rattle.jls_search.specs.Choices.{IsPath, prefix_of}
 use Rattle.jls_search.specs.Faultless.{IsDead, IsFaultless, IsSought}
@@ -126,7 +126,8 @@ first_has_a_fault f =
     let e = one_course first f.course (course_with [] (0x80 ∷ []) 32) f.is_course first_course in
     let same : Some shape ≡ Some f.shape = sym (ap (λ (c : Course). c.headers.frame) e) ∙ f.framed in
     let s : shape ≡ f.shape = cc in
-    let g = f.whole 0 1 (subst (λ (t : PictureShape). 0 < length t.ids) s (lit< tt)) (subst (λ (t : PictureShape). 1 < t.height) s (lit< tt)) in
+    let g = f.whole 0 1 (subst (λ (t : PictureShape). 0 < length t.ids) s (lit< tt))
+    (subst (λ (t : PictureShape). 1 < t.height) s (lit< tt)) in
     let given : Gives (course_with [] (0x80 ∷ []) 32) (reading_of 0 1 g.0) = subst (λ c. Gives c (reading_of 0 1 g.0)) e g.1 in
     elim given [ inl (p, m, lines, reads, has) ↦ no_piece_has_it p g.0 lines m reads has | inr (p, m, head, is, has) ↦ none_in p m ]
 
@@ -137,9 +138,6 @@ other_has_no_frame : HasNoFrame other
 other_has_no_frame = (without_units 0 (Header fault.NoSoi 0), no_soi following, refl)
 
 -- The station ------------------------------------------------------------------------------------------------------
-
-abbrev final : HeaderState
-final = record no_headers { frame = Some shape; restart_interval = 1; scans = 1 }
 
 abbrev units : List CopyUnit
 units =
@@ -198,7 +196,8 @@ module _ (a b : ReadCopy) (ra : CopyReads first a) (rb : CopyReads cut b) where
 
   -- so the law tells of each line of the picture
   each_line_is_reported : CutLinesAreThePicture → (component line : ℕ) → CutTellsOfLine pic station cut component line
-  each_line_is_reported law component line = (law None copies parts path None station were_cut pic cut rest file_is_whole tt cut_is_splice).1 component line
+  each_line_is_reported law component line =
+      (law None copies parts path None station were_cut pic cut rest file_is_whole tt cut_is_splice).1 component line
 
 -- and the cut file gives line 0
 gives_line_0 : GivesReading cut (picture_reading pic 0 0)

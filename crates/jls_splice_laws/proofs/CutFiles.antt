@@ -10,8 +10,6 @@ use Rattle.jls_values.specs.OrderedSet as set
 use Rattle.jls_partial.specs.Partial.{readings_at}
 use Rattle.jls_partial.specs.Reading.{Reading, reading_of, reading_cmp}
 use Rattle.jls_partial.specs.ReadingOrder.{same_reading}
-use Rattle.jls_partial.specs.Status.{status_of}
-use Rattle.jls_partial.specs.declared.status.Status.TheVariants.{Settled}
 use Rattle.jls_partial.proofs.Unions.{either, in_its_line}
 use Rattle.jls_copy.specs.Course.{Course}
 use Rattle.jls_copy.specs.Prefixes.{Gives, PrefixesKeepReadings}
@@ -23,6 +21,7 @@ use Rattle.jls_file_laws.specs.Covering.{IsLineOf}
 use Rattle.jls_headline.specs.CollectedLaws.{CollectedHoldsExactlyUnder}
 use Rattle.jls_headline.specs.Damaged.{picture_reading}
 use Rattle.jls_headline.specs.Stations.{HoldsExactly}
+use Rattle.jls_headline.proofs.StationPictures.{only_one}
 use Rattle.jls_diff.specs.Parts.{Part, Same, Differ, HasWays, IsSplice}
 use Rattle.jls_search.specs.Choices.{IsPath, prefix_of}
 use Rattle.jls_search.specs.Faultless.{IsSought}
@@ -31,6 +30,7 @@ use Rattle.jls_splice_laws.specs.CutLaws.{SoughtFilesBeginWithTheCut, WholeFiles
 use Rattle.jls_splice_laws.specs.WholeFiles.{IsWholeFile, WholeFilesAreFaultless}
 use Rattle.jls_splice_laws.proofs.HeldFiles.{files_alone, files_are_held}
 use Rattle.jls_splice_laws.proofs.TakenFiles.{kept_of_shape}
+use Rattle.jls_splice_laws.proofs.WholeFiles.{gives_of_course}
 
 -- Paths of splices -------------------------------------------------------------------------------------------------
 
@@ -103,10 +103,6 @@ sought_files_begin_with_the_cut ceiling copies parts are path lone prefix more s
 
 -- Readings ---------------------------------------------------------------------------------------------------------
 
-gives_of_course : (c : Course) (r : Reading) → CourseGives c r → Gives c r
-gives_of_course c r (inl (p, m, g)) = inl (p, m, g.lines, g.reads, g.among)
-gives_of_course c r (inr (p, m, g)) = inr (p, m, g.head, g.is_head, g.among)
-
 course_of_gives : (c : Course) (r : Reading) → Gives c r → CourseGives c r
 course_of_gives c r (inl (p, m, lines, reads, among)) = inl (p, m, record { lines = lines; reads = reads; among = among })
 course_of_gives c r (inr (p, m, head, is, among)) = inr (p, m, record { head = head; is_head = is; among = among })
@@ -128,19 +124,15 @@ among_samples component line r [] e = absurd cc
 among_samples component line r (x ∷ xs) e =
     either (Contains (x ∷ xs) r.samples) (eq_by_cmp reading_cmp r (reading_of component line x))
     (list_any (eq_by_cmp reading_cmp r) (map (reading_of component line) xs))
-    (λ here. subst (Contains (x ∷ xs)) (ap (λ (y : Reading). y.samples) (sym (same_reading r (reading_of component line x) here))) (is_first x xs))
+    (λ here. subst (Contains (x ∷ xs)) (ap (λ (y : Reading). y.samples) (sym (same_reading r (reading_of component line x) here)))
+    (is_first x xs))
     (λ later. in_rest r.samples x xs (among_samples component line r xs later)) e
-
-only_one : (xs : List (List ℕ)) (x : List ℕ) → status_of xs ≡ Settled → Contains xs x → xs ≡ x ∷ []
-only_one [] x s c = absurd cc
-only_one (y ∷ []) x s (zero, l, e) = ap (λ z. z ∷ []) e
-only_one (y ∷ []) x s (suc k, l, e) = absurd (omega (arith, l))
-only_one (y ∷ z ∷ zs) x s c = absurd cc
 
 pub cuts_are_held : CollectedHoldsExactlyUnder → CutsAreHeld
 cuts_are_held holds source copies splices cut station takes r gives =
     let held = files_are_held holds source station.shape ((copies ++ splices) ++ cut ∷ []) station takes.takes in
-    let last : Contains ((copies ++ splices) ++ cut ∷ []) cut = Contains-append_right (copies ++ splices) (cut ∷ []) cut (is_first cut []) in
+    let last : Contains ((copies ++ splices) ++ cut ∷ []) cut =
+    Contains-append_right (copies ++ splices) (cut ∷ []) cut (is_first cut []) in
     let taken : Contains held.taken cut =
     kept_of_shape station.shape ((copies ++ splices) ++ cut ∷ []) held.taken cut held.of_shape last takes.shape_is in
     let exactly : HoldsExactly station held.taken = subst (HoldsExactly station) (files_alone source held.taken) held.exactly.readings in
@@ -156,7 +148,8 @@ cut_lines_are_the_picture faultless keep holds ceiling copies parts path source 
   begins,
   λ component line. record {
     no_other = λ samples gives. (line_of_cut (reading_of component line samples) gives).2;
-    held = λ gives. cuts_are_held holds source copies w.splices (prefix_of parts path) station w.takes (picture_reading pic component line) gives;
+    held = λ gives. cuts_are_held holds source copies w.splices (prefix_of parts path) station w.takes
+        (picture_reading pic component line) gives;
   },
 )
   where

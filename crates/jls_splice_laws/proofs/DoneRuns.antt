@@ -34,22 +34,26 @@ was_whole : (settled whole : Bool) → exit_status (finished settled whole) ≤ 
 was_whole settled true e = refl
 was_whole settled false e = absurd (omega (arith, e))
 
-did_make : (a : Asked) (status : ℕ) (desk report faults : List Event) → Performs a status desk report faults → status ≤ 1 → DidMake a desk report
+did_make : (a : Asked) (status : ℕ) (desk report faults : List Event) → Performs a status desk report faults → status ≤ 1
+    → DidMake a desk report
 did_make a _ _ _ _ (came_of _ _ _ _ line (at_copies r desk stops) reported) e = absurd (not_done _ (copies_above _ r desk stops) e)
-did_make a _ _ _ _ (came_of _ _ _ _ line (not_made r copies desk faults read cant) reported) e = absurd (not_done _ (unmade_above a copies r faults cant) e)
+did_make a _ _ _ _ (came_of _ _ _ _ line (not_made r copies desk faults read cant) reported) e =
+    absurd (not_done _ (unmade_above a copies r faults cant) e)
 did_make a _ _ _ _ (came_of _ _ _ _ line (not_handed r copies m reading desk report faults noting read made tells noted stops) reported) e =
     absurd (not_done _ (handing_above _ r desk report stops) e)
-did_make a _ _ _ _ (came_of _ _ _ _ line (done copies m settled whole reading desk report faults noting read made tells noted handed is_set is_read) reported) e = record {
-  copies = copies;
-  made = m;
-  reading = reading;
-  writing = desk;
-  desk_is = refl;
-  read = read;
-  whole = is_read.0 (was_whole settled whole e);
-  is_made = made;
-  handed = handed;
-}
+did_make a _ _ _ _
+    (came_of _ _ _ _ line (done copies m settled whole reading desk report faults noting read made tells noted handed is_set is_read)
+    reported) e = record {
+      copies = copies;
+      made = m;
+      reading = reading;
+      writing = desk;
+      desk_is = refl;
+      read = read;
+      whole = is_read.0 (was_whole settled whole e);
+      is_made = made;
+      handed = handed;
+    }
 did_make a _ _ _ _ (no_names faults reported) e = absurd (omega (arith, e))
 
 -- a run that is done ends with status 0 only if each line is settled
@@ -64,24 +68,28 @@ at_most_1 n e = omega (arith, e)
 
 did_settle : (a : Asked) (status : ℕ) (desk report faults : List Event) → Performs a status desk report faults → status ≡ 0
     → (did : DidMake a desk report) × IsSettled did.made.picture
-did_settle a _ _ _ _ (came_of _ _ _ _ line (at_copies r desk stops) reported) e = absurd (not_done _ (copies_above _ r desk stops) (at_most_1 _ e))
-did_settle a _ _ _ _ (came_of _ _ _ _ line (not_made r copies desk faults read cant) reported) e = absurd (not_done _ (unmade_above a copies r faults cant) (at_most_1 _ e))
+did_settle a _ _ _ _ (came_of _ _ _ _ line (at_copies r desk stops) reported) e =
+    absurd (not_done _ (copies_above _ r desk stops) (at_most_1 _ e))
+did_settle a _ _ _ _ (came_of _ _ _ _ line (not_made r copies desk faults read cant) reported) e =
+    absurd (not_done _ (unmade_above a copies r faults cant) (at_most_1 _ e))
 did_settle a _ _ _ _ (came_of _ _ _ _ line (not_handed r copies m reading desk report faults noting read made tells noted stops) reported) e =
     absurd (not_done _ (handing_above _ r desk report stops) (at_most_1 _ e))
-did_settle a _ _ _ _ (came_of _ _ _ _ line (done copies m settled whole reading desk report faults noting read made tells noted handed is_set is_read) reported) e = (
-  record {
-    copies = copies;
-    made = m;
-    reading = reading;
-    writing = desk;
-    desk_is = refl;
-    read = read;
-    whole = is_read.0 (was_whole settled whole (at_most_1 _ e));
-    is_made = made;
-    handed = handed;
-  },
-  is_set.0 (is_settled settled whole e),
-)
+did_settle a _ _ _ _
+    (came_of _ _ _ _ line (done copies m settled whole reading desk report faults noting read made tells noted handed is_set is_read)
+    reported) e = (
+      record {
+        copies = copies;
+        made = m;
+        reading = reading;
+        writing = desk;
+        desk_is = refl;
+        read = read;
+        whole = is_read.0 (was_whole settled whole (at_most_1 _ e));
+        is_made = made;
+        handed = handed;
+      },
+      is_set.0 (is_settled settled whole e),
+    )
 did_settle a _ _ _ _ (no_names faults reported) e = absurd (omega (arith, e))
 
 -- as many copies were read as there are names
@@ -104,7 +112,8 @@ module _ (a : Asked) (copies : List (List ℕ)) (m : Made) (is : IsMade a copies
   files_alone : (cut : Option (List ℕ)) → m.cut ≡ cut → Contains (files_of m.found.parts m.found.choices) file
       → IsPictureOfFiles a.options.source copies (splices_in m.found) m.picture
   files_alone None e among =
-      subst (λ (c : Option (List ℕ)). IsPictureOf a.options.source copies (splices_in m.found) (cut_file m.found c) m.picture) e is.is_picture
+      subst (λ (c : Option (List ℕ)). IsPictureOf a.options.source copies (splices_in m.found) (cut_file m.found c) m.picture)
+      e is.is_picture
   files_alone (Some path) e among =
       let cut : IsCut m.cut_ceiling m.found path = cut_is_lone copies m.found m.cut_ceiling m.lone m.cut path e is.is_lone is.is_cut in
       absurd (none_in file (subst (λ (xs : List (List ℕ)). Contains (files_of m.found.parts xs) file) cut.0 among))
@@ -114,14 +123,16 @@ promised : (ceiling limit : Option ℕ) (f : Found) (is_settled : Bool) → prom
     → (f.is_used_up ≡ false) × (ceiling ≡ limit)
 promised ceiling limit f is_settled e = by f.is_used_up (has_some f.choices) is_settled e
   where
-    by : (used some all : Bool) → (if used then Lines else (if some then (if all then Picture ceiling else Lines) else Lines)) ≡ Picture limit
+    by : (used some all : Bool)
+        → (if used then Lines else (if some then (if all then Picture ceiling else Lines) else Lines)) ≡ Picture limit
         → (used ≡ false) × (ceiling ≡ limit)
     by true some all e = absurd cc
     by false false all e = absurd cc
     by false true false e = absurd cc
     by false true true e = (refl, cc)
 
-module _ (are_faultless : WholeFilesAreFaultless) (never : SplicedCopiesGiveNoOther) (a : Asked) (desk report : List Event) (some : 0 < length a.copies) (d : DidMake a desk report) (settled : IsSettled d.made.picture) where
+module _ (are_faultless : WholeFilesAreFaultless) (never : SplicedCopiesGiveNoOther) (a : Asked) (desk report : List Event)
+    (some : 0 < length a.copies) (d : DidMake a desk report) (settled : IsSettled d.made.picture) where
   of_each : d.made.found.is_used_up ≡ false → IsOfEachWholeSplice d.made.ceiling (bytes_read d.copies) d.made
   of_each enough pic is file whole within splice =
       let copies : List (List ℕ) = bytes_read d.copies in
@@ -130,11 +141,13 @@ module _ (are_faultless : WholeFilesAreFaultless) (never : SplicedCopiesGiveNoOt
       let p : PartialPicture = d.made.picture in
       let copy : 0 < length copies = some_copy a.copies d.copies d.reading d.read some in
       let is_found = d.is_made.is_found in
-      let came : CameTo (IsSought ceiling) f.parts f.choices false = subst (CameTo (IsSought ceiling) f.parts f.choices) enough is_found.came_to in
+      let came : CameTo (IsSought ceiling) f.parts f.choices false =
+      subst (CameTo (IsSought ceiling) f.parts f.choices) enough is_found.came_to in
       let among : Contains (files_of f.parts f.choices) file =
       came.all refl (length copies) copy is_found.are_parts.ways file whole.bytes splice (are_faultless pic file whole, within) in
       let splices : splices_in f ≡ files_of f.parts f.choices = splices_of_all ceiling copies f file is_found enough among in
-      let picture : IsPictureOfFiles a.options.source copies (splices_in f) p = files_alone a copies d.made d.is_made file d.made.cut refl among in
+      let picture : IsPictureOfFiles a.options.source copies (splices_in f) p =
+      files_alone a copies d.made d.is_made file d.made.cut refl among in
       never ceiling copies f.parts a.options.source p (record {
         some_copy = copy;
         are_parts = is_found.are_parts;
@@ -142,7 +155,8 @@ module _ (are_faultless : WholeFilesAreFaultless) (never : SplicedCopiesGiveNoOt
         searched = came;
         shape = p.shape;
         shape_is = subst (λ (xs : List (List ℕ)). IsShapeTaken copies xs p.shape) splices picture.shape_is;
-        takes = subst (λ (xs : List (List ℕ)). TakesFiles a.options.source (copies ++ xs) (nothing_known p.shape) p) splices picture.union_is;
+        takes = subst (λ (xs : List (List ℕ)). TakesFiles a.options.source (copies ++ xs) (nothing_known p.shape) p)
+            splices picture.union_is;
       }) pic is file whole within splice settled
 
 pub spliced_runs_give_no_other : WholeFilesAreFaultless → SplicedCopiesGiveNoOther → SplicedRunsGiveNoOther
@@ -165,12 +179,14 @@ spliced_runs_take_the_cut a status desk report faults performs e =
       λ path is.
           let m : Made = d.made in
           let copies : List (List ℕ) = bytes_read d.copies in
-          let cut : IsCut m.cut_ceiling m.found path = cut_is_lone copies m.found m.cut_ceiling m.lone m.cut path is d.is_made.is_lone d.is_made.is_cut in
+          let cut : IsCut m.cut_ceiling m.found path =
+          cut_is_lone copies m.found m.cut_ceiling m.lone m.cut path is d.is_made.is_lone d.is_made.is_cut in
           record {
             are_parts = d.is_made.is_found.are_parts;
             is_lone = cut.1;
             splices = splices_in m.found;
-            takes = subst (λ (c : Option (List ℕ)). IsPictureOf a.options.source copies (splices_in m.found) (cut_file m.found c) m.picture) is
+            takes = subst (λ (c : Option (List ℕ)). IsPictureOf a.options.source copies (splices_in m.found) (cut_file m.found c) m.picture)
+                is
                 d.is_made.is_picture;
           },
     )

@@ -1,14 +1,12 @@
--- A file of two lines, two copies of it that are damaged at one place each, and their parts: the file is a splice of them without a fault, and undamaged.
--- Headers alone have one, since no line is read. What doesn't begin with SOI has one, and can be given up.
+-- A file of two lines, two copies of it that are damaged at one place each, and their parts: the file is a splice of them without a fault,
+-- and undamaged. Headers alone have one, since no line is read. What doesn't begin with SOI has one, and can be given up.
 use Rattle.std.proofs.Common.{◌≡◌, ℕ, zero, suc, ◌<◌, List, [], ◌∷◌, Some, length, refl, sym, ap, ◌∙◌, subst, lit<, arith, inl, inr}
 use Rattle.std.specs.Prelude.{get_or}
 use Rattle.jls_values.specs.Shape.{PictureShape}
 use Rattle.jls_partial.specs.Reading.{reading_of}
 use Rattle.jls_marker.specs.ComponentIndex.{index_of}
 use Rattle.jls_marker.specs.MarkerCodes.{has_segment}
-use Rattle.jls_marker.specs.HeaderState.{HeaderState, no_headers}
 use Rattle.jls_marker.specs.Headers.{headers_after}
-use Rattle.jls_marker.specs.Scan.{Scan}
 use Rattle.jls_marker.specs.declared.fault.MarkerFault.TheVariants as fault
 use Rattle.jls_copy.specs.Numbers.{Interval}
 use Rattle.jls_copy.specs.Pieces.{FoundPiece}
@@ -17,18 +15,14 @@ use Rattle.jls_copy.specs.Course.{by_marker, CopyUnit, segment, scan, Course, Is
 use Rattle.jls_copy.specs.Course.{for_good}
 use Rattle.jls_copy.specs.declared.end.End.TheVariants.{Eoi, Header}
 use Rattle.jls_copy.proofs.OneCourse.{one_course}
-use Rattle.jls_copy_laws.proofs.Members.{none_in}
+use Rattle.jls_copy_laws.proofs.Members.{none_in, bytes_of_test}
 use Rattle.jls_headline.proofs.FileExamples.{file_reads}
-use Rattle.jls_headline.proofs.TwoLineCopies.{shape, pic, bits_8, frame_payload, scan_payload, pieces_read, bytes_of_test}
+use Rattle.jls_headline.proofs.TwoLineCopies.{shape, pic, plan, frame_payload, scan_payload, pieces_read, framed, restarting, final}
 use Rattle.jls_diff.specs.Parts.{Part, Same, Differ, made, AreParts, IsSplice}
 use Rattle.jls_copy.specs.Prefixes.{Gives}
 use Rattle.jls_search.specs.Faultless.{GivesEachLine, EndsWell, IsFaultless}
 use Rattle.jls_splice_laws.specs.Searches.{done, Searched, along, given_up}
 use Rattle.jls_splice_laws.specs.WholeFiles.{IsWholeFile}
-
--- one scan, with a restart interval for each line
-abbrev plan : Scan
-plan = record { components = 0 ∷ []; params = bits_8; width = 1; height = 2; restart_interval = 1 }
 
 -- SOI, SOF55, DRI and SOS; the first of these bytes; RST0; the second; EOI
 abbrev file_with : ℕ → ℕ → List ℕ
@@ -67,15 +61,6 @@ are_parts = record { ways = (tt, (refl, (tt, (refl, (tt, tt))))); make = by }
 -- the file is a splice: the second copy's way, then the first one's
 file_is_splice : IsSplice 2 parts file
 file_is_splice = (0, lit< tt, _, refl, (1, lit< tt, _, refl, (0, lit< tt, _, refl, (0, lit< tt, _, refl, (0, lit< tt, _, refl, refl)))))
-
-abbrev framed : HeaderState
-framed = record no_headers { frame = Some shape }
-
-abbrev restarting : HeaderState
-restarting = record framed { restart_interval = 1 }
-
-abbrev final : HeaderState
-final = record restarting { scans = 1 }
 
 abbrev closed : List ClosedPiece
 closed = record { piece = 0x80 ∷ []; fill = 0; mark = 0 } ∷ []
@@ -179,7 +164,8 @@ no_line_is_read f =
     let e = one_course no_scan f.course bare f.is_course is_bare in
     let same : Some shape ≡ Some f.shape = sym (ap (λ (c : Course). c.headers.frame) e) ∙ f.framed in
     let s : shape ≡ f.shape = cc in
-    let g = f.whole 0 0 (subst (λ (t : PictureShape). 0 < length t.ids) s (lit< tt)) (subst (λ (t : PictureShape). 0 < t.height) s (lit< tt)) in
+    let g = f.whole 0 0 (subst (λ (t : PictureShape). 0 < length t.ids) s (lit< tt))
+    (subst (λ (t : PictureShape). 0 < t.height) s (lit< tt)) in
     let none : Gives bare (reading_of 0 0 g.0) = subst (λ c. Gives c (reading_of 0 0 g.0)) e g.1 in
     elim none [ inl (p, m, lines, reads, has) ↦ none_in p m | inr (p, m, head, is, has) ↦ none_in p m ]
 

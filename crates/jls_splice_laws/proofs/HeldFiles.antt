@@ -19,7 +19,8 @@ use Rattle.jls_search.proofs.OneFile.{shape_read}
 use Rattle.jls_splice_laws.specs.SplicingLaws.{under, FilesAreHeld}
 
 -- what was read for the station after files
-record Read (source : Option ℕ) (copies : List SourcedCopy) (shape : PictureShape) (files : List (List ℕ)) (new : PartialPicture) : Type 0 where
+record Read (source : Option ℕ) (copies : List SourcedCopy) (shape : PictureShape) (files : List (List ℕ)) (new : PartialPicture)
+    : Type 0 where
   given : List (List ℕ)
   of_shape : AreOfShape shape files given
   collected : Collected new (copies ++ under source given) []
@@ -36,14 +37,16 @@ read_files source shape copies old _ _ e h (gives file read files given low read
     let p : PartialPicture = marked source read.partial in
     let one : List SourcedCopy = sourced_copy source file ∷ [] in
     let same : has_same_shape old p ≡ true =
-    subst (λ (s : PictureShape). same_shape old.shape s ≡ true) (sym (marked_shape source read.partial ∙ is ∙ sym e)) (shape_itself old.shape) in
+    subst (λ (s : PictureShape). same_shape old.shape s ≡ true) (sym (marked_shape source read.partial ∙ is ∙ sym e))
+    (shape_itself old.shape) in
     let more : Collected (union old p) (copies ++ one) [] =
     partial_taken old (union old p) p copies [] one [] h (reader_finished source file read p low reads refl) same refl in
     let r = read_files source shape (copies ++ one) (union old p) files given e more rest in
     record {
       given = file ∷ r.given;
       of_shape = taken file files r.given (subst (λ s. HasShape s file) is (shape_read file read reads)) r.of_shape;
-      collected = subst (λ xs. Collected (fold union (union old p) given) xs []) (append_assoc copies one (under source r.given)) r.collected;
+      collected = subst (λ xs. Collected (fold union (union old p) given) xs [])
+          (append_assoc copies one (under source r.given)) r.collected;
     }
 read_files source shape copies old _ _ e h (gives_nothing file files given not rest) =
     let r = read_files source shape copies old files given e h rest in

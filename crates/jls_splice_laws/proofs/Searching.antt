@@ -142,16 +142,19 @@ module _ (stay : PrefixesStayBroken) (ends_stay : FinalEndsStay) where
       let before : Contains ways w.0 =
       elim (Contains-append_cases ways (here ∷ []) w.0 w.1) [
         | inl before ↦ before
-        | inr last ↦ elim (first_or_rest w.0 here [] last) [ inl e ↦ subst (Contains ways) e again | inr later ↦ absurd (none_in w.0 later) ]
+        | inr last ↦
+            elim (first_or_rest w.0 here [] last) [ inl e ↦ subst (Contains ways) e again | inr later ↦ absurd (none_in w.0 later) ]
       ] in
       is_found prefix (Differ ways ∷ parts) files s bytes (in_flat_map (going_on parts) ways w.0 bytes before w.2) h
   is_found _ _ _ (given_up prefix parts dead) bytes c h = absurd (never_sound prefix bytes dead h)
 
 -- parts tell of how many copies they are, but where all have them alike
-of_other_count : (n m : ℕ) (parts : List Part) (bytes : List ℕ) → 0 < m → AllByRecursion (HasWays n) parts → AllByRecursion (HasWays m) parts
+of_other_count : (n m : ℕ) (parts : List Part) (bytes : List ℕ) → 0 < m → AllByRecursion (HasWays n) parts
+    → AllByRecursion (HasWays m) parts
     → IsSplice n parts bytes → IsSplice m parts bytes
 of_other_count n m [] bytes some h k is = is
-of_other_count n m (Same b ∷ parts) bytes some h k (j, l, rest, e, more) = (0, some, rest, e, of_other_count n m parts rest some h.1 k.1 more)
+of_other_count n m (Same b ∷ parts) bytes some h k (j, l, rest, e, more) =
+    (0, some, rest, e, of_other_count n m parts rest some h.1 k.1 more)
 of_other_count n m (Differ ws ∷ parts) bytes some h k (j, l, rest, e, more) =
     (j, subst (λ c. j < c) (sym h.0 ∙ k.0) l, rest, e, of_other_count n m parts rest some h.1 k.1 more)
 

@@ -1,21 +1,12 @@
 -- What the files of searched copies settle.
-use Rattle.std.proofs.Common.{ℕ, List, [], ◌∷◌, ◌++◌, inl, inr}
-use Rattle.jls_values.specs.Shape.{PictureShape}
+use Rattle.std.proofs.Common.{ℕ, List, ◌++◌}
 use Rattle.jls_search.specs.Search.{files_of}
 use Rattle.jls_splice_laws.specs.SpliceLaws.{SearchedSplicesGiveNoOther}
-use Rattle.jls_splice_laws.specs.Taken as laws
-use Rattle.jls_search.specs.Shapes as shapes
 use Rattle.jls_headline.specs.Collected.{CollectedFrom}
 use Rattle.jls_headline.specs.CollectedLaws.{CollectedHoldsExactlyUnder}
 use Rattle.jls_headline.proofs.SourcedStations.{among_aside}
 use Rattle.jls_splice_laws.specs.SplicingLaws.{under, SplicedCopiesGiveNoOther}
 use Rattle.jls_splice_laws.proofs.HeldFiles.{files_alone, files_are_held}
-
--- the first shape, in the words of both crates
-first_shape : (shape : PictureShape) (files : List (List ℕ)) → shapes.IsFirstShape files shape → laws.IsFirstShape files shape
-first_shape shape [] h = absurd h
-first_shape shape (file ∷ files) (inl has) = inl has
-first_shape shape (file ∷ files) (inr (none, rest)) = inr (none, first_shape shape files rest)
 
 pub spliced_copies_give_no_other : SearchedSplicesGiveNoOther → CollectedHoldsExactlyUnder → SplicedCopiesGiveNoOther
 spliced_copies_give_no_other never holds ceiling copies parts source station w pic is file whole within splice settled =
@@ -27,9 +18,6 @@ spliced_copies_give_no_other never holds ceiling copies parts source station w p
       some_copy = w.some_copy;
       are_parts = w.are_parts;
       came_to = w.searched;
-      shape_is = record {
-        of_faultless = w.shape_is.of_faultless;
-        of_first = λ none. first_shape w.shape copies (w.shape_is.of_first none);
-      };
+      shape_is = w.shape_is;
       of_shape = held.of_shape;
     }) pic is file whole within splice).1 station (under source held.taken, read, files_alone source held.taken) settled

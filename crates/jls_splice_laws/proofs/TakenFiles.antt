@@ -13,14 +13,15 @@ use Rattle.jls_diff.specs.Parts.{Part, HasWays, IsSplice}
 use Rattle.jls_search.specs.Faultless.{IsSought}
 use Rattle.jls_search.specs.Search.{HasEachSplice, files_of}
 use Rattle.jls_search.specs.SearchLaws.{SearchesComeToEachSplice}
+use Rattle.jls_search.specs.Shapes.{HasShape}
 use Rattle.jls_splice_laws.specs.SpliceLaws.{FaultlessSplicesAreTaken, SearchedFilesAreTaken, SearchedSplicesGiveNoOther}
 use Rattle.jls_splice_laws.specs.SpliceLaws.{SplicesGiveNoOther, WholeSplicesGiveNoOther}
-use Rattle.jls_splice_laws.specs.Taken.{HasFrame, FilesTaken, SearchTaken, AreOfShape, none_left, taken, passed_over}
+use Rattle.jls_splice_laws.specs.Taken.{FilesTaken, SearchTaken, AreOfShape, none_left, taken, passed_over}
 use Rattle.jls_splice_laws.proofs.WholeFiles.{whole_files_are_faultless, whole_files_survive}
 
 -- a file of the shape is among those that are taken
 pub kept_of_shape : (shape : PictureShape) (files more : List (List ℕ)) (file : List ℕ) → AreOfShape shape files more
-    → Contains files file → HasFrame shape file → Contains more file
+    → Contains files file → HasShape shape file → Contains more file
 kept_of_shape shape _ _ file none_left c h = absurd (none_in file c)
 kept_of_shape shape _ _ file (taken f files more is rest) c h =
     elim (first_or_rest file f files c) [
@@ -29,7 +30,7 @@ kept_of_shape shape _ _ file (taken f files more is rest) c h =
     ]
 kept_of_shape shape _ _ file (passed_over f files more other rest) c h =
     elim (first_or_rest file f files c) [
-      | inl e ↦ absurd (other (subst (HasFrame shape) (sym e) h))
+      | inl e ↦ absurd (other (subst (HasShape shape) (sym e) h))
       | inr later ↦ kept_of_shape shape files more file rest later h
     ]
 
@@ -44,7 +45,9 @@ found_among Sought count (p ∷ parts) files each ways bytes low is sought =
 pub faultless_splices_are_taken : FaultlessSplicesAreTaken
 faultless_splices_are_taken ceiling copies parts shape files t bytes low is sought =
     let f = t.files_taken in
-    let among : Contains (copies ++ f.found) bytes = Contains-append_right copies f.found bytes (found_among (IsSought ceiling) (length copies) parts f.found t.each f.are_parts.ways bytes low is sought) in
+    let among : Contains (copies ++ f.found) bytes =
+    Contains-append_right copies f.found bytes
+    (found_among (IsSought ceiling) (length copies) parts f.found t.each f.are_parts.ways bytes low is sought) in
     kept_of_shape shape (copies ++ f.found) files bytes f.of_shape among (f.shape_is.of_faultless bytes among sought.0)
 
 same_as_itself : (files : List (List ℕ)) → SameCopies files files
@@ -57,22 +60,27 @@ splices_give_no_other never same copies parts shape files t station (read, colle
 )
 
 pub whole_splices_give_no_other : NeverAnotherPicture → WholeSplicesGiveNoOther
-whole_splices_give_no_other never ceiling copies parts shape files t pic is file whole within splice station (read, collected, are) settled =
-    let inside : Contains files file = faultless_splices_are_taken ceiling copies parts shape files t file whole.bytes splice (whole_files_are_faultless pic file whole, within) in
+whole_splices_give_no_other never ceiling copies parts shape files t pic is file whole within splice station
+    (read, collected, are) settled =
+    let inside : Contains files file =
+    faultless_splices_are_taken ceiling copies parts shape files t file whole.bytes splice
+    (whole_files_are_faultless pic file whole, within) in
     let each : EachLineSurvives pic files =
     λ c y l k. (file, inside, whole_files_survive pic file whole.bytes whole.reads (whole.course, whole.is_course, whole.each) c y l k) in
     never pic is station read collected (subst (EachLineSurvives pic) (sym are) each) settled
 
 -- Of a search ------------------------------------------------------------------------------------------------------
 
-files_taken : (ceiling : Option ℕ) (copies : List (List ℕ)) (parts : List Part) (found : List (List ℕ)) (is_used_up : Bool) (shape : PictureShape)
+files_taken : (ceiling : Option ℕ) (copies : List (List ℕ)) (parts : List Part) (found : List (List ℕ)) (is_used_up : Bool)
+    (shape : PictureShape)
     (files : List (List ℕ)) → SearchesComeToEachSplice → SearchTaken ceiling copies parts found is_used_up shape files
     → (f : FilesTaken copies parts shape files) × (f.found ≡ files_of parts found)
 files_taken ceiling copies parts found is_used_up shape files law t = (
   record {
     are_parts = t.are_parts;
     found = files_of parts found;
-    are_splices = all_map (λ file. IsSplice (length copies) parts file × IsSought ceiling file) (IsSplice (length copies) parts) (files_of parts found)
+    are_splices = all_map (λ file. IsSplice (length copies) parts file × IsSought ceiling file) (IsSplice (length copies) parts)
+        (files_of parts found)
         (λ file h. h.0) (law ceiling copies parts t.are_parts t.some_copy found is_used_up t.came_to).0;
     shape_is = t.shape_is;
     of_shape = t.of_shape;
@@ -88,6 +96,7 @@ searched_files_are_taken law ceiling copies parts found is_used_up shape files t
 pub searched_splices_give_no_other : SearchesComeToEachSplice → NeverAnotherPicture → SearchedSplicesGiveNoOther
 searched_splices_give_no_other law never ceiling copies parts found shape files t pic is file whole within splice =
     let all = (searched_files_are_taken law ceiling copies parts found false shape files t).1 refl in (
-      faultless_splices_are_taken ceiling copies parts shape files all file whole.bytes splice (whole_files_are_faultless pic file whole, within),
+      faultless_splices_are_taken ceiling copies parts shape files all file whole.bytes splice
+          (whole_files_are_faultless pic file whole, within),
       whole_splices_give_no_other never ceiling copies parts shape files all pic is file whole within splice,
     )

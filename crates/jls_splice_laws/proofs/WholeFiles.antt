@@ -127,10 +127,10 @@ whole_files_survive pic file low reads_as no_fault component line l k =
 
 -- Its frame --------------------------------------------------------------------------------------------------------
 
--- what a course gives, as jls_search has it
-given_by : (c : Course) (r : Reading) → CourseGives c r → Gives c r
-given_by c r (inl (p, m, g)) = inl (p, m, g.lines, g.reads, g.among)
-given_by c r (inr (p, m, g)) = inr (p, m, g.head, g.is_head, g.among)
+-- what a course gives, as the law on prefixes has it
+pub gives_of_course : (c : Course) (r : Reading) → CourseGives c r → Gives c r
+gives_of_course c r (inl (p, m, g)) = inl (p, m, g.lines, g.reads, g.among)
+gives_of_course c r (inr (p, m, g)) = inr (p, m, g.head, g.is_head, g.among)
 
 pub whole_files_are_faultless : WholeFilesAreFaultless
 whole_files_are_faultless pic file w = record {
@@ -143,7 +143,8 @@ whole_files_are_faultless pic file w = record {
   whole = λ component line k l.
       let r = picture_reading pic component line in (
         line_of pic component line,
-        given_by w.course r ((readings_are_of_the_course file w.course pic.shape r w.bytes w.is_course framed).0 ((w.reads.readings r).1 (k, l, refl))),
+        gives_of_course w.course r
+            ((readings_are_of_the_course file w.course pic.shape r w.bytes w.is_course framed).0 ((w.reads.readings r).1 (k, l, refl))),
       );
 }
   where

@@ -11,14 +11,16 @@ use Rattle.jls_callers.proofs.known.read_known.Goals as goal
 pub returns-clause-text : goal.returns-clause-text
 returns-clause-text g c = λ bytes is.
     let left = g.S.Source.remaining c.args.device.now in
-    ok_then c.read_input.result (λ (given : Given). given.copy ≡ None → IfSome left (λ b. IsTextOf b given.partial)) _ c.read_input.ensures.known
+    ok_then c.read_input.result
+    (λ (given : Given). given.copy ≡ None → IfSome left (λ b. IsTextOf b given.partial)) _ c.read_input.ensures.known
     (λ given h none. subst (λ (o : Option (List ℕ)). IfSome o (λ b. IsTextOf b given.partial)) is (h none))
 
 pub returns-clause-copy : goal.returns-clause-copy
 returns-clause-copy g c = λ bytes is.
     let left = g.S.Source.remaining c.args.device.now in
     let source = c.args.source in
-    ok_then c.read_input.result (λ (given : Given). (given.copy ≡ None → ⊥) → IfSome left (BytesGive source given.partial given.stop)) _ c.read_input.ensures.known_copy
+    ok_then c.read_input.result (λ (given : Given). (given.copy ≡ None → ⊥) → IfSome left (BytesGive source given.partial given.stop))
+    _ c.read_input.ensures.known_copy
     (λ given h copied whole.
     let b = subst (λ (o : Option (List ℕ)). IfSome o (BytesGive source given.partial given.stop)) is (h copied) in (
       b.read,

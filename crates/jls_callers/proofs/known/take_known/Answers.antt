@@ -32,21 +32,24 @@ pub returns-clause-no_picture : goal.returns-clause-no_picture
 returns-clause-no_picture g c = λ bytes f offset is e.
     let old = c.args.station.now in
     let source = c.args.source in
-    let h = subst (λ (o : Option (List ℕ)). IfSome o (λ b. RefusesBytes source old b (TakeFault.NoPicture f offset))) is (IfErr-at_err _ e c.take_copy.ensures.known_refused) in
+    let h = subst (λ (o : Option (List ℕ)). IfSome o (λ b. RefusesBytes source old b (TakeFault.NoPicture f offset))) is
+    (IfErr-at_err _ e c.take_copy.ensures.known_refused) in
     whole_gives_none c.copies_have_one_course.ensures c.final_ends_stay.ensures bytes h.0 f offset h.1 h.2
 
 pub returns-clause-not_read : goal.returns-clause-not_read
 returns-clause-not_read g c = λ bytes stop count is e.
     let old = c.args.station.now in
     let source = c.args.source in
-    let h = subst (λ (o : Option (List ℕ)). IfSome o (λ b. RefusesBytes source old b (TakeFault.Read stop count))) is (IfErr-at_err _ e c.take_copy.ensures.known_refused) in
+    let h = subst (λ (o : Option (List ℕ)). IfSome o (λ b. RefusesBytes source old b (TakeFault.Read stop count))) is
+    (IfErr-at_err _ e c.take_copy.ensures.known_refused) in
     (h.0, h.1.following, h.1.bytes_are, h.2)
 
 pub returns-clause-other_shape : goal.returns-clause-other_shape
 returns-clause-other_shape g c = λ bytes is e.
     let old = c.args.station.now in
     let source = c.args.source in
-    let h = subst (λ (o : Option (List ℕ)). IfSome o (λ b. RefusesBytes source old b TakeFault.ShapeDiffers)) is (IfErr-at_err _ e c.take_copy.ensures.known_refused) in
+    let h = subst (λ (o : Option (List ℕ)). IfSome o (λ b. RefusesBytes source old b TakeFault.ShapeDiffers)) is
+    (IfErr-at_err _ e c.take_copy.ensures.known_refused) in
     let b = h.2 in
     let shape = ap (λ (p : PartialPicture). has_same_shape old p) b.partial_is ∙ shape_kept source old b.read.partial in
     (b.prefix, b.is_prefix.following, b.read, b.is_prefix.bytes_are, b.reads_as, sym shape ∙ h.3)

@@ -36,7 +36,8 @@ returns-clause-taken g c = λ copies over collected.
     let new = c.take_copy.new.self in
     let source = c.args.source in
     ok_then c.take_copy.result
-    (λ (report : CopyReport). GrewBy (TakesCopy source old new report) (g.S.Device.history c.args.device.now) (g.S.Device.history c.take_copy.new.device)) _
+    (λ (report : CopyReport). GrewBy (TakesCopy source old new report) (g.S.Device.history c.args.device.now)
+    (g.S.Device.history c.take_copy.new.device)) _
     c.take_copy.ensures.taken
     (λ report t. record {
       events = t.events;
@@ -50,7 +51,8 @@ returns-clause-refused g c = λ copies over collected.
     let new = c.take_copy.new.self in
     let source = c.args.source in
     fault_then c.take_copy.result
-    (λ (f : TakeFault). GrewBy (RefusesCopy source old new f) (g.S.Device.history c.args.device.now) (g.S.Device.history c.take_copy.new.device)) _
+    (λ (f : TakeFault). GrewBy (RefusesCopy source old new f) (g.S.Device.history c.args.device.now)
+    (g.S.Device.history c.take_copy.new.device)) _
     c.take_copy.ensures.refused
     (λ f t other. copy_refused source old new f t.events copies over collected t.they_are other)
 
@@ -60,10 +62,12 @@ returns-clause-ran_out g c = λ copies over collected.
     let new = c.take_copy.new.self in
     let source = c.args.source in
     fault_then c.take_copy.result
-    (λ (f : TakeFault). GrewBy (RefusesCopy source old new f) (g.S.Device.history c.args.device.now) (g.S.Device.history c.take_copy.new.device)) _
+    (λ (f : TakeFault). GrewBy (RefusesCopy source old new f) (g.S.Device.history c.args.device.now)
+    (g.S.Device.history c.take_copy.new.device)) _
     c.take_copy.ensures.refused
     (λ f t e. record {
       events = t.events;
       grew = t.grew;
-      they_are = copy_ran_out source old new t.events copies over collected (subst (λ (x : TakeFault). RefusesCopy source old new x t.events) e t.they_are);
+      they_are = copy_ran_out source old new t.events copies over collected
+          (subst (λ (x : TakeFault). RefusesCopy source old new x t.events) e t.they_are);
     })

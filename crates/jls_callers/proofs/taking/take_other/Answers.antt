@@ -11,7 +11,8 @@ returns-clause-taken c = λ copies over more further g k.
     let other = c.partial.result.now in
     ok_both c.take.result (new ≡ union old other) (has_same_shape old other ≡ true) (Collected new (copies ++ more) (over ++ further))
     c.take.ensures.ok c.take.ensures.ok_same_shape
-    (λ is same. partial_taken old new other copies over more further g (subst (λ (p : PartialPicture). Collected p more further) (sym c.partial.ensures) k) same is)
+    (λ is same. partial_taken old new other copies over more further g
+    (subst (λ (p : PartialPicture). Collected p more further) (sym c.partial.ensures) k) same is)
 
 pub returns-clause-ran_out : goal.returns-clause-ran_out
 returns-clause-ran_out c = λ copies over more further g k e.

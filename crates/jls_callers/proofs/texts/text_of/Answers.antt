@@ -22,4 +22,5 @@ returns c =
       bytes_are = refl;
     } in
     ok_then c.to_bytes.result _ _ c.to_bytes.ensures
-    (λ bytes e. subst (λ (x : PartialPicture). IsTextOf bytes.items x) c.partial-partial.ensures (subst (λ (b : List ℕ). IsTextOf b p) (sym e) own))
+    (λ bytes e. subst (λ (x : PartialPicture). IsTextOf bytes.items x) c.partial-partial.ensures
+    (subst (λ (b : List ℕ). IsTextOf b p) (sym e) own))

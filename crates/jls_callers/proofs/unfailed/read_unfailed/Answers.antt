@@ -16,7 +16,8 @@ use Rattle.jls_callers.proofs.unfailed.read_unfailed.Goals as goal
 pub returns-clause-stops : goal.returns-clause-stops
 returns-clause-stops g c =
     ok_then c.read_input.result
-    (λ (given : Given). GrewBy (ReadsGive c.args.source given) (g.S.Device.history c.args.device.now) (g.S.Device.history c.read_input.new.device)) _
+    (λ (given : Given). GrewBy (ReadsGive c.args.source given) (g.S.Device.history c.args.device.now)
+    (g.S.Device.history c.read_input.new.device)) _
     c.read_input.ensures.given
     (λ given t. record {
       events = t.events;
@@ -31,7 +32,8 @@ pub returns-clause-whole : goal.returns-clause-whole
 returns-clause-whole g c = λ bytes is below.
     let left = g.S.Source.remaining c.args.device.now in
     let source = c.args.source in
-    let known = ok_with c.read_input.result (λ (given : Given). (given.copy ≡ None → ⊥) → IfSome left (BytesGive source given.partial given.stop))
+    let known = ok_with c.read_input.result
+    (λ (given : Given). (given.copy ≡ None → ⊥) → IfSome left (BytesGive source given.partial given.stop))
     (λ (given : Given). IfSome left (CountsWithin given))
     (λ (given : Given). ((given.copy ≡ None → ⊥) → BytesGive source given.partial given.stop bytes) × CountsWithin given bytes)
     c.read_input.ensures.known_copy c.read_input.ensures.known_count
@@ -64,16 +66,19 @@ returns-clause-whole g c = λ bytes is below.
 
 pub returns-clause-bad_text : goal.returns-clause-bad_text
 returns-clause-bad_text g c = λ bytes f is e.
-    subst (λ (o : Option (List ℕ)). IfSome o (λ b. RefusesInput b (InputFault.Text f))) is (IfErr-at_err _ e c.read_input.ensures.known_refused)
+    subst (λ (o : Option (List ℕ)). IfSome o (λ b. RefusesInput b (InputFault.Text f))) is
+    (IfErr-at_err _ e c.read_input.ensures.known_refused)
 
 pub returns-clause-no_picture : goal.returns-clause-no_picture
 returns-clause-no_picture g c = λ bytes f offset is e.
-    let h = subst (λ (o : Option (List ℕ)). IfSome o (λ b. RefusesInput b (InputFault.NoPicture f offset))) is (IfErr-at_err _ e c.read_input.ensures.known_refused) in
+    let h = subst (λ (o : Option (List ℕ)). IfSome o (λ b. RefusesInput b (InputFault.NoPicture f offset))) is
+    (IfErr-at_err _ e c.read_input.ensures.known_refused) in
     (h.0, whole_gives_none c.copies_have_one_course.ensures c.final_ends_stay.ensures bytes h.1 f offset h.2 h.3)
 
 pub returns-clause-not_read : goal.returns-clause-not_read
 returns-clause-not_read g c = λ bytes stop count is e.
-    let h = subst (λ (o : Option (List ℕ)). IfSome o (λ b. RefusesInput b (InputFault.Read stop count))) is (IfErr-at_err _ e c.read_input.ensures.known_refused) in
+    let h = subst (λ (o : Option (List ℕ)). IfSome o (λ b. RefusesInput b (InputFault.Read stop count))) is
+    (IfErr-at_err _ e c.read_input.ensures.known_refused) in
     let t = IfErr-at_err _ e c.read_input.ensures.refused in
     record {
       events = t.events;

@@ -19,7 +19,8 @@ returns-clause-stops g c =
     let new = c.take_copy.new.self in
     let source = c.args.source in
     ok_then c.take_copy.result
-    (λ (report : CopyReport). GrewBy (TakesCopy source old new report) (g.S.Device.history c.args.device.now) (g.S.Device.history c.take_copy.new.device)) _
+    (λ (report : CopyReport). GrewBy (TakesCopy source old new report) (g.S.Device.history c.args.device.now)
+    (g.S.Device.history c.take_copy.new.device)) _
     c.take_copy.ensures.taken
     (λ report t. record {
       events = t.events;
@@ -43,7 +44,8 @@ returns-clause-whole g c = λ bytes is below.
       subst (λ (o : Option (List ℕ)). IfSome o (λ b. report.found.count ≤ length b)) is n,
     )) in
     ok_with c.take_copy.result
-    (λ (report : CopyReport). GrewBy (TakesCopy source old new report) (g.S.Device.history c.args.device.now) (g.S.Device.history c.take_copy.new.device))
+    (λ (report : CopyReport). GrewBy (TakesCopy source old new report) (g.S.Device.history c.args.device.now)
+    (g.S.Device.history c.take_copy.new.device))
     (λ (report : CopyReport). TakesBytes source old new report.stop bytes × (report.found.count ≤ length bytes)) _
     c.take_copy.ensures.taken known
     (λ report t k. record {
@@ -70,13 +72,15 @@ returns-clause-not_read g c = λ bytes stop count is e.
     let old = c.args.station.now in
     let new = c.take_copy.new.self in
     let source = c.args.source in
-    let h = subst (λ (o : Option (List ℕ)). IfSome o (λ b. RefusesBytes source old b (TakeFault.Read stop count))) is (IfErr-at_err _ e c.take_copy.ensures.known_refused) in
+    let h = subst (λ (o : Option (List ℕ)). IfSome o (λ b. RefusesBytes source old b (TakeFault.Read stop count))) is
+    (IfErr-at_err _ e c.take_copy.ensures.known_refused) in
     let t = IfErr-at_err _ e c.take_copy.ensures.refused in
     record {
       events = t.events;
       grew = t.grew;
       they_are = λ none.
-          only_turns stop count t.events bytes h.0 h.1.following (refusal_shows source old new (TakeFault.Read stop count) t.events t.they_are) none
+          only_turns stop count t.events bytes h.0 h.1.following
+          (refusal_shows source old new (TakeFault.Read stop count) t.events t.they_are) none
           h.3 h.2 h.1.bytes_are;
     }
 
@@ -84,14 +88,16 @@ pub returns-clause-no_picture : goal.returns-clause-no_picture
 returns-clause-no_picture g c = λ bytes f offset is e.
     let old = c.args.station.now in
     let source = c.args.source in
-    let h = subst (λ (o : Option (List ℕ)). IfSome o (λ b. RefusesBytes source old b (TakeFault.NoPicture f offset))) is (IfErr-at_err _ e c.take_copy.ensures.known_refused) in
+    let h = subst (λ (o : Option (List ℕ)). IfSome o (λ b. RefusesBytes source old b (TakeFault.NoPicture f offset))) is
+    (IfErr-at_err _ e c.take_copy.ensures.known_refused) in
     whole_gives_none c.copies_have_one_course.ensures c.final_ends_stay.ensures bytes h.0 f offset h.1 h.2
 
 pub returns-clause-other_shape : goal.returns-clause-other_shape
 returns-clause-other_shape g c = λ bytes is e.
     let old = c.args.station.now in
     let source = c.args.source in
-    let h = subst (λ (o : Option (List ℕ)). IfSome o (λ b. RefusesBytes source old b TakeFault.ShapeDiffers)) is (IfErr-at_err _ e c.take_copy.ensures.known_refused) in
+    let h = subst (λ (o : Option (List ℕ)). IfSome o (λ b. RefusesBytes source old b TakeFault.ShapeDiffers)) is
+    (IfErr-at_err _ e c.take_copy.ensures.known_refused) in
     let b = h.2 in
     let shape = ap (λ (p : PartialPicture). has_same_shape old p) b.partial_is ∙ shape_kept source old b.read.partial in
     (b.prefix, b.is_prefix.following, b.read, b.is_prefix.bytes_are, b.reads_as, sym shape ∙ h.3)

@@ -13,4 +13,5 @@ returns-clause-held c = cuts_are_held c.collected_copies_are_held.ensures.source
 
 pub returns-clause-all : goal.returns-clause-all
 returns-clause-all c =
-    cut_lines_are_the_picture c.whole_files_survive.ensures.faultless c.prefixes_keep_readings.ensures c.collected_copies_are_held.ensures.sources
+    cut_lines_are_the_picture c.whole_files_survive.ensures.faultless c.prefixes_keep_readings.ensures
+    c.collected_copies_are_held.ensures.sources
