@@ -10,7 +10,7 @@ from jls_tools.dicom_align import merged
 from jls_tools.dicom_file import PIXEL_DATA, tag_name, text_of
 from jls_tools.dicom_result import Place
 from jls_tools.dicom_sectors import BESIDE, SECTOR, is_noise, is_plain
-from jls_tools.dicom_values import TEXTS, allows, strangeness
+from jls_tools.dicom_values import TEXTS, allows, is_doubtful, strangeness
 
 PADDING = 0xFFFCFFFC
 # Group length, transfer syntax, Samples per Pixel, Number of Frames, Rows and Columns: the file or its frames say what they have to be
@@ -149,7 +149,7 @@ class Doubts:
         value, end = own[element.value - element.start :], element.start + len(own)
         if strangeness(element.tag, element.vr) >= WRONG_VR or element.tag <= step.before[2]:
             return True
-        if step.kind == "leaf" and (not allows(element.vr, value) or element.vr in TEXTS and ZEROS in value):
+        if step.kind == "leaf" and (is_doubtful(element.vr, value) or element.vr in TEXTS and ZEROS in value):
             return True
         if any(first < end and element.start < behind for first, behind in self.unclear):
             return True

@@ -5,6 +5,7 @@ import re
 import struct
 
 from jls_tools.dicom_alone import PADDING, held_by_one, places_alone
+from jls_tools.dicom_csa import Chains
 from jls_tools.dicom_file import JPEG_LS, UNDEFINED, tag_name, text_of
 from jls_tools.dicom_result import Place
 from jls_tools.dicom_sectors import Decider
@@ -117,6 +118,7 @@ class Header:
         self.by_meta()
         self.by_frames(shape, frame_count)
         self.by_tables(table)
+        Chains(self).decide()
         self.by_neighbours()
         self.keep_values(PADDING, lambda value: not value.strip(b"\0"), IS_PADDING)
         Decider(self).decide()

@@ -29,6 +29,10 @@ class Identity:
     def uid(self):
         return self.in_data if self.in_data is not None and self.in_meta == self.in_data else None
 
+    def is_of(self, uid):
+        """Whether the copy has the UID of the instance in its data set, or in its meta information if that of the data set does not read."""
+        return uid is not None and uid == (self.in_meta if self.in_data is None else self.in_data)
+
 
 def identity_of(data):
     return Identity(*instance_of(data))
@@ -107,8 +111,8 @@ class Instances:
             self.certain, self.uncertain = list(range(len(texts))), []
             return
         self.uid = self.choose()
-        self.certain = [at for at, each in enumerate(self.identities) if each.uid is not None and at not in self.left_out]
-        self.uncertain = [at for at, each in enumerate(self.identities) if each.uid is None]
+        self.certain = [at for at, each in enumerate(self.identities) if at not in self.left_out and each.is_of(self.uid)]
+        self.uncertain = [at for at, each in enumerate(self.identities) if each.uid is None and at not in self.certain]
 
     def choose(self):
         """The UID of the instance, if any copy has one; copies of others are left out where that is clear."""

@@ -12,6 +12,7 @@ from jls_tools.dicom_frames import by_search, paired_by_bytes, shape_of
 from jls_tools.dicom_header import ALLOCATED, COLUMNS, FRAMES, ROWS, SAMPLES, STORED, SYNTAX
 from jls_tools.dicom_instance import Instances, TwoInstances
 from jls_tools.dicom_layout import Layout, is_through
+from jls_tools.dicom_lost import Lost, most_of
 from jls_tools.dicom_result import FAILED, NOT_WHOLE, REFUSED, WHOLE, FrameResult, MendOptions, MendResult, Place
 from jls_tools.dicom_write import find_sum, in_fragments, packed, padding, put_frames, store, top_level, with_choices
 from jls_tools.mending import FrameMender, is_connected, is_spliced, shapes_of
@@ -123,8 +124,13 @@ class Mending:
         self.copies, self.layout = laid_out([self.copy_at(at) for at in chosen])
         named = enumerate(zip(self.paths, self.texts))
         self.strange = [Stranger(path, text, at in self.uncertain) for at, (path, text) in named if at not in chosen]
-        self.own = [self.own_streams(place) for place in self.layout.places]
+        texts = [copy.data for copy in self.copies]
+        self.own = [self.own_streams(place, texts) for place in self.layout.places]
         self.streams = [list(dict.fromkeys(own.values())) for own in self.own]
+        if self.layout.has_header and is_through(self.layout.structure):
+            lost = Lost(self.copies, self.layout)
+            texts = lost.filled()
+            self.streams = [lost.streams(place, self.own_streams(place, texts)) for place in self.layout.places]
         self.refuse_other_codings()
         if not self.layout.places:
             texts = [self.texts[at] for at in chosen]
@@ -133,9 +139,18 @@ class Mending:
         self.mended = []
         for number, streams in enumerate(self.streams):
             begin = self.layout.places[number].begin if self.layout.places else 0
-            self.mended.append(self.mender.mend(number, streams, begin))
+            self.mended.append(self.mended_by_most(number, begin) or self.mender.mend(number, streams, begin))
             if self.options.progress:
                 self.options.progress(number + 1, len(self.streams))
+
+    def mended_by_most(self, number, begin):
+        """A Mended of three copies or more, each of which was damaged elsewhere: what most of them have, if it is whole; or nothing."""
+        place = self.layout.places[number] if self.layout.places else None
+        if place is None or any(copy.lacks(place.begin, place.end) for copy in self.copies):
+            return None
+        stream = most_of(list(self.own[number].values()))
+        mended = self.mender.mend(number, [stream], begin) if stream is not None else None
+        return mended if mended and mended.is_whole else None
 
     def copy_at(self, at):
         """A copy. One whose beginning a foreign file has overwritten has only the rest."""
@@ -145,12 +160,12 @@ class Mending:
         until, beside = self.rests[at]
         return Copy(self.paths[at], self.texts[beside][:until] + text[until:], [(0, until)], text[:until])
 
-    def own_streams(self, place):
-        """{copy: its stream of a frame}, of copies that have some of it."""
+    def own_streams(self, place, texts):
+        """{copy: its stream of a frame}, of copies that have some of it. `texts` are the bytes of the copies."""
         found = {}
         for number, copy in enumerate(self.copies):
             if any(copy.has_only(begin, end).strip(b"\0") for begin, end in place.fragments):
-                found[number] = place.stream(copy.data)
+                found[number] = place.stream(texts[number])
         if any(stream.endswith(b"\xff\xd9\0") for stream in found.values()):
             found = {number: stream[:-1] if len(stream) == place.size else stream for number, stream in found.items()}
         return found

@@ -17,10 +17,14 @@ PLAIN = bytes([0, 9, 10, 13, *range(0x20, 0x7F)])  # what texts, and fields that
 SHARE = len(PLAIN) / 256
 FITS, STRANGE, LEAST_MORE, MOST_BITS = 1.0, 2.0, 3.0, 5.0  # bits a byte
 MOST = 1 << 20  # bytes of sectors next to each other that are looked at
+LOST_VALUES = (b"\0", b"\xff")  # what stands where bytes were lost
+REACH = 128  # so near have places to be that go with others of one run
 DECIDED = 3  # so many places of a range were decided, at least, where others go with them
 IS_VALUE, IS_NOISE = "others are one value, from border to border of sectors", "others are noise"
 IS_STRANGE = "others are of another kind, from border to border of sectors"
 IS_COMPANY = "the places around it in its sector are of that copy"
+IS_PATCH = "others are noise, and what stands around them is none"
+IS_ONE_RUN = "others are part of a run of one value that was written over places beside it"
 
 
 def plainness(data):
@@ -144,6 +148,23 @@ class Pair:
         begins = is_plain(before) and is_noise(self.own[begin : begin + BESIDE]) and self.agree(begin - BESIDE, begin)
         return begins or is_plain(after) and is_noise(self.own[end - BESIDE : end]) and self.agree(end, end + BESIDE)
 
+    def is_patch(self, begin, end):
+        """Whether a copy has noise in a range with no noise beside it, and the other copy has none. Zeros in zeros can be lost bytes."""
+        own, other = self.own[begin:end], self.other[begin:end]
+        if not (is_noise(own) and is_plain(other) and self.agree_beside(begin, end)):
+            return False
+        if not other.strip(other[:1]) and other[:1] in LOST_VALUES:
+            return False
+        return is_plain(self.own[max(0, begin - BESIDE) : begin]) and is_plain(self.own[end : end + BESIDE])
+
+    def run_around(self, begin, end):
+        """The run of one value of a copy in which a range lies, as far as it may count; nothing if it has several."""
+        value, other = self.own[begin : begin + 1], self.other[begin:end]
+        if self.own[begin:end].strip(value) or value not in LOST_VALUES or not other.strip(value):
+            return None
+        before = run_length(self.own[max(0, begin - WINDOW) : begin][::-1], value)
+        return begin - before, end + run_length(self.own[end : end + WINDOW], value)
+
     def is_other_plain(self, begin):
         return is_plain(self.other[begin : begin + SECTOR])
 
@@ -194,7 +215,20 @@ class Decider:
             pair = Pair(header.copies[own].data, header.copies[other].data, header.leaves)
             for begin, end, why, is_doubted in pair.lost([begin for begin, _ in self.stretches()]):
                 self.drop(own, other, begin, end, why, DECIDED if is_doubted else 0)
-            self.by_company(own, other)
+            for begin, end in self.wholes():
+                if pair.is_patch(begin, end):
+                    self.drop(own, other, begin, end, IS_PATCH)
+            self.by_company(pair, own, other)
+            self.by_runs_of_one_value(pair, own, other)
+
+    def wholes(self):
+        """The ranges that were cut at borders of sectors, with each of their parts, of which one is open."""
+        wholes = {}
+        for number in sorted(self.header.left):
+            wholes.setdefault(self.runs.runs[number].whole, []).append(number)
+        is_open = set(self.header.open_runs())
+        parts = [numbers for numbers in wholes.values() if is_open & set(numbers)]
+        return [(self.runs.runs[numbers[0]].begin, self.runs.runs[numbers[-1]].end) for numbers in parts]
 
     def stretches(self):
         """The ranges of open runs, those together that were cut at a border of sectors."""
@@ -224,14 +258,40 @@ class Decider:
         holders = self.header.holders(number)
         return one in holders and two not in holders
 
-    def by_company(self, own, other):
+    def by_company(self, pair, own, other):
         """Open places between others of one sector, all of which were decided against a copy: that one lost the sector there."""
         for border in sorted({self.runs.runs[number].begin // SECTOR * SECTOR for number in self.header.open_runs()}):
             numbers = [number for number in self.runs.touching(border, border + SECTOR) if number in self.header.left]
             against = [number for number in numbers if self.is_for(number, other, own)]
-            if len(against) >= DECIDED:
+            if len(against) >= DECIDED or sum(self.length(number) for number in against) >= BESIDE:
                 first, last = self.runs.runs[against[0]].begin, self.runs.runs[against[-1]].end
+                begins, ends = self.runs.runs[numbers[0]].begin, self.runs.runs[numbers[-1]].end
+                if begins <= border + NEAR and pair.agree(border - BESIDE, border):
+                    first = begins
+                if ends >= border + SECTOR - NEAR and pair.agree(border + SECTOR, border + SECTOR + BESIDE):
+                    last = ends
                 self.drop(own, other, first, last, IS_COMPANY)
+
+    def by_runs_of_one_value(self, pair, own, other):
+        """Open places in a run of one value that was written over other places near them: it goes on there."""
+        waiting = self.header.open_runs()
+        for number in waiting + waiting[::-1]:
+            run = self.runs.runs[number]
+            around = pair.run_around(run.begin, run.end) if len(self.header.left[number]) > 1 else None
+            if around is None:
+                continue
+            numbers = [each for each in self.runs.touching(*around) if each in self.header.left]
+            against = [each for each in numbers if self.is_for(each, other, own)]
+            near = [each for each in against if self.distance(each, run) <= REACH]
+            if near and len(against) >= DECIDED and not any(self.is_for(each, own, other) for each in numbers):
+                self.drop(own, other, run.begin, run.end, IS_ONE_RUN)
+
+    def length(self, number):
+        return self.runs.runs[number].end - self.runs.runs[number].begin
+
+    def distance(self, number, run):
+        other = self.runs.runs[number]
+        return max(other.begin - run.end, run.begin - other.end)
 
 
 def equal_end(one, other):

@@ -1,5 +1,6 @@
 """What a VR allows a value to be (PS3.5, 6.2), and the VRs of well-known elements (PS3.6)."""
 import calendar
+import itertools
 import re
 
 DIGITS_AND_DOTS = re.compile(rb"[0-9.]+\0?\Z")
@@ -16,6 +17,7 @@ DECIMAL = re.compile(rb" *[+-]?(?:\d+\.?\d*|\.\d+)(?:[eE][+-]?\d+)? *\Z")
 # control characters other than ESC (and TAB, LF, FF, CR in texts), and the byte that UTF-8 and the ISO 8859 parts have no use for
 NOT_IN_TEXT = re.compile(rb"[\x00-\x08\x0b\x0e-\x1a\x1c-\x1f\x7f\xff]")
 NOT_IN_STRING = re.compile(rb"[\x00-\x1a\x1c-\x1f\x7f\xff]")
+PRINTABLE = re.compile(rb"[\x20-\x7e]{2,64}\Z")
 SIZES = {b"AT": 4, b"FD": 8, b"FL": 4, b"OD": 8, b"OF": 4, b"OL": 4, b"OV": 8, b"OW": 2, b"SL": 4, b"SS": 2, b"SV": 8, b"UL": 4, b"US": 2}
 SIZES[b"UV"] = 8
 TEXTS = frozenset(b"AE AS CS DA DS DT IS LO LT PN SH ST TM UC UI UR UT".split())
@@ -76,6 +78,24 @@ def allows(vr, value):
     if vr in (b"LT", b"ST", b"UT", b"UC", b"UR"):
         return not NOT_IN_TEXT.search(value.rstrip(b"\0"))
     return True
+
+
+def is_doubtful(vr, value):
+    """Whether a value is one that its VR forbids, and that damage can have made.
+
+    Some writers put other texts there, such as Anon. No flip of one bit makes them allowed, and noise is no text.
+    """
+    if allows(vr, value):
+        return False
+    text = bytearray(value.rstrip(b"\0"))
+    if vr not in TEXTS or not PRINTABLE.match(text):
+        return True
+    for at, bit in itertools.product(range(len(text)), range(8)):
+        text[at] ^= 1 << bit
+        if allows(vr, bytes(text)) or allows(vr, bytes(text) + b"\0"):
+            return True
+        text[at] ^= 1 << bit
+    return False
 
 
 FORMS = {b"AS": AGE, b"CS": CODE, b"DS": DECIMAL, b"DT": DATE_TIME, b"IS": WHOLE}
