@@ -7,6 +7,7 @@ element, confirm some values.
 from dataclasses import dataclass
 
 from jls_tools.dicom_align import merged
+from jls_tools.dicom_csa import is_chain
 from jls_tools.dicom_file import PIXEL_DATA, tag_name, text_of
 from jls_tools.dicom_result import Place
 from jls_tools.dicom_sectors import BESIDE, SECTOR, is_noise, is_plain
@@ -22,6 +23,7 @@ KINDS = 8  # of so many different bytes, at least, the end of a copy that is cut
 WRONG_VR = 4  # the strangeness of a known element with another VR
 ZEROS = bytes(8)
 LONG = 512  # damage by sectors can lie within a value that is longer
+ALIKE = 0.9  # such a share of bytes is of the values that stand behind a border, where a value goes on
 NEAR = 1024  # so many bytes before the end of a foreign beginning can be of the copy itself
 
 
@@ -115,10 +117,18 @@ def is_across(element, border):
 
 
 def ends_clearly(copy):
-    """Whether a foreign beginning ends as noise at a border of sectors, where the bytes of the other copy are none on both sides."""
+    """Whether a foreign beginning ends at a border of sectors, where the bytes of the other copy go on: as noise, or unlike them."""
     border = copy.absent[0][1]
-    sides = (copy.data[border - BESIDE : border], copy.data[border : border + BESIDE])
-    return border % SECTOR == 0 and is_noise(copy.foreign[border - BESIDE : border]) and all(map(is_plain, sides))
+    before, after = copy.data[border - BESIDE : border], copy.data[border : border + BESIDE]
+    foreign = copy.foreign[border - BESIDE : border]
+    if border % SECTOR or not (is_plain(before) and is_plain(after)):
+        return False
+    return is_noise(foreign) or share_of(before, after) >= ALIKE and share_of(foreign, after) <= 1 - ALIKE
+
+
+def share_of(data, other):
+    """Which share of some bytes are of values that others have."""
+    return sum(byte in other for byte in data) / max(1, len(data))
 
 
 def denies(text, own, element):
@@ -153,7 +163,7 @@ class Doubts:
             return True
         if any(first < end and element.start < behind for first, behind in self.unclear):
             return True
-        if step.kind == "leaf" and any(is_across(element, border) for border in self.borders):
+        if step.kind == "leaf" and any(is_across(element, border) for border in self.borders) and not is_chain(value):
             return True
         return any(element.start >= first and denies(text, own, element) for first, text in self.texts)
 

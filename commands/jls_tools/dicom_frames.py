@@ -1,5 +1,6 @@
 """Where the frames of Pixel Data stand (PS3.5, A.4): fragments of a frame together, paired by place. A search comes last."""
 import re
+import struct
 from dataclasses import dataclass
 
 from jls_tools.dicom_file import UNDEFINED
@@ -8,6 +9,7 @@ from jls_tools.dicom_file import UNDEFINED
 BEGIN = re.compile(rb"\xff\xd8(?=\xff[\xf7\xf8\xe0-\xef\xfe\xdd\xff])")
 DELIMITER = b"\xfe\xff\xdd\xe0\0\0\0\0"
 ITEM_TAG = b"\xfe\xff\x00\xe0"
+USUAL_RESET = 64
 EXTENDED_TABLE, EXTENDED_LENGTHS = 0x7FE00001, 0x7FE00002
 
 
@@ -169,6 +171,26 @@ def shape_of(stream):
             return found
         at += 2 + length
     return found
+
+
+def usual_thresholds(maxval):
+    """T1, T2 and T3 of lossless coding as they are if nothing else is said (T.87, C.2.4.1.1)."""
+    if maxval >= 128:
+        factor = (min(maxval, 4095) + 128) >> 8
+        return factor * (3 - 2) + 2, factor * (7 - 3) + 3, factor * (21 - 4) + 4
+    factor = 256 // (maxval + 1)
+    return max(2, 3 // factor), max(3, 7 // factor), max(4, 21 // factor)
+
+
+def has_usual_parameters(stream):
+    """Whether the preset coding parameters of a lossless codestream are absent or those that it would have without them."""
+    shape, found = shape_of(stream), stream.find(b"\xff\xf8\0\x0d\1", 0, max(0, stream.find(b"\xff\xda")))
+    if shape is None or shape.near != 0:
+        return False
+    if found < 0:
+        return True
+    maxval, *thresholds, reset = struct.unpack_from(">5H", stream, found + 5)
+    return maxval == (1 << shape.precision) - 1 and tuple(thresholds) == usual_thresholds(maxval) and reset == USUAL_RESET
 
 
 def other_coding(stream):

@@ -9,6 +9,7 @@ from jls_tools.dicom_csa import Chains
 from jls_tools.dicom_file import JPEG_LS, UNDEFINED, tag_name, text_of
 from jls_tools.dicom_result import Place
 from jls_tools.dicom_sectors import Decider
+from jls_tools.dicom_terms import KNOWN, has_terms, is_term
 from jls_tools.dicom_values import NOT_IN_TEXT, TEXTS, allows
 
 GROUP_LENGTH, CLASS_IN_META, INSTANCE_IN_META, SYNTAX = 0x00020000, 0x00020002, 0x00020003, 0x00020010
@@ -19,6 +20,7 @@ TWINS = ((CLASS_IN_META, CLASS), (INSTANCE_IN_META, INSTANCE))
 MOST_TOGETHER = 4096
 PREAMBLE = 128
 ZEROS, IS_PADDING, NO_MEANING = "others are zeros", "padding is zeros", "the preamble has no meaning"
+FRAMES_BEGIN = "there the frames begin"
 GUESSES = (ZEROS, IS_PADDING, NO_MEANING)
 
 
@@ -34,6 +36,7 @@ class Header:
         self.why = {}
         self.parts = {}  # run: what of it is outside of the frames, (begin, end) each
         self.leaves = [step.element for step in structure.steps if step.kind == "leaf" and step.element]
+        self.tables = []  # a Place for each part of an offset table of which no copy has each byte
         self.alone = []  # a Place for each element that one copy alone has, and that nothing else confirms
         for number, run in enumerate(runs.runs):
             parts = list(self.outside(run.begin, run.end))
@@ -119,6 +122,7 @@ class Header:
         self.by_frames(shape, frame_count)
         self.by_tables(table)
         Chains(self).decide()
+        self.by_terms()
         self.by_neighbours()
         self.keep_values(PADDING, lambda value: not value.strip(b"\0"), IS_PADDING)
         Decider(self).decide()
@@ -186,11 +190,29 @@ class Header:
 
     def keep_bytes(self, begin, end, expected):
         """Leaves for each run in a range the ways that have these bytes."""
-        for number in self.open_runs(begin, end):
+        for number in self.runs.touching(begin, end):
             run = self.runs.runs[number]
             first, last = max(begin, run.begin), min(end, run.end)
             wanted = expected[first - begin : last - begin]
-            self.keep(number, {way for way in self.left[number] if run.part(way, begin, end) == wanted}, "there the frames begin")
+            if number in self.left:
+                self.keep(number, {way for way in self.left[number] if run.part(way, begin, end) == wanted}, FRAMES_BEGIN)
+            if number in self.left and all(run.part(way, begin, end) != wanted for way in self.left[number]):
+                self.by_bytes(first, wanted)
+
+    def by_bytes(self, begin, wanted):
+        """Takes what a table has to have, if some copy has each byte of it, and another way was taken beside it."""
+        values = [(copy.path, copy.data[begin : begin + len(wanted)]) for copy in self.copies if not copy.lacks(begin, begin + len(wanted))]
+        if all(true in bytes_of_all for true, bytes_of_all in zip(wanted, zip(*(value for _, value in values)))):
+            names = [([path for path, value in values if value == own], own) for own in dict.fromkeys([wanted, *dict(values).values()])]
+            self.tables.append(Place(begin, len(wanted), self.name_at(begin), names, 0, FRAMES_BEGIN))
+
+    def by_terms(self):
+        """Leaves the readings that are known terms, if there are any."""
+        for element in self.leaves:
+            if has_terms(element.tag) and element.vr in TEXTS and self.open_runs(element.value, element.end):
+                known = [reading for reading in self.readings(element.value, element.end) if is_term(element.tag, reading[0])]
+                if known:
+                    self.keep_readings(known, KNOWN)
 
     def by_neighbours(self):
         """A range that was cut at borders of sectors, decided before and after a piece: the piece goes with them."""
@@ -311,7 +333,7 @@ class Header:
             taken = left[0] if len(left) == 1 else None
             why = self.why[number] if taken is not None else ""
             found.append(Place(run.begin, run.end - run.begin, self.name_at(run.begin), values, taken, why))
-        return sorted(found + self.alone, key=lambda place: place.offset)
+        return sorted(found + self.tables + self.alone, key=lambda place: place.offset)
 
     def merged(self):
         """The file on the axis, with what was decided; frames as the first copy has them."""
@@ -320,6 +342,8 @@ class Header:
             run = self.runs.runs[number]
             for begin, end in self.parts[number]:
                 data[begin:end] = run.part(way, begin, end)
+        for place in self.tables:
+            data[place.offset : place.offset + place.length] = place.values[place.taken][1]
         return data
 
 

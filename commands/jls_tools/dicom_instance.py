@@ -4,13 +4,16 @@ from collections import Counter
 from dataclasses import dataclass
 
 from jls_tools.dicom_align import Copy, differing
-from jls_tools.dicom_file import instance_of
+from jls_tools.dicom_file import instance_of, walk
 from jls_tools.dicom_runs import Runs
 from jls_tools.dicom_structure import FIRST, Walk
 
 BLOCK = 128
 STRETCH, SHORT, STEP, REACH = 256, 64, 16, 1024
 DENSE = 8  # one byte in so many differs where another file's beginning was written
+SECTOR = 512
+LARGEST_BEGINNING = 1 << 16  # bytes of a foreign beginning whose end is sought at borders of sectors
+MOST_PLACES = 8
 SHARED = 4  # one block in so many of their second half is equal, at its place, in two files of which one was overwritten
 
 
@@ -73,26 +76,46 @@ def border_of(data, other, place):
     return found
 
 
-def breaks_at(data, place):
-    """Whether the elements of a file break off at a place, and not before it: in the element or item that stands there."""
+def breaks_at(data, place, is_before=False):
+    """Whether the elements of a file break off at a place: in the element or item that stands there; or before it too, if that counts."""
     structure = Walk(Runs([Copy("", data)], 0, []), len(data)).solve([data])
     begin = 0
     for step in structure.steps:
         if step.kind in ("jump", "cut"):
-            return begin <= place + STEP and place <= step.before[0] + STEP or step.kind == "cut" and step.before[0] <= place
+            is_cut = step.kind == "cut" and step.before[0] <= place
+            return begin <= place + STEP and (is_before or place <= step.before[0] + STEP) or is_cut
         begin = step.before[0]
-    return not structure.is_found
+    return not structure.is_found and all(element.start <= place + STEP for element in walk(data))
+
+
+def rests_from(data, other):
+    """Where two files can begin to be equal after a foreign beginning of one: where they are so for long, and at borders of sectors."""
+    place = equal_from(data, other)
+    if place is None:
+        return
+    yield place
+    borders = range(-(-place // SECTOR) * SECTOR, min(len(data), len(other), LARGEST_BEGINNING) + 1, SECTOR)
+    for at in borders:
+        stretch = data[at : at + STRETCH]
+        is_same = stretch == other[at : at + STRETCH] and stretch != stretch[:1] * STRETCH
+        if is_same and data[at - SHORT : at] != other[at - SHORT : at]:
+            yield at
 
 
 def overwritten_until(data, other):
     """Where the beginning of its own ends that a file has, if it breaks off there and goes on as the other one; else nothing."""
-    place = equal_from(data, other)
-    if place is None or not share_blocks(data, other):
+    if not share_blocks(data, other):
         return None
-    apart = sum(end - begin for begin, end in differing([data[:place], other[:place]]))
-    if apart * DENSE < place - FIRST or breaks_at(other, place):
-        return None
-    return next((at for at in (border_of(data, other, place), place) if breaks_at(data, at)), None)
+    for place in itertools.islice(rests_from(data, other), MOST_PLACES):
+        apart = sum(end - begin for begin, end in differing([data[:place], other[:place]]))
+        if apart * DENSE < place - FIRST or breaks_at(other, place):
+            continue
+        # Where all is different, a foreign file may have ended before, and other bytes may follow it
+        is_foreign = apart * 3 >= (place - FIRST) * 2
+        found = next((at for at in (border_of(data, other, place), place) if breaks_at(data, at, is_foreign)), None)
+        if found is not None:
+            return found
+    return None
 
 
 class Instances:

@@ -5,7 +5,7 @@ import re
 from dataclasses import dataclass, field
 
 from jls_tools.dicom_align import differing
-from jls_tools.dicom_frames import other_coding, shape_of
+from jls_tools.dicom_frames import has_usual_parameters, other_coding, shape_of
 from jls_tools.dicom_result import FAILED, FrameResult
 from jls_tools.programs import ProgramFailed
 
@@ -15,6 +15,7 @@ SOI = b"\xff\xd8\xff"  # and the first byte of the next marker
 LEAST_EQUAL, MOST_EQUAL = 2, 64  # equal bytes between two places that jls-splice can take for one
 SECTORS = (4096, 512)
 MOST_CROSSED = 40
+SAME_RUN, SAME_KINDS = re.compile(rb"\0{8,}"), 6
 ZERO_RUN = re.compile(rb"\0{8,}")
 EQUAL_RUN = re.compile(rb"\0{4,}")
 FAULT = re.compile(r"end fault (\d+)")
@@ -53,9 +54,26 @@ def is_zeros(stream, other):
 def shares_little(stream, other):
     """Whether another copy has a codestream at this place with less than half of these bytes.
 
-    What is zeros wherever it differs is none, nor is what does not begin as a codestream: it is no frame, but damage.
+    What is zeros wherever it differs is none, nor is what does not begin as a codestream: it is no frame, but damage. So is one that has
+    a stretch of the same codestream.
     """
-    return other[:3] == SOI and equal_bytes(stream, other) * 2 < min(len(stream), len(other)) and not is_zeros(other, stream)
+    if other[:3] != SOI or equal_bytes(stream, other) * 2 >= min(len(stream), len(other)):
+        return False
+    return not is_zeros(other, stream) and not shares_stretch(stream, other)
+
+
+def shares_stretch(one, other):
+    """Whether two streams have a stretch in common behind their headers that codes no even area."""
+    begin, end = max(behind_headers(one), behind_headers(other)), min(len(one), len(other))
+    apart = int.from_bytes(one[begin:end], "big") ^ int.from_bytes(other[begin:end], "big")
+    runs = SAME_RUN.finditer(apart.to_bytes(max(0, end - begin), "big"))
+    return any(len(set(one[begin + run.start() : begin + run.end()])) >= SAME_KINDS for run in runs)
+
+
+def behind_headers(stream):
+    """Where the first scan begins, or the end."""
+    at = stream.find(b"\xff\xda")
+    return at + 2 + int.from_bytes(stream[at + 2 : at + 4], "big") if at >= 0 else len(stream)
 
 
 def without_zeros(stream):
@@ -82,24 +100,25 @@ def is_spliced(stream, one, other):
     return of_one >= LEAST_SPLICED and of_other >= LEAST_SPLICED
 
 
-def cuts_of(one, other, begin, sector):
+def cuts_of(one, other, begin, sector, has_short):
     """Places in two streams where damage of one can end and damage of the other begin: short equal ranges, and borders of sectors.
 
     `begin` is where the streams begin in the file. jls-splice takes what is near each other for one place.
     """
     ranges = differing([one, other])
-    found = {last for (_, last), (first, _) in zip(ranges, ranges[1:]) if LEAST_EQUAL <= first - last <= MOST_EQUAL}
+    pairs = zip(ranges, ranges[1:]) if has_short else ()
+    found = {last for (_, last), (first, _) in pairs if LEAST_EQUAL <= first - last <= MOST_EQUAL}
     for first, last in ranges:
         found.update(at - begin for at in range(-(-(first + begin) // sector) * sector, last + begin + 1, sector))
     return sorted(at for at in found if 0 < at < len(one))
 
 
-def crossed(streams, begin, sector):
+def crossed(streams, begin, sector, has_short):
     """Splices of two streams that have one of them before a place and the other after it. They have no byte that neither has."""
     found = []
     for one, other in itertools.combinations(streams, 2):
         if len(one) == len(other):
-            for at in cuts_of(one, other, begin, sector):
+            for at in cuts_of(one, other, begin, sector, has_short):
                 found += [one[:at] + other[at:], other[:at] + one[at:]]
     return [stream for stream in dict.fromkeys(found) if stream not in streams]
 
@@ -158,8 +177,8 @@ class FrameMender:
     def of_crossed(self, number, streams, names, begin):
         """A Mended that is whole, from the streams and from what has one of two before a place and the other after it; or nothing."""
         tried = []
-        for sector in SECTORS:
-            further = crossed(streams, begin, sector)
+        for has_short, sector in itertools.product((True, False), SECTORS):
+            further = crossed(streams, begin, sector, has_short)
             if further == tried or not 0 < len(further) <= MOST_CROSSED:
                 continue
             tried = further
@@ -211,19 +230,32 @@ class FrameMender:
         if self.has_files and self.wants_all:
             words += ["--files", prefix]
         splice = self.sure(self.programs.splice(partial, names, file, self.folder, words))
-        stream = self.get(file) if splice.file_written else None
+        stream = self.get(file) if splice.file_written else self.usual_of_several(splice, names, prefix, words)
         others = self.others(prefix, streams, names)
         self.drop([file])
         report = splice.report
         if splice.status == 3 or not report.width:
             return Mended(FrameResult(number, "missing", note=self.why_unread(streams[0], splice.faults)), None, others)
         promise = report.promise or "lines"
-        kind = self.kind_of(splice, report)
-        note = ""
+        kind, note = self.kind_of(splice, report), ""
+        if stream is not None and not splice.file_written:
+            kind, note = "whole", "of several files of this picture that with the usual parameters"
         if kind == "whole" and any(shares_little(stream, other) for other in streams):
             if stream in streams:
                 kind, note = "disputed", "another copy has less than half of these bytes here"
         return Mended(self.result(number, kind, report, promise, note), stream, others, self.path(partial), report.shape)
+
+    def usual_of_several(self, splice, names, prefix, words):
+        """Of several files that have one picture, which is promised: the one whose coding parameters are the usual ones; or nothing."""
+        report = splice.report
+        is_one = (report.promise or "").startswith("picture") and report.settled and not report.missing and not report.disputed
+        if not (is_one and self.has_files):
+            return None
+        partial = f"{prefix}.jlsp"
+        self.sure(self.programs.splice(partial, names, None, self.folder, words + ["--files", prefix]))
+        found = [stream for stream in self.files(prefix) if has_usual_parameters(stream)]
+        self.drop([partial])
+        return found[0] if len(found) == 1 else None
 
     def kind_of(self, splice, report):
         if splice.status == 0 and splice.promises_picture:
@@ -238,6 +270,10 @@ class FrameMender:
             return []
         if not self.has_files:
             return [stream for stream, name in zip(streams, names) if self.check(name).status == 0]
+        return self.files(prefix)
+
+    def files(self, prefix):
+        """What jls-splice wrote for --files."""
         found, number = [], 1
         while os.path.exists(self.path(f"{prefix}-{number}")):
             found.append(self.get(f"{prefix}-{number}"))
