@@ -4,6 +4,7 @@ Its way is the only one that goes on there. So it is taken where its VR allows t
 that was left out has the element with another value, the place of a loss is not clear, or the element is strange. The frames, or another
 element, confirm some values.
 """
+import re
 from dataclasses import dataclass
 
 from jls_tools.dicom_align import merged
@@ -11,7 +12,7 @@ from jls_tools.dicom_csa import is_chain
 from jls_tools.dicom_file import PIXEL_DATA, tag_name, text_of
 from jls_tools.dicom_result import Place
 from jls_tools.dicom_sectors import BESIDE, SECTOR, is_noise, is_plain
-from jls_tools.dicom_values import TEXTS, allows, is_doubtful, strangeness
+from jls_tools.dicom_values import DIGITS_AND_DOTS, TEXTS, allows, is_doubtful, strangeness
 
 PADDING = 0xFFFCFFFC
 # Group length, transfer syntax, Samples per Pixel, Number of Frames, Rows and Columns: the file or its frames say what they have to be
@@ -22,6 +23,7 @@ CLEAR = 32  # so many bytes beside a loss are equal in all copies, where its pla
 KINDS = 8  # of so many different bytes, at least, the end of a copy that is cut shows where it stands
 WRONG_VR = 4  # the strangeness of a known element with another VR
 ZEROS = bytes(8)
+ZERO_BEFORE, LONG_BEGIN = re.compile(rb"\.0\d"), 16
 LONG = 512  # damage by sectors can lie within a value that is longer
 ALIKE = 0.9  # such a share of bytes is of the values that stand behind a border, where a value goes on
 NEAR = 1024  # so many bytes before the end of a foreign beginning can be of the copy itself
@@ -152,6 +154,8 @@ class Doubts:
         # (from where on it counts, the bytes)
         self.texts = [(len(copy.foreign) - NEAR, copy.foreign) for copy in header.copies if copy.foreign]
         self.texts += [(0, stranger.data) for stranger in strangers if stranger.may_be_copy]
+        data = header.merged()
+        self.uids = [(leaf.value, leaf.bytes_of(data)) for leaf in header.leaves if leaf.vr == b"UI"]
 
     def has(self, step, own):
         """Whether something speaks against an element, whose bytes these are."""
@@ -159,13 +163,23 @@ class Doubts:
         value, end = own[element.value - element.start :], element.start + len(own)
         if strangeness(element.tag, element.vr) >= WRONG_VR or element.tag <= step.before[2]:
             return True
-        if step.kind == "leaf" and (is_doubtful(element.vr, value) or element.vr in TEXTS and ZEROS in value):
+        if step.kind == "leaf" and is_doubtful(element.vr, value) and not self.is_said_twice(element, value):
+            return True
+        if step.kind == "leaf" and element.vr in TEXTS and ZEROS in value:
             return True
         if any(first < end and element.start < behind for first, behind in self.unclear):
             return True
         if step.kind == "leaf" and any(is_across(element, border) for border in self.borders) and not is_chain(value):
             return True
         return any(element.start >= first and denies(text, own, element) for first, text in self.texts)
+
+
+    def is_said_twice(self, element, value):
+        """Whether a UID has zeros before numbers, which none should have, but another one of the file begins with them too."""
+        last = max((found.end() for found in ZERO_BEFORE.finditer(value)), default=0)
+        if element.vr != b"UI" or last < LONG_BEGIN or not DIGITS_AND_DOTS.match(value):
+            return False
+        return any(own != element.value and uid.startswith(value[:last]) for own, uid in self.uids)
 
 
 def places_alone(header, strangers):

@@ -1,5 +1,5 @@
 """What stands where in a file of which there are several copies: its structure, its frames, and its header as far as it is decided."""
-from jls_tools.dicom_align import differing
+from jls_tools.dicom_align import differing, on_one_axis
 from jls_tools.dicom_frames import EXTENDED_LENGTHS, EXTENDED_TABLE, Fragments
 from jls_tools.dicom_header import FRAMES, Header
 from jls_tools.dicom_runs import FINEST, Runs
@@ -75,3 +75,16 @@ def is_through(structure):
 def rank(structure):
     """What is worse comes later: not found, jumps, an end before the last element's, cost."""
     return (not structure.is_found, bool(structure.jumps), structure.is_cut, structure.cost or 0)
+
+
+def laid_out(copies):
+    """The copies on one axis, and their Layout. Where it breaks, they may have lost bytes at different places: if it goes through so."""
+    placed = on_one_axis(copies)
+    layout = Layout(placed)
+    if not is_through(layout.structure):
+        shifted = on_one_axis(copies, True)
+        if [copy.absent for copy in shifted] != [copy.absent for copy in placed]:
+            other = Layout(shifted)
+            if is_through(other.structure):
+                return shifted, other
+    return placed, layout

@@ -5,13 +5,13 @@ import shutil
 import tempfile
 
 from jls_tools import dicom_gaps, partial_picture
-from jls_tools.dicom_align import Copy, on_one_axis
+from jls_tools.dicom_align import Copy
 from jls_tools.dicom_alone import Stranger
 from jls_tools.dicom_file import JPEG_LS, syntax_name, syntax_of
 from jls_tools.dicom_frames import by_search, paired_by_bytes, shape_of
 from jls_tools.dicom_header import ALLOCATED, COLUMNS, FRAMES, ROWS, SAMPLES, STORED, SYNTAX
 from jls_tools.dicom_instance import Instances, TwoInstances
-from jls_tools.dicom_layout import Layout, is_through
+from jls_tools.dicom_layout import is_through, laid_out
 from jls_tools.dicom_lost import Lost, most_of
 from jls_tools.dicom_result import FAILED, NOT_WHOLE, REFUSED, WHOLE, FrameResult, MendOptions, MendResult, Place
 from jls_tools.dicom_write import find_sum, in_fragments, packed, padding, put_frames, store, top_level, with_choices
@@ -384,19 +384,6 @@ class Mending:
             raise Refused(f"frame {number} can't be written: {outcome.faults.strip()}", FAILED)
         segment = dicom_gaps.transform_of([stream for streams in self.streams for stream in streams])
         return dicom_gaps.with_transform(self.mender.get(stream), segment)
-
-
-def laid_out(copies):
-    """The copies on one axis, and their Layout. Where it breaks, they may have lost bytes at different places: if it goes through so."""
-    placed = on_one_axis(copies)
-    layout = Layout(placed)
-    if not is_through(layout.structure):
-        shifted = on_one_axis(copies, True)
-        if [copy.absent for copy in shifted] != [copy.absent for copy in placed]:
-            other = Layout(shifted)
-            if is_through(other.structure):
-                return shifted, other
-    return placed, layout
 
 
 def read(path):

@@ -17,6 +17,7 @@ DECIMAL = re.compile(rb" *[+-]?(?:\d+\.?\d*|\.\d+)(?:[eE][+-]?\d+)? *\Z")
 # control characters other than ESC (and TAB, LF, FF, CR in texts), and the byte that UTF-8 and the ISO 8859 parts have no use for
 NOT_IN_TEXT = re.compile(rb"[\x00-\x08\x0b\x0e-\x1a\x1c-\x1f\x7f\xff]")
 NOT_IN_STRING = re.compile(rb"[\x00-\x1a\x1c-\x1f\x7f\xff]")
+SHORT_PAD = 4
 PRINTABLE = re.compile(rb"[\x20-\x7e]{2,64}\Z")
 SIZES = {b"AT": 4, b"FD": 8, b"FL": 4, b"OD": 8, b"OF": 4, b"OL": 4, b"OV": 8, b"OW": 2, b"SL": 4, b"SS": 2, b"SV": 8, b"UL": 4, b"US": 2}
 SIZES[b"UV"] = 8
@@ -83,9 +84,10 @@ def allows(vr, value):
 def is_doubtful(vr, value):
     """Whether a value is one that its VR forbids, and that damage can have made.
 
-    Some writers put other texts there, such as Anon. No flip of one bit makes them allowed, and noise is no text.
+    Some writers put other texts there, such as Anon. No flip of one bit makes them allowed, and noise is no text. Others fill an empty
+    text with zeros: damage that zeroes so few bytes and none beside them is none that is known.
     """
-    if allows(vr, value):
+    if allows(vr, value) or len(value) <= SHORT_PAD and not value.strip(b"\0"):
         return False
     text = bytearray(value.rstrip(b"\0"))
     if vr not in TEXTS or not PRINTABLE.match(text):
