@@ -1,7 +1,8 @@
 """What stands where in a file of which there are several copies: its structure, its frames, and its header as far as it is decided."""
 from jls_tools.dicom_align import differing, on_one_axis
+from jls_tools.dicom_file import JPEG_LS
 from jls_tools.dicom_frames import EXTENDED_LENGTHS, EXTENDED_TABLE, Fragments
-from jls_tools.dicom_header import FRAMES, Header
+from jls_tools.dicom_header import ALLOCATED, COLUMNS, FRAMES, ROWS, SAMPLES, STORED, SYNTAX, Header
 from jls_tools.dicom_runs import FINEST, Runs
 from jls_tools.dicom_structure import Walk
 from jls_tools.dicom_write import expected_tables
@@ -88,3 +89,22 @@ def laid_out(copies):
             if is_through(other.structure):
                 return shifted, other
     return placed, layout
+
+
+def contradiction(header, shape, frame_count):
+    """What a Header says that the frames deny, or nothing."""
+    if header.text(SYNTAX) != JPEG_LS:
+        return f"the transfer syntax is {header.text(SYNTAX)}"
+    count = header.text(FRAMES)
+    if not (frame_count == 1 and count is None) and count != str(frame_count):
+        return f"Number of Frames is {count}, and {frame_count} are there"
+    if shape is None:
+        return None
+    sizes = ((ROWS, "Rows", shape.rows), (COLUMNS, "Columns", shape.columns), (SAMPLES, "Samples per Pixel", shape.components))
+    for tag, name, wanted in sizes:
+        if header.short(tag) != wanted:
+            return f"{name} is {header.short(tag)}, and the frames have {wanted}"
+    allocated, stored = header.short(ALLOCATED), header.short(STORED)
+    if not (allocated and stored and stored <= allocated and shape.precision <= allocated):
+        return f"Bits Stored is {stored} of {allocated}, and the frames have {shape.precision}"
+    return None

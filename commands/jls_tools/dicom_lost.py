@@ -93,8 +93,8 @@ class Lost:
                 found[own][begin:end] = self.copies[other].data[begin:end]
         return [bytes(data) for data in found]
 
-    def streams(self, place, own):
-        """The streams of a frame, {copy: stream}, that differ: without one of another length that has little in common with the others."""
+    def of_this_file(self, place, own):
+        """Of {copy: its stream of a frame} those that differ, without one of another length that has little in common with the others."""
         denied = {copy for copy in own if self.has_denied(copy, place.begin - 8, place.begin)}
         sure = [stream for copy, stream in own.items() if copy not in denied]
         kept = [own[copy] for copy in own if copy not in denied or not any(shares_little(stream, own[copy]) for stream in sure)]

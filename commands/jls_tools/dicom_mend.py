@@ -9,9 +9,8 @@ from jls_tools.dicom_align import Copy
 from jls_tools.dicom_alone import Stranger
 from jls_tools.dicom_file import JPEG_LS, syntax_name, syntax_of
 from jls_tools.dicom_frames import by_search, paired_by_bytes, shape_of
-from jls_tools.dicom_header import ALLOCATED, COLUMNS, FRAMES, ROWS, SAMPLES, STORED, SYNTAX
 from jls_tools.dicom_instance import Instances, TwoInstances
-from jls_tools.dicom_layout import is_through, laid_out
+from jls_tools.dicom_layout import contradiction, is_through, laid_out
 from jls_tools.dicom_lost import Lost, most_of
 from jls_tools.dicom_result import FAILED, NOT_WHOLE, REFUSED, WHOLE, FrameResult, MendOptions, MendResult, Place
 from jls_tools.dicom_write import find_sum, in_fragments, packed, padding, put_frames, store, top_level, with_choices
@@ -124,13 +123,14 @@ class Mending:
         self.copies, self.layout = laid_out([self.copy_at(at) for at in chosen])
         named = enumerate(zip(self.paths, self.texts))
         self.strange = [Stranger(path, text, at in self.uncertain) for at, (path, text) in named if at not in chosen]
-        texts = [copy.data for copy in self.copies]
-        self.own = [self.own_streams(place, texts) for place in self.layout.places]
-        self.streams = [list(dict.fromkeys(own.values())) for own in self.own]
+        self.own = [self.own_streams(place, [copy.data for copy in self.copies]) for place in self.layout.places]
+        filled, self.kept = self.own, {}
         if self.layout.has_header and is_through(self.layout.structure):
             lost = Lost(self.copies, self.layout)
             texts = lost.filled()
-            self.streams = [lost.streams(place, self.own_streams(place, texts)) for place in self.layout.places]
+            filled = [self.own_streams(place, texts) for place in self.layout.places]
+            self.kept = {place.number: lost.of_this_file(place, filled[place.number]) for place in self.layout.places}
+        self.streams = [list(dict.fromkeys(own.values())) for own in filled]
         self.refuse_other_codings()
         if not self.layout.places:
             texts = [self.texts[at] for at in chosen]
@@ -139,9 +139,18 @@ class Mending:
         self.mended = []
         for number, streams in enumerate(self.streams):
             begin = self.layout.places[number].begin if self.layout.places else 0
-            self.mended.append(self.mended_by_most(number, begin) or self.mender.mend(number, streams, begin))
+            self.mended.append(self.mended_by_most(number, begin) or self.mended_frame(number, streams, begin))
             if self.options.progress:
                 self.options.progress(number + 1, len(self.streams))
+
+    def mended_frame(self, number, streams, begin):
+        """A Mended: of all streams, or if it isn't whole of those that are of this file, if these are fewer and it is whole then."""
+        mended = self.mender.mend(number, streams, begin)
+        kept = self.kept.get(number, streams)
+        if mended.is_whole or not 0 < len(kept) < len(streams):
+            return mended
+        other = self.mender.mend(number, kept, begin)
+        return other if other.is_whole else mended
 
     def mended_by_most(self, number, begin):
         """A Mended of three copies or more, each of which was damaged elsewhere: what most of them have, if it is whole; or nothing."""
@@ -221,30 +230,11 @@ class Mending:
             return "the header is broken where no copy has it"
         if self.layout.structure.is_cut_outside:
             return "an element is cut in every copy"
-        return self.contradiction()
+        return contradiction(self.header, self.shape, len(self.mended))
 
     def is_in_pixels(self, begin, end):
         structure = self.layout.structure
         return structure.pixel_data.value <= begin and end <= structure.end_of_pixels()
-
-    def contradiction(self):
-        """What the header says that the frames deny, or nothing."""
-        header, shape = self.header, self.shape
-        if header.text(SYNTAX) != JPEG_LS:
-            return f"the transfer syntax is {header.text(SYNTAX)}"
-        count = header.text(FRAMES)
-        if not (len(self.mended) == 1 and count is None) and count != str(len(self.mended)):
-            return f"Number of Frames is {count}, and {len(self.mended)} are there"
-        if shape is None:
-            return None
-        sizes = ((ROWS, "Rows", shape.rows), (COLUMNS, "Columns", shape.columns), (SAMPLES, "Samples per Pixel", shape.components))
-        for tag, name, wanted in sizes:
-            if header.short(tag) != wanted:
-                return f"{name} is {header.short(tag)}, and the frames have {wanted}"
-        allocated, stored = header.short(ALLOCATED), header.short(STORED)
-        if not (allocated and stored and stored <= allocated and shape.precision <= allocated):
-            return f"Bits Stored is {stored} of {allocated}, and the frames have {shape.precision}"
-        return None
 
     def all_whole(self):
         return all(frame.is_whole for frame in self.mended)

@@ -14,7 +14,7 @@ HEADERS, LEAST_SHARED, LEAST_SPLICED = 64, 128, 16
 SOI = b"\xff\xd8\xff"  # and the first byte of the next marker
 LEAST_EQUAL, MOST_EQUAL = 2, 64  # equal bytes between two places that jls-splice can take for one
 SECTORS = (4096, 512)
-MOST_CROSSED = 40
+MOST_CROSSED, MOST_SECTORS = 40, 5
 SAME_RUN, SAME_KINDS = re.compile(rb"\0{8,}"), 6
 ZERO_RUN = re.compile(rb"\0{8,}")
 EQUAL_RUN = re.compile(rb"\0{4,}")
@@ -113,12 +113,23 @@ def cuts_of(one, other, begin, sector, has_short):
     return sorted(at for at in found if 0 < at < len(one))
 
 
+def by_sectors(one, other, cuts):
+    """Splices of two streams that have any of them in each sector in which they differ, if these are few."""
+    borders = [0, *cuts, len(one)]
+    parts = [{one[first:last], other[first:last]} for first, last in zip(borders, borders[1:])]
+    if sum(len(part) == 2 for part in parts) > MOST_SECTORS:
+        return []
+    return [b"".join(splice) for splice in itertools.product(*map(sorted, parts))]
+
+
 def crossed(streams, begin, sector, has_short):
     """Splices of two streams that have one of them before a place and the other after it. They have no byte that neither has."""
     found = []
     for one, other in itertools.combinations(streams, 2):
         if len(one) == len(other):
-            for at in cuts_of(one, other, begin, sector, has_short):
+            cuts = cuts_of(one, other, begin, sector, has_short)
+            found += [] if has_short else by_sectors(one, other, cuts)
+            for at in cuts:
                 found += [one[:at] + other[at:], other[:at] + one[at:]]
     return [stream for stream in dict.fromkeys(found) if stream not in streams]
 
