@@ -39,7 +39,7 @@ class Header:
         self.tables = []  # a Place for each part of an offset table of which no copy has each byte
         self.alone = []  # a Place for each element that one copy alone has, and that nothing else confirms
         for number, run in enumerate(runs.runs):
-            parts = list(self.outside(run.begin, run.end))
+            parts = [part for part in self.outside(run.begin, run.end) if len({run.part(way, *part) for way in range(len(run.ways))}) > 1]
             if parts:
                 self.parts[number] = parts
                 self.left[number] = self.first_ways(number, run)
@@ -197,14 +197,18 @@ class Header:
             if number in self.left:
                 self.keep(number, {way for way in self.left[number] if run.part(way, begin, end) == wanted}, FRAMES_BEGIN)
             if number in self.left and all(run.part(way, begin, end) != wanted for way in self.left[number]):
-                self.by_bytes(first, wanted)
+                is_taken = self.by_bytes(first, wanted)
+                if is_taken and begin <= run.begin and run.end <= end:
+                    self.keep(number, self.left[number][:1], FRAMES_BEGIN)
 
     def by_bytes(self, begin, wanted):
-        """Takes what a table has to have, if some copy has each byte of it, and another way was taken beside it."""
+        """Takes what a table has to have, if some copy has each byte of it, but none all of them; answers whether it is so."""
         values = [(copy.path, copy.data[begin : begin + len(wanted)]) for copy in self.copies if not copy.lacks(begin, begin + len(wanted))]
-        if all(true in bytes_of_all for true, bytes_of_all in zip(wanted, zip(*(value for _, value in values)))):
-            names = [([path for path, value in values if value == own], own) for own in dict.fromkeys([wanted, *dict(values).values()])]
-            self.tables.append(Place(begin, len(wanted), self.name_at(begin), names, 0, FRAMES_BEGIN))
+        if not values or any(true not in of_all for true, of_all in zip(wanted, zip(*(value for _, value in values)))):
+            return False
+        names = [([path for path, value in values if value == own], own) for own in dict.fromkeys([wanted, *dict(values).values()])]
+        self.tables.append(Place(begin, len(wanted), self.name_at(begin), names, 0, FRAMES_BEGIN))
+        return True
 
     def by_terms(self):
         """Leaves the readings that are known terms, if there are any."""

@@ -11,11 +11,12 @@ from jls_tools.programs import ProgramFailed
 
 # A frame is known by what stands after its headers
 HEADERS, LEAST_SHARED, LEAST_SPLICED = 64, 128, 16
+MOST_HEADERS = 1024
 SOI = b"\xff\xd8\xff"  # and the first byte of the next marker
 LEAST_EQUAL, MOST_EQUAL = 2, 64  # equal bytes between two places that jls-splice can take for one
 SECTORS = (4096, 512)
 MOST_CROSSED, MOST_SECTORS = 40, 5
-SAME_RUN, SAME_KINDS = re.compile(rb"\0{8,}"), 6
+SAME_RUN, SAME_KINDS, REST_KINDS = re.compile(rb"\0{8,}"), 6, 24
 ZERO_RUN = re.compile(rb"\0{8,}")
 EQUAL_RUN = re.compile(rb"\0{4,}")
 FAULT = re.compile(r"end fault (\d+)")
@@ -62,18 +63,31 @@ def shares_little(stream, other):
     return not is_zeros(other, stream) and not shares_stretch(stream, other)
 
 
+def equal_stretches(one, other):
+    """(begin, bytes) of what two streams have in common behind their headers, eight bytes or more each."""
+    begin, end = max(behind_headers(one) or HEADERS, behind_headers(other)), min(len(one), len(other))
+    apart = int.from_bytes(one[begin:end], "big") ^ int.from_bytes(other[begin:end], "big")
+    for run in SAME_RUN.finditer(apart.to_bytes(max(0, end - begin), "big")):
+        yield begin + run.start(), one[begin + run.start() : begin + run.end()]
+
+
 def shares_stretch(one, other):
     """Whether two streams have a stretch in common behind their headers that codes no even area."""
-    begin, end = max(behind_headers(one), behind_headers(other)), min(len(one), len(other))
-    apart = int.from_bytes(one[begin:end], "big") ^ int.from_bytes(other[begin:end], "big")
-    runs = SAME_RUN.finditer(apart.to_bytes(max(0, end - begin), "big"))
-    return any(len(set(one[begin + run.start() : begin + run.end()])) >= SAME_KINDS for run in runs)
+    return any(len(set(stretch)) >= SAME_KINDS for _, stretch in equal_stretches(one, other))
+
+
+def shares_rest(one, other):
+    """Whether two streams of one length have a long stretch in common behind a place where they differ: of two pictures none have."""
+    if len(one) != len(other):
+        return False
+    differ = next((at for at, (left, right) in enumerate(zip(one, other)) if left != right), len(one))
+    return any(begin > differ and len(set(stretch)) >= REST_KINDS for begin, stretch in equal_stretches(one, other))
 
 
 def behind_headers(stream):
-    """Where the first scan begins, or the end."""
-    at = stream.find(b"\xff\xda")
-    return at + 2 + int.from_bytes(stream[at + 2 : at + 4], "big") if at >= 0 else len(stream)
+    """Where the first scan begins; 0 if no header of one stands near the beginning."""
+    at = stream.find(b"\xff\xda", 0, MOST_HEADERS)
+    return at + 2 + int.from_bytes(stream[at + 2 : at + 4], "big") if at >= 0 else 0
 
 
 def without_zeros(stream):
@@ -82,13 +96,13 @@ def without_zeros(stream):
 
 
 def is_connected(one, other):
-    """Whether two streams at one place are of one picture: most bytes after their headers are equal, and these are many."""
+    """Whether two streams at one place are of one picture: most bytes after their headers are equal, or their ends, and these are many."""
     left, right = one[HEADERS:], other[HEADERS:]
     apart = int.from_bytes(left[: len(right)], "big") ^ int.from_bytes(right[: len(left)], "big")
     mask = apart.to_bytes(min(len(left), len(right)), "big")
     equal = sum(without_zeros(left[run.start() : run.end()]) for run in EQUAL_RUN.finditer(mask))
     least = min(without_zeros(left), without_zeros(right))
-    return one == other or (equal >= LEAST_SHARED and equal * 2 >= least)
+    return one == other or (equal >= LEAST_SHARED and equal * 2 >= least) or shares_rest(one, other)
 
 
 def is_spliced(stream, one, other):

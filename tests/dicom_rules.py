@@ -1,0 +1,125 @@
+"""Checks of what decides between damaged copies: CSA headers, known terms, sectors of frames, offset tables, UIDs, one picture."""
+import random
+import struct
+
+from dicom_files import UID, File, changed, element, frame, with_value
+
+
+def csa_header(rng):
+    """A Siemens CSA header ("SV10"), as NiBabel's documentation of that format has it: tags of a name, a VR and items."""
+    tags = [("EchoLinePosition", "IS", ["64"]), ("B_value", "IS", ["1000", ""]), ("ImaAbsTablePosition", "SL", [])]
+    tags += [(f"Field{at}", "DS", [f"{at}.{at * 7 % 100:02}", "", ""]) for at in range(12)]
+    tags += [("MrProtocol", "UT", ["".join(f"sSlice[{at}].dTra = -{at * 7}.5\n" for at in range(90))])]
+    found = b"SV10\4\3\2\1" + struct.pack("<II", len(tags), 77)
+    for name, vr, items in tags:
+        behind = rng.randbytes(62 - len(name))  # bytes that were there before
+        found += name.encode() + b"\0\1" + behind + struct.pack("<I4sIII", 1, vr.encode(), 6, len(items), 205)
+        for text in items:
+            value = text.encode() + b"\0" if text else b""
+            found += struct.pack("<4I", len(value), len(value), 77, len(value)) + value + bytes(-len(value) % 4)
+    return found + bytes(4)
+
+
+def checks_of_csa_headers(bench, made, rng):
+    """The tags and items of a CSA header tell damage, whatever it is; a letter of a text they don't tell."""
+    true, begin = with_value(made, csa_header(rng))
+    field, text = true.index(b"Field5\0"), true.index(b"sSlice[30]")
+    header = b"".join(element(0x180050 + at, "DS", str(at % 9)) for at in range(12))
+    cases = {
+        "zeros over tags": ((field + 8, bytes(200)), True),
+        "zeros in the last tag before a text": ((text - 900, bytes(100)), True),
+        "elements of a header over tags": ((field + 3, header), True),
+        "another length of an item": ((true.index(b"64\0", begin) - 16, b"\x0b"), True),
+        "a control character in a text": ((text, b"\x13"), True),
+        "another letter in a text": ((text, b"r"), False),
+        "another byte behind a name": ((field + 20, bytes([true[field + 20] ^ 1])), False),
+    }
+    for name, (change, is_decided) in cases.items():
+        for copies in ([changed(true, change), true], [true, changed(true, change)]):
+            status, out, printed, faults, _ = bench.mend(copies)
+            wanted, words = ((0, True), "the same file") if is_decided else ((1, False), "undecided")
+            yield f"CSA header, {name}: {words} ({status}, {printed}, {faults})", (status, out == true) == wanted
+    both = [changed(true, (field + 8, bytes(150))), changed(true, (field + 250, header), (text, b"\0\0"))]
+    status, out, printed, _, _ = bench.mend(both)
+    yield f"CSA header, damage of both: the same file ({status}, {printed})", (status, out == true) == (0, True)
+
+
+def checks_of_terms(bench, made):
+    """A known term is told from a text that is none. Of two known ones, and of two others, nothing is."""
+    true = made.bytes
+    sex = changed(true, (true.index(b"PRIVATE "), b"ACUSON  "))
+    for name, data, old, new, is_decided in (
+        ("a photometric interpretation", true, b"MONOCHROME2", b"MONOCHROME3", True),
+        ("an image type", true, b"ORIGINAL\\PRIMARY", b"ORIGINAL\\PRIMARQ", True),
+        ("a private creator", sex, b"ACUSON", b"ACUSOJ", True),
+        ("a private creator that is not known", true, b"PRIVATE ", b"PRIVATD ", False),
+        ("two photometric interpretations", true, b"MONOCHROME2", b"MONOCHROME1", False),
+    ):
+        status, out, printed, _, _ = bench.mend([changed(data, (data.index(old), new)), data])
+        wanted = (0, True) if is_decided else (1, False)
+        yield f"{name}: {'known' if is_decided else 'undecided'} ({status}, {printed})", (status, out == data) == wanted
+    odd = changed(true, (true.index(b"20200131"), b"Anon    "))
+    status, out, printed, _, _ = bench.mend([odd, bytes(512) + odd[512:]])
+    yield f"a text that a VR forbids, and no damage makes ({status}, {printed})", (status, out == odd) == (0, True)
+
+
+def checks_of_lost_sectors(bench, folder, rng):
+    """A sector of frames of which one copy has no header of an item: what it has there is no reading of a frame."""
+    small = File([frame(rng, 8, 16, 12, folder) for _ in range(24)], 8, 16, 12)
+    true = small.bytes
+    for seed in range(6):
+        noise, at = random.Random(seed), (small.items[3] // 512 + 1 + seed) * 512
+        lost = changed(true, (at, noise.randbytes(512)))
+        other = changed(true, (small.items[1] + 60, bytes(8)))
+        status, out, printed, _, _ = bench.mend([lost, other][:: seed % 2 * 2 - 1])
+        yield f"a sector of noise in frames, {seed}: the same file ({status}, {printed})", (status, out == true) == (0, True)
+    first, second = small.items[4] + 8, small.items[5]
+    swapped = changed(true, (first, small.frames[7][: second - first]))
+    status, out, printed, _, _ = bench.mend([true, swapped])
+    yield f"another frame in one copy: nothing false ({status}, {printed})", (status, out) == (1, None) or out == true
+    flipped = [changed(true, (small.items[6] + 60 + at, bytes([true[small.items[6] + 60 + at] ^ 4]))) for at in (0, 9, 20)]
+    status, out, printed, _, _ = bench.mend(flipped)
+    yield f"three copies with a flipped bit each: the same file ({status}, {printed})", (status, out == true) == (0, True)
+    status, out, printed, _, _ = bench.mend([flipped[0], flipped[0], flipped[1]])
+    yield f"two copies of one damaged copy: nothing false ({status}, {printed})", (status, out) == (1, None) or out == true
+
+
+def checks_of_tables(bench, made):
+    """Damage of both copies side by side at the offset table, of which neither has each byte."""
+    true, table = made.bytes, made.table_at
+    copies = [changed(true, (table - 8, b"\x93\x1e\x77\x41")), changed(true, (table, b"\x6a\xef\x2c\x55"))]
+    status, out, printed, _, _ = bench.mend(copies)
+    yield f"the offset table, damage side by side: the same file ({status}, {printed})", (status, out == true) == (0, True)
+
+
+# 64 lines of 64 samples 0 of 16 bits, as CharLS writes them: with the preset parameters that T.87, C.2.4.1.1, has for 65535
+BLANK = bytes.fromhex(
+    "ffd8fff7000b100040004001011100fff8000d01ffff0012004301140040ffda0008010100000000ff7fff7fff7fff7fff7fff00ffd9"
+)
+
+
+def checks_of_one_picture(bench):
+    """Files that differ, of one picture: that with the usual parameters is taken."""
+    true = File([BLANK], 16, 64, 64).bytes
+    at = true.index(b"\xff\xf8\0\x0d\1") + 5
+    for name, change in (("MAXVAL", (at, b"\x7f")), ("T1", (at + 3, b"\x10")), ("RESET", (at + 9, b"\x41"))):
+        status, out, printed, _, _ = bench.mend([changed(true, change), true])
+        yield f"a bit of {name} in an empty picture: the same file ({status}, {printed})", (status, out == true) == (0, True)
+
+
+def checks_of_one_uid(bench, made):
+    """A copy with one UID that reads is of the instance, though no frame of it fits."""
+    true, name = made.bytes, made.name_at
+    zeros = [(begin + 8, bytes(len(stream))) for begin, stream in zip(made.items, made.frames)]
+    lost = changed(true, (true.index(UID.encode()), bytes(10)), *zeros)
+    status, out, printed, _, _ = bench.mend([lost, changed(true, (name - 8, bytes(12)))])
+    yield f"a copy with one UID: the same file ({status}, {printed})", (status, out == true) == (0, True)
+
+
+def checks_of_rules(bench, made, work, rng):
+    yield from checks_of_csa_headers(bench, made, rng)
+    yield from checks_of_terms(bench, made)
+    yield from checks_of_lost_sectors(bench, work, rng)
+    yield from checks_of_tables(bench, made)
+    yield from checks_of_one_uid(bench, made)
+    yield from checks_of_one_picture(bench)
