@@ -1,10 +1,11 @@
 """Which copies are of one SOP instance (PS3.3, C.12.1): by their two UIDs, and those that a foreign file has overwritten."""
 import itertools
+import os
 from collections import Counter
 from dataclasses import dataclass
 
 from jls_tools.dicom_align import Copy, differing
-from jls_tools.dicom_file import instance_of, walk
+from jls_tools.dicom_file import PIXEL_DATA, UNDEFINED, instance_of, walk
 from jls_tools.dicom_runs import Runs
 from jls_tools.dicom_structure import FIRST, Walk
 
@@ -12,6 +13,9 @@ BLOCK = 128
 STRETCH, SHORT, STEP, REACH = 256, 64, 16, 1024
 DENSE = 8  # one byte in so many differs where another file's beginning was written
 SECTOR = 512
+LEAST_OF_UID = 40  # so many characters of the end of a UID tell instances apart
+INSTANCE_IN_META, INSTANCE = 0x00020003, 0x00080018
+ITEM_BYTES, END_BYTES = b"\xfe\xff\x00\xe0", b"\xfe\xff\xdd\xe0\0\0\0\0"
 LARGEST_BEGINNING = 1 << 16  # bytes of a foreign beginning whose end is sought at borders of sectors
 MOST_PLACES = 8
 SHARED = 4  # one block in so many of their second half is equal, at its place, in two files of which one was overwritten
@@ -118,6 +122,41 @@ def overwritten_until(data, other):
     return None
 
 
+def frames_of(data):
+    """The ranges of the items of Pixel Data, if a file goes by its elements and items to its end; else nothing."""
+    elements = list(walk(data))
+    if not elements or elements[-1].tag != PIXEL_DATA or elements[-1].length != UNDEFINED:
+        return []
+    at, found = elements[-1].value, []
+    while data[at : at + 4] == ITEM_BYTES:
+        begin, at = at + 8, at + 8 + int.from_bytes(data[at + 4 : at + 8], "little")
+        found.append((begin, at))
+    rest = list(walk(data, at + 8))
+    is_end = data[at : at + 8] == END_BYTES and (rest[-1].end if rest else at + 8) == len(data)
+    return found if is_end else []
+
+
+def border_between(data, other):
+    """Where a file begins to be overwritten with another one that stands before that place in the other: only so elements go on to the end.
+
+    It lies in a frame. So its codestream is of both, and shows that it is one if it can be decoded.
+    """
+    if len(data) != len(other) or frames_of(data) or frames_of(other):
+        return None
+    for border in range(SECTOR, len(data), SECTOR):
+        frames = frames_of(data[:border] + other[border:])
+        if any(begin + SHORT <= border <= end - SHORT for begin, end in frames):
+            return None if frames_of(other[:border] + data[border:]) else border
+    return None
+
+
+def has_end_of_uid(data, other):
+    """Whether a file has the end of a SOP Instance UID of another one at the same place: its beginning was lost."""
+    values = [element for element in walk(other) if element.tag in (INSTANCE_IN_META, INSTANCE)]
+    pairs = [(data[element.value : element.end][::-1], element.bytes_of(other)[::-1]) for element in values]
+    return any(len(os.path.commonprefix(pair)) >= LEAST_OF_UID for pair in pairs if len(pair[0]) == len(pair[1]))
+
+
 class Instances:
     """Sorts copies, by index: `certain` are of the instance, `uncertain` may be. `left_out` are others, with the reason.
 
@@ -135,6 +174,8 @@ class Instances:
             return
         self.uid = self.choose()
         self.certain = [at for at, each in enumerate(self.identities) if at not in self.left_out and each.is_of(self.uid)]
+        has_end = [at for at in range(len(texts)) if any(has_end_of_uid(texts[at], texts[other]) for other in self.certain)]
+        self.certain = sorted({*self.certain, *(at for at in has_end if self.identities[at].uid is None)})
         self.uncertain = [at for at, each in enumerate(self.identities) if each.uid is None and at not in self.certain]
 
     def choose(self):
@@ -143,6 +184,7 @@ class Instances:
         if len(counts) <= 1:
             return next(iter(counts), None)
         self.leave_out_overwritten(counts)
+        self.leave_out_half()
         counts = Counter(each.uid for at, each in enumerate(self.identities) if each.uid is not None and at not in self.left_out)
         (most, count), *others = counts.most_common()
         if others and (count < 2 or others[0][1] == count):
@@ -151,6 +193,16 @@ class Instances:
             if each.uid not in (None, most) and at not in self.left_out:
                 self.left_out[at] = f"it is of another instance, {each.uid}"
         return most
+
+    def leave_out_half(self):
+        """Two copies, of which a foreign file has overwritten the end of one and the beginning of the other."""
+        for at, beside in ((0, 1), (1, 0)) if len(self.texts) == 2 and not self.left_out else ():
+            border = border_between(self.texts[beside], self.texts[at])
+            if border is not None:
+                self.rests[at] = border, beside
+                self.left_out[at] = f"a foreign file, of instance {self.identities[at].uid}, has overwritten its beginning"
+                self.left_out[at] += f"; what follows from {border} on is used"
+                return
 
     def leave_out_overwritten(self, counts):
         """Leaves out copies whose beginning a foreign file has overwritten: further on they are as a copy of another instance is."""

@@ -165,6 +165,20 @@ class Pair:
         before = run_length(self.own[max(0, begin - WINDOW) : begin][::-1], value)
         return begin - before, end + run_length(self.own[end : end + WINDOW], value)
 
+    def is_noise_alone(self, begin):
+        """Whether a copy has noise in a sector, and the other one has none."""
+        return 0 <= begin < self.total and is_noise(self.own[begin : begin + SECTOR]) and self.is_other_plain(begin)
+
+    def is_cut_out(self, begin):
+        """Whether the other copy has one value in a sector as if that was lost: from border to border of sectors, and no further."""
+        end = min(begin + SECTOR, self.total)
+        value = self.other[begin : begin + 1]
+        if value not in LOST_VALUES or self.other[begin:end].strip(value):
+            return False
+        before = run_length(self.other[max(0, begin - WINDOW) : begin][::-1], value)
+        after = run_length(self.other[end : end + WINDOW], value)
+        return (begin - before) % SECTOR <= NEAR and (end + after) % SECTOR <= NEAR
+
     def is_other_plain(self, begin):
         return is_plain(self.other[begin : begin + SECTOR])
 
@@ -218,6 +232,7 @@ class Decider:
             for begin, end in self.wholes():
                 if pair.is_patch(begin, end):
                     self.drop(own, other, begin, end, IS_PATCH)
+            self.by_noise(pair, own, other)
             self.by_company(pair, own, other)
             self.by_runs_of_one_value(pair, own, other)
 
@@ -257,6 +272,21 @@ class Decider:
             return False
         holders = self.header.holders(number)
         return one in holders and two not in holders
+
+    def by_noise(self, pair, own, other):
+        """Open sectors next to others of noise, in which places were decided against a copy: that one lost all of them."""
+        for border in sorted({self.runs.runs[number].begin // SECTOR * SECTOR for number in self.header.open_runs()}):
+            if not pair.is_noise_alone(border) or pair.is_cut_out(border):
+                continue
+            first, last = border, border + SECTOR
+            while pair.is_noise_alone(first - SECTOR):
+                first -= SECTOR
+            while pair.is_noise_alone(last):
+                last += SECTOR
+            numbers = [number for number in self.runs.touching(first, last) if number in self.header.left]
+            against = [number for number in numbers if self.is_for(number, other, own)]
+            if sum(self.length(number) for number in against) >= BESIDE and not any(self.is_for(each, own, other) for each in numbers):
+                self.drop(own, other, border, border + SECTOR, IS_NOISE)
 
     def by_company(self, pair, own, other):
         """Open places between others of one sector, all of which were decided against a copy: that one lost the sector there."""

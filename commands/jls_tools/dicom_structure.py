@@ -15,6 +15,7 @@ from jls_tools.dicom_values import TEXTS, allows, strangeness
 FIRST = 132  # the first element
 MOST_COMBINATIONS = 64
 MOST_NODES = 100000  # a state and its steps take some kilobytes
+MOST_LOOKS = 100000  # so many ways through a header or value are looked at, at most; others take some thousands
 MOST_JUMPS = 40
 MOST_JUMPERS = 12
 FORBIDDEN, ZEROED, UNORDERED, ODD, CUT, JUMP = 3, 2, 8, 4, 4, 1000
@@ -51,6 +52,7 @@ class Walk:
         self.goals = set()
         self.cuts = []
         self.jumps = 0
+        self.looks = 0
 
     # Where copies differ ---------------------------------------------------------
 
@@ -63,6 +65,7 @@ class Walk:
             return
         free = [number for number in touched if number not in chosen]
         for ways in itertools.product(*(range(len(self.runs.runs[number].ways)) for number in free)):
+            self.looks += 1
             both = {**chosen, **dict(zip(free, ways))}
             cost = sum(ZEROED for number, way in zip(free, ways) if self.runs.runs[number].zeros[way])
             yield self.runs.bytes_with(begin, end, both), both, cost
@@ -89,7 +92,7 @@ class Walk:
         start = (FIRST, ((DATA_SET, self.total, 0),), 0, ())
         seen, dead = {start}, []
         self.go_on([start], seen, dead)
-        while not self.goals and dead and self.jumps < MOST_JUMPS:
+        while not self.goals and dead and self.jumps < MOST_JUMPS and self.looks < MOST_LOOKS:
             self.jumps += 1
             furthest = max(state[0] for state in dead)
             if self.cuts and max(step.before[0] for step in self.cuts) >= furthest:
@@ -108,7 +111,7 @@ class Walk:
         count = itertools.count()
         heap = [(state[0], next(count), state) for state in dict.fromkeys(begins)]
         heapq.heapify(heap)
-        while heap and len(self.steps) < MOST_NODES:
+        while heap and len(self.steps) < MOST_NODES and self.looks < MOST_LOOKS:
             _, _, state = heapq.heappop(heap)
             if state[0] == self.total and len(state[1]) == 1:
                 self.goals.add(state)
