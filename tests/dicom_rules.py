@@ -92,6 +92,21 @@ def checks_of_tables(bench, made):
     yield f"the offset table, damage side by side: the same file ({status}, {printed})", (status, out == true) == (0, True)
 
 
+def checks_of_halves(bench, folder, rng):
+    """A foreign file over the end of one copy and the beginning of the other: only one joint lets the elements go on to the end."""
+    big, other = (File([frame(rng, 8, 64, 60, folder)], 8, 64, 60, uid=uid) for uid in (UID, "1.2.3.9.9"))
+    size = len(big.bytes)
+    foreign = (bytes(128) + b"DICM" + other.bytes[132 : other.name_at] + rng.randbytes(size))[:size]
+    at = (big.items[0] // 512 + 3) * 512
+    for copies in ([big.bytes[:at] + foreign[at:], foreign[:at] + big.bytes[at:]], [foreign[:at] + big.bytes[at:], big.bytes[:at] + foreign[at:]]):
+        status, out, printed, faults, _ = bench.mend(copies)
+        yield f"two halves: the same file ({status}, {printed}, {faults})", (status, out == big.bytes) == (0, True)
+    status, out, _, faults, _ = bench.mend([big.bytes, other.bytes])
+    yield f"two whole files: refused ({status}, {faults})", (status, out) == (3, None)
+    status, out, _, faults, _ = bench.mend([big.bytes[:at] + foreign[at:], other.bytes[:-200] + bytes(200)])
+    yield f"two damaged files of two instances: refused ({status}, {faults})", (status, out) == (3, None)
+
+
 # 64 lines of 64 samples 0 of 16 bits, as CharLS writes them: with the preset parameters that T.87, C.2.4.1.1, has for 65535
 BLANK = bytes.fromhex(
     "ffd8fff7000b100040004001011100fff8000d01ffff0012004301140040ffda0008010100000000ff7fff7fff7fff7fff7fff00ffd9"
@@ -122,4 +137,5 @@ def checks_of_rules(bench, made, work, rng):
     yield from checks_of_lost_sectors(bench, work, rng)
     yield from checks_of_tables(bench, made)
     yield from checks_of_one_uid(bench, made)
+    yield from checks_of_halves(bench, work, rng)
     yield from checks_of_one_picture(bench)

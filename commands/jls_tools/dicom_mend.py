@@ -14,7 +14,7 @@ from jls_tools.dicom_layout import contradiction, is_through, laid_out
 from jls_tools.dicom_lost import Lost, most_of
 from jls_tools.dicom_result import FAILED, NOT_WHOLE, REFUSED, WHOLE, FrameResult, MendOptions, MendResult, Place
 from jls_tools.dicom_write import find_sum, in_fragments, packed, padding, put_frames, store, top_level, with_choices
-from jls_tools.mending import FrameMender, is_connected, is_spliced, shapes_of
+from jls_tools.mending import FrameMender, Mended, is_connected, is_spliced, shapes_of
 from jls_tools.programs import Programs
 
 __all__ = ["FrameResult", "MendOptions", "MendResult", "Place", "mend"]
@@ -139,13 +139,16 @@ class Mending:
         self.mended = []
         for number, streams in enumerate(self.streams):
             begin = self.layout.places[number].begin if self.layout.places else 0
-            self.mended.append(self.mended_by_most(number, begin) or self.mended_frame(number, streams, begin))
+            self.mended.append(self.mended_frame(number, streams, begin))
             if self.options.progress:
                 self.options.progress(number + 1, len(self.streams))
 
     def mended_frame(self, number, streams, begin):
         """A Mended: of all streams, or if it isn't whole of those that are of this file, if these are fewer and it is whole then."""
-        mended = self.mender.mend(number, streams, begin)
+        place = self.layout.places[number] if self.layout.places else None
+        if place and place.is_exact and any(self.layout.structure.has_rival(first - 8, last) for first, last in place.fragments):
+            return Mended(FrameResult(number, "disputed", note="other items are as likely here"))
+        mended = self.mended_by_most(number, begin) or self.mender.mend(number, streams, begin)
         kept = self.kept.get(number, streams)
         if mended.is_whole or not 0 < len(kept) < len(streams):
             return mended

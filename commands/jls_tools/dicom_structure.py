@@ -288,6 +288,7 @@ class Structure:
         self.cost = self.costs.get(start)
         self.is_found = self.cost is not None
         self.ways = {}
+        self.items = set()  # where items of Pixel Data begin and end, on any of the best ways
         self.steps = self.best_steps(start) if self.is_found else []
         if self.is_found:
             self.collect(start)
@@ -335,6 +336,8 @@ class Structure:
             for step in self.best(waiting.pop()):
                 for number, way in step.chosen.items():
                     self.ways.setdefault(number, set()).add(way)
+                if step.kind == "fragment":
+                    self.items.add((step.element.start, step.element.end))
                 if step.after not in seen:
                     seen.add(step.after)
                     waiting.append(step.after)
@@ -359,6 +362,10 @@ class Structure:
     def is_cut_outside(self):
         """Whether the file ends in an element or its header that is no part of Pixel Data."""
         return self.is_cut and bool(self.steps) and self.steps[-1].before[1][-1][0] != PIXELS
+
+    def has_rival(self, begin, end):
+        """Whether another of the best ways has other items where this item stands."""
+        return any(first < end and begin < last and (first, last) != (begin, end) for first, last in self.items)
 
     def items_of_pixels(self):
         """The items of Pixel Data, as Elements, the offset table first; jumps as pairs."""
