@@ -1,7 +1,7 @@
 """What a Siemens CSA header can be, as MR files have it in (0029,1010) and (0029,1020): a chain of tags and items that reaches its end.
 
 The layout is as NiBabel and GDCM read it ("SV10"). Each tag has a name, a VR and a count of items; each item says its length three times,
-and is a text with zeros behind it. So bytes that were overwritten are seen, but in what a name has behind its end.
+and is a text with zeros after it. So bytes that were overwritten are seen, but in what stands after the end of a name.
 """
 import re
 import struct

@@ -8,7 +8,7 @@ from jls_tools import dicom_gaps, partial_picture
 from jls_tools.dicom_align import Copy
 from jls_tools.dicom_alone import Stranger
 from jls_tools.dicom_file import JPEG_LS, syntax_name, syntax_of
-from jls_tools.dicom_frames import by_search, paired_by_bytes, shape_of
+from jls_tools.dicom_frames import DELIMITER, by_search, paired_by_bytes, shape_of
 from jls_tools.dicom_instance import Instances, TwoInstances
 from jls_tools.dicom_layout import contradiction, is_through, laid_out
 from jls_tools.dicom_lost import Lost, most_of
@@ -178,6 +178,8 @@ class Mending:
         for number, copy in enumerate(self.copies):
             if any(copy.has_only(begin, end).strip(b"\0") for begin, end in place.fragments):
                 found[number] = place.stream(texts[number])
+        if not place.is_exact:  # an item that seems to go on beyond the file has what ends Pixel Data too
+            found = {number: stream.removesuffix(DELIMITER) for number, stream in found.items()}
         if any(stream.endswith(b"\xff\xd9\0") for stream in found.values()):
             found = {number: stream[:-1] if len(stream) == place.size else stream for number, stream in found.items()}
         return found
