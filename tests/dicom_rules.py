@@ -98,7 +98,8 @@ def checks_of_halves(bench, folder, rng):
     size = len(big.bytes)
     foreign = (bytes(128) + b"DICM" + other.bytes[132 : other.name_at] + rng.randbytes(size))[:size]
     at = (big.items[0] // 512 + 3) * 512
-    for copies in ([big.bytes[:at] + foreign[at:], foreign[:at] + big.bytes[at:]], [foreign[:at] + big.bytes[at:], big.bytes[:at] + foreign[at:]]):
+    halves = [big.bytes[:at] + foreign[at:], foreign[:at] + big.bytes[at:]]
+    for copies in (halves, halves[::-1]):
         status, out, printed, faults, _ = bench.mend(copies)
         yield f"two halves: the same file ({status}, {printed}, {faults})", (status, out == big.bytes) == (0, True)
     status, out, _, faults, _ = bench.mend([big.bytes, other.bytes])

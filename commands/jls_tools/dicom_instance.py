@@ -37,7 +37,7 @@ class Identity:
         return self.in_data if self.in_data is not None and self.in_meta == self.in_data else None
 
     def is_of(self, uid):
-        """Whether the copy has the UID of the instance in its data set, or in its meta information if that of the data set does not read."""
+        """Whether the copy has this UID in its data set, or in its meta information if that of the data set does not read."""
         return uid is not None and uid == (self.in_meta if self.in_data is None else self.in_data)
 
 

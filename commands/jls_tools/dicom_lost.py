@@ -102,7 +102,7 @@ class Lost:
 
 
 def most_of(streams):
-    """What most of three streams or more have at each place, if all of them differ: two that are equal can be copies of one damaged file."""
+    """What most of three streams or more have at each place, if all differ: two that are equal can be copies of one damaged file."""
     if len(streams) < 3 or len(set(streams)) < len(streams) or len(set(map(len, streams))) > 1:
         return None
     found = bytearray(streams[0])

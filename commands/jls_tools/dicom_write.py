@@ -81,7 +81,7 @@ def packed(data, structure, streams, elements=None):
 
 def expected_tables(places, first):
     """What offset tables should have, for frames whose places are known: {tag or None: (where it begins, bytes)} without the places."""
-    starts = [place.begin - 8 - first for place in places]
+    starts = [max(0, place.begin - 8 - first) for place in places]  # a file that is cut in a header has less than eight bytes there
     basic = struct.pack(f"<{len(starts)}I", *(start & 0xFFFFFFFF for start in starts))
     extended = struct.pack(f"<{len(starts)}Q", *starts)
     sizes = struct.pack(f"<{len(places)}Q", *(place.size for place in places))
