@@ -187,7 +187,8 @@ class Mending:
     def refuse_other_codings(self):
         shapes = [shape for streams in self.streams for shape in map(shape_of, streams) if shape and shape.near is not None]
         is_near, is_by_sample = (all(shape.near > 0 for shape in shapes), all(shape.interleave == 2 for shape in shapes))
-        if shapes and (is_near or is_by_sample):
+        is_sure = len(shapes) > 1 or len(shapes) == sum(map(len, self.streams)) > 0  # else a flipped bit of one copy could say so
+        if is_sure and (is_near or is_by_sample):
             name = "near-lossless" if is_near else "interleaved by sample"
             raise Refused(f"{self.copies[0].path}: JPEG-LS {name}; it is read by dcmdjpls of DCMTK")
 
