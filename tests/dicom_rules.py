@@ -135,6 +135,74 @@ def checks_of_one_uid(bench, made):
     yield f"a copy with one UID: the same file ({status}, {printed})", (status, out == true) == (0, True)
 
 
+def put_before(data, tag, *elements):
+    """A file with these elements before one of the top level that has the VR US or LO."""
+    at = next(at for vr in (b"US", b"LO") if (at := data.find(struct.pack("<HH", tag >> 16, tag & 0xFFFF) + vr, 132)) >= 0)
+    return data[:at] + b"".join(elements) + data[at:]
+
+
+def false_readings(made):
+    """(name, the true file, a part of it, what another copy has there): one flipped bit or a neighbour's text, and each could be true."""
+    true = made.bytes
+    table = (made.items[0], *made.items[1:])
+    for name, tag, new, old, other in (
+        ("a tag, by a bit that of a known one", 0x280002, element(0x181138, "DS", "12.5"), b"\x18\0\x38\x11", b"\x18\0\x30\x11"),
+        ("a modality of old, by a bit another one", 0x90010, element(0x80060, "CS", "EC"), b"EC", b"ES"),
+        ("a sex, by a bit another one", 0x280002, element(0x100040, "CS", "N"), b"CS\2\0N", b"CS\2\0O"),
+        ("a set of characters", 0x280002, element(0x181400, "LO", "x") + element(0x190010, "LO", "SPI-P Release 1;3"), b"1;3", b"1;1"),
+        ("a text of zeros", 0x280002, element(0x204000, "LT", bytes(24)), b"LT\x18\0" + bytes(24), b"LT\x18\0" + b"slice " * 4),
+        ("a text with junk behind its end", 0x280002, element(0x191001, "LO", b"ab\0\1\2\3cd"), b"ab\0\1\2\3", b"ab\0abc"),
+        ("control characters, and a neighbour's text", 0x280002, element(0x191001, "LO", b"\1b\2\3\4efg"), b"\1b\2\3\4", b"abcde"),
+        ("Bits Allocated of a neighbour", 0x280002, b"", element(0x280100, "US", 16), element(0x280100, "US", 8)),
+    ):
+        data = put_before(true, tag, new)
+        data = data.replace(element(0x280100, "US", 8), element(0x280100, "US", 16))
+        yield name, data, old, other
+    latin = true.replace(b"Doe^Jane", b"Do\xff^Jane")
+    yield "a letter of 255", latin, b"Do\xff", b"Do\xfe"
+    image = true.replace(b"ORIGINAL\\PRIMARY", b"ORIGINAL\\PHASE  ")
+    yield "an image type of a neighbour", image, b"PHASE  ", b"PRIMARY"
+    at = made.table_at
+    odd = changed(true, *((at + 4 * number, struct.pack("<I", place - table[0] + 12)) for number, place in enumerate(table)))
+    yield "a table that counts from elsewhere", odd, odd[at - 4 : at + 8], odd[at - 4 : at] + bytes(4) + odd[at + 4 : at + 8]
+    text = b"".join(b"<Step.%d> sSlice[%d]\n" % (line % 7, line % 40) for line in range(60))
+    total = bytes(range(3, 255, 8))
+    yield "a sum in a text", with_value(made, text + total + text)[0], total, b"none" * 8
+
+
+def checks_of_false_readings(bench, made, rng):
+    """What could be true in each of two copies stays undecided."""
+    for name, true, old, other in false_readings(made):
+        copy = changed(true, (true.index(old), other))
+        status, out, printed, _, _ = bench.mend([copy, true])
+        yield f"{name}: nothing false ({status}, {printed})", copy != true and ((status, out) == (1, None) or out == true)
+    yield from checks_of_two_damages(bench, made, rng)
+
+
+def checks_of_two_damages(bench, made, rng):
+    """Damage of one copy speaks for no other place of it that does not lie within that damage."""
+    true, name = made.bytes, made.name_at
+    heads = [true.index(struct.pack("<HH", tag >> 16, tag & 0xFFFF) + vr, 132) + 4 for tag, vr in ((0x80020, b"DA"), (0x280002, b"US"))]
+    heads.append(true.index(b"IS\2\0"))
+    flips = changed(true, *((at, b"Z") for at in heads))
+    parts = b"".join(element(0x190000 + 0x1010 + at, "LO", f"value {at} of it") for at in range(60))
+    zeros = put_before(true, 0x280002, element(0x190010, "LO", "MINE"), parts, element(0x191090, "OB", bytes(200)))
+    begin = zeros.index(bytes(200))
+    text, at = with_value(made, b"of a slice " * 50 + bytes(2000))
+    first = at // 512 * 512 + 1024
+    text = with_value(made, b"x" * (first - at) + bytes(1600) + b"of a slice " * 50)[0]
+    other = UID[:-1].encode() + b"8"
+    foreign = changed(true, (true.index(UID.encode()), other), (true.rindex(UID.encode(), 0, name), other))
+    for what, whole, copies in (
+        ("flips around a flip of the other copy", true, [flips, changed(true, (name, b"E"))]),
+        ("zeros before true zeros", zeros, [changed(zeros, (begin - 1100, bytes(1100))), changed(zeros, (begin + 30, b"\x10"))]),
+        ("true zeros from a border on", text, [text, changed(text, (first, b"of a slice " * 27))]),
+        ("a neighbour's beginning, and noise behind it", true, [foreign[:512] + true[512:], changed(true, (512, rng.randbytes(512)))]),
+    ):
+        status, out, printed, faults, _ = bench.mend(copies)
+        yield f"{what}: nothing false ({status}, {printed}, {faults})", out in (None, whole) and (out is None) == (status != 0)
+
+
 def checks_of_rules(bench, made, work, rng):
     yield from checks_of_csa_headers(bench, made, rng)
     yield from checks_of_terms(bench, made)
@@ -143,3 +211,4 @@ def checks_of_rules(bench, made, work, rng):
     yield from checks_of_one_uid(bench, made)
     yield from checks_of_halves(bench, work, rng)
     yield from checks_of_one_picture(bench)
+    yield from checks_of_false_readings(bench, made, rng)

@@ -9,8 +9,8 @@ from jls_tools.dicom_csa import Chains
 from jls_tools.dicom_file import JPEG_LS, UNDEFINED, tag_name, text_of
 from jls_tools.dicom_result import Place
 from jls_tools.dicom_sectors import Decider
-from jls_tools.dicom_terms import KNOWN, has_terms, is_term
-from jls_tools.dicom_values import NOT_IN_TEXT, TEXTS, allows
+from jls_tools.dicom_terms import KNOWN, has_terms, is_made_of, is_term
+from jls_tools.dicom_values import NOT_IN_TEXT, TEXTS, allows, is_written
 
 GROUP_LENGTH, CLASS_IN_META, INSTANCE_IN_META, SYNTAX = 0x00020000, 0x00020002, 0x00020003, 0x00020010
 CLASS, INSTANCE = 0x00080016, 0x00080018
@@ -19,6 +19,7 @@ ALLOCATED, STORED, HIGH, SIGN = 0x00280100, 0x00280101, 0x00280102, 0x00280103
 TWINS = ((CLASS_IN_META, CLASS), (INSTANCE_IN_META, INSTANCE))
 MOST_TOGETHER = 4096
 PREAMBLE = 128
+TABLE_REACH = 16  # bytes beside an offset table that are lost with it
 ZEROS, IS_PADDING, NO_MEANING = "others are zeros", "padding is zeros", "the preamble has no meaning"
 FRAMES_BEGIN = "there the frames begin"
 GUESSES = (ZEROS, IS_PADDING, NO_MEANING)
@@ -65,9 +66,9 @@ class Header:
         return [way for way in range(len(run.ways)) if not (run.zeros[way] and self.is_in_text(run))]
 
     def is_in_text(self, run):
-        """Whether a run lies in a text. In other values zeros can be true: nothing tells them from damage."""
+        """Whether a run lies in a text, and ends before it. In other values, and at the end of one, zeros can be true."""
         at = bisect.bisect_right(self.leaves, run.begin, key=lambda element: element.value) - 1
-        return at >= 0 and run.end <= self.leaves[at].end and self.leaves[at].vr in TEXTS
+        return at >= 0 and run.end < self.leaves[at].end and self.leaves[at].vr in TEXTS
 
     # What is chosen --------------------------------------------------------------------
 
@@ -134,11 +135,23 @@ class Header:
         for element in self.leaves:
             if element.vr not in TEXTS:
                 continue
+            if NOT_IN_TEXT.search(self.agreed(element).rstrip(b"\0")):  # its writer puts there what the VR forbids
+                continue
             for number in self.open_runs(element.value, element.end):
                 run = self.runs.runs[number]
                 parts = {way: run.part(way, element.value, element.end) for way in self.left[number]}
+                own = [number for number, copy in enumerate(self.copies) if is_written(element.vr, element.bytes_of(copy.data))]
                 allowed = {way for way, part in parts.items() if not NOT_IN_TEXT.search(part.rstrip(b"\0"))}
+                allowed.update(way for way in parts if set(own) & set(run.holders[way]))
                 self.keep(number, allowed, "its VR forbids others")
+
+    def agreed(self, element):
+        """What all copies have in a value."""
+        parts, begin = [], element.value
+        for number in self.runs.touching(element.value, element.end):
+            parts.append(self.runs.data[begin : self.runs.runs[number].begin])
+            begin = self.runs.runs[number].end
+        return b"".join([*parts, self.runs.data[begin : element.end]])
 
     def by_meta(self):
         meta = [element for element in self.structure.elements if element.tag >> 16 == 2]
@@ -171,12 +184,13 @@ class Header:
         for tag, number in ((SAMPLES, shape.components), (ROWS, shape.rows), (COLUMNS, shape.columns)):
             self.keep_values(tag, lambda value, number=number: value == struct.pack("<H", number), "the frames say so")
         allocated = 8 if shape.precision <= 8 else 16
-        self.keep_values(ALLOCATED, lambda value: value == struct.pack("<H", allocated), "the frames say so")
+        sizes = {struct.pack("<H", size) for size in (allocated, 16)}  # 8 bits can stand in 16
+        self.keep_values(ALLOCATED, sizes.__contains__, "the frames say so")
         stored = self.short(STORED)
         self.keep_values(STORED, lambda value: len(value) == 2 and 0 < struct.unpack("<H", value)[0] <= allocated, "no other can be")
         if stored is None and self.short(HIGH) is not None:
             self.keep_values(STORED, lambda value: value == struct.pack("<H", self.short(HIGH) + 1), "High Bit says so")
-        if self.short(STORED):
+        if shape.precision <= (self.short(STORED) or 0):
             self.keep_values(HIGH, lambda value: value == struct.pack("<H", self.short(STORED) - 1), "Bits Stored says so")
         self.keep_values(SIGN, lambda value: value in (b"\0\0", b"\1\0"), "no other can be")
 
@@ -189,7 +203,9 @@ class Header:
                 self.keep_bytes(self.elements[tag].value, self.elements[tag].end, expected[1])
 
     def keep_bytes(self, begin, end, expected):
-        """Leaves for each run in a range the ways that have these bytes."""
+        """Leaves for each run in a range the ways that have these bytes, if all is so where the copies agree."""
+        if not self.agrees(begin, end, expected):
+            return
         for number in self.runs.touching(begin, end):
             run = self.runs.runs[number]
             first, last = max(begin, run.begin), min(end, run.end)
@@ -200,6 +216,27 @@ class Header:
                 is_taken = self.by_bytes(first, wanted)
                 if is_taken and begin <= run.begin and run.end <= end:
                     self.keep(number, self.left[number][:1], FRAMES_BEGIN)
+
+    def agrees(self, begin, end, expected):
+        """Whether a table can be what it should: some writers count from elsewhere. Zeros beside lost places say nothing."""
+        numbers, wanted = self.runs.touching(begin, end), bytearray(expected)
+        for number in numbers:
+            run = self.runs.runs[number]
+            first, last = max(0, run.begin - begin), min(end, run.end) - begin
+            wanted[first:last] = self.runs.data[begin + first : begin + last]
+        if wanted != self.runs.data[begin:end]:
+            return False
+        apart = [number for number in numbers if number in self.left]
+        return expected.strip(b"\0") != b"" or not any(self.is_beside_lost(number, way) for number in apart for way in self.left[number])
+
+    def is_beside_lost(self, number, way):
+        """Whether zeros of a run are of copies that lost what stands beside it."""
+        run = self.runs.runs[number]
+        if run.ways[way].strip(b"\0"):
+            return False
+        beside = self.runs.touching(run.begin - TABLE_REACH, run.end + TABLE_REACH)
+        decided = [each for each in beside if each != number and len(self.left.get(each, ())) == 1]
+        return any(not self.holders(each) & set(run.holders[way]) for each in decided)
 
     def by_bytes(self, begin, wanted):
         """Takes what a table has to have, if some copy has each byte of it, but none all of them; answers whether it is so."""
@@ -214,8 +251,10 @@ class Header:
         """Leaves the readings that are known terms, if there are any."""
         for element in self.leaves:
             if has_terms(element.tag) and element.vr in TEXTS and self.open_runs(element.value, element.end):
-                known = [reading for reading in self.readings(element.value, element.end) if is_term(element.tag, reading[0])]
-                if known:
+                readings = self.readings(element.value, element.end)
+                known = [reading for reading in readings if is_term(element.tag, reading[0])]
+                others = [value for value, _ in readings if not is_term(element.tag, value)]
+                if known and all(any(is_made_of(element.tag, value, other) for value, _ in known) for other in others):
                     self.keep_readings(known, KNOWN)
 
     def by_neighbours(self):
@@ -334,8 +373,7 @@ class Header:
         for number in sorted(self.parts):
             run, left = self.runs.runs[number], self.left[number]
             values = [([self.copies[copy].path for copy in run.holders[way]], run.ways[way]) for way in range(len(run.ways))]
-            taken = left[0] if len(left) == 1 else None
-            why = self.why[number] if taken is not None else ""
+            taken, why = (left[0], self.why[number]) if len(left) == 1 else (None, "")
             found.append(Place(run.begin, run.end - run.begin, self.name_at(run.begin), values, taken, why))
         return sorted(found + self.tables + self.alone, key=lambda place: place.offset)
 

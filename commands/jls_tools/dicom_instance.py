@@ -1,6 +1,5 @@
 """Which copies are of one SOP instance (PS3.3, C.12.1): by their two UIDs, and those that a foreign file has overwritten."""
 import itertools
-import os
 from collections import Counter
 from dataclasses import dataclass
 
@@ -13,9 +12,8 @@ BLOCK = 128
 STRETCH, SHORT, STEP, REACH = 256, 64, 16, 1024
 DENSE = 8  # one byte in so many differs where another file's beginning was written
 SECTOR = 512
-LEAST_OF_UID = 40  # so many characters of the end of a UID tell instances apart
-INSTANCE_IN_META, INSTANCE = 0x00020003, 0x00080018
 ITEM_BYTES, END_BYTES = b"\xfe\xff\x00\xe0", b"\xfe\xff\xdd\xe0\0\0\0\0"
+INSTANCE = 0x00080018
 LARGEST_BEGINNING = 1 << 16  # bytes of a foreign beginning whose end is sought at borders of sectors
 MOST_PLACES = 8
 SHARED = 4  # one block in so many of their second half is equal, at its place, in two files of which one was overwritten
@@ -106,18 +104,27 @@ def rests_from(data, other):
             yield at
 
 
+def apart_until(data, other, end):
+    """How many bytes of two beginnings of files differ."""
+    return sum(last - first for first, last in differing([data[:end], other[:end]]))
+
+
+def instance_at(data):
+    """Where the SOP Instance UID stands; nothing if the elements don't go on so far."""
+    return next((element.start for element in walk(data) if element.tag == INSTANCE), None)
+
+
 def overwritten_until(data, other):
     """Where the beginning of its own ends that a file has, if it breaks off there and goes on as the other one; else nothing."""
-    if not share_blocks(data, other):
-        return None
+    if not share_blocks(data, other) or instance_at(data) == instance_at(other):
+        return None  # two slices of one series begin alike: either can be the one that was overwritten, and have other damage
     for place in itertools.islice(rests_from(data, other), MOST_PLACES):
-        apart = sum(end - begin for begin, end in differing([data[:place], other[:place]]))
-        if apart * DENSE < place - FIRST or breaks_at(other, place):
+        if apart_until(data, other, place) * DENSE < place - FIRST or breaks_at(other, place):
             continue
         # Where all is different, a foreign file may have ended before, and other bytes may follow it
-        is_foreign = apart * 3 >= (place - FIRST) * 2
+        is_foreign = apart_until(data, other, place) * 3 >= (place - FIRST) * 2
         found = next((at for at in (border_of(data, other, place), place) if breaks_at(data, at, is_foreign)), None)
-        if found is not None:
+        if found is not None and apart_until(data, other, found) * DENSE >= found - FIRST:
             return found
     return None
 
@@ -150,13 +157,6 @@ def border_between(data, other):
     return None
 
 
-def has_end_of_uid(data, other):
-    """Whether a file has the end of a SOP Instance UID of another one at the same place: its beginning was lost."""
-    values = [element for element in walk(other) if element.tag in (INSTANCE_IN_META, INSTANCE)]
-    pairs = [(data[element.value : element.end][::-1], element.bytes_of(other)[::-1]) for element in values]
-    return any(len(os.path.commonprefix(pair)) >= LEAST_OF_UID for pair in pairs if len(pair[0]) == len(pair[1]))
-
-
 class Instances:
     """Sorts copies, by index: `certain` are of the instance, `uncertain` may be. `left_out` are others, with the reason.
 
@@ -174,8 +174,6 @@ class Instances:
             return
         self.uid = self.choose()
         self.certain = [at for at, each in enumerate(self.identities) if at not in self.left_out and each.is_of(self.uid)]
-        has_end = [at for at in range(len(texts)) if any(has_end_of_uid(texts[at], texts[other]) for other in self.certain)]
-        self.certain = sorted({*self.certain, *(at for at in has_end if self.identities[at].uid is None)})
         self.uncertain = [at for at, each in enumerate(self.identities) if each.uid is None and at not in self.certain]
 
     def choose(self):

@@ -97,12 +97,15 @@ class Pair:
         return None not in sides and ("exact" in sides or sides == ("near", "near"))
 
     def side(self, outside, inside, border):
-        """What speaks for it that one value begins at a border of sectors: how many stand outside, and inside of the other copy."""
+        """What speaks for it that one value begins at a border of sectors: how many stand outside, and inside of the other copy.
+
+        Where the value goes on beyond, nothing does: true zeros can begin at the other border by chance.
+        """
         if border in (0, self.total):
             return "open"
         if inside <= NEAR:
             return "exact" if outside == 0 else "near" if outside <= NEAR else None
-        return "joined" if outside > NEAR else None
+        return None
 
     def agree_beside(self, begin, end):
         """Whether two copies are equal before and after a range: else damage of a copy can end there, and make a border."""
@@ -149,13 +152,28 @@ class Pair:
         return begins or is_plain(after) and is_noise(self.own[end - BESIDE : end]) and self.agree(end, end + BESIDE)
 
     def is_patch(self, begin, end):
-        """Whether a copy has noise in a range with no noise beside it, and the other copy has none. Zeros in zeros can be lost bytes."""
+        """Whether a copy has noise in a range with no noise beside it, where the other copy goes on as before and after it.
+
+        Zeros in zeros can be lost bytes. A value that is noise can be true, as a sum is: the range has to lie within one.
+        """
         own, other = self.own[begin:end], self.other[begin:end]
         if not (is_noise(own) and is_plain(other) and self.agree_beside(begin, end)):
             return False
         if not other.strip(other[:1]) and other[:1] in LOST_VALUES:
             return False
-        return is_plain(self.own[max(0, begin - BESIDE) : begin]) and is_plain(self.own[end : end + BESIDE])
+        if not (is_plain(self.own[max(0, begin - BESIDE) : begin]) and is_plain(self.own[end : end + BESIDE])):
+            return False
+        left, right = self.beside(begin, end)
+        if len(left) < CONTEXT or len(right) < CONTEXT:
+            return False
+        limit, kind = self.limit(left, right)
+        return kind.bits(other) <= limit + FITS
+
+    def is_lost_between(self, begin, end):
+        """Whether a copy lost all of a range: it has one value alone, or most of it differs."""
+        own = self.own[begin:end]
+        apart = sum(one != two for one, two in zip(own, self.other[begin:end]))
+        return not own.strip(own[:1]) or apart * 2 >= end - begin
 
     def run_around(self, begin, end):
         """The run of one value of a copy in which a range lies, as far as it may count; nothing if it has several."""
@@ -293,17 +311,28 @@ class Decider:
         for border in sorted({self.runs.runs[number].begin // SECTOR * SECTOR for number in self.header.open_runs()}):
             numbers = [number for number in self.runs.touching(border, border + SECTOR) if number in self.header.left]
             against = [number for number in numbers if self.is_for(number, other, own)]
-            if len(against) >= DECIDED or sum(self.length(number) for number in against) >= BESIDE:
-                first, last = self.runs.runs[against[0]].begin, self.runs.runs[against[-1]].end
-                begins, ends = self.runs.runs[numbers[0]].begin, self.runs.runs[numbers[-1]].end
-                if begins <= border + NEAR and pair.agree(border - BESIDE, border):
-                    first = begins
-                if ends >= border + SECTOR - NEAR and pair.agree(border + SECTOR, border + SECTOR + BESIDE):
-                    last = ends
-                self.drop(own, other, first, last, IS_COMPANY)
+            if len(against) < DECIDED and sum(self.length(number) for number in against) < BESIDE:
+                continue
+            if any(self.is_for(number, own, other) for number in numbers):
+                continue
+            for number in numbers:
+                before, behind = self.around(pair, number, against, border)
+                if None not in (before, behind) and pair.is_lost_between(before, behind):
+                    self.drop(own, other, self.runs.runs[number].begin, self.runs.runs[number].end, IS_COMPANY)
+
+    def around(self, pair, number, against, border):
+        """Where the places end and begin between which a run lies, or the borders of its sector if it reaches them; else nothing."""
+        run, runs = self.runs.runs[number], self.runs.runs
+        before = max((runs[each].end for each in against if each < number), default=None)
+        behind = min((runs[each].begin for each in against if each > number), default=None)
+        if before is None and run.begin <= border + NEAR and pair.agree(border - BESIDE, border):
+            before = run.begin
+        if behind is None and run.end >= border + SECTOR - NEAR and pair.agree(border + SECTOR, border + SECTOR + BESIDE):
+            behind = run.end
+        return before, behind
 
     def by_runs_of_one_value(self, pair, own, other):
-        """Open places in a run of one value that was written over other places near them: it goes on there."""
+        """Open places in a run of one value that was written over places near them, before and behind: true zeros can follow lost ones."""
         waiting = self.header.open_runs()
         for number in waiting + waiting[::-1]:
             run = self.runs.runs[number]
@@ -313,7 +342,8 @@ class Decider:
             numbers = [each for each in self.runs.touching(*around) if each in self.header.left]
             against = [each for each in numbers if self.is_for(each, other, own)]
             near = [each for each in against if self.distance(each, run) <= REACH]
-            if near and len(against) >= DECIDED and not any(self.is_for(each, own, other) for each in numbers):
+            is_between = any(each < number for each in near) and any(each > number for each in near)
+            if is_between and len(against) >= DECIDED and not any(self.is_for(each, own, other) for each in numbers):
                 self.drop(own, other, run.begin, run.end, IS_ONE_RUN)
 
     def length(self, number):

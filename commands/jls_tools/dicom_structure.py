@@ -10,7 +10,7 @@ import math
 import re
 
 from jls_tools.dicom_file import ITEM, ITEM_END, PIXEL_DATA, SEQUENCE_END, UNDEFINED, Element, header_of
-from jls_tools.dicom_values import TEXTS, allows, strangeness
+from jls_tools.dicom_values import TEXTS, allows, is_written, strangeness
 
 FIRST = 132  # the first element
 MOST_COMBINATIONS = 64
@@ -222,11 +222,18 @@ class Walk:
             after = self.settle(element.end, stack, element.tag, chosen)
             yield Step(state, after, cost, chosen, element, "leaf", depth)
             return
-        for value, both, more in self.choices(element.value, element.end, chosen):
-            more = more if element.vr in TEXTS else 0  # zeros can be true in all other values
-            more += FORBIDDEN * (not allows(element.vr, value))
+        choices = list(self.choices(element.value, element.end, chosen))
+        vr, found = element.vr, []
+        for value, both, more in choices:
+            found.append((is_filled(vr, value) or is_written(vr, value), both, self.cost_of(vr, value, more)))
+        least = min((more for is_odd, _, more in found if not is_odd), default=0)
+        for is_odd, both, more in found:
             after = self.settle(element.end, stack, element.tag, both)
-            yield Step(state, after, cost + more, both, element, "leaf", depth)
+            yield Step(state, after, cost + (least if is_odd else more), both, element, "leaf", depth)
+
+    def cost_of(self, vr, value, zeroed):
+        """What a value costs. Zeros can be true in all values that are no texts."""
+        return (zeroed if vr in TEXTS else 0) + FORBIDDEN * (not allows(vr, value))
 
     # Where no way goes on ------------------------------------------------------------
 
@@ -260,6 +267,12 @@ class Walk:
         self.texts = set(texts)
         start = self.explore()
         return Structure(self, start)
+
+
+def is_filled(vr, value):
+    """Whether zeros follow a text that its VR allows, to the end of the value, as some writers fill it: it costs what others do."""
+    text = value.rstrip(b"\0")
+    return vr in TEXTS and len(value) - len(text) > 1 and allows(vr, text + b"\0" * (len(text) % 2))
 
 
 def follows(text, place, count):

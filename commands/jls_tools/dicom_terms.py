@@ -1,7 +1,8 @@
 """Texts that are known: values that PS3.3 enumerates or defines, names of private creators and of the programs that write DICOM files.
 
-Where copies differ in such a text and one reading alone is known, it is true: damage makes no word of these of another one. Retired terms
-are among them, and no element whose terms are free: else a true term that is not here would be taken for damage (MS, one bit from MR).
+Where copies differ in such a text and one reading alone is known, it is true if another byte in a long word of it, or bytes that no text
+has, make the other reading. Short words, numbers at the end and other words are made of each other by a flip or a foreign sector.
+Retired terms are known too, and no element whose terms are free has any.
 """
 import re
 
@@ -51,6 +52,9 @@ PAPYRUS 3.0|CTP|BRIT Systems, Inc.|Mayo/IBM Archive Project
 VERSION = re.compile(r"(?:OFFIS_DCMTK_\d{3}|GDCM \d\.\d\.\d+|PYDICOM \d\.\d\.\d+|DCM4CHE-\d\.\d+(?:\.\d+)?|dcm4che-\d\.\d+\.\d+)\Z")
 VERSION_NAME = 0x00020013
 KNOWN = "it is a known term, and others are none"
+PHOTOMETRIC = 0x00280004  # of which the list is complete
+LEAST_WORD = 5
+PRINTABLE = re.compile(rb"[\x20-\x7e]*\Z")
 
 
 def terms():
@@ -81,3 +85,15 @@ def is_term(tag, value):
     if is_creator(tag):
         return text in CREATORS
     return all(part.strip(" ").replace(" ", "_") in OF_TAG[tag] for part in text.split("\\"))
+
+
+def is_made_of(tag, known, other):
+    """Whether damage makes the other value of a known one, and no writer: a byte in a long word, or bytes that are no text."""
+    if not PRINTABLE.match(other.rstrip(b"\0")):
+        return True
+    for word, text in zip(known.split(b"\\"), other.split(b"\\")):
+        apart = [two for one, two in zip(word, text) if one != two]
+        is_number = any(0x30 <= byte <= 0x39 for byte in apart) and tag != PHOTOMETRIC
+        if apart and (len(apart) > 1 or is_number or len(word.strip(b" \0")) < LEAST_WORD):
+            return False
+    return known.count(b"\\") == other.count(b"\\")
