@@ -23,6 +23,7 @@ DECIDED = 3  # so many places of a range were decided, at least, where others go
 IS_VALUE, IS_NOISE = "others are one value, from border to border of sectors", "others are noise"
 IS_STRANGE = "others are of another kind, from border to border of sectors"
 IS_COMPANY = "the places around it in its sector are of that copy"
+LONGEST_SUM = 64  # bytes, of SHA-512
 IS_PATCH = "others are noise, and what stands around them is none"
 IS_ONE_RUN = "others are part of a run of one value that was written over places beside it"
 
@@ -154,9 +155,11 @@ class Pair:
     def is_patch(self, begin, end):
         """Whether a copy has noise in a range with no noise beside it, where the other copy goes on as before and after it.
 
-        Zeros in zeros can be lost bytes. A value that is noise can be true, as a sum is: the range has to lie within one.
+        Zeros in zeros can be lost bytes. Noise can be true, as a sum is: the range has to lie within a value, and to be longer than a sum.
         """
         own, other = self.own[begin:end], self.other[begin:end]
+        if len(own) <= LONGEST_SUM:
+            return False
         if not (is_noise(own) and is_plain(other) and self.agree_beside(begin, end)):
             return False
         if not other.strip(other[:1]) and other[:1] in LOST_VALUES:
