@@ -56,8 +56,8 @@ fn tell_group<R: Read>(rt: &HostRuntime, input: &mut R) -> io::Result<()> {
         slices.push(copy.as_slice())?;
     }
     let parts = find_parts(rt.alloc(), &slices)?;
-    for part in &parts {
-        print_part(rt, part)?;
+    for place in 0..parts.len() {
+        print_part(rt, parts.part(place))?;
     }
     println!(rt; ".")
 }
