@@ -26,7 +26,7 @@ some_fault (p ∷ ps) (Lines lines ∷ os) are some =
     let later = some_fault ps os are.1 some in (later.0, in_rest later.0 p ps later.1, later.2, later.3)
 
 -- what was closed stays
-closed_stay : (r : Reading) (bytes : List ℕ) (p : FoundPiece) → Contains r.pieces p → Contains (reading_from r bytes).pieces p
+pub closed_stay : (r : Reading) (bytes : List ℕ) (p : FoundPiece) → Contains r.pieces p → Contains (reading_from r bytes).pieces p
 closed_stay r [] p h = h
 closed_stay r (b ∷ bytes) p h = closed_stay (reading_with r b) bytes p (Contains-append_left r.pieces (closed_at r.state.place b) p h)
 

@@ -41,4 +41,6 @@ mod OtherEnds
 mod EndExamples
 mod Prefixes
 mod FaultyPieces
+mod EndsOfCourse
+mod SettledPieces
 mod PrefixReadings

@@ -1,6 +1,7 @@
 -- Prefixes of copies, and the piece in hand where one ends: the piece that the prefix's end closes, if the input ends there.
-use Rattle.std.specs.Prelude.{◌≡◌, ℕ, ◌<◌, ◌⊎◌, List, ◌++◌, IfSome}
+use Rattle.std.specs.Prelude.{◌≡◌, ◌↔◌, ℕ, ◌<◌, ◌≤◌, ◌⊎◌, List, ◌++◌, Some, IfSome}
 use Rattle.std.specs.List.{AllByRecursion, Contains}
+use Rattle.jls_values.specs.Shape.{PictureShape}
 use Rattle.jls_interval.specs.Reads.{ReadsNoMore}
 use Rattle.jls_interval.specs.IntervalBytes.{interval_asked}
 use Rattle.jls_marker.specs.Scan.{Scan}
@@ -10,6 +11,8 @@ use Rattle.jls_partial.specs.Reading.{Reading}
 use Rattle.jls_copy.specs.Pieces.{FoundPiece, Fault, Lines, IsOutcomeAt, IsOutcome, readings_of, pieces}
 use Rattle.jls_copy.specs.declared.piece.PieceKind.{PieceKind}
 use Rattle.jls_copy.specs.CutPieces.{cut_pieces, IsHeadAt}
+use Rattle.jls_copy.specs.declared.end.End.{End}
+use Rattle.jls_copy.specs.declared.end.End.TheVariants.{Eoi, Input, Header}
 use Rattle.jls_copy.specs.declared.piece.OpenPiece.{OpenPiece}
 use Rattle.jls_copy.specs.declared.piece.OpenPiece.TheVariants.{Within, Beyond}
 use Rattle.jls_copy.specs.declared.place.Place.{Place}
@@ -62,6 +65,46 @@ PrefixesKeepReadings =
     → (c d : Course) → IsCourse prefix c → IsCourse (prefix ++ more) d → AllByRecursion HasLines (pieces d)
     → (r : Reading) → Gives c r → Gives d r
 
+-- Pieces that are settled -----------------------------------------------------------------------------------------
+
+-- the piece that the end of these bytes closes begins at this offset, or after it
+pub record IsPast (offset : ℕ) (prefix : List ℕ) : Type 0 where
+  pub course : Course
+  pub is_course : IsCourse prefix course
+  pub piece : FoundPiece
+  pub in_hand : Contains (cut_pieces course) piece
+  pub past : offset ≤ piece.offset
+
+-- the offset at which a copy ends
+abbrev pub offset_of_end : End → ℕ
+offset_of_end (Eoi offset) = offset
+offset_of_end (Input offset) = offset
+offset_of_end (Header f offset) = offset
+
+-- the pieces begin at one offset, and if one of them reads as lines, both do
+pub record ReadAlike (p q : FoundPiece) : Type 0 where
+  pub offset : p.offset ≡ q.offset
+  pub reads : HasLines p ↔ HasLines q
+
+-- each piece of a course that begins before the offset reads like one of the other course
+abbrev pub AreAlsoIn : ℕ → Course → Course → Type 0
+AreAlsoIn offset c d = (p : FoundPiece) → Contains (pieces c) p → p.offset < offset → (q : FoundPiece) × Contains (pieces d) q × ReadAlike p q
+
+-- two courses have a frame each, end at the offset or after it, and before it have pieces that read alike
+pub record AgreeBefore (offset : ℕ) (c d : Course) : Type 0 where
+  pub first_framed : (shape : PictureShape) × (c.headers.frame ≡ Some shape)
+  pub second_framed : (shape : PictureShape) × (d.headers.frame ≡ Some shape)
+  pub first_end : offset ≤ offset_of_end c.end
+  pub second_end : offset ≤ offset_of_end d.end
+  pub first_in_second : AreAlsoIn offset c d
+  pub second_in_first : AreAlsoIn offset d c
+
+-- what begins before the piece in hand is settled: a longer list of bytes has the same pieces there, up to what they read as
+abbrev pub PrefixesSettlePieces : Type 0
+PrefixesSettlePieces =
+    (offset : ℕ) (prefix more : List ℕ) → AllByRecursion (λ b. b < 256) (prefix ++ more) → IsPast offset prefix
+    → (c d : Course) → IsCourse prefix c → IsCourse (prefix ++ more) d → AgreeBefore offset c d
+
 -- Inside the crate. An open piece reads as no lines, whatever follows
 abbrev pub OpenReadsNoMore : OpenPiece → Type 0
 OpenReadsNoMore (Within k d) = IfSome d.bytes (λ bytes. ReadsNoMore (interval_asked d) bytes)
@@ -76,3 +119,13 @@ PlaceReadsNoMore (InLength marker code high) = ⊥
 PlaceReadsNoMore (InPayload marker code size) = ⊥
 PlaceReadsNoMore (InScan scan) = OpenReadsNoMore scan.piece
 PlaceReadsNoMore (Done e) = ⊥
+
+-- the place is in scan data, and its open piece begins at the offset, or after it
+abbrev pub PlaceIsPast : ℕ → Place → Type 0
+PlaceIsPast offset (Start fill) = ⊥
+PlaceIsPast offset (AtMarker fill) = ⊥
+PlaceIsPast offset (AtLength marker code) = ⊥
+PlaceIsPast offset (InLength marker code high) = ⊥
+PlaceIsPast offset (InPayload marker code size) = ⊥
+PlaceIsPast offset (InScan scan) = offset ≤ scan.offset
+PlaceIsPast offset (Done e) = ⊥

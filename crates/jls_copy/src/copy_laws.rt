@@ -1,7 +1,7 @@
 //! The laws of what a copy gives. Each is a function that does nothing and whose contract is the law.
 
 ghost use Rattle.jls_copy.specs.CopyLaws.{BytesDecide, FinalEndsStay, OtherEndsChange};
-ghost use Rattle.jls_copy.specs.Prefixes.{PrefixesKeepReadings, PrefixesStayBroken};
+ghost use Rattle.jls_copy.specs.Prefixes.{PrefixesKeepReadings, PrefixesSettlePieces, PrefixesStayBroken};
 ghost use Rattle.jls_copy.specs.TellingLaws.{RecordsAreOfFaultyPieces};
 
 /// A law: what a copy gives, or that it gives no picture and why, is determined by its bytes.
@@ -34,4 +34,10 @@ pub fn prefixes_stay_broken()
 /// A law: what some bytes give, each list of bytes that begins with them gives too, if each of its pieces reads as lines.
 pub fn prefixes_keep_readings()
     ensures { PrefixesKeepReadings }
+{}
+
+/// A law: where the piece in hand begins at an offset or after it, each list of bytes that begins so has the same pieces before that offset,
+/// up to what they read as. Both have a frame, and end at the offset or after it.
+pub fn prefixes_settle_pieces()
+    ensures { PrefixesSettlePieces }
 {}

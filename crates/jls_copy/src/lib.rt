@@ -122,7 +122,7 @@ mod reader;
 mod scan;
 
 pub use copy_laws::{
-    bytes_decide, final_ends_stay, other_ends_change, prefixes_keep_readings, prefixes_stay_broken,
+    bytes_decide, final_ends_stay, other_ends_change, prefixes_keep_readings, prefixes_settle_pieces, prefixes_stay_broken,
     records_are_of_faulty_pieces,
 };
 pub use course_laws::{

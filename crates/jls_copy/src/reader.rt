@@ -2,7 +2,7 @@
 
 ghost use Rattle.std.specs.Prelude.{◌≡◌, ◌+◌, ◌-◌, ◌≤◌, ◌<◌, ◌^◌, [], length, Some, None, IfSome, OnOk, OnErr, IsOk, IsSome};
 ghost use Rattle.std.specs.Prelude.{IsErr, IfOk, IfErr, IfNone, take, true};
-ghost use Rattle.jls_copy.specs.Prefixes.{IsPieceBroken, StaysFaulty};
+ghost use Rattle.jls_copy.specs.Prefixes.{IsPast, IsPieceBroken, StaysFaulty};
 ghost use Rattle.jls_copy.specs.ReadCopy.{after};
 ghost use Rattle.jls_copy.specs.Conclusion as reader;
 ghost use Rattle.jls_copy.specs.CopyReads as copy;
@@ -227,6 +227,17 @@ impl CopyReader {
             return false;
         }
         self.machine.findings.record_count != 0
+    }
+
+    /// Whether the piece in hand begins at this offset, or after it. If so, no byte more changes what the pieces before the offset read as
+    /// (`prefixes_settle_pieces`). `false` says nothing. No memory is taken.
+    pub fn is_past(&self, offset: u64) -> bool
+        ensures { result ≡ true → IfSome self.now (λ bytes. IsPast offset bytes) }
+    {
+        if self.failed {
+            return false;
+        }
+        self.machine.place.is_past(offset)
     }
 
     /// What the copy gave, if the input ends here. `NoPicture` comes if no frame was taken. It has the fault that ended the copy, and its
