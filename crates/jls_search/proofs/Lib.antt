@@ -15,6 +15,7 @@ mod Lists
 mod Sets
 mod SettingPaths
 mod Records
+mod EarlyReads
 mod BorderOffsets
 mod GroupSearches
 mod Orders

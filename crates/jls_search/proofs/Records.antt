@@ -73,21 +73,23 @@ piece_of _ _ r (faulty p ps r' rs is rest) (zero, l, e) = (p, is_first p ps, sub
 piece_of _ _ r (faulty p ps r' rs is rest) (suc k, l, e) =
     let q = piece_of ps rs r rest (k, omega (arith, l), e) in (q.0, in_rest q.0 p ps q.1, q.2)
 
+-- a file has many faults, of which not all are reported
+pub many_faults : RecordsAreOfFaultyPieces → (file : List ℕ) (read : ReadCopy) → CopyReads file read → (read.piece_count ≡ length read.pieces → ⊥)
+    → HasManyFaults file
+many_faults law file read h not =
+    let r = law file read h in
+    elim (order 4096 (length r.0)) [
+      | inl more ↦ (h.course, h.is_course, r.0, r.1, more)
+      | inr few ↦ absurd (
+          let least : length r.0 ≤ 4096 = elim few [ inl e ↦ omega (arith, e) | inr l ↦ omega (arith, l) ] in
+          not (r.3 ∙ ap length (sym (r.2 ∙ take_all 4096 r.0 least)))
+          )
+    ]
+
 module _ (law : RecordsAreOfFaultyPieces) (from : ℕ) (to : Option ℕ) (file : List ℕ) (read : ReadCopy) (h : CopyReads file read)
     (low : AllByRecursion (λ b. b < 256) file) (between : ReadsBetween from to file) where
   one : between.course ≡ h.course
   one = one_course file between.course h.course between.is_course h.is_course
-
-  pub many_faults : (read.piece_count ≡ length read.pieces → ⊥) → HasManyFaults file
-  many_faults not =
-      let r = law file read h in
-      elim (order 4096 (length r.0)) [
-        | inl more ↦ (h.course, h.is_course, r.0, r.1, more)
-        | inr few ↦ absurd (
-            let least : length r.0 ≤ 4096 = elim few [ inl e ↦ omega (arith, e) | inr l ↦ omega (arith, l) ] in
-            not (r.3 ∙ ap length (sym (r.2 ∙ take_all 4096 r.0 least)))
-            )
-      ]
 
   pub no_record : (reported : PieceRecord) → Contains read.pieces reported → IsBetween from to reported.offset → ⊥
   no_record reported among here =
@@ -111,7 +113,6 @@ framed_between from to file f n h between =
 
 pub unread_without_frame : (from : ℕ) (to : Option ℕ) (fed : Option (List ℕ)) (fault : CopyFault) (f : MarkerFault) (n : ℕ) → fault ≡ NoPicture f n
     → IfSome fed (λ bytes. CopyGivesNone bytes fault)
-    → IfSome fed (λ file. AllByRecursion (λ b. b < 256) file → ReadsBetween from to file → HasManyFaults file)
+    → IfSome fed (λ file. AllByRecursion (λ b. b < 256) file → ReadsBetween from to file → ⊥)
 unread_without_frame from to None fault f n e h = tt
-unread_without_frame from to (Some file) fault f n e h = λ low between.
-    absurd (framed_between from to file f n (subst (CopyGivesNone file) e h) between)
+unread_without_frame from to (Some file) fault f n e h = λ low between. framed_between from to file f n (subst (CopyGivesNone file) e h) between

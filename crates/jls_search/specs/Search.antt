@@ -1,14 +1,17 @@
 -- What a search has found, and what it has still to come to.
-use Rattle.std.specs.Prelude.{◌≡◌, ℕ, ◌+◌, ◌++◌, ◌∷◌, [], ◌-◌, ◌^◌, ◌<◌, ◌≤◌, Bool, true, false, List, length, map, max, Option, Some, None}
+use Rattle.std.specs.Prelude.{◌≡◌, ℕ, ◌+◌, ◌++◌, ◌∷◌, [], ◌-◌, ◌^◌, ◌<◌, ◌≤◌, Bool, true, false, List, length, map, max, take, Option, Some, None}
 use Rattle.std.specs.Prelude.{IfSome, ◌⊎◌}
 use Rattle.std.specs.List.{AllByRecursion, Contains}
 use Rattle.std.specs.declared.vec.Vec.{Vec}
 use Rattle.std.specs.declared.alloc.Global.{Global}
+use Rattle.jls_copy.specs.Prefixes.{IsPast}
+use Rattle.jls_copy.specs.ReadCopy.{after}
 use Rattle.jls_diff.specs.Parts.{Part, HasWays, IsSplice}
 use Rattle.jls_search.specs.Choices.{IsPrefix, IsPath, IsWhole, prefix_of}
 use Rattle.jls_search.specs.Faultless.{IsSought}
 use Rattle.jls_search.specs.Order.{Goes, IsToCome, IsLater}
 use Rattle.jls_search.specs.declared.whole_search.WholeSearch.{WholeSearch}
+use Rattle.jls_search.specs.declared.kept.BegunReader.{BegunReader}
 use Rattle.jls_search.specs.declared.kept.KeptReader.{KeptReader}
 use Rattle.jls_search.specs.declared.looking.Sight.{Sight}
 use Rattle.jls_search.specs.declared.looking.Sight.TheVariants.{Dead, Open, Found}
@@ -132,6 +135,27 @@ abbrev pub IsSeen : (List ℕ → Type 0) → List Part → List ℕ → Sight �
 IsSeen Sought parts path Dead = (choices : List ℕ) → MakesFile Sought parts choices → IsToCome path choices → IsLater path choices
 IsSeen Sought parts path (Open reader) = (length path < length parts) × IfSome reader (λ fed. fed ≡ Some (prefix_of parts path))
 IsSeen Sought parts path Found = (length path ≡ length parts) × Sought (prefix_of parts path)
+
+-- a reader was fed what so many first choices of a path make
+abbrev pub IsBegunOn : List Part → List ℕ → BegunReader → Type 0
+IsBegunOn parts path begun = (begun.choices ≤ length path) × (begun.reader ≡ Some (prefix_of parts (take begun.choices path)))
+
+-- a reader was fed the first bytes of a file, up to a piece that begins at the offset or after it, or all of them
+pub record IsFedPast (offset : ℕ) (file : List ℕ) (reader : Option (List ℕ)) : Type 0 where
+  pub begin : List ℕ
+  pub rest : List ℕ
+  pub fed : reader ≡ Some begin
+  pub file_is : file ≡ begin ++ rest
+  pub enough : (rest ≡ []) ⊎ IsPast offset begin
+
+-- of more bytes so many were fed to a reader: all, or those up to a piece that begins at the offset or after it
+pub record IsFedUntil (offset : ℕ) (way : List ℕ) (before after_it : Option (List ℕ)) (past : Bool) : Type 0 where
+  pub begin : List ℕ
+  pub rest : List ℕ
+  pub way_is : way ≡ begin ++ rest
+  pub fed : after_it ≡ after before begin
+  pub all : past ≡ false → rest ≡ []
+  pub past_it : past ≡ true → IfSome after_it (IsPast offset)
 
 -- what is kept: a reader with the path that it was fed; where there is none, what was kept before
 abbrev pub Keeps : Option KeptReader → Option (Option (List ℕ)) → List ℕ → Option KeptReader → Type 0

@@ -1,11 +1,12 @@
 //! The reader that a search keeps, and readers that go on from it.
 
-ghost use Rattle.std.specs.Prelude.{◌≡◌, ◌-◌, ◌^◌, ◌≤◌, length, take, Some, IfOk, IfSome, OnOk};
+ghost use Rattle.std.specs.Prelude.{◌≡◌, List, ◌-◌, ◌^◌, ◌≤◌, length, Some, IfOk, IfSome, OnOk};
+ghost use Rattle.jls_diff.specs.Parts.{Part};
 ghost use Rattle.jls_diff.specs.PartsOf.{parts_of};
 ghost use Rattle.jls_search.specs.Choices.{IsPath, prefix_of};
-ghost use Rattle.jls_search.specs.Search.{IsKept, Keeps};
+ghost use Rattle.jls_search.specs.Search.{IsBegunOn, IsKept, Keeps};
 
-use crate::feeding::{feed_way, reader_of};
+use crate::feeding::feed_way;
 use jls_copy::CopyReader;
 use jls_diff::Parts;
 use std::alloc::{AllocError, Global};
@@ -28,27 +29,54 @@ pub struct Judge {
     pub kept: Option<KeptReader>,
 }
 
-/// A clone of a reader, fed on to all that the path makes. That reader was fed what the first `from` choices of the path make.
-fn fed_on(
-    last: &CopyReader,
-    parts: &Parts<'_>,
+/// A reader that was fed what the first choices of a path make.
+#[derive(Drop)]
+pub(crate) struct BegunReader {
+    /// The reader.
+    pub(crate) reader: CopyReader,
+    /// How many choices these are.
+    pub(crate) choices: usize,
+}
+
+/// A reader to go on from along the path: a clone of the kept one, if its choices begin the path, and else a new one.
+pub(crate) fn begun_on(
+    alloc: Global,
+    kept: &Option<KeptReader>,
     path: &[usize],
-    from: usize,
-) -> Result<CopyReader, AllocError>
-    requires begun { from ≤ length path.now }
+) -> Result<BegunReader, AllocError>
+    ensures { (parts : List Part) → IfSome kept.now (IsKept parts) → IfOk result (IsBegunOn parts path.now) }
+{
+    if let Some(last) = kept {
+        if path.starts_with(&last.choices) {
+            let choices = last.choices.len();
+            let reader = last.reader.try_clone()?;
+            return Ok(BegunReader { reader, choices });
+        }
+    }
+    Ok(BegunReader {
+        reader: CopyReader::new(alloc),
+        choices: 0,
+    })
+}
+
+/// A reader that was fed what the path makes. It goes on from one that was fed what the first choices make.
+fn fed_on(begun: BegunReader, parts: &Parts<'_>, path: &[usize]) -> Result<CopyReader, AllocError>
+    requires begun { IsBegunOn parts.now path.now begun }
     requires path { IsPath parts.now path.now }
     requires few { length (prefix_of parts.now path.now) ≤ 2 ^ 63 - 1 }
-    requires fed { last.now ≡ Some (prefix_of parts.now (take from path.now)) }
     ensures { IfOk result (λ reader. reader ≡ Some (prefix_of parts.now path.now)) }
 {
-    let mut reader = last.try_clone()?;
-    for place in from..path.len() {
+    let BegunReader {
+        mut reader,
+        choices,
+    } = begun;
+    for place in choices..path.len() {
         feed_way(&mut reader, parts.way(place, path[place]))?;
     }
     Ok(reader)
 }
 
-/// A reader that was fed what the path makes: a clone of the kept one, if its choices begin the path, and else a new one.
+/// A reader that was fed what the path makes. If the choices of the kept reader begin the path, only the bytes after them are read.
 pub(crate) fn reader_on(
     alloc: Global,
     parts: &Parts<'_>,
@@ -60,13 +88,8 @@ pub(crate) fn reader_on(
     requires few { length (prefix_of parts.now path.now) ≤ 2 ^ 63 - 1 }
     ensures { IfOk result (λ reader. reader ≡ Some (prefix_of parts.now path.now)) }
 {
-    if let Some(last) = kept {
-        if path.starts_with(&last.choices) {
-            let from = last.choices.len();
-            return fed_on(&last.reader, parts, path, from);
-        }
-    }
-    reader_of(alloc, parts, path)
+    let begun = begun_on(alloc, kept, path)?;
+    fed_on(begun, parts, path)
 }
 
 /// Keeps a reader that was fed what the path makes, if there is one. The reader that was kept before is let go.

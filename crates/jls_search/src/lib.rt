@@ -16,6 +16,7 @@
 //! - `setting`: what is searched at a time: a group, and the copy that the rest of the file is taken from
 //! - `choosing`: goes through choices for such a group
 //! - `offsets`, `reading_between`: the offsets of a group in the file that choices make; whether the file decodes between them
+//! - `reading_group`: whether a file reads in a group; no more of it is fed than tells it
 //! - `trying`: one try
 //! - `order`, `group_search`: all groups in turn, each with each copy and with tries of its own
 //! - `found`: what both searches found
@@ -63,6 +64,7 @@ mod order;
 mod path;
 mod reading_between;
 mod reading_files;
+mod reading_group;
 mod seen;
 mod setting;
 mod settling;

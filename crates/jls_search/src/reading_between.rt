@@ -1,6 +1,6 @@
 //! Whether files read between two offsets.
 
-ghost use Rattle.std.specs.Prelude.{◌≡◌, ◌<◌, ℕ, List, ◌↔◌, true, false, IsTrue, IfOk, IfSome};
+ghost use Rattle.std.specs.Prelude.{◌≡◌, ◌<◌, ℕ, List, ◌↔◌, true, false, Some, None, IsTrue, IfOk, IfSome};
 ghost use Rattle.std.specs.List.{AllByRecursion, Contains};
 ghost use Rattle.jls_copy.specs.CopyReads.{CopyReads};
 ghost use Rattle.jls_copy.specs.declared.piece.PieceRecord.{PieceRecord as Record};
@@ -47,6 +47,24 @@ fn reaches(from: u64, to: Option<u64>, end: End) -> bool
     }
 }
 
+/// Whether what was read is a file that reads between two offsets. `None` comes where it has more than 4,096 faulty pieces.
+fn told_between(read: &CopyRead, from: u64, to: Option<u64>) -> Option<bool>
+    ensures reads { result ≡ Some true → (file : List ℕ) → CopyReads file read.now → ReadsBetween from to file }
+    ensures unread { result ≡ Some false → (file : List ℕ) → CopyReads file read.now → AllByRecursion (λ b. b < 256) file
+        → ReadsBetween from to file → ⊥ }
+    ensures many { result ≡ None → (file : List ℕ) → CopyReads file read.now → HasManyFaults file }
+{
+    records_are_of_faulty_pieces();
+    let records = read.pieces();
+    if read.piece_count() != records.len() as u64 {
+        return None;
+    }
+    if has_record_between(records, from, to) {
+        return Some(false);
+    }
+    Some(reaches(from, to, read.ended()))
+}
+
 /// Whether what was read is a file that reads between two offsets: no piece that begins at the first or after it, and before the second,
 /// is faulty. Without a second one it goes to the file's end. `false` comes too where the file has more than 4,096 faulty pieces.
 pub fn reads_between(read: &CopyRead, from: u64, to: Option<u64>) -> bool
@@ -54,18 +72,32 @@ pub fn reads_between(read: &CopyRead, from: u64, to: Option<u64>) -> bool
     ensures unread { result ≡ false → (file : List ℕ) → CopyReads file read.now → AllByRecursion (λ b. b < 256) file
         → ReadsBetween from to file → HasManyFaults file }
 {
-    records_are_of_faulty_pieces();
-    let records = read.pieces();
-    if read.piece_count() != records.len() as u64 {
-        return false;
+    match told_between(read, from, to) {
+        Some(answer) => answer,
+        None => false,
     }
-    if has_record_between(records, from, to) {
-        return false;
-    }
-    reaches(from, to, read.ended())
 }
 
-/// Whether what was fed reads there, if it ends here. The only refusal is out of memory.
+/// Whether what was fed reads there, if it ends here. `None` comes where it has more than 4,096 faulty pieces. The only refusal is out of
+/// memory.
+pub(crate) fn told_by(
+    reader: CopyReader,
+    from: u64,
+    to: Option<u64>,
+) -> Result<Option<bool>, AllocError>
+    ensures reads { IfOk result (λ told. told ≡ Some true → IfSome reader (λ file. ReadsBetween from to file)) }
+    ensures unread { IfOk result (λ told. told ≡ Some false → IfSome reader (λ file. AllByRecursion (λ b. b < 256) file
+        → ReadsBetween from to file → ⊥)) }
+    ensures many { IfOk result (λ told. told ≡ None → IfSome reader (λ file. HasManyFaults file)) }
+{
+    match reader.finish() {
+        Ok(read) => Ok(told_between(&read, from, to)),
+        Err(CopyFault::NoPicture(_, _)) => Ok(Some(false)),
+        Err(CopyFault::OutOfMemory) => Err(AllocError),
+    }
+}
+
+/// The same; `false` comes too where it has more than 4,096 faulty pieces.
 pub(crate) fn is_read_between(
     reader: CopyReader,
     from: u64,
@@ -75,9 +107,8 @@ pub(crate) fn is_read_between(
     ensures unread { IfOk result (λ answer. answer ≡ false → IfSome reader (λ file. AllByRecursion (λ b. b < 256) file
         → ReadsBetween from to file → HasManyFaults file)) }
 {
-    match reader.finish() {
-        Ok(read) => Ok(reads_between(&read, from, to)),
-        Err(CopyFault::NoPicture(_, _)) => Ok(false),
-        Err(CopyFault::OutOfMemory) => Err(AllocError),
+    match told_by(reader, from, to)? {
+        Some(answer) => Ok(answer),
+        None => Ok(false),
     }
 }

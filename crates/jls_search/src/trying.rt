@@ -11,10 +11,10 @@ ghost use Rattle.jls_search.specs.Search.{IsKept, IsShort, lists_of};
 use crate::choosing::{descend, turn};
 use crate::kept::{KeptReader, keep, reader_on};
 use crate::looking::Sight;
-use crate::offsets::{border_offset, end_offset};
+use crate::offsets::border_offset;
 use crate::reading_between::is_read_between;
+use crate::reading_group::reads_in_group;
 use crate::setting::Setting;
-use jls_copy::CopyReader;
 use jls_diff::{Group, Parts};
 use std::alloc::{AllocError, Global};
 
@@ -64,27 +64,6 @@ fn look_at_prefix(
     Ok(Sight::Dead)
 }
 
-/// Whether the choices make a file that reads in the group. The reader was fed that file.
-fn reads_in_group(
-    reader: CopyReader,
-    parts: &Parts<'_>,
-    group: Group,
-    path: &[usize],
-) -> Result<bool, AllocError>
-    requires group { IsGroup parts.now group }
-    requires path { IsPath parts.now path.now }
-    requires few { length (prefix_of parts.now path.now) ≤ 2 ^ 63 - 1 }
-    requires whole { length path.now ≡ length parts.now }
-    requires fed { reader ≡ Some (prefix_of parts.now path.now) }
-    ensures reads { IfOk result (λ answer. answer ≡ true → ReadsInGroup parts.now group path.now) }
-    ensures unread { IfOk result (λ answer. answer ≡ false → AllByRecursion (λ b. b < 256) (prefix_of parts.now path.now)
-        → ReadsInGroup parts.now group path.now → HasManyFaults (prefix_of parts.now path.now)) }
-{
-    let from = border_offset(parts, path, group.begin);
-    let to = end_offset(parts, path, group.end);
-    is_read_between(reader, from, to)
-}
-
 /// Whether these choices were found.
 fn is_found(found: &[Vec<usize>], path: &[usize]) -> bool
     ensures { IsTrue result ↔ Contains (lists_of found.now) path.now }
@@ -127,8 +106,7 @@ fn try_file(
     ensures path { OnOk result (walk.new.path ≡ walk.old.path) }
     ensures kept { OnOk result (walk.new.kept ≡ walk.old.kept) }
 {
-    let reader = reader_on(alloc, parts, &walk.kept, &walk.path)?;
-    let reads = reads_in_group(reader, parts, setting.group, &walk.path)?;
+    let reads = reads_in_group(alloc, parts, setting.group, &walk.kept, &walk.path)?;
     if !reads {
         return Ok(());
     }

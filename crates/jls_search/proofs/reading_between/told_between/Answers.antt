@@ -4,7 +4,7 @@ use Rattle.std.specs.List.{Contains}
 use Rattle.jls_copy.specs.ReadCopy.{ReadCopy}
 use Rattle.jls_search.specs.ReadsBetween.{Reaches}
 use Rattle.jls_search.proofs.Records.{NoneBetween, does_reach, many_faults, no_record, read_between}
-use Rattle.jls_search.proofs.reading_between.reads_between.Goals as goal
+use Rattle.jls_search.proofs.reading_between.told_between.Goals as goal
 
 pub returns-clause-reads : goal.returns-clause-reads
 returns-clause-reads c = λ yes file reads.
@@ -20,19 +20,19 @@ pub returns-clause-unread : goal.returns-clause-unread
 returns-clause-unread c = λ no file reads low between.
     let read : ReadCopy = c.args.read.now in
     let reported : IsTrue c.reaches.result → ⊥ = search rules in
-    absurd (reported (c.reaches.ensures.1 (subst (Reaches c.args.from c.args.to) (sym c.ended.ensures)
-    (does_reach c.records_are_of_faulty_pieces.ensures c.args.from c.args.to file read reads low between))))
+    reported (c.reaches.ensures.1 (subst (Reaches c.args.from c.args.to) (sym c.ended.ensures)
+    (does_reach c.records_are_of_faulty_pieces.ensures c.args.from c.args.to file read reads low between)))
 
 pub returns-then-has_record_between-clause-unread : goal.returns-then-has_record_between-clause-unread
 returns-then-has_record_between-clause-unread c = λ _ file reads low between.
     let read : ReadCopy = c.args.read.now in
     let some = c.has_record_between.ensures.some c.if-has_record_between.true in
-    absurd (no_record c.records_are_of_faulty_pieces.ensures c.args.from c.args.to file read reads low between some.0
-    (subst (λ rs. Contains rs some.0) c.pieces-records.ensures some.1) some.2)
+    no_record c.records_are_of_faulty_pieces.ensures c.args.from c.args.to file read reads low between some.0
+    (subst (λ rs. Contains rs some.0) c.pieces-records.ensures some.1) some.2
 
-pub returns-then-piece_count-records-clause-unread : goal.returns-then-piece_count-records-clause-unread
-returns-then-piece_count-records-clause-unread c = λ _ file reads low between.
+pub returns-then-piece_count-records-clause-many : goal.returns-then-piece_count-records-clause-many
+returns-then-piece_count-records-clause-many c = λ _ file reads.
     let read : ReadCopy = c.args.read.now in
     let pieces = ap length c.pieces-records.ensures in
-    many_faults c.records_are_of_faulty_pieces.ensures c.args.from c.args.to file read reads low between
+    many_faults c.records_are_of_faulty_pieces.ensures file read reads
     (λ e. let f = c.if-piece_count-records.true in omega (arith, pieces, c.piece_count.ensures, f, e))

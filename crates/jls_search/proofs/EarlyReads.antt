@@ -1,0 +1,170 @@
+-- Files of which the first bytes tell whether they read between two offsets.
+use Rattle.std.proofs.Common.{◌≡◌, ℕ, suc, zero, ◌+◌, ◌<◌, ◌≤◌, false, true, List, [], ◌∷◌, ◌++◌, length, take, drop, Option, Some, None, Result, Ok, Err, Bool}
+use Rattle.std.proofs.Common.{refl, sym, ap, ◌∙◌, subst, arith, append_assoc, length-append, inl, inr, ◌⊎◌}
+use Rattle.std.specs.Prelude.{get_or, IfOk, IfSome, ◌==◌}
+use Rattle.std.specs.List.{AllByRecursion, Contains}
+use Rattle.std.proofs.lemmas.Bool.{eqb-true}
+use Rattle.std.proofs.lemmas.List.{append-nil}
+use Rattle.jls_copy.specs.Course.{Course, IsCourse}
+use Rattle.jls_copy.specs.CourseLaws.{SomeCourse}
+use Rattle.jls_copy.specs.Pieces.{FoundPiece, pieces}
+use Rattle.jls_copy.specs.Prefixes.{AgreeBefore, AreAlsoIn, HasLines, IsPast, PrefixesSettlePieces}
+use Rattle.jls_copy.specs.ReadCopy.{after}
+use Rattle.jls_copy.specs.declared.end.End.{End}
+use Rattle.jls_copy.specs.declared.end.End.TheVariants.{Eoi, Input, Header}
+use Rattle.jls_diff.specs.Parts.{Part, Same, way}
+use Rattle.jls_search.specs.Choices.{IsPath, prefix_of}
+use Rattle.jls_search.specs.ReadsBetween.{IsBetween, Reaches, ReadsBetween}
+use Rattle.jls_search.specs.Search.{IsFedPast, IsFedUntil}
+use Rattle.jls_copy.specs.Prefixes.{offset_of_end}
+use Rattle.jls_diff.proofs.Members.{in_rest, is_first}
+use Rattle.jls_search.proofs.Members.{all_at}
+use Rattle.jls_search.proofs.KeptReaders.{one_fed_on, prefix_and_rest}
+use Rattle.jls_search.proofs.Prefixes.{after_then, prefix_more}
+
+-- What is fed ------------------------------------------------------------------------------------------------------
+
+pub after_nothing : (o : Option (List ℕ)) → o ≡ after o []
+after_nothing None = refl
+after_nothing (Some bytes) = ap Some (sym (append-nil bytes))
+
+pub take_and_drop : (n : ℕ) (xs : List ℕ) → take n xs ++ drop n xs ≡ xs
+take_and_drop zero xs = refl
+take_and_drop (suc n) [] = refl
+take_and_drop (suc n) (x ∷ xs) = ap (λ ys. x ∷ ys) (take_and_drop n xs)
+
+pub parted : (n : ℕ) (rest slice later : List ℕ) → slice ≡ take n rest → later ≡ drop n rest → slice ++ later ≡ rest
+parted n rest slice later f b = ap (λ xs. xs ++ later) f ∙ ap (λ xs. take n rest ++ xs) b ∙ take_and_drop n rest
+
+pub if_ok : {T E : Type 0} (r : Result T E) (P Q : T → Type 0) → ((x : T) → P x → Q x) → IfOk r P → IfOk r Q
+if_ok (Ok x) P Q f h = f x h
+if_ok (Err e) P Q f h = tt
+
+pub none_left : (xs : List ℕ) → (length xs == 0) ≡ true → xs ≡ []
+none_left [] e = refl
+none_left (x ∷ xs) e = absurd (let f = eqb-true (length (x ∷ xs)) 0 e in omega (arith, f))
+
+-- there is room for the first of the bytes that are left
+pub room_for_slice : (start reader : Option (List ℕ)) (way begin rest slice : List ℕ) (most : ℕ) → reader ≡ after start begin
+    → way ≡ begin ++ rest → length slice ≤ length rest → IfSome start (λ before. length before + length way ≤ most)
+    → IfSome reader (λ before. length before + length slice ≤ most)
+room_for_slice start reader way begin rest slice most fed is l h = subst (λ o. IfSome o (λ before. length before + length slice ≤ most)) (sym fed) (by start h)
+  where
+    by : (o : Option (List ℕ)) → IfSome o (λ before. length before + length way ≤ most)
+        → IfSome (after o begin) (λ before. length before + length slice ≤ most)
+    by None h = tt
+    by (Some before) h =
+        let size = ap length is ∙ length-append begin rest in let more = length-append before begin in omega (arith, size, more, l, h)
+
+pub longer_begin : (way begin rest slice later : List ℕ) → way ≡ begin ++ rest → slice ++ later ≡ rest → way ≡ (begin ++ slice) ++ later
+longer_begin way begin rest slice later is cut = is ∙ ap (λ xs. begin ++ xs) (sym cut) ∙ sym (append_assoc begin slice later)
+
+pub fed_longer : (start reader fed : Option (List ℕ)) (begin slice : List ℕ) → reader ≡ after start begin → fed ≡ after reader slice
+    → fed ≡ after start (begin ++ slice)
+fed_longer start reader fed begin slice is more = more ∙ ap (λ o. after o slice) is ∙ after_then start begin slice
+
+-- what one choice more takes was fed, all of it or up to where that is enough
+module _ (offset : ℕ) (ps : List Part) (path : List ℕ) (i : ℕ) (is : IsPath ps path) (l : i < length path) (reader new : Option (List ℕ)) (bytes : List ℕ) (here : bytes ≡ way (get_or path i 0) (get_or ps i (Same []))) (fed : reader ≡ Some (prefix_of ps (take i path))) (past : Bool) (u : IsFedUntil offset bytes reader new past) where
+  here_fed : new ≡ Some (prefix_of ps (take i path) ++ u.begin)
+  here_fed = u.fed ∙ ap (λ o. after o u.begin) fed
+
+  pub fed_past : past ≡ true → IsFedPast offset (prefix_of ps path) new
+  fed_past e = record {
+    begin = prefix_of ps (take i path) ++ u.begin;
+    rest = u.rest ++ prefix_of (drop (suc i) ps) (drop (suc i) path);
+    fed = here_fed;
+    file_is =
+        let first = prefix_of ps (take i path) in
+        let others = prefix_of (drop (suc i) ps) (drop (suc i) path) in
+        prefix_and_rest ps path (suc i) is ∙ ap (λ xs. xs ++ others) (prefix_more ps path i is l ∙ ap (λ xs. first ++ xs) (sym here ∙ u.way_is))
+        ∙ append_assoc first (u.begin ++ u.rest) others ∙ ap (λ xs. first ++ xs) (append_assoc u.begin u.rest others)
+        ∙ sym (append_assoc first u.begin (u.rest ++ others));
+    enough = inr (subst (λ o. IfSome o (IsPast offset)) here_fed (u.past_it e));
+  }
+
+  pub fed_all : past ≡ false → new ≡ Some (prefix_of ps (take (i + 1) path))
+  fed_all e =
+      let all : u.begin ≡ bytes = sym (u.way_is ∙ ap (λ xs. u.begin ++ xs) (u.all e) ∙ append-nil u.begin) in
+      u.fed ∙ ap (after reader) all ∙ one_fed_on ps path i is l reader bytes here fed
+
+-- What it tells ----------------------------------------------------------------------------------------------------
+
+reaches_far : (from to : ℕ) (e : End) → from ≤ offset_of_end e → to ≤ offset_of_end e → Reaches from (Some to) e
+reaches_far from to (Eoi offset) f t = f
+reaches_far from to (Input offset) f t = f
+reaches_far from to (Header fault offset) f t = t
+
+each_of : (P : FoundPiece → Type 0) (ps : List FoundPiece) → ((p : FoundPiece) → Contains ps p → P p) → AllByRecursion P ps
+each_of P [] h = tt
+each_of P (p ∷ ps) h = (h p (is_first p ps), each_of P ps (λ q m. h q (in_rest q p ps m)))
+
+-- the pieces between are those of the other course, and read as they do
+each_between : (from to at : ℕ) (c d : Course) → to ≤ at → AreAlsoIn at d c
+    → AllByRecursion (λ p. IsBetween from (Some to) p.offset → HasLines p) (pieces c)
+    → AllByRecursion (λ p. IsBetween from (Some to) p.offset → HasLines p) (pieces d)
+each_between from to at c d low also each =
+    each_of (λ p. IsBetween from (Some to) p.offset → HasLines p) (pieces d) (λ q m here.
+    let p = also q m (let l = here.1 in omega (arith, l, low)) in
+    p.2.reads.1 (all_at (λ x. IsBetween from (Some to) x.offset → HasLines x) (pieces c) p.0 each p.1 (subst (IsBetween from (Some to)) p.2.offset here)))
+
+module _ (law : PrefixesSettlePieces) (some : SomeCourse) (from to at : ℕ) (from_low : from ≤ at) (to_low : to ≤ at) (file : List ℕ)
+    (low : AllByRecursion (λ b. b < 256) file) where
+  settled : (begin rest : List ℕ) → file ≡ begin ++ rest → IsPast at begin → (c d : Course) → IsCourse begin c → IsCourse file d → AgreeBefore at c d
+  settled begin rest e past c d is_c is_d =
+      law at begin rest (subst (AllByRecursion (λ b. b < 256)) e low) past c d is_c (subst (λ xs. IsCourse xs d) e is_d)
+
+  reads_then : (begin rest : List ℕ) → file ≡ begin ++ rest → IsPast at begin → ReadsBetween from (Some to) begin → ReadsBetween from (Some to) file
+  reads_then begin rest e past between =
+      let d = some file low in
+      let a = settled begin rest e past between.course d.0 between.is_course d.1 in
+      let end = a.second_end in
+      record {
+        course = d.0;
+        is_course = d.1;
+        shape = a.second_framed.0;
+        framed = a.second_framed.1;
+        reaches = reaches_far from to d.0.end (omega (arith, from_low, end)) (omega (arith, to_low, end));
+        each = each_between from to at between.course d.0 to_low a.second_in_first between.each;
+      }
+
+  reads_before : (begin rest : List ℕ) → file ≡ begin ++ rest → IsPast at begin → ReadsBetween from (Some to) file → ReadsBetween from (Some to) begin
+  reads_before begin rest e past between =
+      let a = settled begin rest e past past.course between.course past.is_course between.is_course in
+      let end = a.first_end in
+      record {
+        course = past.course;
+        is_course = past.is_course;
+        shape = a.first_framed.0;
+        framed = a.first_framed.1;
+        reaches = reaches_far from to past.course.end (omega (arith, from_low, end)) (omega (arith, to_low, end));
+        each = each_between from to at between.course past.course to_low a.first_in_second between.each;
+      }
+
+  module _ (reader : Option (List ℕ)) (is : IsFedPast at file reader) where
+    whole : is.rest ≡ [] → is.begin ≡ file
+    whole e = sym (is.file_is ∙ ap (λ xs. is.begin ++ xs) e ∙ append-nil is.begin)
+
+    begin_bytes : AllByRecursion (λ b. b < 256) is.begin
+    begin_bytes = parts is.begin is.rest (subst (AllByRecursion (λ b. b < 256)) is.file_is low)
+      where
+        parts : (xs ys : List ℕ) → AllByRecursion (λ b. b < 256) (xs ++ ys) → AllByRecursion (λ b. b < 256) xs
+        parts [] ys h = tt
+        parts (x ∷ xs) ys h = (h.0, parts xs ys h.1)
+
+    pub read_early : IfSome reader (λ begin. ReadsBetween from (Some to) begin) → ReadsBetween from (Some to) file
+    read_early h =
+        let begun : ReadsBetween from (Some to) is.begin = subst (λ o. IfSome o (λ begin. ReadsBetween from (Some to) begin)) is.fed h in
+        elim is.enough [
+          | inl e ↦ subst (ReadsBetween from (Some to)) (whole e) begun
+          | inr past ↦ reads_then is.begin is.rest is.file_is past begun
+        ]
+
+    pub unread_early : IfSome reader (λ begin. AllByRecursion (λ b. b < 256) begin → ReadsBetween from (Some to) begin → ⊥)
+        → ReadsBetween from (Some to) file → ⊥
+    unread_early h between =
+        let not : AllByRecursion (λ b. b < 256) is.begin → ReadsBetween from (Some to) is.begin → ⊥ =
+        subst (λ o. IfSome o (λ begin. AllByRecursion (λ b. b < 256) begin → ReadsBetween from (Some to) begin → ⊥)) is.fed h in
+        not begin_bytes (elim is.enough [
+          | inl e ↦ subst (ReadsBetween from (Some to)) (sym (whole e)) between
+          | inr past ↦ reads_before is.begin is.rest is.file_is past between
+        ])

@@ -1,0 +1,132 @@
+//! Whether files read in a group. No more of them is fed than tells it.
+
+ghost use Rattle.std.specs.Prelude.{◌≡◌, ◌+◌, ◌-◌, ◌^◌, ◌<◌, ◌≤◌, ℕ, true, false, length, take, Some, IfOk, IfSome, OnOk};
+ghost use Rattle.std.specs.List.{AllByRecursion};
+ghost use Rattle.jls_diff.specs.Groups.{IsGroup};
+ghost use Rattle.jls_diff.specs.PartsOf.{parts_of};
+ghost use Rattle.jls_search.specs.Choices.{IsPath, prefix_of};
+ghost use Rattle.jls_search.specs.OfGroups.{HasManyFaults, ReadsInGroup};
+ghost use Rattle.jls_search.specs.ReadsBetween.{ReadsBetween};
+ghost use Rattle.jls_search.specs.Search.{IsBegunOn, IsFedPast, IsFedUntil, IsKept};
+
+use crate::kept::{BegunReader, KeptReader, begun_on, reader_on};
+use crate::offsets::{border_offset, end_offset};
+use crate::reading_between::{is_read_between, told_by};
+use jls_copy::{CopyReader, every_copy_has_a_course, prefixes_settle_pieces};
+use jls_diff::{Group, Parts};
+use std::alloc::{AllocError, Global};
+
+/// How many bytes are fed before it is asked whether they tell it.
+const STEP: usize = 4096;
+
+/// Feeds what a choice takes of a part, until the piece in hand begins at the offset or after it. Then the answer is `true`.
+fn feed_until(reader: &mut CopyReader, way: &[u8], offset: u64) -> Result<bool, AllocError>
+    requires { IfSome reader.old (λ before. length before + length way.now ≤ 2 ^ 63 - 1) }
+    ensures { IfOk result (λ past. IsFedUntil offset way.now reader.old reader.new past) }
+{
+    let mut rest = way;
+    while !rest.is_empty() {
+        let (slice, later) = rest.split_at(rest.len().min(STEP));
+        reader.feed(slice)?;
+        rest = later;
+        if reader.is_past(offset) {
+            return Ok(true);
+        }
+    }
+    Ok(false)
+}
+
+/// Feeds what the choices of the path take from this place on, until the piece in hand begins at the offset or after it.
+fn feed_past(
+    reader: &mut CopyReader,
+    parts: &Parts<'_>,
+    path: &[usize],
+    place: usize,
+    offset: u64,
+) -> Result<(), AllocError>
+    requires within { place ≤ length path.now }
+    requires fed { reader.old ≡ Some (prefix_of parts.now (take place path.now)) }
+    requires path { IsPath parts.now path.now }
+    requires few { length (prefix_of parts.now path.now) ≤ 2 ^ 63 - 1 }
+    ensures { OnOk result (IsFedPast offset (prefix_of parts.now path.now) reader.new) }
+{
+    for at in place..path.len() {
+        let past = feed_until(reader, parts.way(at, path[at]), offset)?;
+        if past {
+            return Ok(());
+        }
+    }
+    Ok(())
+}
+
+/// What a choice takes of a part is bytes.
+fn are_bytes(way: &[u8])
+    ensures { AllByRecursion (λ b. b < 256) way.now }
+{
+    let _ = way.len();
+}
+
+/// So is what the path makes.
+fn makes_bytes(parts: &Parts<'_>, path: &[usize])
+    requires path { IsPath parts.now path.now }
+    ensures { AllByRecursion (λ b. b < 256) (prefix_of parts.now path.now) }
+{
+    for at in 0..path.len() {
+        are_bytes(parts.way(at, path[at]));
+    }
+}
+
+/// Whether the path makes a file that reads between two offsets, as its first bytes tell it. `None` comes where these have more than 4,096
+/// faulty pieces.
+fn told_early(
+    begun: BegunReader,
+    parts: &Parts<'_>,
+    path: &[usize],
+    from: u64,
+    to: u64,
+) -> Result<Option<bool>, AllocError>
+    requires begun { IsBegunOn parts.now path.now begun }
+    requires path { IsPath parts.now path.now }
+    requires few { length (prefix_of parts.now path.now) ≤ 2 ^ 63 - 1 }
+    ensures reads { IfOk result (λ told. told ≡ Some true → ReadsBetween from (Some to) (prefix_of parts.now path.now)) }
+    ensures unread { IfOk result (λ told. told ≡ Some false → ReadsBetween from (Some to) (prefix_of parts.now path.now) → ⊥) }
+{
+    prefixes_settle_pieces();
+    every_copy_has_a_course();
+    makes_bytes(parts, path);
+    let BegunReader {
+        mut reader,
+        choices,
+    } = begun;
+    feed_past(&mut reader, parts, path, choices, from.max(to))?;
+    told_by(reader, from, Some(to))
+}
+
+/// Whether the choices make a file that reads in the group. The kept reader saves it the bytes of its own choices.
+pub(crate) fn reads_in_group(
+    alloc: Global,
+    parts: &Parts<'_>,
+    group: Group,
+    kept: &Option<KeptReader>,
+    path: &[usize],
+) -> Result<bool, AllocError>
+    requires group { IsGroup parts.now group }
+    requires kept { IfSome kept.now (IsKept parts.now) }
+    requires path { IsPath parts.now path.now }
+    requires few { length (prefix_of parts.now path.now) ≤ 2 ^ 63 - 1 }
+    requires whole { length path.now ≡ length parts.now }
+    ensures reads { IfOk result (λ answer. answer ≡ true → ReadsInGroup parts.now group path.now) }
+    ensures unread { IfOk result (λ answer. answer ≡ false → AllByRecursion (λ b. b < 256) (prefix_of parts.now path.now)
+        → ReadsInGroup parts.now group path.now → HasManyFaults (prefix_of parts.now path.now)) }
+{
+    let from = border_offset(parts, path, group.begin);
+    let to = end_offset(parts, path, group.end);
+    if let Some(end) = to {
+        let begun = begun_on(alloc, kept, path)?;
+        if let Some(answer) = told_early(begun, parts, path, from, end)? {
+            return Ok(answer);
+        }
+    }
+    let reader = reader_on(alloc, parts, kept, path)?;
+    is_read_between(reader, from, to)
+}
