@@ -12,6 +12,7 @@ use Rattle.jls_search.specs.Faultless.{IsSought}
 use Rattle.jls_search.specs.Order.{Goes, IsToCome, IsLater}
 use Rattle.jls_search.specs.declared.whole_search.WholeSearch.{WholeSearch}
 use Rattle.jls_search.specs.declared.kept.BegunReader.{BegunReader}
+use Rattle.jls_search.specs.declared.kept.GroupReaders.{GroupReaders}
 use Rattle.jls_search.specs.declared.kept.KeptReader.{KeptReader}
 use Rattle.jls_search.specs.declared.looking.Sight.{Sight}
 use Rattle.jls_search.specs.declared.looking.Sight.TheVariants.{Dead, Open, Found}
@@ -135,6 +136,14 @@ abbrev pub IsSeen : (List ℕ → Type 0) → List Part → List ℕ → Sight �
 IsSeen Sought parts path Dead = (choices : List ℕ) → MakesFile Sought parts choices → IsToCome path choices → IsLater path choices
 IsSeen Sought parts path (Open reader) = (length path < length parts) × IfSome reader (λ fed. fed ≡ Some (prefix_of parts path))
 IsSeen Sought parts path Found = (length path ≡ length parts) × Sought (prefix_of parts path)
+
+-- so were those that a search of a group keeps
+abbrev pub AreKept : List Part → GroupReaders → Type 0
+AreKept parts readers = IfSome readers.begin (IsKept parts) × IfSome readers.last (IsKept parts)
+
+-- so was each of these, where there is one
+abbrev pub AreEachKept : List Part → List (Option KeptReader) → Type 0
+AreEachKept parts readers = AllByRecursion (λ reader. IfSome reader (IsKept parts)) readers
 
 -- a reader was fed what so many first choices of a path make
 abbrev pub IsBegunOn : List Part → List ℕ → BegunReader → Type 0

@@ -1,16 +1,17 @@
 //! The search by groups.
 
-ghost use Rattle.std.specs.Prelude.{◌≡◌, ◌+◌, ◌<◌, ◌≤◌, min, length, IfOk};
+ghost use Rattle.std.specs.Prelude.{◌≡◌, List, ◌+◌, ◌<◌, ◌≤◌, min, length, IfOk, IfSome};
 ghost use Rattle.std.specs.List.{AllByRecursion};
-ghost use Rattle.jls_diff.specs.Parts.{AreParts, HasWays};
+ghost use Rattle.jls_diff.specs.Parts.{AreParts, HasWays, Part};
 ghost use Rattle.jls_diff.specs.PartsOf.{bytes_of, parts_of};
 ghost use Rattle.jls_search.specs.SearchLaws.{AreShort};
-ghost use Rattle.jls_search.specs.Search.{IsShort, lists_of};
+ghost use Rattle.jls_search.specs.Search.{AreEachKept, IsKept, IsShort, lists_of};
 ghost use Rattle.jls_diff.specs.Groups.{CoverParts, IsGroup};
 ghost use Rattle.jls_search.specs.OfGroups.{AreOfGroups, IsOfGroup, IsOnce, IsSetting};
 ghost use Rattle.jls_search.specs.GroupTries.{AreGroupsSearched, GoesThrough, GoesThroughCopies};
 
 use crate::choosing::follow;
+use crate::kept::{GroupReaders, KeptReader};
 use crate::laws::parts_can_be_searched;
 use crate::order::groups_in_order;
 use crate::setting::Setting;
@@ -46,21 +47,38 @@ fn most_after(found: usize) -> usize
     (found + MOST_FOUND).min(MOST_BY_GROUPS)
 }
 
+/// What was found so far, and a reader that may serve where the next group is searched with the same copy.
+#[derive(Drop)]
+struct Gone {
+    searched: Searched,
+    kept: Option<KeptReader>,
+}
+
+/// What was found so far, and for each copy such a reader. The first is that of the copy whose turn it is.
+#[derive(Drop)]
+struct GoneThrough {
+    searched: Searched,
+    kept: Vec<Option<KeptReader>>,
+}
+
 /// Goes on with one group, with one copy outside of it.
 fn search_setting(
     alloc: Global,
     parts: &Parts<'_>,
     setting: Setting,
     limit: u32,
-    searched: Searched,
-) -> Result<Searched, AllocError>
+    gone: Gone,
+) -> Result<Gone, AllocError>
     requires setting { IsSetting parts.now setting }
     requires short { IsShort parts.now }
-    requires splices { AreOfGroups parts.now (lists_of searched.splices.items) }
-    requires few { (searched.tries ≤ limit) × (length searched.splices.items ≤ 4096) }
-    ensures splices { IfOk result (λ more. AreOfGroups parts.now (lists_of more.splices.items)) }
-    ensures goes { IfOk result (λ more. GoesThrough limit parts.now setting searched more) }
+    requires splices { AreOfGroups parts.now (lists_of gone.searched.splices.items) }
+    requires few { (gone.searched.tries ≤ limit) × (length gone.searched.splices.items ≤ 4096) }
+    requires kept { IfSome gone.kept (IsKept parts.now) }
+    ensures splices { IfOk result (λ more. AreOfGroups parts.now (lists_of more.searched.splices.items)) }
+    ensures goes { IfOk result (λ more. GoesThrough limit parts.now setting gone.searched more.searched) }
+    ensures kept { IfOk result (λ more. IfSome more.kept (IsKept parts.now)) }
 {
+    let Gone { searched, kept } = gone;
     let Searched {
         splices,
         mut tries,
@@ -72,24 +90,47 @@ fn search_setting(
     let mut walk = GroupWalk {
         path,
         found: splices,
-        kept: None,
+        kept: GroupReaders {
+            begin: kept,
+            last: None,
+        },
     };
     while tries < limit && walk.found.len() < most {
         tries += 1;
         let more = try_next(alloc, parts, setting, &mut walk)?;
         if !more {
-            return Ok(Searched {
-                splices: walk.found,
-                tries,
-                is_used_up,
-            });
+            return Ok(went(walk, tries, is_used_up));
         }
     }
-    Ok(Searched {
-        splices: walk.found,
-        tries,
-        is_used_up: true,
-    })
+    Ok(went(walk, tries, true))
+}
+
+/// What a search of a group came to.
+fn went(walk: GroupWalk, tries: u32, is_used_up: bool) -> Gone
+    ensures searched { result.searched ≡ record { splices = walk.found; tries = tries; is_used_up = is_used_up } }
+    ensures kept { result.kept ≡ walk.kept.begin }
+{
+    let GroupWalk { found, kept, .. } = walk;
+    let GroupReaders { begin, .. } = kept;
+    Gone {
+        searched: Searched {
+            splices: found,
+            tries,
+            is_used_up,
+        },
+        kept: begin,
+    }
+}
+
+/// The first of these readers, which is taken out.
+fn take_first(readers: &mut Vec<Option<KeptReader>>) -> Option<KeptReader>
+    ensures { (parts : List Part) → AreEachKept parts readers.old.items
+        → IfSome result (IsKept parts) × AreEachKept parts readers.new.items }
+{
+    if readers.is_empty() {
+        return None;
+    }
+    readers.remove(0)
 }
 
 /// Goes on with one group, which was not tried, with each copy outside of it.
@@ -98,22 +139,52 @@ fn search_group(
     parts: &Parts<'_>,
     group: Group,
     extent: Extent,
-    mut searched: Searched,
-) -> Result<Searched, AllocError>
+    gone: GoneThrough,
+) -> Result<GoneThrough, AllocError>
     requires ways { AllByRecursion (HasWays extent.copies) parts.now }
     requires group { IsGroup parts.now group }
     requires short { IsShort parts.now }
-    requires splices { AreOfGroups parts.now (lists_of searched.splices.items) }
-    requires untried { searched.tries ≡ 0 }
-    requires few { length searched.splices.items ≤ 4096 }
-    ensures splices { IfOk result (λ more. AreOfGroups parts.now (lists_of more.splices.items)) }
-    ensures goes { IfOk result (λ more. GoesThroughCopies extent.limit extent.copies parts.now group searched more) }
+    requires splices { AreOfGroups parts.now (lists_of gone.searched.splices.items) }
+    requires untried { gone.searched.tries ≡ 0 }
+    requires few { length gone.searched.splices.items ≤ 4096 }
+    requires kept { AreEachKept parts.now gone.kept.items }
+    ensures splices { IfOk result (λ more. AreOfGroups parts.now (lists_of more.searched.splices.items)) }
+    ensures goes { IfOk result
+        (λ more. GoesThroughCopies extent.limit extent.copies parts.now group gone.searched more.searched) }
+    ensures kept { IfOk result (λ more. AreEachKept parts.now more.kept.items) }
 {
+    let GoneThrough {
+        mut searched,
+        mut kept,
+    } = gone;
     for copy in 0..extent.copies {
         let setting = Setting { group, copy };
-        searched = search_setting(alloc, parts, setting, extent.limit, searched)?;
+        let begin = take_first(&mut kept);
+        let more = search_setting(
+            alloc,
+            parts,
+            setting,
+            extent.limit,
+            Gone {
+                searched,
+                kept: begin,
+            },
+        )?;
+        searched = more.searched;
+        kept.push(more.kept)?;
     }
-    Ok(searched)
+    Ok(GoneThrough { searched, kept })
+}
+
+/// No reader for each of so many copies.
+fn no_readers(alloc: Global, copies: usize) -> Result<Vec<Option<KeptReader>>, AllocError>
+    ensures { (parts : List Part) → IfOk result (λ readers. AreEachKept parts readers.items) }
+{
+    let mut readers = Vec::new(alloc);
+    for _ in 0..copies {
+        readers.push(None)?;
+    }
+    Ok(readers)
 }
 
 /// Searches these groups in turn. Each is tried anew.
@@ -130,6 +201,7 @@ fn search_in_turn(
     ensures searched { IfOk result (λ searched. AreGroupsSearched extent.limit extent.copies parts.now groups.now
         searched.tries (lists_of searched.splices.items) searched.is_used_up) }
 {
+    let mut kept = no_readers(alloc, extent.copies)?;
     let mut searched = Searched {
         splices: Vec::new(alloc),
         tries: 0,
@@ -138,14 +210,17 @@ fn search_in_turn(
     for group in groups {
         let before = searched.tries;
         searched.tries = 0;
-        searched = search_group(alloc, parts, *group, extent, searched)?;
+        let more = search_group(alloc, parts, *group, extent, GoneThrough { searched, kept })?;
+        searched = more.searched;
+        kept = more.kept;
         searched.tries = before.saturating_add(searched.tries);
     }
     Ok(searched)
 }
 
 /// Searches the splices of some copies by groups (`find_groups`). For each group and each copy it tries those that have the copy's ways
-/// outside of the group. It takes those that read in the group, each once. Groups in which no copy reads come first.
+/// outside of the group. It takes those that read in the group, each once. Groups in which no copy reads come first, if all groups together
+/// could give more splices than are found at most.
 ///
 /// In a group the search goes depth first, part by part: ways in the order of the copies, those with equal bytes once. A prefix is given
 /// up where the piece in hand begins in the group, or the group begins in it, and it is broken. Each prefix and each file that is tried

@@ -4,7 +4,7 @@ ghost use Rattle.std.specs.Prelude.{◌≡◌, List, ◌-◌, ◌^◌, ◌≤◌
 ghost use Rattle.jls_diff.specs.Parts.{Part};
 ghost use Rattle.jls_diff.specs.PartsOf.{parts_of};
 ghost use Rattle.jls_search.specs.Choices.{IsPath, prefix_of};
-ghost use Rattle.jls_search.specs.Search.{IsBegunOn, IsKept, Keeps};
+ghost use Rattle.jls_search.specs.Search.{AreKept, IsBegunOn, IsKept, Keeps};
 
 use crate::feeding::feed_way;
 use jls_copy::CopyReader;
@@ -106,4 +106,43 @@ pub(crate) fn keep(
         *kept = Some(KeptReader { reader, choices });
     }
     Ok(())
+}
+
+/// The readers that a search of a group keeps. A path in the group may begin with the choices of either.
+#[derive(Drop)]
+pub(crate) struct GroupReaders {
+    /// That of the last path that was left open and doesn't go into a group.
+    pub(crate) begin: Option<KeptReader>,
+    /// That of the last path that was left open and goes into the group.
+    pub(crate) last: Option<KeptReader>,
+}
+
+/// The reader from which to go on along the path.
+pub(crate) fn nearest<'a>(readers: &'a GroupReaders, path: &[usize]) -> &'a Option<KeptReader>
+    ensures { (parts : List Part) → AreKept parts readers.now → IfSome result.now (IsKept parts) }
+{
+    if let Some(last) = &readers.last {
+        if path.starts_with(&last.choices) {
+            return &readers.last;
+        }
+    }
+    &readers.begin
+}
+
+/// Keeps a reader that was fed what the path makes, if there is one. `is_before` says that the path doesn't go into a group.
+pub(crate) fn keep_one(
+    alloc: Global,
+    readers: &mut GroupReaders,
+    is_before: bool,
+    reader: Option<CopyReader>,
+    path: &[usize],
+) -> Result<(), AllocError>
+    ensures { (parts : List Part) → AreKept parts readers.old
+        → IfSome reader (λ fed. fed ≡ Some (prefix_of parts path.now)) → OnOk result (AreKept parts readers.new) }
+{
+    if is_before {
+        keep(alloc, &mut readers.begin, reader, path)
+    } else {
+        keep(alloc, &mut readers.last, reader, path)
+    }
 }

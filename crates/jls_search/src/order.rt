@@ -12,8 +12,10 @@ ghost use Rattle.jls_search.specs.OfGroups.{HasCopy};
 
 use crate::choosing::choice_at;
 use crate::feeding::reader_of;
+use crate::group_search::MOST_BY_GROUPS;
 use crate::offsets::{border_offset, end_offset};
 use crate::reading_between::reads_between;
+use crate::whole_search::MOST_FOUND;
 use jls_copy::{CopyFault, CopyRead};
 use jls_diff::{Group, Parts};
 use std::alloc::{AllocError, Global};
@@ -109,7 +111,7 @@ fn groups_that_read(
 }
 
 /// All groups, each as often as it is given: first those in which no copy reads, and of these and of the others each in their order.
-pub(crate) fn groups_in_order(
+fn in_order_of_reading(
     alloc: Global,
     parts: &Parts<'_>,
     copies: usize,
@@ -133,4 +135,29 @@ pub(crate) fn groups_in_order(
     }
     ordered.append(&mut others)?;
     Ok(ordered)
+}
+
+/// Whether so many groups can't give more splices than a search by groups finds at most. Then their order makes no difference.
+fn give_few(groups: usize, copies: usize) -> bool {
+    groups.saturating_mul(copies) <= MOST_BY_GROUPS / MOST_FOUND
+}
+
+/// All groups, each as often as it is given. Those in which no copy reads come first, if the order can make a difference.
+pub(crate) fn groups_in_order(
+    alloc: Global,
+    parts: &Parts<'_>,
+    copies: usize,
+    groups: &[Group],
+) -> Result<Vec<Group>, AllocError>
+    requires ways { AllByRecursion (HasWays copies) parts.now }
+    requires short { IsShort parts.now }
+    requires groups { AllByRecursion (IsGroup parts.now) groups.now }
+    ensures groups { IfOk result (λ ordered. AllByRecursion (IsGroup parts.now) ordered.items) }
+    ensures same { IfOk result (λ ordered. IsPermutation groups.now ordered.items) }
+{
+    if give_few(groups.len(), copies) {
+        let ordered: Vec<Group> = groups.iter().copied().collect(alloc)?;
+        return Ok(ordered);
+    }
+    in_order_of_reading(alloc, parts, copies, groups)
 }

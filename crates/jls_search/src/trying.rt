@@ -6,10 +6,10 @@ ghost use Rattle.jls_diff.specs.Groups.{IsGroup};
 ghost use Rattle.jls_search.specs.Choices.{IsPath, prefix_of};
 ghost use Rattle.jls_search.specs.OfGroups.{AddsOne, GoesOnWith, HasManyFaults, IsAddedOnce, IsSeenIn, IsSet, IsSetting, IsSettled, IsSoughtWith};
 ghost use Rattle.jls_search.specs.OfGroups.{ReadsInGroup, StandsWith};
-ghost use Rattle.jls_search.specs.Search.{IsKept, IsShort, lists_of};
+ghost use Rattle.jls_search.specs.Search.{AreKept, IsKept, IsShort, lists_of};
 
 use crate::choosing::{descend, turn};
-use crate::kept::{KeptReader, keep, reader_on};
+use crate::kept::{GroupReaders, KeptReader, keep_one, nearest, reader_on};
 use crate::looking::Sight;
 use crate::offsets::border_offset;
 use crate::reading_between::is_read_between;
@@ -25,8 +25,8 @@ pub(crate) struct GroupWalk {
     pub(crate) path: Vec<usize>,
     /// The splices that were found.
     pub(crate) found: Vec<Vec<usize>>,
-    /// The reader of the last path that was left open.
-    pub(crate) kept: Option<KeptReader>,
+    /// The readers that it goes on from.
+    pub(crate) kept: GroupReaders,
 }
 
 /// What is seen of a path that has no choice for some part. It is dead where the piece in hand begins in the group, or the group begins in
@@ -98,7 +98,7 @@ fn try_file(
     requires setting { IsSetting parts.now setting }
     requires short { IsShort parts.now }
     requires path { IsSet parts.now setting walk.old.path.items }
-    requires kept { IfSome walk.old.kept (IsKept parts.now) }
+    requires kept { AreKept parts.now walk.old.kept }
     requires whole { length walk.old.path.items ≡ length parts.now }
     ensures found { OnOk result (AddsOne parts.now setting (lists_of walk.old.found.items) (lists_of walk.new.found.items)) }
     ensures settled { OnOk result (IsSoughtWith parts.now setting walk.old.path.items
@@ -106,7 +106,8 @@ fn try_file(
     ensures path { OnOk result (walk.new.path ≡ walk.old.path) }
     ensures kept { OnOk result (walk.new.kept ≡ walk.old.kept) }
 {
-    let reads = reads_in_group(alloc, parts, setting.group, &walk.kept, &walk.path)?;
+    let kept = nearest(&walk.kept, &walk.path);
+    let reads = reads_in_group(alloc, parts, setting.group, kept, &walk.path)?;
     if !reads {
         return Ok(());
     }
@@ -123,11 +124,11 @@ fn try_whole(
     requires setting { IsSetting parts.now setting }
     requires short { IsShort parts.now }
     requires stands { StandsWith parts.now setting walk.old.path.items (lists_of walk.old.found.items) }
-    requires kept { IfSome walk.old.kept (IsKept parts.now) }
+    requires kept { AreKept parts.now walk.old.kept }
     requires whole { length walk.old.path.items ≡ length parts.now }
     ensures goes { IfOk result (λ more. GoesOnWith parts.now setting walk.new.path.items (lists_of walk.new.found.items) more) }
     ensures found { OnOk result (AddsOne parts.now setting (lists_of walk.old.found.items) (lists_of walk.new.found.items)) }
-    ensures kept { OnOk result (IfSome walk.new.kept (IsKept parts.now)) }
+    ensures kept { OnOk result (AreKept parts.now walk.new.kept) }
 {
     try_file(alloc, parts, setting, walk)?;
     turn(parts, setting, &mut walk.path)
@@ -143,17 +144,19 @@ fn try_prefix(
     requires setting { IsSetting parts.now setting }
     requires short { IsShort parts.now }
     requires path { IsSet parts.now setting walk.old.path.items }
-    requires kept { IfSome walk.old.kept (IsKept parts.now) }
+    requires kept { AreKept parts.now walk.old.kept }
     requires more { length walk.old.path.items < length parts.now }
     ensures goes { (found : List (List ℕ)) → StandsWith parts.now setting walk.old.path.items found
         → IfOk result (λ more. GoesOnWith parts.now setting walk.new.path.items found more) }
     ensures found { walk.new.found ≡ walk.old.found }
-    ensures kept { OnOk result (IfSome walk.new.kept (IsKept parts.now)) }
+    ensures kept { OnOk result (AreKept parts.now walk.new.kept) }
 {
-    let sight = look_at_prefix(alloc, parts, setting.group, &walk.kept, &walk.path)?;
+    let kept = nearest(&walk.kept, &walk.path);
+    let sight = look_at_prefix(alloc, parts, setting.group, kept, &walk.path)?;
     match sight {
         Sight::Open(reader) => {
-            keep(alloc, &mut walk.kept, reader, &walk.path)?;
+            let is_before = walk.path.len() <= setting.group.begin.part;
+            keep_one(alloc, &mut walk.kept, is_before, reader, &walk.path)?;
             descend(parts, setting, &mut walk.path)?;
             Ok(true)
         }
@@ -172,10 +175,10 @@ pub(crate) fn try_next(
     requires setting { IsSetting parts.now setting }
     requires short { IsShort parts.now }
     requires stands { StandsWith parts.now setting walk.old.path.items (lists_of walk.old.found.items) }
-    requires kept { IfSome walk.old.kept (IsKept parts.now) }
+    requires kept { AreKept parts.now walk.old.kept }
     ensures goes { IfOk result (λ more. GoesOnWith parts.now setting walk.new.path.items (lists_of walk.new.found.items) more) }
     ensures found { OnOk result (AddsOne parts.now setting (lists_of walk.old.found.items) (lists_of walk.new.found.items)) }
-    ensures kept { OnOk result (IfSome walk.new.kept (IsKept parts.now)) }
+    ensures kept { OnOk result (AreKept parts.now walk.new.kept) }
 {
     if walk.path.len() < parts.len() {
         try_prefix(alloc, parts, setting, walk)

@@ -19,6 +19,7 @@ loop-group-init c =
     let limit = c.args.extent.limit in
     let copies = c.args.extent.copies in
     record {
+      kept = c.in_ok-kept.ensures ps;
       splices = subst (λ (vs : List (Vec ℕ Global)). AreOfGroups ps (lists_of vs)) (sym c.new.ensures.items) (tt, tt);
       searched =
           subst (λ (vs : List (Vec ℕ Global)). AreGroupsSearched limit copies ps (take 0 c.args.groups.now) 0 (lists_of vs) false)
@@ -28,13 +29,14 @@ loop-group-init c =
 pub loop-group-preserved : goal.loop-group-preserved
 loop-group-preserved c =
     let was = c.loop-group.searched in
-    let sum : c.saturating_add.result ≡ min (was.tries + c.in_ok-searched.searched.tries) (2 ^ 32 - 1) = search rules in
+    let sum : c.saturating_add.result ≡ min (was.tries + c.in_ok-more.more.searched.tries) (2 ^ 32 - 1) = search rules in
     record {
-      splices = c.in_ok-searched.ensures.splices;
+      splices = c.in_ok-more.ensures.splices;
+      kept = c.in_ok-more.ensures.kept;
       searched =
           one_more_group c.args.extent.limit c.args.extent.copies c.args.parts.now c.args.groups.now c.loop-group.group-index _ was.tries
-          c.saturating_add.result (record { splices = was.splices; tries = 0; is_used_up = was.is_used_up }) c.in_ok-searched.searched
-          c.loop-group-test.true c.loop-group.invariant.searched c.in_ok-searched.ensures.goes sum;
+          c.saturating_add.result (record { splices = was.splices; tries = 0; is_used_up = was.is_used_up }) c.in_ok-more.more.searched
+          c.loop-group-test.true c.loop-group.invariant.searched c.in_ok-more.ensures.goes sum;
     }
 
 pub returns-clause-searched : goal.returns-clause-searched

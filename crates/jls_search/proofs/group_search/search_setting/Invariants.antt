@@ -1,6 +1,5 @@
 use Rattle.std.proofs.Common.{length, ◌-◌, ◌≤◌}
-use Rattle.std.specs.Prelude.{IfSome}
-use Rattle.jls_search.specs.Search.{IsKept, lists_of}
+use Rattle.jls_search.specs.Search.{AreKept, lists_of}
 use Rattle.jls_search.specs.OfGroups.{AreOfGroups, StandsWith}
 use Rattle.jls_search.proofs.GroupSearches.{Added}
 use Rattle.jls_search.proofs.group_search.search_setting.Given as goal
@@ -12,7 +11,7 @@ invariant-loop-tries l = record {
   few : length l.walk.found.items ≤ l.most;
   added : Added l.parts l.setting (lists_of l.initial.walk.found.items) (lists_of l.walk.found.items);
   splices : AreOfGroups l.parts (lists_of l.walk.found.items);
-  kept : IfSome l.walk.kept (IsKept l.parts);
+  kept : AreKept l.parts l.walk.kept;
   stands : StandsWith l.parts l.setting l.walk.path.items (lists_of l.walk.found.items);
 }
 

@@ -23,7 +23,7 @@ returns-clause-settled c =
     let before = lists_of c.args.walk.now.found.items in
     let found = lists_of c.add_found.new.found.items in
     on_ok_weaker {Q = IsSoughtWith c.args.parts.now c.args.setting path → IsSettled c.args.parts.now c.args.setting.group found path}
-    c.add_found.result (λ adds sought. inl (now_found before found path (subst (λ p. IsAddedOnce before p found) c.deref-2.ensures.value adds)))
+    c.add_found.result (λ adds sought. inl (now_found before found path (subst (λ p. IsAddedOnce before p found) c.deref-3.ensures.value adds)))
     c.add_found.ensures
 
 pub returns-clause-found : goal.returns-clause-found
@@ -37,5 +37,5 @@ returns-clause-found c =
     (record {
       whole = (c.requires.path.0, c.requires.whole);
       outside = c.requires.path.1;
-      reads = subst (ReadsInGroup ps s.group) c.deref.ensures.value (c.in_ok-reads.ensures.reads c.if-not-reads.false);
-    }) (subst (λ p. IsAddedOnce before p found) c.deref-2.ensures.value adds)) c.add_found.ensures
+      reads = subst (ReadsInGroup ps s.group) c.deref-2.ensures.value (c.in_ok-reads.ensures.reads c.if-not-reads.false);
+    }) (subst (λ p. IsAddedOnce before p found) c.deref-3.ensures.value adds)) c.add_found.ensures

@@ -11,7 +11,7 @@ returns-in-Dead-clause-goes c = λ found stands.
     let s = c.args.setting in
     let path : List ℕ = c.args.walk.now.path.items in
     let next : List ℕ = c.turn.new.path.items in
-    let up = subst (λ p. AllByRecursion (λ b. b < 256) (prefix_of ps p) → IsGivenUp ps s.group p) c.deref.ensures.value
-    (subst (IsSeenIn ps s.group c.deref.result.now) c.in-Dead.is c.in_ok-sight.ensures) in
+    let up = subst (λ p. AllByRecursion (λ b. b < 256) (prefix_of ps p) → IsGivenUp ps s.group p) c.deref-2.ensures.value
+    (subst (IsSeenIn ps s.group c.deref-2.result.now) c.in-Dead.is c.in_ok-sight.ensures) in
     turned_on ps s path next found stands found (given_up ps s path next found stands up)
     c.turn.result c.turn.ensures.path c.turn.ensures.to_come c.turn.ensures.none
