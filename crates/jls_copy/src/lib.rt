@@ -122,8 +122,8 @@ mod reader;
 mod scan;
 
 pub use copy_laws::{
-    bytes_decide, final_ends_stay, other_ends_change, prefixes_keep_readings, prefixes_settle_pieces, prefixes_stay_broken,
-    records_are_of_faulty_pieces,
+    bytes_decide, final_ends_stay, other_ends_change, prefixes_keep_readings,
+    prefixes_settle_pieces, prefixes_stay_broken, records_are_of_faulty_pieces,
 };
 pub use course_laws::{
     copies_have_one_course, ends_stand_at_their_offsets, every_copy_has_a_course,
