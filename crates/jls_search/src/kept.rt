@@ -121,8 +121,8 @@ pub(crate) struct GroupReaders {
 pub(crate) fn nearest<'a>(readers: &'a GroupReaders, path: &[usize]) -> &'a Option<KeptReader>
     ensures { (parts : List Part) → AreKept parts readers.now → IfSome result.now (IsKept parts) }
 {
-    if let Some(last) = &readers.last {
-        if path.starts_with(&last.choices) {
+    if let Some(kept) = &readers.last {
+        if path.starts_with(&kept.choices) {
             return &readers.last;
         }
     }
