@@ -3,6 +3,7 @@ pub mod Columns
 pub mod Handing
 pub mod Lending
 pub mod OneMore
+pub mod Sampled
 pub mod Sizes
 pub mod WholePictures
 mod IntervalLines

@@ -1,6 +1,6 @@
 //! Whole pictures, and the files that they are written as: PNM, and JPEG-LS interval by interval.
 //!
-//! - `picture`: a picture lent from a settled partial picture
+//! - `picture`, `lender`: a picture lent from a settled partial picture or from samples
 //! - `options`: how it is to be written as JPEG-LS, and which pictures can be
 //! - `pnm`, `pnm_header`, `pixels`, `waiting`: the PNM file. The lines of a row are lent once, and their columns go into a buffer on the
 //!   stack, handed out at 4,096 bytes or more
@@ -14,8 +14,8 @@
 //! half of them. The counts in faults have 64 bits. `proofs/PackedLength.antt` bounds the code of an interval by 2^38 bytes, so they can't
 //! overflow.
 //!
-//! Definitions: `Picture`, `WholePictures`, `Unsettled`, `Options`, `Pnm`, `Outcomes`, `WrittenFile`, `Stops`. Inside the crate:
-//! `Waiting`, `Parts`.
+//! Definitions: `Picture`, `Samples`, `WholePictures`, `Unsettled`, `Options`, `Pnm`, `Outcomes`, `WrittenFile`, `Stops`. Inside the
+//! crate: `Lent`, `Waiting`, `Parts`.
 //!
 //! Not proved:
 //!
@@ -26,6 +26,7 @@
 
 mod headers;
 mod intervals;
+mod lender;
 mod options;
 mod output;
 mod picture;
