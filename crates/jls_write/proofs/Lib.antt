@@ -1,6 +1,7 @@
 -- Lemmas of this crate.
 pub mod Columns
 pub mod Handing
+mod Joining
 pub mod Lending
 pub mod OneMore
 pub mod Sampled

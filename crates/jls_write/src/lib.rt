@@ -6,6 +6,7 @@
 //!   stack, handed out at 4,096 bytes or more
 //! - `output`: hands bytes to a sink, and counts all that have gone out
 //! - `write`: `write_jls`: the header segments, then each scan, interval by interval
+//! - `file`: `jls_file`: the same bytes in memory
 //! - `headers`: makes SOI and the segments before the scans
 //! - `scan_part`: a scan in work
 //! - `intervals`: lends the lines of an interval to its coder, and makes what precedes them
@@ -24,6 +25,7 @@
 //!   shows both.
 #![tactic(auto)]
 
+mod file;
 mod headers;
 mod intervals;
 mod lender;
@@ -37,6 +39,7 @@ mod scan_part;
 mod waiting;
 mod write;
 
+pub use file::{FileParts, jls_file};
 pub use options::Options;
 pub use output::{OutputFault, write_part};
 pub use picture::{Picture, PictureFault, pictures_are_whole};
