@@ -23,6 +23,7 @@
 //! - That `write_pnm` lends each line once for its row, and how large its writes are. Its code shows both.
 //! - That `write_jls` copies no line, and beside the picture holds no more than one interval's bytes and where its lines are. Its code
 //!   shows both.
+//! - That `jls_file` copies no line, and that it copies the shorter of two parts where it joins them. Its code shows both.
 #![tactic(auto)]
 
 mod file;
