@@ -1,4 +1,4 @@
-use Rattle.std.proofs.Common.{[], ◌∷◌, ◌∙◌}
+use Rattle.std.proofs.Common.{[], ◌∷◌}
 use Rattle.jls_write.specs.WrittenFile.{header_bytes, scans_bytes}
 use Rattle.jls_write.proofs.Joining.{end_joined}
 use Rattle.jls_write.proofs.file.jls_file.Goals as goal
