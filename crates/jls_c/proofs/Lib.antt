@@ -4,4 +4,5 @@ pub mod Sizes
 pub mod Reported
 pub mod Fitting
 pub mod Texts
-pub mod Writes
+pub mod Known
+pub mod Planned

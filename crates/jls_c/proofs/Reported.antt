@@ -19,6 +19,8 @@ pub room_short : (copy : List ℕ) (read : ReadCopy) (info : JlsInfo) (samples s
     → IsRoomShort read info samples statuses → IsRoomShortForCopy copy info samples statuses
 room_short copy read info samples statuses reads short = record { read = read; reads = reads; short = short }
 
+pub ruleset shows = (copy_shown, room_short)
+
 pub checked : (copy : List ℕ) (read : ReadCopy) (info : JlsInfo) (old new : List JlsPiece) → CopyReads copy read → info ≡ info_of read
     → BeginsWith (map piece_of (take (length old) read.pieces)) old new → IsChecked copy info old new
 checked copy read info old new reads is pieces = record { read = read; reads = reads; info_is = is; pieces_are = pieces }
@@ -30,6 +32,8 @@ partial_made copy source read info old new reads put = record { read = read; rea
 pub partial_longer : (copy : List ℕ) (source : ℕ) (read : ReadCopy) (info : JlsInfo) (room : ℕ) → CopyReads copy read
     → IsTextLonger (with_source read.partial source) (info_of read) info room → IsPartialLonger copy source info room
 partial_longer copy source read info room reads longer = record { read = read; reads = reads; longer = longer }
+
+pub ruleset makes = (partial_made, partial_longer)
 
 -- ---- refusals
 

@@ -1,12 +1,12 @@
 -- What is answered where samples are written as a JPEG-LS file.
-use Rattle.std.specs.Prelude.{◌≡◌, ℕ, ◌*◌, ◌^◌, ◌<◌, ◌≤◌, not, ◌==◌, nat_le, true, Ok, List, [], ◌∷◌, length, map, take, drop}
-use Rattle.std.specs.List.{range_with_len, list_any}
+use Rattle.std.specs.Prelude.{◌≡◌, ℕ, ◌*◌, ◌^◌, ◌<◌, ◌≤◌, not, ◌==◌, nat_le, true, Ok, List, [], ◌∷◌, length, take}
+use Rattle.std.specs.List.{list_any}
 use Rattle.jls_values.specs.ParamsOf.{params_of}
 use Rattle.jls_values.specs.PresetParameters.{no_presets}
 use Rattle.jls_values.specs.Shape.{PictureShape}
 use Rattle.jls_values.specs.ShapeOf.{shape_of}
-use Rattle.jls_write.specs.Picture.{WholePicture, line_of}
 use Rattle.jls_write.specs.Options.{WriteOptions, OptionsFit, components_of_scan, rows_of_interval}
+use Rattle.jls_write.specs.Samples.{picture_in}
 use Rattle.jls_write.specs.WrittenFile.{written_file}
 use Rattle.jls_c.specs.Answers.{BeginsWith}
 use Rattle.jls_c.specs.Info.{sample_count}
@@ -40,26 +40,6 @@ pub record HasPlan (f : JlsFrame) (count : ℕ) : Type 0 where
   pub shape : PictureShape
   pub options : WriteOptions
   pub plan : IsPlanOf f count shape options
-
--- ---- the samples
-
--- part k of a list that is cut into parts of this size
-abbrev pub part_at : ℕ → List ℕ → ℕ → List ℕ
-part_at size xs k = take size (drop (k * size) xs)
-
--- the lines of a component: its part of the samples, cut into lines
-abbrev pub lines_in : PictureShape → List ℕ → ℕ → List (List ℕ)
-lines_in shape samples component =
-    map (part_at shape.width (part_at (shape.height * shape.width) samples component)) (range_with_len 0 shape.height)
-
--- the picture that samples make, which stand by component, then by line from top to bottom
-abbrev pub picture_in : PictureShape → List ℕ → WholePicture
-picture_in shape samples = record { shape = shape; lines = map (lines_in shape samples) (range_with_len 0 (length shape.ids)) }
-
--- the lines of a picture are those of these samples
-abbrev pub HasLines : WholePicture → List ℕ → Type 0
-HasLines pic samples = (component : ℕ) → component < length pic.shape.ids → (line : ℕ) → line < pic.shape.height
-    → line_of pic component line ≡ part_at pic.shape.width (part_at (pic.shape.height * pic.shape.width) samples component) line
 
 -- ---- refusals
 

@@ -2,7 +2,7 @@
 
 ghost use Rattle.jls_c.specs.Answers.{BeginsWith, IsChecked, HasNoPicture};
 ghost use Rattle.jls_c.specs.Info as reported;
-ghost use Rattle.std.specs.Prelude.{◌≡◌, ◌≢◌, ◌≤◌, length, map, take, IfOk};
+ghost use Rattle.std.specs.Prelude.{◌≡◌, ◌≢◌, ◌≤◌, [], ◌∷◌, length, map, take, Contains, IfOk};
 
 use crate::answer::{DONE, NO_PICTURE, OUT_OF_MEMORY};
 use crate::info::{JlsInfo, JlsPiece, info_of, piece_of, refuse};
@@ -59,7 +59,7 @@ fn tell(alloc: Global, read: &CopyRead, info: &mut JlsInfo, pieces: &mut [JlsPie
 /// Tells what a copy says of its picture, how many of its lines it gives, and how it ended. `pieces` takes the records of the first faulty
 /// pieces, as many as there is room for, and at most 4,096. At `NO_PICTURE` `info` says why there is none. At any answer but `DONE` no
 /// piece is written, and at `OUT_OF_MEMORY` nothing at all.
-#[tactic(auto, using(crate::proofs::Reported::checked, crate::proofs::Reported::refusals))]
+#[tactic(auto, using(crate::proofs::Reported::checked, crate::proofs::Reported::refusals, crate::proofs::Known::of_check))]
 #[unsafe(no_mangle)]
 pub extern "C" fn jls_check(
     alloc: Global,
@@ -67,7 +67,7 @@ pub extern "C" fn jls_check(
     info: &mut JlsInfo,
     pieces: &mut [JlsPiece],
 ) -> u32
-    ensures known { result ≤ 2 }
+    ensures answers { Contains (DONE ∷ NO_PICTURE ∷ OUT_OF_MEMORY ∷ []) result }
     ensures done { result ≡ DONE → IsChecked copy.now info.new pieces.old pieces.new }
     ensures no_picture { result ≡ NO_PICTURE → HasNoPicture copy.now info.new }
     ensures out_of_memory { result ≡ OUT_OF_MEMORY → info.new ≡ info.old }

@@ -4,7 +4,7 @@ ghost use Rattle.jls_c.specs.PartialAnswers.{IsTextPut, IsTextLonger, AreTexts, 
 ghost use Rattle.jls_c.specs.PartialAnswers.{HasNoPartial, HasNoSecond};
 ghost use Rattle.jls_c.specs.Info as reported;
 ghost use Rattle.jls_partial.specs.Text.{IsTextOf};
-ghost use Rattle.std.specs.Prelude.{◌≡◌, ◌≢◌, ◌≤◌, ◌<◌, length, List, ℕ};
+ghost use Rattle.std.specs.Prelude.{◌≡◌, ◌≢◌, ◌≤◌, ◌<◌, [], ◌∷◌, length, Contains, List, ℕ};
 
 use crate::answer::{
     DONE, NO_PARTIAL, NO_SECOND_PARTIAL, OUT_OF_MEMORY, SHAPES_DIFFER, SHORT_ROOM,
@@ -71,8 +71,8 @@ pub extern "C" fn jls_join(
     info: &mut JlsInfo,
     joined: &mut [u8],
 ) -> u32
-    ensures known { result ≤ 6 }
-    ensures answers { result ≢ 2 }
+    ensures answers { Contains
+        (DONE ∷ SHORT_ROOM ∷ NO_PARTIAL ∷ NO_SECOND_PARTIAL ∷ SHAPES_DIFFER ∷ OUT_OF_MEMORY ∷ []) result }
     ensures done { result ≡ DONE → IsJoined first.now second.now info.new joined.old joined.new }
     ensures short_room { result ≡ SHORT_ROOM → IsJoinLonger first.now second.now info.new (length joined.old) }
     ensures no_first { result ≡ NO_PARTIAL → HasNoPartial first.now info.new }

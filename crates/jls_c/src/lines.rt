@@ -3,7 +3,7 @@
 ghost use Rattle.jls_c.specs.Info.{line_count, sample_count};
 ghost use Rattle.jls_c.specs.Lines as reported;
 ghost use Rattle.jls_c.specs.PartialAnswers.{AreLinesShown, AreLinesMore, AreLinesOfText, AreLinesOfTextMore, HasNoPartial};
-ghost use Rattle.std.specs.Prelude.{◌≡◌, ◌≢◌, ◌≤◌, ◌<◌, ◌++◌, length, IfOk, OnOk};
+ghost use Rattle.std.specs.Prelude.{◌≡◌, ◌≢◌, ◌≤◌, ◌<◌, ◌++◌, [], ◌∷◌, length, Contains, IfOk, OnOk};
 
 use crate::answer::{DONE, NO_PARTIAL, OUT_OF_MEMORY, SHORT_ROOM};
 use crate::info::{JlsInfo, info_of_partial};
@@ -101,8 +101,7 @@ pub extern "C" fn jls_lines(
     samples: &mut [u16],
     lines: &mut [JlsLine],
 ) -> u32
-    ensures known { result ≤ 4 }
-    ensures answers { result ≢ 2 }
+    ensures answers { Contains (DONE ∷ SHORT_ROOM ∷ NO_PARTIAL ∷ OUT_OF_MEMORY ∷ []) result }
     ensures done { result ≡ DONE → AreLinesOfText partial.now info.new samples.old samples.new lines.old lines.new }
     ensures short_room { result ≡ SHORT_ROOM → AreLinesOfTextMore partial.now info.new (length samples.old) (length lines.old) }
     ensures no_partial { result ≡ NO_PARTIAL → HasNoPartial partial.now info.new }

@@ -4,7 +4,7 @@ ghost use Rattle.jls_c.specs.Answers.{HasNoPicture};
 ghost use Rattle.jls_c.specs.PartialAnswers.{IsTextPut, IsTextLonger, IsPartialMade, IsPartialLonger};
 ghost use Rattle.jls_c.specs.Info as reported;
 ghost use Rattle.jls_partial.specs.Partial.{with_source};
-ghost use Rattle.std.specs.Prelude.{◌≡◌, ◌≢◌, ◌≤◌, length};
+ghost use Rattle.std.specs.Prelude.{◌≡◌, ◌≢◌, ◌≤◌, [], ◌∷◌, length, Contains};
 
 use crate::answer::{DONE, NO_PICTURE, OUT_OF_MEMORY, SHORT_ROOM};
 use crate::info::{JlsInfo, info_of, refuse};
@@ -38,7 +38,7 @@ fn put_read(alloc: Global, read: CopyRead, source: u32, info: &mut JlsInfo, out:
 /// Reads a copy, which may be damaged, and writes what it gives as a partial picture, each of its readings with this source. At `DONE`
 /// and `SHORT_ROOM` `info` is what the copy says, and `bytes` how many bytes the partial picture has. At `NO_PICTURE` it says why there
 /// is none. At any answer but `DONE` nothing is written beside `info`, and at `OUT_OF_MEMORY` nothing at all.
-#[tactic(auto, using(crate::proofs::Reported::partial_made, crate::proofs::Reported::partial_longer, crate::proofs::Reported::refusals))]
+#[tactic(auto, using(crate::proofs::Reported::makes, crate::proofs::Reported::refusals, crate::proofs::Known::of_read))]
 #[unsafe(no_mangle)]
 pub extern "C" fn jls_partial(
     alloc: Global,
@@ -47,7 +47,7 @@ pub extern "C" fn jls_partial(
     info: &mut JlsInfo,
     partial: &mut [u8],
 ) -> u32
-    ensures known { result ≤ 3 }
+    ensures answers { Contains (DONE ∷ SHORT_ROOM ∷ NO_PICTURE ∷ OUT_OF_MEMORY ∷ []) result }
     ensures done { result ≡ DONE → IsPartialMade copy.now source info.new partial.old partial.new }
     ensures short_room { result ≡ SHORT_ROOM → IsPartialLonger copy.now source info.new (length partial.old) }
     ensures no_picture { result ≡ NO_PICTURE → HasNoPicture copy.now info.new }

@@ -2,7 +2,7 @@
 
 ghost use Rattle.jls_c.specs.Answers.{IsShown, IsRoomShort, IsCopyShown, IsRoomShortForCopy, HasNoPicture};
 ghost use Rattle.jls_copy.specs.CopyReads.{CopyReads, CopyGivesNone};
-ghost use Rattle.std.specs.Prelude.{◌≡◌, ◌≢◌, ◌≤◌, length, IfOk, IfErr};
+ghost use Rattle.std.specs.Prelude.{◌≡◌, ◌≢◌, ◌≤◌, [], ◌∷◌, length, Contains, IfOk, IfErr};
 
 use crate::answer::{DONE, NO_PICTURE, OUT_OF_MEMORY, SHORT_ROOM};
 use crate::info::{JlsInfo, info_of, refuse};
@@ -57,7 +57,7 @@ fn show(
 /// Reads a copy, which may be damaged. At `DONE` and `SHORT_ROOM` `info` is what the copy says. At `NO_PICTURE` it says why there is none.
 /// At `SHORT_ROOM` it says how much room is needed: `samples` numbers of 16 bits, and `lines` bytes. At any answer but `DONE` nothing is
 /// written beside `info`, and at `OUT_OF_MEMORY` nothing at all.
-#[tactic(auto, using(crate::proofs::Reported::copy_shown, crate::proofs::Reported::room_short, crate::proofs::Reported::refusals))]
+#[tactic(auto, using(crate::proofs::Reported::shows, crate::proofs::Reported::refusals))]
 #[unsafe(no_mangle)]
 pub extern "C" fn jls_read(
     alloc: Global,
@@ -66,7 +66,7 @@ pub extern "C" fn jls_read(
     samples: &mut [u16],
     statuses: &mut [u8],
 ) -> u32
-    ensures known { result ≤ 3 }
+    ensures answers { Contains (DONE ∷ SHORT_ROOM ∷ NO_PICTURE ∷ OUT_OF_MEMORY ∷ []) result }
     ensures done { result ≡ DONE → IsCopyShown copy.now info.new samples.old samples.new statuses.old statuses.new }
     ensures short_room { result ≡ SHORT_ROOM → IsRoomShortForCopy copy.now info.new (length samples.old) (length statuses.old) }
     ensures no_picture { result ≡ NO_PICTURE → HasNoPicture copy.now info.new }

@@ -4,7 +4,7 @@ use crate::limited::Limited;
 use crate::lines::{Lines, settled};
 use jls_io::Counted;
 use jls_values::Params;
-use jls_write::{Options, OutputFault, Picture, write_jls};
+use jls_write::{FileParts, Options, OutputFault, Picture, jls_file, write_jls};
 use std::alloc::Global;
 use std::process::Abort;
 use std::test::Fail;
@@ -39,7 +39,7 @@ struct Row<'a> {
     file: &'a [u8],
 }
 
-/// The picture is written as the file; a write that fails after n bytes is reported, for each n.
+/// The picture is written as the file, also into memory; a write that fails after n bytes is reported, for each n.
 fn check(rt: &impl Abort, alloc: Global, row: &Row<'_>) -> Result<(), Fail> {
     let partial = settled(alloc, &row.lines)?;
     let picture = Picture::of(&partial).expect(rt, "a line is not settled");
@@ -49,6 +49,9 @@ fn check(rt: &impl Abort, alloc: Global, row: &Row<'_>) -> Result<(), Fail> {
         Params::new(8, row.how.maxval, 0, 0, 0, 0)?,
     );
     assert!(rt; options.fits(&picture));
+    let FileParts { front, back } = jls_file(alloc, &picture, &options)?;
+    assert!(rt; row.file.starts_with(&front) && row.file.ends_with(&back));
+    assert!(rt; row.file.len() == front.len() + back.len());
     for most in [1, usize::MAX] {
         for n in 0..=row.file.len() {
             let mut sink = Limited {

@@ -48,7 +48,7 @@ or_false false b e = (refl, e)
 pub above : (a b : ℕ) → nat_le a b ≡ false → b < a
 above a b e = elim (leb_tells a b) [ inl w ↦ absurd (let both : true ≡ false = sym w.0 ∙ e in cc) | inr w ↦ w.1 ]
 
-all_below : (n : ℕ) (xs : List ℕ) → list_any (λ x. nat_le n x) xs ≡ false → AllByRecursion (λ x. x < n) xs
+pub all_below : (n : ℕ) (xs : List ℕ) → list_any (λ x. nat_le n x) xs ≡ false → AllByRecursion (λ x. x < n) xs
 all_below n [] e = tt
 all_below n (x ∷ xs) e = let both = or_false (nat_le n x) (list_any (λ y. nat_le n y) xs) e in (above n x both.0, all_below n xs both.1)
 

@@ -1,8 +1,10 @@
 -- Lemmas of this crate.
 pub mod Columns
 pub mod Handing
+mod Joining
 pub mod Lending
 pub mod OneMore
+pub mod Sampled
 pub mod Sizes
 pub mod WholePictures
 mod IntervalLines

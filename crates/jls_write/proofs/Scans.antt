@@ -6,7 +6,7 @@ use Rattle.jls_values.specs.Shape.{IsShape}
 use Rattle.jls_values.specs.Params.{AreCodingParameters}
 use Rattle.jls_write.specs.Picture.{WholePicture}
 use Rattle.jls_write.specs.Options.{WriteOptions, OptionsFit, components_of_scan}
-use Rattle.jls_write.specs.WrittenFile.{scan_of, scan_bytes, scans_bytes, marked_interval}
+use Rattle.jls_write.specs.WrittenFile.{components_of_scans, scan_of, scan_bytes, scans_bytes, marked_interval}
 use Rattle.jls_write.specs.Parts.{scan_from, scan_count, IsScanFrom}
 
 singles : (f : List ℕ → List ℕ) (a n : ℕ)
@@ -14,19 +14,21 @@ singles : (f : List ℕ → List ℕ) (a n : ℕ)
 singles f a zero = refl
 singles f a (suc n) = ap (λ t. f (a ∷ []) ++ t) (singles f (a + 1) n)
 
--- the bytes of all scans are those of so many
-pub scans_are : (pic : WholePicture) (o : WriteOptions)
-    → scans_bytes pic o ≡ flat_map (λ first. scan_bytes pic (scan_from pic o first (components_of_scan pic.shape o))) (range_with_len 0 (scan_count pic o))
-scans_are pic o = by_line o.line
+-- what is made of all scans, one after the other, is made of so many
+pub made_of_scans : (of : List ℕ → List ℕ) (pic : WholePicture) (o : WriteOptions) → flat_map of (components_of_scans pic o)
+    ≡ flat_map (λ first. of (range_with_len first (components_of_scan pic.shape o))) (range_with_len 0 (scan_count pic o))
+made_of_scans of pic o = by_line o.line
   where
-    of : List ℕ → List ℕ
-    of components = scan_bytes pic (scan_of pic o components)
-
     by_line : (line : Bool)
         → flat_map of (cond line (range_with_len 0 (length pic.shape.ids) ∷ []) (map (λ c. c ∷ []) (range_with_len 0 (length pic.shape.ids))))
         ≡ flat_map (λ first. of (range_with_len first (cond line (length pic.shape.ids) 1))) (range_with_len 0 (cond line 1 (length pic.shape.ids)))
     by_line true = refl
     by_line false = singles of 0 (length pic.shape.ids)
+
+-- the bytes of all scans are those of so many
+pub scans_are : (pic : WholePicture) (o : WriteOptions)
+    → scans_bytes pic o ≡ flat_map (λ first. scan_bytes pic (scan_from pic o first (components_of_scan pic.shape o))) (range_with_len 0 (scan_count pic o))
+scans_are pic o = made_of_scans (λ components. scan_bytes pic (scan_of pic o components)) pic o
 
 -- each of them can be written
 pub scan_fits : (pic : WholePicture) (o : WriteOptions) (first : ℕ) → OptionsFit pic o → IsShape pic.shape → AreCodingParameters o.params

@@ -1,12 +1,14 @@
-//! A whole picture, lent from a settled partial picture.
+//! A whole picture, lent from a settled partial picture or from samples.
 
 ghost use Rattle.jls_partial.specs.Status.{IsComponentSettled, IsSettled};
 ghost use Rattle.jls_write.specs.Picture.{picture_of, line_of};
+ghost use Rattle.jls_write.specs.Samples.{picture_in};
 ghost use Rattle.jls_write.specs.Unsettled.{IsFirstUnsettledLine, IsFirstUnsettled, NamesFirstUnsettled};
 ghost use Rattle.jls_write.specs.WholePictures.{IsPicture, IsWholePicture};
 ghost use Rattle.std.specs.List.{AllByRecursion};
-ghost use Rattle.std.specs.Prelude.{◌≡◌, ◌<◌, ◌^◌, length, IfOk, IfErr, OnOk, MatchOption};
+ghost use Rattle.std.specs.Prelude.{◌≡◌, ◌<◌, ◌*◌, ◌^◌, length, IfOk, IfErr, OnOk, MatchOption};
 
+use crate::lender::Lender;
 use jls_partial::Partial;
 use jls_values::Shape;
 use std::marker::Model;
@@ -19,22 +21,22 @@ pub enum PictureFault {
     Unsettled(u8, u16),
 }
 
-/// A picture each line of which is known. It lends its lines from the partial picture that it was made of, and so takes
+/// A picture each line of which is known. It lends its lines from the partial picture or the samples that it was made of, and so takes
 /// no memory.
 #[derive(Drop)]
 pub struct Picture<'a> {
-    partial: &'a Partial,
+    lender: Lender<'a>,
 }
 
 impl<'a> Model for Picture<'a> {
-    ghost use Rattle.jls_write.specs.Picture.{WholePicture, picture_of};
-    ghost use Rattle.jls_partial.specs.Status.{IsSettled};
+    ghost use Rattle.jls_write.specs.Lent.{picture_lent, LendsAll};
+    ghost use Rattle.jls_write.specs.Picture.{WholePicture};
 
     ghost Value = { WholePicture };
 
-    ghost view = { λ a. picture_of a.partial.now };
+    ghost view = { λ a. picture_lent a.lender };
 
-    ghost invariant = { λ a. IsSettled a.partial.now };
+    ghost invariant = { λ a. LendsAll a.lender };
 }
 
 /// The first line of a component that isn't settled.
@@ -72,7 +74,20 @@ impl<'a> Picture<'a> {
     {
         match unsettled(partial) {
             Some((component, line)) => Err(PictureFault::Unsettled(component, line)),
-            None => Ok(Picture { partial }),
+            None => Ok(Picture {
+                lender: Lender::Settled(partial),
+            }),
+        }
+    }
+
+    /// The picture of samples that stand by component in the order of the frame, and then by line from top to bottom. It copies none.
+    pub fn of_samples(shape: &'a Shape, samples: &'a [u16]) -> Picture<'a>
+        requires count { length samples.now ≡ length shape.now.ids * (shape.now.height * shape.now.width) }
+        requires in_range { AllByRecursion (λ sample. sample < 2 ^ shape.now.precision) samples.now }
+        ensures { result ≡ picture_in shape.now samples.now }
+    {
+        Picture {
+            lender: Lender::Samples(shape, samples),
         }
     }
 
@@ -80,7 +95,7 @@ impl<'a> Picture<'a> {
     pub fn shape(&self) -> &Shape
         ensures { result.now ≡ self.now.shape }
     {
-        self.partial.shape()
+        self.lender.shape()
     }
 
     /// A line of the component with this index: its samples from left to right, as many as the shape is wide.
@@ -91,15 +106,15 @@ impl<'a> Picture<'a> {
         ensures width { length result.now ≡ self.now.shape.width }
         ensures samples { AllByRecursion (λ sample. sample < 2 ^ self.now.shape.precision) result.now }
     {
-        self.partial.reading(component, line, 0)
+        self.lender.line(component, line)
     }
 }
 
-/// A law: each value of this type is a picture in its ranges, of which no line is left out. So what `Picture::of` answers meets the
-/// premises of the laws on pictures and their files.
+/// A law: each value of this type is a picture in its ranges, of which no line is left out. So what `Picture::of` and
+/// `Picture::of_samples` answer meets the premises of the laws on pictures and their files.
 pub fn pictures_are_whole(picture: &Picture<'_>)
     ensures picture { IsPicture picture.now }
     ensures whole { IsWholePicture picture.now }
 {
-    let _ids = picture.partial.shape().ids();
+    picture.lender.is_whole();
 }

@@ -1,5 +1,9 @@
+use Rattle.jls_c.proofs.Known.{of_join}
 use Rattle.jls_c.proofs.Texts.{second_none}
 use Rattle.jls_c.proofs.join.jls_join.Goals as goal
+
+pub returns-in-Ok-clause-answers : goal.returns-in-Ok-clause-answers
+returns-in-Ok-clause-answers c = of_join c.join_second.result c.join_second.ensures.known c.join_second.ensures.answers
 
 pub returns-in-Ok-clause-done : goal.returns-in-Ok-clause-done
 returns-in-Ok-clause-done c = λ done. c.join_second.ensures.done done c.args.first.now c.in-Ok.ensures.found

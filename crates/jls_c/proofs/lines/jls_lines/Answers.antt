@@ -1,5 +1,11 @@
+use Rattle.std.proofs.Common.{arith}
+use Rattle.jls_c.proofs.Known.{of_lines}
 use Rattle.jls_c.proofs.Texts.{lines_of_text, lines_more}
 use Rattle.jls_c.proofs.lines.jls_lines.Goals as goal
+
+pub returns-in-Ok-clause-answers : goal.returns-in-Ok-clause-answers
+returns-in-Ok-clause-answers c =
+    let known = c.show_lines.ensures.known in of_lines c.show_lines.result (omega (arith, known)) c.show_lines.ensures.answers
 
 pub returns-in-Ok-clause-done : goal.returns-in-Ok-clause-done
 returns-in-Ok-clause-done c = λ done.

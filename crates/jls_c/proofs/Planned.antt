@@ -1,0 +1,98 @@
+-- The options of a plan fit the picture of samples that are not too large.
+use Rattle.std.proofs.Common.{◌≡◌, ℕ, ◌*◌, ◌^◌, ◌-◌, ◌<◌, ◌≤◌, Bool, true, false, cond, List, ◌++◌, length, Option, Some, None, Ok, Err, ap, sym, subst, ◌∙◌, arith}
+use Rattle.std.specs.Prelude.{All, ◌↔◌, IsTrue, nat_le}
+use Rattle.std.specs.List.{AllByRecursion, list_any}
+use Rattle.std.proofs.lemmas.List.Elements.{All-from_recursion}
+use Rattle.jls_values.specs.Params.{CodingParameters}
+use Rattle.jls_values.specs.ParamsOf.{in_force, param_fault, params_in_range, params_of}
+use Rattle.jls_values.specs.PresetParameters.{no_presets}
+use Rattle.jls_values.specs.Shape.{PictureShape, has_repeat}
+use Rattle.jls_values.specs.ShapeOf.{size_fault, unless_fault, shape_of}
+use Rattle.jls_values.specs.declared.params.ParamFault.{ParamFault}
+use Rattle.jls_values.specs.declared.shape.ShapeFault.{ShapeFault}
+use Rattle.jls_values.specs.declared.shape.ShapeFault.TheVariants.{RepeatedId}
+use Rattle.jls_write.specs.Options.{WriteOptions, OptionsFit, components_of_scan, rows_of_interval}
+use Rattle.jls_write.specs.Picture.{WholePicture}
+use Rattle.jls_write.specs.Samples.{line_in, picture_in, AreSamplesOf}
+use Rattle.jls_write.specs.WrittenFile.{written_file}
+use Rattle.jls_write.proofs.Lending.{all_below}
+use Rattle.jls_write.proofs.Sampled.{lent_line, line_fits}
+use Rattle.jls_c.specs.Written.{IsPlanOf, IsFileOf, ids_of}
+use Rattle.jls_c.specs.declared.frame.JlsFrame.{JlsFrame}
+
+-- ---- a plan
+
+params_are : (p q : CodingParameters) (fault : Option ParamFault) → params_in_range p fault ≡ Ok q → p ≡ q
+params_are p q (Some fault) e = absurd cc
+params_are p q None e = cc
+
+shape_is : (fault : Option ShapeFault) (repeats : Bool) (p q : PictureShape) → unless_fault fault (cond repeats (Err RepeatedId) (Ok p)) ≡ Ok q → p ≡ q
+shape_is (Some fault) repeats p q e = absurd cc
+shape_is None true p q e = absurd cc
+shape_is None false p q e = cc
+
+-- the defaults of a precision
+defaults_are : (precision : ℕ) (p : CodingParameters) → params_of precision no_presets ≡ Ok p → in_force precision no_presets ≡ p
+defaults_are precision p e = params_are (in_force precision no_presets) p (param_fault (in_force precision no_presets)) e
+
+precision_is : (f : JlsFrame) (shape : PictureShape) → shape_of f.precision f.width f.height (ids_of f.components) ≡ Ok shape → f.precision ≡ shape.precision
+precision_is f shape e =
+    let made : PictureShape = record { precision = f.precision; width = f.width; height = f.height; ids = ids_of f.components } in
+    ap (λ (s : PictureShape). s.precision)
+    (shape_is (size_fault f.precision f.width f.height (length (ids_of f.components))) (has_repeat (ids_of f.components)) made shape e)
+
+-- ---- what fits
+
+at_most : (n : ℕ) (xs : List ℕ) → AllByRecursion (λ x. x < n) xs → All (λ x. x ≤ n - 1) xs
+at_most n xs all = λ k d below. let less = All-from_recursion (λ x. x < n) xs all k d below in omega (arith, less)
+
+pub plan_fits : (f : JlsFrame) (count : ℕ) (shape : PictureShape) (options : WriteOptions) (samples : List ℕ) → IsPlanOf f count shape options
+    → AreSamplesOf shape samples → shape.width * components_of_scan shape options * rows_of_interval shape options ≤ 2 ^ 28
+    → OptionsFit (picture_in shape samples) options
+plan_fits f count shape options samples plan are few =
+    let params : in_force f.precision no_presets ≡ options.params = defaults_are f.precision options.params plan.are_options.defaults in
+    let precision : f.precision ≡ shape.precision = precision_is f shape plan.is_shape.shape_is in
+    let most : 2 ^ shape.precision - 1 ≡ options.params.maxval =
+    ap (λ p. 2 ^ p - 1) (sym precision) ∙ ap (λ (p : CodingParameters). p.maxval) params in
+    record {
+      precision = sym (ap (λ (p : CodingParameters). p.precision) params) ∙ precision;
+      samples = λ component inside line below.
+          let within = at_most (2 ^ shape.precision) (line_in shape samples component line) (line_fits shape samples are component line inside below).1 in
+          subst (λ (xs : List ℕ). All (λ sample. sample ≤ options.params.maxval) xs) (sym (lent_line shape samples component line inside below))
+          (subst (λ (n : ℕ). All (λ sample. sample ≤ n) (line_in shape samples component line)) most within);
+      interval = few;
+    }
+
+not_large : (large : Bool) (n m : ℕ) → (IsTrue large ↔ (n < m)) → large ≡ false → m ≤ n
+not_large true n m both e = absurd cc
+not_large false n m both e = let none : n < m → ⊥ = λ less. let true_is : false ≡ true = both.1 less in cc in omega (arith, none)
+
+-- what is known after the tests for large samples and intervals
+pub all_in_range : (shape : PictureShape) (samples : List ℕ) (precision : ℕ) (large : Bool) → precision ≡ shape.precision
+    → large ≡ list_any (λ x. nat_le (2 ^ precision) x) samples → large ≡ false
+    → AllByRecursion (λ sample. sample < 2 ^ shape.precision) samples
+all_in_range shape samples precision large precision_is test none =
+    subst (λ (p : ℕ). AllByRecursion (λ sample. sample < 2 ^ p) samples) precision_is (all_below (2 ^ precision) samples (sym test ∙ none))
+
+pub tested_fits : (f : JlsFrame) (shape : PictureShape) (options : WriteOptions) (samples : List ℕ) (pic : WholePicture) (large : Bool)
+    → IsPlanOf f (length samples) shape options → AllByRecursion (λ sample. sample < 2 ^ shape.precision) samples
+    → (IsTrue large ↔ (2 ^ 28 < shape.width * components_of_scan shape options * rows_of_interval shape options)) → large ≡ false
+    → pic ≡ picture_in shape samples → OptionsFit pic options
+tested_fits f shape options samples pic large plan in_range test none pic_is =
+    subst (λ (p : WholePicture). OptionsFit p options) (sym pic_is)
+    (plan_fits f (length samples) shape options samples plan (record { count = plan.count_is; in_range = in_range })
+    (not_large large (2 ^ 28) (shape.width * components_of_scan shape options * rows_of_interval shape options) test none))
+
+-- ---- the file
+
+pub tested_file : (f : JlsFrame) (shape : PictureShape) (options : WriteOptions) (samples front back : List ℕ) (pic : WholePicture) (large : Bool)
+    → IsPlanOf f (length samples) shape options → AllByRecursion (λ sample. sample < 2 ^ shape.precision) samples
+    → (IsTrue large ↔ (2 ^ 28 < shape.width * components_of_scan shape options * rows_of_interval shape options)) → large ≡ false
+    → pic ≡ picture_in shape samples → front ++ back ≡ written_file pic options → IsFileOf f samples (front ++ back)
+tested_file f shape options samples front back pic large plan in_range test none pic_is bytes = record {
+  shape = shape;
+  options = options;
+  plan = plan;
+  fit = subst (λ (p : WholePicture). OptionsFit p options) pic_is (tested_fits f shape options samples pic large plan in_range test none pic_is);
+  file_is = bytes ∙ ap (λ (p : WholePicture). written_file p options) pic_is;
+}
