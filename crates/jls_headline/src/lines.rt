@@ -3,10 +3,10 @@
 ghost use Rattle.jls_headline.specs.LineLaws.{StationsTellOfLines, RunsTellOfLines, UnnamedLinesHaveOneReading, UnnamedLinesAreThePicture};
 ghost use Rattle.jls_headline.specs.LineLaws.{NeverAnotherPicture, DamagedAtSaysNoOther, DamagedIsDamagedAtEach, TrimmedAtIsDamagedAt};
 
-/// A law: what a station tells of one line of a picture, and what a run of `join` that is done tells of it, with any status. If no copy
-/// gives another reading of the line than the picture's, the line is missing, or settled as the picture's; it is settled if some copy gives
-/// it. If the line survives in one copy, whatever the others are, it is among the readings, and where the line is settled it is the
-/// picture's. A line that the report doesn't name has one reading.
+/// A law: what a station tells of one line of a picture, and what a run of `join` that is done tells of it, with any status. A text among
+/// the run's inputs stands for the copies that it was made of. If no copy gives another reading of the line than the picture's, the line is
+/// missing, or settled as the picture's; it is settled if some copy gives it. If the line survives in one copy, whatever the others are, it
+/// is among the readings, and where the line is settled it is the picture's. A line that the report doesn't name has one reading.
 pub fn lines_are_reported()
     ensures stations { StationsTellOfLines }
     ensures runs { RunsTellOfLines }
@@ -22,7 +22,7 @@ pub fn never_another_picture()
 
 /// A law: restart markers number the pieces of a copy with the picture's frame, and no piece gives another reading of one line than the
 /// picture's. Then the copy gives none. A damaged copy is such a copy at each line. So is one with the picture's frame whose pieces that
-/// have the line stand under true headers and were only truncated or extended.
+/// have the row stand under true headers and were only truncated or extended.
 pub fn damaged_copies_say_no_other()
     ensures at_line { DamagedAtSaysNoOther }
     ensures at_each { DamagedIsDamagedAtEach }

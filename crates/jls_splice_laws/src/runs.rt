@@ -6,9 +6,9 @@ use crate::settled::whole_files_survive;
 use crate::splicing::spliced_copies_give_no_other;
 
 /// A law: what was asked of `jls-splice` ended with status 0, so OUT was handed the text of a picture. Take an undamaged file that is a
-/// splice of the copies: it agrees with them where they are found to agree, and elsewhere with some copy. Let no sample of it be above the
-/// limit of the search that counts, if it has one. If that search was not cut off, the picture is that file's and no other. So it is if
-/// the run prints `promise picture`, for the limit that it prints.
+/// splice of the copies: it agrees with them where they are found to agree, and in each stretch between with one copy. Let no sample of it
+/// be above the limit of the search that counts, if it has one. If that search was not cut off, the picture is that file's and no other. So
+/// it is if the run prints `promise picture`, for the limit that it prints.
 pub fn spliced_runs_give_no_other()
     ensures { SplicedRunsGiveNoOther }
 {

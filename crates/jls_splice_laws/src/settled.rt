@@ -26,7 +26,7 @@ pub fn faultless_splices_are_taken()
 
 /// A law: a station for which public calls read the files taken holds exactly their readings. Where every line of a picture survives in
 /// them, it settles that picture or none. Let an undamaged file within the ceiling be a splice of the copies. If the tries of the search
-/// are enough, what is settled is that file's picture and no other.
+/// are enough and each line is settled, the station holds that file's picture and no other.
 pub fn splices_give_no_other()
     ensures surviving { SplicesGiveNoOther }
     ensures all { WholeSplicesGiveNoOther }
