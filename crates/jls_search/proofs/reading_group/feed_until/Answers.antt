@@ -1,4 +1,4 @@
-use Rattle.std.proofs.Common.{◌≡◌, ◌++◌, ◌≤◌, [], length, refl, sym, ap, ◌∙◌, arith}
+use Rattle.std.proofs.Common.{◌≡◌, ◌++◌, [], refl, sym, ◌∙◌, arith}
 use Rattle.jls_search.proofs.EarlyReads.{after_nothing, fed_longer, longer_begin, none_left, parted, room_for_slice}
 use Rattle.jls_search.proofs.reading_group.feed_until.Goals as goal
 
