@@ -8,9 +8,11 @@ use Rattle.jls_marker.specs.Scan.{Scan, intervals}
 use Rattle.jls_copy.specs.ScanData.{ClosedPiece, closed_bytes}
 use Rattle.jls_copy.specs.Numbers.{PieceNumber, Interval, number_after, given_last}
 use Rattle.jls_copy.specs.Pieces.{FoundPiece, pieces_from, pieces_in, pieces, piece_begun}
-use Rattle.jls_copy.specs.Course.{CopyUnit, segment, scan, segment_unit_bytes, scan_data_bytes, dropped_bytes, unit_bytes, AreUnits, Course, IsCourse}
+use Rattle.jls_copy.specs.Course.{CopyUnit, segment, scan, segment_unit_bytes, scan_data_bytes, dropped_bytes, unit_bytes, AreUnits}
+use Rattle.jls_copy.specs.Course.{Course, IsCourse}
 use Rattle.jls_copy.specs.Course.{with_soi, with_another_marker, with_no_marker, with_fill_alone, EndsHere, at_eoi, at_eoi_before_a_frame}
-use Rattle.jls_copy.specs.Course.{at_no_marker, at_unknown_code, at_short_length, at_refused_segment, Ends, for_good, with_the_input, in_a_unit}
+use Rattle.jls_copy.specs.Course.{at_no_marker, at_unknown_code, at_short_length, at_refused_segment, Ends, for_good, with_the_input}
+use Rattle.jls_copy.specs.Course.{in_a_unit}
 use Rattle.jls_copy.specs.Prefixes.{offset_of_end}
 use Rattle.jls_copy.specs.declared.end.End.{End}
 use Rattle.jls_copy.proofs.HeaderFacts.{frame_kept, scan_is_of_frame}
@@ -50,13 +52,15 @@ ends_here _ _ _ _ (for_good h at bytes e s) = stops_after h at bytes e s
 ends_here _ _ _ _ (with_the_input h at) = omega arith
 ends_here _ _ _ _ (in_a_unit h at bytes p) = omega arith
 
-units_end : (h : HeaderState) (at : ℕ) (bytes : List ℕ) (us : List CopyUnit) (final : HeaderState) (e : End) → AreUnits h at bytes us final e
+units_end : (h : HeaderState) (at : ℕ) (bytes : List ℕ) (us : List CopyUnit) (final : HeaderState) (e : End)
+    → AreUnits h at bytes us final e
     → at ≤ offset_of_end e
 units_end h at bytes [] final e u = ends_here h at bytes e u.1
 units_end h at bytes (u ∷ us) final e (after, rest, whole, unit, more) =
     let l = units_end after (at + length (unit_bytes u)) rest us final e more in omega (arith, l)
 
-pieces_within : (index : ℕ) (s : Scan) (last : ℕ) (number : PieceNumber) (at : ℕ) (closed : List ClosedPiece) (bytes : List ℕ) (q : FoundPiece)
+pieces_within : (index : ℕ) (s : Scan) (last : ℕ) (number : PieceNumber) (at : ℕ) (closed : List ClosedPiece) (bytes : List ℕ)
+    (q : FoundPiece)
     → Contains (pieces_from (piece_begun index s number at) last closed bytes) q → q.offset ≤ at + length (flat_map closed_bytes closed)
 pieces_within index s last number at [] bytes q m =
     elim (first_or_rest q _ [] m) [
@@ -68,10 +72,12 @@ pieces_within index s last number at (c ∷ closed) bytes q m =
     let size = length-append (closed_bytes c) (flat_map closed_bytes closed) in
     elim (first_or_rest q _ _ m) [
       | inl e ↦ (let o = ap (λ (p : FoundPiece). p.offset) e in omega (arith, o))
-      | inr later ↦ (let l = pieces_within index s (given_last last next) next (at + length (closed_bytes c)) closed bytes q later in omega (arith, l, size))
+      | inr later ↦ (let l = pieces_within index s (given_last last next) next (at + length
+          (closed_bytes c)) closed bytes q later in omega (arith, l, size))
     ]
 
-units_before_end : (h : HeaderState) (at : ℕ) (bytes : List ℕ) (us : List CopyUnit) (final : HeaderState) (e : End) (index : ℕ) (q : FoundPiece)
+units_before_end : (h : HeaderState) (at : ℕ) (bytes : List ℕ) (us : List CopyUnit) (final : HeaderState) (e : End) (index : ℕ)
+    (q : FoundPiece)
     → AreUnits h at bytes us final e → Contains (pieces_in index at us) q → q.offset ≤ offset_of_end e
 units_before_end h at bytes [] final e index q u m = absurd (none_in q m)
 units_before_end h at bytes (segment fill code payload ∷ us) final e index q (after, rest, whole, unit, more) m =
@@ -83,8 +89,10 @@ units_before_end h at bytes (scan fill code payload plan closed last closing ∷
     let in_data = length-append cut (last ++ dropped_bytes closing) in
     let ended = units_end after (at + length (unit_bytes (scan fill code payload plan closed last closing))) rest us final e more in
     either (q.offset ≤ offset_of_end e) (pieces_from (piece_begun index plan (Interval 0) (at + length head)) 0 closed last) _ q m
-    (λ here. let l = pieces_within index plan 0 (Interval 0) (at + length head) closed last q here in omega (arith, l, size, in_data, ended))
-    (λ later. units_before_end after (at + length (unit_bytes (scan fill code payload plan closed last closing))) rest us final e (index + 1) q more later)
+    (λ here. let l = pieces_within index plan 0 (Interval 0) (at + length head) closed last q here in omega
+    (arith, l, size, in_data, ended))
+    (λ later. units_before_end after (at + length (unit_bytes (scan fill code payload plan closed last closing))) rest us final e
+    (index + 1) q more later)
 
 before_end : (copy : List ℕ) (c : Course) → IsCourse copy c → (q : FoundPiece) → Contains (pieces c) q → q.offset ≤ offset_of_end c.end
 before_end _ _ (with_soi n bytes units final e h) q m = units_before_end no_headers (n + 2) bytes units final e 0 q h m

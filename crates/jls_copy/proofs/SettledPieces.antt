@@ -15,7 +15,8 @@ use Rattle.jls_copy.specs.Pieces.{FoundPiece, Lines, pieces}
 use Rattle.jls_copy.specs.Prefixes.{AgreeBefore, AreAlsoIn, HasLines, IsPast, PlaceIsPast, PrefixesSettlePieces, ReadAlike}
 use Rattle.jls_copy.specs.Reader.{all_pieces}
 use Rattle.jls_copy.specs.ReaderState.{class_of, closed_at, closed_at_end, closed_by, found, from_marker, from_scan, from_start}
-use Rattle.jls_copy.specs.ReaderState.{length_known, one_more, payload_grown, place_after, scan_after, scan_opened, scan_with, segment_taken, with_segment}
+use Rattle.jls_copy.specs.ReaderState.{length_known, one_more, payload_grown, place_after, scan_after, scan_opened, scan_with}
+use Rattle.jls_copy.specs.ReaderState.{segment_taken, with_segment}
 use Rattle.jls_copy.specs.ReaderState.{Reading, reading, reading_from, reading_with, step_from}
 use Rattle.jls_copy.specs.Tells.{AlikePiece, AlikePieces, FedAs}
 use Rattle.jls_copy.specs.declared.scan.ByteClass.{ByteClass}
@@ -27,7 +28,8 @@ use Rattle.jls_copy.proofs.CopyFed.{outcome_alike}
 use Rattle.jls_copy.proofs.CourseFed.{course_fed}
 use Rattle.jls_copy.proofs.EndsOfCourse.{either, ends_after, framed_by_piece}
 use Rattle.jls_copy.proofs.OneCourse.{one_course}
-use Rattle.jls_copy.proofs.Prefixes.{alike_of, among_all, at_once, first_or_rest, from_append, is_first, none_in, of_alike, Stands, stands_from}
+use Rattle.jls_copy.proofs.Prefixes.{alike_of, among_all, at_once, first_or_rest, from_append, is_first, none_in, of_alike, Stands}
+use Rattle.jls_copy.proofs.Prefixes.{stands_from}
 use Rattle.jls_copy.proofs.FaultyPieces.{closed_stay}
 use Rattle.jls_copy.proofs.ReadingTells.{reading_counts}
 use Rattle.jls_copy.proofs.ScansOfCourse.{byte_parts}
@@ -45,7 +47,8 @@ no_open_start true false false a b e f = f
 from_start_opens_none : (fill : Bool) (count b : ℕ) → closed_at_end (from_start fill count b) ≡ []
 from_start_opens_none fill count b = no_open_start fill (b == 0xFF) (b == 0xD8) _ _ refl refl
 
-module _ (a d e : Place) (ea : closed_at_end a ≡ []) (ed : closed_at_end d ≡ []) (ee : closed_at_end e ≡ []) (marker : Place) (em : closed_at_end marker ≡ []) where
+module _ (a d e : Place) (ea : closed_at_end a ≡ []) (ed : closed_at_end d ≡ []) (ee : closed_at_end e ≡ []) (marker : Place)
+    (em : closed_at_end marker ≡ []) where
   no_open_marker : (fill ff eoi known : Bool)
       → closed_at_end (if ff then AtMarker true else if not fill then a else if eoi then d else if known then marker else e) ≡ []
   no_open_marker fill true eoi known = refl
@@ -87,12 +90,14 @@ module _ (at count : ℕ) (low : at ≤ count) where
   opens_known : (h : HeaderState) (marker code size : ℕ) → OpensFrom at (length_known count h marker code size).place
   opens_known h marker code size = by (nat_lt size 2) refl (size == 2) refl
     where
-      by : (short : Bool) → nat_lt size 2 ≡ short → (none : Bool) → (size == 2) ≡ none → OpensFrom at (length_known count h marker code size).place
+      by : (short : Bool) → nat_lt size 2 ≡ short → (none : Bool) → (size == 2) ≡ none
+          → OpensFrom at (length_known count h marker code size).place
       by true e none f = rw e (λ q m. absurd (none_in q m))
       by false e true f = rw (e, f) (opens_with h [] marker code)
       by false e false f = rw (e, f) (λ q m. absurd (none_in q m))
 
-  opens_grown : (h : HeaderState) (payload : List ℕ) (marker code size : ℕ) → OpensFrom at (payload_grown count h payload marker code size).place
+  opens_grown : (h : HeaderState) (payload : List ℕ) (marker code size : ℕ)
+      → OpensFrom at (payload_grown count h payload marker code size).place
   opens_grown h payload marker code size = by (length payload + 2 == size) refl
     where
       by : (whole : Bool) → (length payload + 2 == size) ≡ whole → OpensFrom at (payload_grown count h payload marker code size).place
@@ -106,9 +111,11 @@ module _ (at count : ℕ) (low : at ≤ count) where
   opens_in_scan Stop scan b l = none_open at (from_marker true true count b) (from_marker_opens_none true true count b)
   opens_in_scan Data scan b l = one_open at (scan_with scan b) l
 
-  opens_next : (p : Place) (h : HeaderState) (payload : List ℕ) (b : ℕ) → OpensFrom at p → OpensFrom at (step_from p count h payload b).place
+  opens_next : (p : Place) (h : HeaderState) (payload : List ℕ) (b : ℕ) → OpensFrom at p
+      → OpensFrom at (step_from p count h payload b).place
   opens_next (Start fill) h payload b o = none_open at (from_start fill count b) (from_start_opens_none fill count b)
-  opens_next (AtMarker fill) h payload b o = none_open at (from_marker fill (is_some h.frame) count b) (from_marker_opens_none fill (is_some h.frame) count b)
+  opens_next (AtMarker fill) h payload b o =
+      none_open at (from_marker fill (is_some h.frame) count b) (from_marker_opens_none fill (is_some h.frame) count b)
   opens_next (AtLength marker code) h payload b o = λ q m. absurd (none_in q m)
   opens_next (InLength marker code high) h payload b o = opens_known h marker code (256 * high + b)
   opens_next (InPayload marker code size) h payload b o = opens_grown h (payload ++ b ∷ []) marker code size
@@ -207,7 +214,8 @@ read_alike x p q a b = record {
 
 -- The law ----------------------------------------------------------------------------------------------------------
 
-module _ (at : ℕ) (prefix more : List ℕ) (low : AllByRecursion (λ b. b < 256) (prefix ++ more)) (past : IsPast at prefix) (c d : Course) (is_c : IsCourse prefix c) (is_d : IsCourse (prefix ++ more) d) where
+module _ (at : ℕ) (prefix more : List ℕ) (low : AllByRecursion (λ b. b < 256) (prefix ++ more)) (past : IsPast at prefix) (c d : Course)
+    (is_c : IsCourse prefix c) (is_d : IsCourse (prefix ++ more) d) where
   abbrev first : Reading
   first = reading prefix
 
@@ -232,7 +240,8 @@ module _ (at : ℕ) (prefix more : List ℕ) (low : AllByRecursion (λ b. b < 25
   -- the piece in hand
   hand : (x : FoundPiece) × Contains (closed_at_end first.state.place) x × (at ≤ x.offset)
   hand =
-      let here : Contains (cut_pieces c) past.piece = subst (λ x. Contains (cut_pieces x) past.piece) (one_course prefix past.course c past.is_course is_c) past.in_hand in
+      let here : Contains (cut_pieces c) past.piece = subst (λ x. Contains (cut_pieces x) past.piece)
+      (one_course prefix past.course c past.is_course is_c) past.in_hand in
       let x = of_alike (closed_at_end first.state.place) (cut_pieces c) past.piece alike_cut here in
       (x.0, x.1, subst (λ n. at ≤ n) (sym x.2.offset_is) past.past)
 
@@ -266,7 +275,8 @@ module _ (at : ℕ) (prefix more : List ℕ) (low : AllByRecursion (λ b. b < 25
       let x = of_alike (all_pieces first) (pieces c) p alike_first m in
       either ((q : FoundPiece) × Contains (pieces d) q × ReadAlike p q) first.pieces (closed_at_end first.state.place) x.0 x.1
       (λ closed.
-      let later : Contains all.pieces x.0 = subst (λ r. Contains r.pieces x.0) (sym (from_append _ prefix more)) (closed_stay first more x.0 closed) in
+      let later : Contains all.pieces x.0 = subst (λ r. Contains r.pieces x.0) (sym (from_append _ prefix more))
+      (closed_stay first more x.0 closed) in
       let q = alike_of (all_pieces all) (pieces d) x.0 alike_all (among_all all x.0 (inl later)) in
       (q.0, q.1, read_alike x.0 p q.0 x.2 q.2))
       (λ open_.
@@ -280,7 +290,8 @@ module _ (at : ℕ) (prefix more : List ℕ) (low : AllByRecursion (λ b. b < 25
       let e = x.2.offset_is in
       either ((p : FoundPiece) × Contains (pieces c) p × ReadAlike q p) all.pieces (closed_at_end all.state.place) x.0 x.1
       (λ closed. elim (from_first.closed x.0 closed) [
-        | inl old ↦ (let p = alike_of (all_pieces first) (pieces c) x.0 alike_first (among_all first x.0 (inl old)) in (p.0, p.1, read_alike x.0 q p.0 x.2 p.2))
+        | inl old ↦ (let p = alike_of (all_pieces first) (pieces c) x.0 alike_first (among_all first x.0 (inl old)) in
+            (p.0, p.1, read_alike x.0 q p.0 x.2 p.2))
         | inr far ↦ absurd (omega (arith, far, e, l))
       ])
       (λ open_. let far = from_first.opens x.0 open_ in absurd (omega (arith, far, e, l)))

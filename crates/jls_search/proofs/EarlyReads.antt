@@ -1,5 +1,6 @@
 -- Files of which the first bytes tell whether they read between two offsets.
-use Rattle.std.proofs.Common.{◌≡◌, ℕ, suc, zero, ◌+◌, ◌<◌, ◌≤◌, false, true, List, [], ◌∷◌, ◌++◌, length, take, drop, Option, Some, None, Result, Ok, Err, Bool}
+use Rattle.std.proofs.Common.{◌≡◌, ℕ, suc, zero, ◌+◌, ◌<◌, ◌≤◌, false, true, List, [], ◌∷◌, ◌++◌, length, take, drop, Option, Some, None}
+use Rattle.std.proofs.Common.{Result, Ok, Err, Bool}
 use Rattle.std.proofs.Common.{refl, sym, ap, ◌∙◌, subst, arith, append_assoc, length-append, inl, inr}
 use Rattle.std.specs.Prelude.{get_or, IfOk, IfSome, ◌==◌}
 use Rattle.std.specs.List.{AllByRecursion, Contains}
@@ -48,7 +49,8 @@ none_left (x ∷ xs) e = absurd (let f = eqb-true (length (x ∷ xs)) 0 e in ome
 pub room_for_slice : (start reader : Option (List ℕ)) (way begin rest slice : List ℕ) (most : ℕ) → reader ≡ after start begin
     → way ≡ begin ++ rest → length slice ≤ length rest → IfSome start (λ before. length before + length way ≤ most)
     → IfSome reader (λ before. length before + length slice ≤ most)
-room_for_slice start reader way begin rest slice most fed is l h = subst (λ o. IfSome o (λ before. length before + length slice ≤ most)) (sym fed) (by start h)
+room_for_slice start reader way begin rest slice most fed is l h =
+    subst (λ o. IfSome o (λ before. length before + length slice ≤ most)) (sym fed) (by start h)
   where
     by : (o : Option (List ℕ)) → IfSome o (λ before. length before + length way ≤ most)
         → IfSome (after o begin) (λ before. length before + length slice ≤ most)
@@ -64,7 +66,9 @@ pub fed_longer : (start reader fed : Option (List ℕ)) (begin slice : List ℕ)
 fed_longer start reader fed begin slice is more = more ∙ ap (λ o. after o slice) is ∙ after_then start begin slice
 
 -- what one choice more takes was fed, all of it or up to where that is enough
-module _ (offset : ℕ) (ps : List Part) (path : List ℕ) (i : ℕ) (is : IsPath ps path) (l : i < length path) (reader new : Option (List ℕ)) (bytes : List ℕ) (here : bytes ≡ way (get_or path i 0) (get_or ps i (Same []))) (fed : reader ≡ Some (prefix_of ps (take i path))) (past : Bool) (u : IsFedUntil offset bytes reader new past) where
+module _ (offset : ℕ) (ps : List Part) (path : List ℕ) (i : ℕ) (is : IsPath ps path) (l : i < length path)
+    (reader new : Option (List ℕ)) (bytes : List ℕ) (here : bytes ≡ way (get_or path i 0) (get_or ps i (Same [])))
+    (fed : reader ≡ Some (prefix_of ps (take i path))) (past : Bool) (u : IsFedUntil offset bytes reader new past) where
   here_fed : new ≡ Some (prefix_of ps (take i path) ++ u.begin)
   here_fed = u.fed ∙ ap (λ o. after o u.begin) fed
 
@@ -76,7 +80,8 @@ module _ (offset : ℕ) (ps : List Part) (path : List ℕ) (i : ℕ) (is : IsPat
     file_is =
         let first = prefix_of ps (take i path) in
         let others = prefix_of (drop (suc i) ps) (drop (suc i) path) in
-        prefix_and_rest ps path (suc i) is ∙ ap (λ xs. xs ++ others) (prefix_more ps path i is l ∙ ap (λ xs. first ++ xs) (sym here ∙ u.way_is))
+        prefix_and_rest ps path (suc i) is ∙ ap (λ xs. xs ++ others) (prefix_more ps path i is l ∙ ap (λ xs. first ++ xs) (sym here
+        ∙ u.way_is))
         ∙ append_assoc first (u.begin ++ u.rest) others ∙ ap (λ xs. first ++ xs) (append_assoc u.begin u.rest others)
         ∙ sym (append_assoc first u.begin (u.rest ++ others));
     enough = inr (subst (λ o. IfSome o (IsPast offset)) here_fed (u.past_it e));
@@ -105,15 +110,18 @@ each_between : (from to at : ℕ) (c d : Course) → to ≤ at → AreAlsoIn at 
 each_between from to at c d low also each =
     each_of (λ p. IsBetween from (Some to) p.offset → HasLines p) (pieces d) (λ q m here.
     let p = also q m (let l = here.1 in omega (arith, l, low)) in
-    p.2.reads.1 (all_at (λ x. IsBetween from (Some to) x.offset → HasLines x) (pieces c) p.0 each p.1 (subst (IsBetween from (Some to)) p.2.offset here)))
+    p.2.reads.1 (all_at (λ x. IsBetween from (Some to) x.offset → HasLines x) (pieces c) p.0 each p.1 (subst (IsBetween from
+    (Some to)) p.2.offset here)))
 
 module _ (law : PrefixesSettlePieces) (some : SomeCourse) (from to at : ℕ) (from_low : from ≤ at) (to_low : to ≤ at) (file : List ℕ)
     (low : AllByRecursion (λ b. b < 256) file) where
-  settled : (begin rest : List ℕ) → file ≡ begin ++ rest → IsPast at begin → (c d : Course) → IsCourse begin c → IsCourse file d → AgreeBefore at c d
+  settled : (begin rest : List ℕ) → file ≡ begin ++ rest → IsPast at begin → (c d : Course) → IsCourse begin c → IsCourse file d
+      → AgreeBefore at c d
   settled begin rest e past c d is_c is_d =
       law at begin rest (subst (AllByRecursion (λ b. b < 256)) e low) past c d is_c (subst (λ xs. IsCourse xs d) e is_d)
 
-  reads_then : (begin rest : List ℕ) → file ≡ begin ++ rest → IsPast at begin → ReadsBetween from (Some to) begin → ReadsBetween from (Some to) file
+  reads_then : (begin rest : List ℕ) → file ≡ begin ++ rest → IsPast at begin → ReadsBetween from (Some to) begin
+      → ReadsBetween from (Some to) file
   reads_then begin rest e past between =
       let d = some file low in
       let a = settled begin rest e past between.course d.0 between.is_course d.1 in
@@ -127,7 +135,8 @@ module _ (law : PrefixesSettlePieces) (some : SomeCourse) (from to at : ℕ) (fr
         each = each_between from to at between.course d.0 to_low a.second_in_first between.each;
       }
 
-  reads_before : (begin rest : List ℕ) → file ≡ begin ++ rest → IsPast at begin → ReadsBetween from (Some to) file → ReadsBetween from (Some to) begin
+  reads_before : (begin rest : List ℕ) → file ≡ begin ++ rest → IsPast at begin → ReadsBetween from (Some to) file
+      → ReadsBetween from (Some to) begin
   reads_before begin rest e past between =
       let a = settled begin rest e past past.course between.course past.is_course between.is_course in
       let end = a.first_end in
