@@ -1,11 +1,13 @@
 """What stands where in a file of which there are several copies: its structure, its frames, and its header as far as it is decided."""
-from jls_tools.dicom_align import differing, on_one_axis
+from jls_tools.dicom_align import SHIFTED, differing, on_one_axis, size_of
 from jls_tools.dicom_file import JPEG_LS
 from jls_tools.dicom_frames import EXTENDED_LENGTHS, EXTENDED_TABLE, Fragments
 from jls_tools.dicom_header import ALLOCATED, COLUMNS, FRAMES, ROWS, SAMPLES, STORED, SYNTAX, Header
 from jls_tools.dicom_runs import FINEST, Runs
 from jls_tools.dicom_structure import Walk
 from jls_tools.dicom_write import expected_tables
+
+FAR_MORE = 8  # one in so many places still differs, at most, where copies that read in place are taken to have lost bytes
 
 
 class Layout:
@@ -79,11 +81,14 @@ def rank(structure):
 
 
 def laid_out(copies):
-    """The copies on one axis, and their Layout. Where it breaks, they may have lost bytes at different places: if it goes through so."""
+    """The copies on one axis, and their Layout. Where it breaks, or far fewer bytes differ then, they lost bytes at different places."""
     placed = on_one_axis(copies)
     layout = Layout(placed)
-    if not is_through(layout.structure):
+    apart = size_of(layout.ranges)
+    if not is_through(layout.structure) or apart >= SHIFTED:
         shifted = on_one_axis(copies, True)
+        if is_through(layout.structure) and size_of(differing([copy.data for copy in shifted])) * FAR_MORE > apart:
+            return placed, layout
         if [copy.absent for copy in shifted] != [copy.absent for copy in placed]:
             other = Layout(shifted)
             if is_through(other.structure):
