@@ -6,9 +6,9 @@ import struct
 
 from jls_tools.dicom_alone import PADDING, held_by_one, places_alone
 from jls_tools.dicom_csa import Chains
+from jls_tools.dicom_decider import Decider
 from jls_tools.dicom_file import JPEG_LS, UNDEFINED, tag_name, text_of
 from jls_tools.dicom_result import Place
-from jls_tools.dicom_sectors import Decider
 from jls_tools.dicom_terms import KNOWN, has_terms, is_made_of, is_term
 from jls_tools.dicom_values import NOT_IN_TEXT, TEXTS, allows, is_written
 
