@@ -1,7 +1,7 @@
 """Takes what one copy has at open places where another copy lost sectors, or has noise: dicom_sectors says where that is so."""
 import itertools
 
-from jls_tools.dicom_sectors import BESIDE, IS_NOISE, NEAR, SECTOR, Pair
+from jls_tools.dicom_sectors import BESIDE, IS_NOISE, NEAR, SECTOR, Pair, is_noise_alone
 
 REACH = 128  # so near have places to be that go with others of one run
 DECIDED = 3  # so many places of a range were decided, at least, where others go with them
@@ -62,8 +62,9 @@ class Decider:
         if sum(self.is_for(number, other, own) for number in numbers) < least:
             return
         for number in numbers:
-            holders = self.runs.runs[number].holders
-            header.keep(number, {way for way in header.left[number] if set(holders[way]) - {own}}, why)
+            run = self.runs.runs[number]
+            if not is_noise_alone(header.copies[other].data, run.begin, run.end):  # else the other copy lost it too
+                header.keep(number, {way for way in header.left[number] if set(run.holders[way]) - {own}}, why)
 
     def is_for(self, number, one, two):
         """Whether a run was decided for one copy and against another one."""

@@ -9,6 +9,7 @@ from jls_tools.dicom_csa import Chains
 from jls_tools.dicom_decider import Decider
 from jls_tools.dicom_file import JPEG_LS, UNDEFINED, tag_name, text_of
 from jls_tools.dicom_result import Place
+from jls_tools.dicom_sectors import is_noise_alone
 from jls_tools.dicom_tables import Tables
 from jls_tools.dicom_terms import KNOWN, has_terms, is_made_of, is_term
 from jls_tools.dicom_values import NOT_IN_TEXT, TEXTS, allows, is_written
@@ -248,8 +249,10 @@ class Header:
             self.keep(number, ways, "the bytes around it are of that copy")
 
     def looks_lost(self, number, ways):
-        """Whether eight bytes or more of one value would be kept, where another way has more values."""
+        """Whether eight bytes or more of one value would be kept, where another way has more values; or noise that stands alone."""
         run = self.runs.runs[number]
+        if all(is_noise_alone(self.copies[copy].data, run.begin, run.end) for way in ways for copy in run.holders[way]):
+            return True
         plain = {way for way in self.left[number] if not run.ways[way].strip(run.ways[way][:1])}
         return run.end - run.begin >= 8 and ways <= plain and plain != set(self.left[number])
 
@@ -308,9 +311,19 @@ class Header:
 
     def value(self, tag):
         element = self.elements.get(tag)
-        if element is None or element.length == UNDEFINED or self.open_runs(element.value, element.end):
-            return None
-        return self.runs.bytes_with(element.value, element.end, self.chosen())
+        return None if element is None or element.length == UNDEFINED else self.value_of(element)
+
+    def value_of(self, element):
+        """The value of an element, if it is decided."""
+        is_open = self.open_runs(element.value, element.end)
+        return None if is_open else self.runs.bytes_with(element.value, element.end, self.chosen())
+
+    def is_touched(self, element):
+        """Whether copies differ in the value of an element."""
+        return any(number in self.left for number in self.runs.touching(element.value, element.end))
+
+    def differs(self, tag):
+        return tag in self.elements and self.is_touched(self.elements[tag])
 
     def text(self, tag):
         value = self.value(tag)

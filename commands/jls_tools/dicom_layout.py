@@ -1,10 +1,11 @@
 """What stands where in a file of which there are several copies: its structure, its frames, and its header as far as it is decided."""
 from jls_tools.dicom_align import SHIFTED, differing, on_one_axis, size_of
-from jls_tools.dicom_file import JPEG_LS
-from jls_tools.dicom_frames import EXTENDED_LENGTHS, EXTENDED_TABLE, Fragments
-from jls_tools.dicom_header import ALLOCATED, COLUMNS, FRAMES, ROWS, SAMPLES, STORED, SYNTAX, Header
+from jls_tools.dicom_file import JPEG_LS, tag_name
+from jls_tools.dicom_frames import EXTENDED_LENGTHS, EXTENDED_TABLE, Fragments, shape_of
+from jls_tools.dicom_header import ALLOCATED, COLUMNS, FRAMES, ROWS, SAMPLES, STORED, SYNTAX, TWINS, Header
 from jls_tools.dicom_runs import FINEST, Runs
 from jls_tools.dicom_structure import Walk
+from jls_tools.dicom_values import NOT_IN_TEXT, is_doubtful, is_written
 from jls_tools.dicom_write import expected_tables
 
 FAR_MORE = 8  # one in so many places still differs, at most, where copies that read in place are taken to have lost bytes
@@ -96,10 +97,33 @@ def laid_out(copies):
     return placed, layout
 
 
+def has_other_shape(header, stream):
+    """Whether a codestream has another shape than the header says: then it is no frame of the file."""
+    shape, wanted = shape_of(stream), [header.short(tag) for tag in (ROWS, COLUMNS, SAMPLES)]
+    return shape is not None and None not in wanted and [shape.rows, shape.columns, shape.components] != wanted
+
+
+def forbidden(header):
+    """What no file may have, where copies differ: elements that are not equal, or a value that its VR forbids; or nothing."""
+    for first, second in TWINS:
+        one, two = header.text(first), header.text(second)
+        if None not in (one, two) and one != two and (header.differs(first) or header.differs(second)):
+            return f"{tag_name(first)} and {tag_name(second)} are not equal"
+    for leaf in header.leaves:
+        value = header.value_of(leaf) if header.is_touched(leaf) else None
+        if value is None or NOT_IN_TEXT.search(header.agreed(leaf).rstrip(b"\0")) or is_written(leaf.vr, value):
+            continue
+        if is_doubtful(leaf.vr, value):
+            return f"{tag_name(leaf.tag)} has what its VR forbids"
+    return None
+
+
 def contradiction(header, shape, frame_count):
     """What a Header says that the frames deny, or nothing."""
     if header.text(SYNTAX) != JPEG_LS:
         return f"the transfer syntax is {header.text(SYNTAX)}"
+    if forbidden(header):
+        return forbidden(header)
     count = header.text(FRAMES)
     if not (frame_count == 1 and count is None) and count != str(frame_count):
         return f"Number of Frames is {count}, and {frame_count} are there"

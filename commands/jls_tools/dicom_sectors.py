@@ -42,6 +42,12 @@ def is_plain(data):
     return len(data) >= 16 and (plainness(data) >= 5 or variety(data) <= 0.7)
 
 
+def is_noise_alone(data, begin, end):
+    """Whether noise that is longer than a sum stands in a range, and none beside it."""
+    beside = (data[max(0, begin - BESIDE) : begin], data[end : end + BESIDE])
+    return end - begin > LONGEST_SUM and is_noise(data[begin:end]) and all(map(is_plain, beside))
+
+
 def run_length(data, value):
     """How many of one value stand at the beginning."""
     return len(data) - len(data.lstrip(value))
