@@ -17,6 +17,7 @@ MOST_LOOKS = 256  # so often it is looked whether bytes are lost where most of w
 SHARE_APART = 64  # fewer than one in so many bytes differ where copies of one length were damaged in place
 SLIDE = 4096  # so far a loss can be moved
 MOST_SLID = 16  # losses of a copy
+LONG_WAY = 16  # a loss that can be moved so far by one bit more is not clear
 LEAST_FEWER = 2  # so many bytes fewer differ, at least, where a loss is moved: one can be a flipped bit
 SHIFTED = 64  # so many bytes more are equal, at least, where copies of one length are taken to have lost bytes at different places
 
@@ -282,6 +283,27 @@ def fewest(own, whole):
         if count < best:
             best, place = count, at + 1
     return best, place
+
+
+def may_stand_elsewhere(copy, other, gap):
+    """Whether a loss can stand farther away where one bit more differs: then a flipped bit of the other copy may look like a part of it."""
+    begin, end = gap
+    if begin == 0 or end == len(copy.data):
+        return False
+    first, last = max(0, begin - SLIDE), min(len(copy.data), end + SLIDE)
+    sides = (
+        (copy.data[first:begin][::-1], other.data[first + end - begin : end][::-1]),
+        (copy.data[end:last], other.data[begin : last - end + begin]),
+    )
+    return any(is_one_bit_apart(own, beside) for own, beside in sides)
+
+
+def is_one_bit_apart(own, other):
+    """Whether one bit alone of the first bytes differs, and then no other for long."""
+    apart = [(at, one ^ two) for at, (one, two) in enumerate(zip(own, other)) if one != two][:2]
+    if not apart or apart[0][1].bit_count() != 1:
+        return False
+    return (apart[1][0] if len(apart) > 1 else min(len(own), len(other))) - apart[0][0] > LONG_WAY
 
 
 NOT_ZERO = re.compile(rb"[^\0]+")

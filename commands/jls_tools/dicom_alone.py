@@ -7,7 +7,7 @@ element, confirm some values.
 import re
 from dataclasses import dataclass
 
-from jls_tools.dicom_align import merged
+from jls_tools.dicom_align import may_stand_elsewhere, merged
 from jls_tools.dicom_csa import is_chain
 from jls_tools.dicom_file import PIXEL_DATA, tag_name, text_of
 from jls_tools.dicom_result import Place
@@ -91,13 +91,14 @@ def values_alone(copies, strangers, begin, own):
 
 
 def unclear_ranges(header):
-    """What a copy lacks, where the copies differ beside it: then where it stood is not clear."""
+    """What a copy lacks, where the copies differ beside it, or one flipped bit may hide where it stood: then that is not clear."""
     found = []
     for copy in header.copies:
         others = [pair for other in header.copies for pair in other.absent if other is not copy]
         for begin, end in copy.absent[1:] if copy.foreign else copy.absent:
             beside = any(last <= begin <= last + CLEAR or end <= first <= end + CLEAR for first, last in others)
-            if beside or differs_before(header, begin, end) or header.runs.touching(end, end + CLEAR):
+            is_moved = any(may_stand_elsewhere(copy, other, (begin, end)) for other in header.copies if other is not copy)
+            if beside or is_moved or differs_before(header, begin, end) or header.runs.touching(end, end + CLEAR):
                 found.append((begin, end))
     return found
 

@@ -5,7 +5,7 @@ from jls_tools.dicom_frames import EXTENDED_LENGTHS, EXTENDED_TABLE, Fragments, 
 from jls_tools.dicom_header import ALLOCATED, COLUMNS, FRAMES, ROWS, SAMPLES, STORED, SYNTAX, TWINS, Header
 from jls_tools.dicom_runs import FINEST, Runs
 from jls_tools.dicom_structure import Walk
-from jls_tools.dicom_values import NOT_IN_TEXT, is_doubtful, is_written
+from jls_tools.dicom_values import DIGITS_AND_DOTS, NOT_IN_TEXT, is_doubtful, is_written
 from jls_tools.dicom_write import expected_tables
 
 FAR_MORE = 8  # one in so many places still differs, at most, where copies that read in place are taken to have lost bytes
@@ -97,10 +97,10 @@ def laid_out(copies):
     return placed, layout
 
 
-def has_other_shape(header, stream):
-    """Whether a codestream has another shape than the header says: then it is no frame of the file."""
+def has_shape(header, stream):
+    """Whether a codestream has the shape that the header says; None if one of both can't be told."""
     shape, wanted = shape_of(stream), [header.short(tag) for tag in (ROWS, COLUMNS, SAMPLES)]
-    return shape is not None and None not in wanted and [shape.rows, shape.columns, shape.components] != wanted
+    return None if shape is None or None in wanted else [shape.rows, shape.columns, shape.components] == wanted
 
 
 def forbidden(header):
@@ -111,11 +111,14 @@ def forbidden(header):
             return f"{tag_name(first)} and {tag_name(second)} are not equal"
     for leaf in header.leaves:
         value = header.value_of(leaf) if header.is_touched(leaf) else None
-        if value is None or NOT_IN_TEXT.search(header.agreed(leaf).rstrip(b"\0")) or is_written(leaf.vr, value):
-            continue
-        if is_doubtful(leaf.vr, value):
+        if value is not None and is_doubtful(leaf.vr, value) and not is_of_writer(leaf.vr, value, header.agreed(leaf)):
             return f"{tag_name(leaf.tag)} has what its VR forbids"
     return None
+
+
+def is_of_writer(vr, value, agreed):
+    """Whether a writer put there what a VR forbids: where copies agree, as control characters, or as zeros before numbers of a UID."""
+    return bool(NOT_IN_TEXT.search(agreed.rstrip(b"\0"))) or is_written(vr, value) or vr == b"UI" and bool(DIGITS_AND_DOTS.match(value))
 
 
 def contradiction(header, shape, frame_count):

@@ -10,7 +10,7 @@ from jls_tools.dicom_alone import Stranger
 from jls_tools.dicom_file import JPEG_LS, syntax_name, syntax_of
 from jls_tools.dicom_frames import DELIMITER, by_search, paired_by_bytes, shape_of
 from jls_tools.dicom_instance import Instances, TwoInstances
-from jls_tools.dicom_layout import contradiction, has_other_shape, is_through, laid_out
+from jls_tools.dicom_layout import contradiction, has_shape, is_through, laid_out
 from jls_tools.dicom_lost import Lost, most_of
 from jls_tools.dicom_result import FAILED, NOT_WHOLE, REFUSED, WHOLE, FrameResult, MendOptions, MendResult, Place
 from jls_tools.dicom_write import find_sum, in_fragments, packed, padding, put_frames, store, top_level, with_choices
@@ -215,11 +215,11 @@ class Mending:
         self.result.places = self.header.places()
 
     def deny_other_shapes(self):
-        """A frame of another shape than the header and other frames have is one of another file."""
-        whole = [frame for frame in self.mended if frame.is_whole]
-        odd = [frame for frame in whole if has_other_shape(self.header, frame.stream)]
-        for frame in odd if len(odd) < len(whole) else ():
-            frame.result.kind, frame.result.note = "disputed", "it has another shape than the header says"
+        """A frame of another shape than the header says, and some codestream has, is of another file."""
+        if any(has_shape(self.header, stream) for streams in self.streams for stream in streams):
+            for frame in self.mended:
+                if frame.is_whole and has_shape(self.header, frame.stream) is False:
+                    frame.result.kind, frame.result.note = "disputed", "it has another shape than the header says"
 
     def name_counts(self):
         """A frame of which there is nothing has as many lines missing as the others have."""
