@@ -148,6 +148,8 @@ def checks_of_refusals(bench, made, folder, rng):
     border = (at // 512 + 2) * 512
     both = [changed(text, (border, bytes(4096))), changed(text, (border + 1024, noise.randbytes(512)))]
     yield told(bench, "zeros in a text, and noise in the midst of them", both, text, False, 1)
+    alone = [text[: border + 300], changed(text, (border + 1024, noise.randbytes(512)))]
+    yield told(bench, "a cut copy, and noise in the text of the other", alone, text, False, 1)
     small = File([frame(rng, 8, 16, 12, folder) for _ in range(3)], 8, 16, 12)
     begin, size = small.items[1] + 8, len(small.frames[1])
     other = frame(rng, 8, 9, 7, folder)

@@ -11,7 +11,7 @@ from jls_tools.dicom_align import may_stand_elsewhere, merged
 from jls_tools.dicom_csa import is_chain
 from jls_tools.dicom_file import PIXEL_DATA, tag_name, text_of
 from jls_tools.dicom_result import Place
-from jls_tools.dicom_sectors import BESIDE, SECTOR, is_noise, is_plain
+from jls_tools.dicom_sectors import BESIDE, SECTOR, has_noise_within, is_noise, is_plain
 from jls_tools.dicom_values import DIGITS_AND_DOTS, TEXTS, allows, is_doubtful, strangeness
 
 PADDING = 0xFFFCFFFC
@@ -155,8 +155,8 @@ class Doubts:
         # (from where on it counts, the bytes)
         self.texts = [(len(copy.foreign) - NEAR, copy.foreign) for copy in header.copies if copy.foreign]
         self.texts += [(0, stranger.data) for stranger in strangers if stranger.may_be_copy]
-        data = header.merged()
-        self.uids = [(leaf.value, leaf.bytes_of(data)) for leaf in header.leaves if leaf.vr == b"UI"]
+        self.data = bytes(header.merged())
+        self.uids = [(leaf.value, leaf.bytes_of(self.data)) for leaf in header.leaves if leaf.vr == b"UI"]
 
     def has(self, step, own):
         """Whether something speaks against an element, whose bytes these are."""
@@ -166,7 +166,7 @@ class Doubts:
             return True
         if step.kind == "leaf" and is_doubtful(element.vr, value) and not self.is_said_twice(element, value):
             return True
-        if step.kind == "leaf" and element.vr in TEXTS and ZEROS in value:
+        if step.kind == "leaf" and (element.vr in TEXTS and ZEROS in value or has_noise_within(self.data, element.value, element.end)):
             return True
         if any(first < end and element.start < behind for first, behind in self.unclear):
             return True

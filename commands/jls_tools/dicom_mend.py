@@ -215,11 +215,13 @@ class Mending:
         self.result.places = self.header.places()
 
     def deny_other_shapes(self):
-        """A frame of another shape than the header says, and some codestream has, is of another file."""
-        if any(has_shape(self.header, stream) for streams in self.streams for stream in streams):
-            for frame in self.mended:
-                if frame.is_whole and has_shape(self.header, frame.stream) is False:
-                    frame.result.kind, frame.result.note = "disputed", "it has another shape than the header says"
+        """A frame of another shape than the header says is of another file, if most bytes of codestreams are of the header's."""
+        sizes = {True: 0, False: 0, None: 0}
+        for stream in (stream for streams in self.streams for stream in streams):
+            sizes[has_shape(self.header, stream)] += len(stream)
+        for frame in self.mended if sizes[True] > sizes[False] else ():
+            if frame.is_whole and has_shape(self.header, frame.stream) is False:
+                frame.result.kind, frame.result.note = "disputed", "it has another shape than the header says"
 
     def name_counts(self):
         """A frame of which there is nothing has as many lines missing as the others have."""

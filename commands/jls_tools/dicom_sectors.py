@@ -48,6 +48,17 @@ def is_noise_alone(data, begin, end):
     return end - begin > LONGEST_SUM and is_noise(data[begin:end]) and all(map(is_plain, beside))
 
 
+def has_noise_within(data, begin, end):
+    """Whether sectors of noise stand in a range between others that are none: damage that no other copy shows."""
+    borders = range(-(-begin // SECTOR) * SECTOR, end - SECTOR + 1, SECTOR)
+    noisy = [is_noise(data[at : at + SECTOR]) for at in borders]
+    first = next((at for at, border in enumerate(borders) if noisy[at] and is_plain(data[max(begin, border - BESIDE) : border])), None)
+    if first is None:
+        return False
+    last = next((at for at in range(first, len(noisy)) if not noisy[at]), len(noisy)) * SECTOR + borders.start
+    return is_plain(data[last : min(end, last + BESIDE)])
+
+
 def run_length(data, value):
     """How many of one value stand at the beginning."""
     return len(data) - len(data.lstrip(value))
