@@ -40,6 +40,9 @@ def checks_of_losses(bench, made):
     noted, at = with_value(made, blank + b"end.")
     copies = [noted[: at + 220] + noted[at + 236 :], changed(noted, (at + 200, b"!"))]
     yield told(bench, "a flipped bit in blanks beside a loss", copies, noted, False)
+    empty, at = with_value(made, bytes(400) + b"end.")
+    copies = [empty[: at + 220] + empty[at + 236 :], changed(empty, (at + 200, b"\x91\x1e\x07\xd2"))]
+    yield told(bench, "noise in zeros beside a loss", copies, empty, False)
     text, at = with_value(made, lines)
     yield told(bench, "a loss in lines that repeat", [text[: at + 2013] + text[at + 2525 :], text], text)
     both = [text[: at + 1013] + text[at + 1029 :], text[: at + 3000] + text[at + 3016 :]]

@@ -17,7 +17,8 @@ MOST_LOOKS = 256  # so often it is looked whether bytes are lost where most of w
 SHARE_APART = 64  # fewer than one in so many bytes differ where copies of one length were damaged in place
 SLIDE = 4096  # so far a loss can be moved
 MOST_SLID = 16  # losses of a copy
-LONG_WAY = 16  # a loss that can be moved so far by one bit more is not clear
+LONG_WAY = 16  # a loss that can be moved so far is not clear
+PRINTABLE = re.compile(rb"[\x20-\x7e]+\Z")
 LEAST_FEWER = 2  # so many bytes fewer differ, at least, where a loss is moved: one can be a flipped bit
 SHIFTED = 64  # so many bytes more are equal, at least, where copies of one length are taken to have lost bytes at different places
 
@@ -286,7 +287,7 @@ def fewest(own, whole):
 
 
 def may_stand_elsewhere(copy, other, gap):
-    """Whether a loss can stand farther away where one bit more differs: then a flipped bit of the other copy may look like a part of it."""
+    """Whether a loss can stand farther away where a few bytes more differ, which damage of the other copy can have made."""
     begin, end = gap
     if begin == 0 or end == len(copy.data):
         return False
@@ -295,15 +296,20 @@ def may_stand_elsewhere(copy, other, gap):
         (copy.data[first:begin][::-1], other.data[first + end - begin : end][::-1]),
         (copy.data[end:last], other.data[begin : last - end + begin]),
     )
-    return any(is_one_bit_apart(own, beside) for own, beside in sides)
+    return any(may_be_damage(own, beside, end - begin) for own, beside in sides)
 
 
-def is_one_bit_apart(own, other):
-    """Whether one bit alone of the first bytes differs, and then no other for long."""
-    apart = [(at, one ^ two) for at, (one, two) in enumerate(zip(own, other)) if one != two][:2]
-    if not apart or apart[0][1].bit_count() != 1:
+def may_be_damage(own, other, size):
+    """Whether of two texts nothing differs for long but one bit, or so many bytes near each other that are no printable text."""
+    apart = [at for at, (one, two) in enumerate(zip(own, other)) if one != two]
+    if not apart:
         return False
-    return (apart[1][0] if len(apart) > 1 else min(len(own), len(other))) - apart[0][0] > LONG_WAY
+    near = [at for at in apart if at < apart[0] + size]
+    until = apart[len(near)] if len(near) < len(apart) else min(len(own), len(other))
+    if until - near[-1] <= LONG_WAY:
+        return False
+    is_bit = len(near) == 1 and (own[near[0]] ^ other[near[0]]).bit_count() == 1
+    return is_bit or not PRINTABLE.match(bytes(other[at] for at in near))
 
 
 NOT_ZERO = re.compile(rb"[^\0]+")

@@ -91,7 +91,7 @@ def values_alone(copies, strangers, begin, own):
 
 
 def unclear_ranges(header):
-    """What a copy lacks, where the copies differ beside it, or one flipped bit may hide where it stood: then that is not clear."""
+    """What a copy lacks, where the copies differ beside it, or damage of another may hide where it stood: then that is not clear."""
     found = []
     for copy in header.copies:
         others = [pair for other in header.copies for pair in other.absent if other is not copy]
