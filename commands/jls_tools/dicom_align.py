@@ -6,6 +6,8 @@ copies have one length then, and where they differ each has a byte of its own.
 import re
 from dataclasses import dataclass, field
 
+from jls_tools.dicom_sectors import is_noise
+
 ANCHOR = 32  # so many bytes that are equal, and not all alike, show how two copies lie to each other
 ANCHOR_KINDS = 8
 STEPS = (0, 16, 48, 128, 256, 512, 768, 1024, 2048, 4096, 6144, 8192, 16384, 32768, 65536)
@@ -300,7 +302,7 @@ def may_stand_elsewhere(copy, other, gap):
 
 
 def may_be_damage(own, other, size):
-    """Whether of two texts nothing differs for long but one bit, or so many bytes near each other that are no printable text."""
+    """Whether of two texts nothing differs for long but one bit, noise, or a few bytes that are no printable text."""
     apart = [at for at, (one, two) in enumerate(zip(own, other)) if one != two]
     if not apart:
         return False
@@ -308,8 +310,11 @@ def may_be_damage(own, other, size):
     until = apart[len(near)] if len(near) < len(apart) else min(len(own), len(other))
     if until - near[-1] <= LONG_WAY:
         return False
+    patch = other[near[0] : near[-1] + 1]
+    if len(patch) >= LONG_WAY:
+        return is_noise(patch)
     is_bit = len(near) == 1 and (own[near[0]] ^ other[near[0]]).bit_count() == 1
-    return is_bit or not PRINTABLE.match(bytes(other[at] for at in near))
+    return is_bit or not PRINTABLE.match(patch)
 
 
 NOT_ZERO = re.compile(rb"[^\0]+")
