@@ -147,6 +147,8 @@ def checks_of_refusals(bench, made, folder, rng):
     ):
         lost = changed(true, (place - 8, noise.randbytes(20)))
         yield told(bench, f"{name}, where the other copy has noise", [lost, changed(true, (place, wrong))], true, False, 1)
+    status, out, printed, _, _ = bench.mend([lost, changed(true, (date, wrong))], "--header", "COPY1")
+    yield f"--header names the copy with no date: as it has it ({status}, {printed})", (status, out) == (0, changed(true, (date, wrong)))
     text, at = with_value(made, b"".join(b"<Step.%d> sSlice[%d]\n" % (line % 7, line % 40) for line in range(600)))
     border = (at // 512 + 2) * 512
     both = [changed(text, (border, bytes(4096))), changed(text, (border + 1024, noise.randbytes(512)))]

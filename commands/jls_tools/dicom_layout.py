@@ -125,8 +125,6 @@ def contradiction(header, shape, frame_count):
     """What a Header says that the frames deny, or nothing."""
     if header.text(SYNTAX) != JPEG_LS:
         return f"the transfer syntax is {header.text(SYNTAX)}"
-    if forbidden(header):
-        return forbidden(header)
     count = header.text(FRAMES)
     if not (frame_count == 1 and count is None) and count != str(frame_count):
         return f"Number of Frames is {count}, and {frame_count} are there"

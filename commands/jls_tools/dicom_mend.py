@@ -10,7 +10,7 @@ from jls_tools.dicom_alone import Stranger
 from jls_tools.dicom_file import JPEG_LS, syntax_name, syntax_of
 from jls_tools.dicom_frames import DELIMITER, by_search, paired_by_bytes, shape_of
 from jls_tools.dicom_instance import Instances, TwoInstances
-from jls_tools.dicom_layout import contradiction, has_shape, is_through, laid_out
+from jls_tools.dicom_layout import contradiction, forbidden, has_shape, is_through, laid_out
 from jls_tools.dicom_lost import Lost, most_of
 from jls_tools.dicom_result import FAILED, NOT_WHOLE, REFUSED, WHOLE, FrameResult, MendOptions, MendResult, Place
 from jls_tools.dicom_write import find_sum, in_fragments, packed, padding, put_frames, store, top_level, with_choices
@@ -246,7 +246,8 @@ class Mending:
             return "the header is broken where no copy has it"
         if self.layout.structure.is_cut_outside:
             return "an element is cut in every copy"
-        return contradiction(self.header, self.shape, len(self.mended))
+        fault = contradiction(self.header, self.shape, len(self.mended))
+        return fault if fault or self.options.header is not None else forbidden(self.header)
 
     def is_in_pixels(self, begin, end):
         structure = self.layout.structure
