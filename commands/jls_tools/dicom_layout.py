@@ -5,7 +5,7 @@ from jls_tools.dicom_frames import EXTENDED_LENGTHS, EXTENDED_TABLE, Fragments, 
 from jls_tools.dicom_header import ALLOCATED, COLUMNS, FRAMES, ROWS, SAMPLES, STORED, SYNTAX, TWINS, Header
 from jls_tools.dicom_runs import FINEST, Runs
 from jls_tools.dicom_structure import Walk
-from jls_tools.dicom_values import DIGITS_AND_DOTS, NOT_IN_TEXT, is_doubtful, is_written
+from jls_tools.dicom_values import DIGITS_AND_DOTS, NOT_IN_TEXT, TEXTS, is_doubtful, is_written
 from jls_tools.dicom_write import expected_tables
 
 FAR_MORE = 8  # one in so many places still differs, at most, where copies that read in place are taken to have lost bytes
@@ -113,6 +113,8 @@ def forbidden(header):
         value = header.value_of(leaf) if header.is_touched(leaf) else None
         if value is not None and is_doubtful(leaf.vr, value) and not is_of_writer(leaf.vr, value, header.agreed(leaf)):
             return f"{tag_name(leaf.tag)} has what its VR forbids"
+        if value and leaf.vr in TEXTS and not value.strip(b"\0") and any(leaf.bytes_of(copy.data).strip(b"\0") for copy in header.copies):
+            return f"{tag_name(leaf.tag)} has zeros, and a copy has a text there"
     return None
 
 
