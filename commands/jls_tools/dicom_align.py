@@ -6,6 +6,8 @@ copies have one length then, and where they differ each has a byte of its own.
 import re
 from dataclasses import dataclass, field
 
+from jls_tools.dicom_sectors import is_noise
+
 ANCHOR = 32  # so many bytes that are equal, and not all alike, show how two copies lie to each other
 ANCHOR_KINDS = 8
 STEPS = (0, 16, 48, 128, 256, 512, 768, 1024, 2048, 4096, 6144, 8192, 16384, 32768, 65536)
@@ -15,6 +17,11 @@ WINDOW = 256
 LEAST_GAIN = 8  # so many bytes of a window differ, at least, where bytes before it are lost
 MOST_LOOKS = 256  # so often it is looked whether bytes are lost where most of what comes is equal
 SHARE_APART = 64  # fewer than one in so many bytes differ where copies of one length were damaged in place
+SLIDE = 4096  # so far a loss can be moved
+MOST_SLID = 16  # losses of a copy
+LONG_WAY = 16  # a loss that can be moved so far is not clear
+PRINTABLE = re.compile(rb"[\x20-\x7e]+\Z")
+LEAST_FEWER = 2  # so many bytes fewer differ, at least, where a loss is moved: one can be a flipped bit
 SHIFTED = 64  # so many bytes more are equal, at least, where copies of one length are taken to have lost bytes at different places
 
 
@@ -223,7 +230,91 @@ def on_one_axis(copies, are_shifted=False):
             source = copies[index].data
             placed = {key: insert_gaps(copy, in_base, source) for key, copy in placed.items()}
         placed[index] = insert_gaps(copies[index], in_copy, before)
-    return [placed[index] for index in range(len(copies))]
+    return slid([placed[index] for index in range(len(copies))])
+
+
+def slid(copies):
+    """The copies with each loss where they differ least: where bytes repeat, it can have been found too early, too late, or in parts."""
+    found = list(copies)
+    for number, copy in enumerate(copies):
+        if len(copy.absent) > MOST_SLID:
+            continue
+        for gaps in near_each_other(copy.absent) + [[gap] for gap in copy.absent]:
+            others = found[:number] + found[number + 1 :]
+            changed = (in_one_place(found[number], other, gaps) for other in others if set(gaps) <= set(found[number].absent))
+            found[number] = next((each for each in changed if each), found[number])
+    return found
+
+
+def near_each_other(gaps):
+    """Lists of two losses and more, each near the one before."""
+    found = []
+    for gap in gaps:
+        if found and gap[0] - found[-1][-1][1] < SLIDE:
+            found[-1].append(gap)
+        else:
+            found.append([gap])
+    return [near for near in found if len(near) > 1]
+
+
+def in_one_place(copy, other, gaps):
+    """A copy with these losses in one place near them, filled from another copy, if far fewer bytes differ so; else nothing."""
+    begin, end = gaps[0][0], gaps[-1][1]
+    if begin == 0 or end == len(copy.data):
+        return None
+    borders = [place for each in (copy, other) for pair in each.absent if pair not in gaps for place in pair]
+    first = max([begin - SLIDE, 0] + [place for place in borders if place <= begin])
+    last = min([end + SLIDE, len(copy.data)] + [place for place in borders if place >= end])
+    if other.lacks(first, last) or any(begin < place < end for place in borders):
+        return None
+    own, whole = copy.has_only(first, last), other.data[first:last]
+    count, at = fewest(own, whole)
+    if count + LEAST_FEWER > sum(one != two for one, two in zip(copy.data[first:last], whole)):
+        return None
+    gap = (first + at, first + at + len(whole) - len(own))
+    data = copy.data[:first] + own[:at] + other.data[slice(*gap)] + own[at:] + copy.data[last:]
+    return Copy(copy.path, data, merged([pair for pair in copy.absent if pair not in gaps] + [gap]), copy.foreign)
+
+
+def fewest(own, whole):
+    """(how many bytes differ, where) if what some bytes lack of others stands in the one place where fewest differ."""
+    lost = len(whole) - len(own)
+    best = count = sum(one != two for one, two in zip(own, whole[lost:]))
+    place = 0
+    for at, byte in enumerate(own):
+        count += (byte != whole[at]) - (byte != whole[at + lost])
+        if count < best:
+            best, place = count, at + 1
+    return best, place
+
+
+def may_stand_elsewhere(copy, other, gap):
+    """Whether a loss can stand farther away where a few bytes more differ, which damage of the other copy can have made."""
+    begin, end = gap
+    if begin == 0 or end == len(copy.data):
+        return False
+    first, last = max(0, begin - SLIDE), min(len(copy.data), end + SLIDE)
+    sides = (
+        (copy.data[first:begin][::-1], other.data[first + end - begin : end][::-1]),
+        (copy.data[end:last], other.data[begin : last - end + begin]),
+    )
+    return any(may_be_damage(own, beside, end - begin) for own, beside in sides)
+
+
+def may_be_damage(own, other, size):
+    """Whether of two texts nothing differs for long but one bit, noise, or a few bytes that are no printable text."""
+    apart = [at for at, (one, two) in enumerate(zip(own, other)) if one != two]
+    if not apart:
+        return False
+    near = [at for at in apart if at < apart[0] + size]
+    until = apart[len(near)] if len(near) < len(apart) else min(len(own), len(other))
+    if until - near[-1] <= LONG_WAY:
+        return False
+    patch = other[near[0] : near[-1] + 1]
+    if len(patch) >= LONG_WAY:
+        return is_noise(patch)
+    is_bit = len(near) == 1 and (own[near[0]] ^ other[near[0]]).bit_count() == 1
+    return is_bit or not PRINTABLE.match(patch)
 
 
 NOT_ZERO = re.compile(rb"[^\0]+")

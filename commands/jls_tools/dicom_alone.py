@@ -7,11 +7,11 @@ element, confirm some values.
 import re
 from dataclasses import dataclass
 
-from jls_tools.dicom_align import merged
+from jls_tools.dicom_align import may_stand_elsewhere, merged
 from jls_tools.dicom_csa import is_chain
 from jls_tools.dicom_file import PIXEL_DATA, tag_name, text_of
 from jls_tools.dicom_result import Place
-from jls_tools.dicom_sectors import BESIDE, SECTOR, is_noise, is_plain
+from jls_tools.dicom_sectors import BESIDE, SECTOR, has_noise_within, is_noise, is_plain
 from jls_tools.dicom_values import DIGITS_AND_DOTS, TEXTS, allows, is_doubtful, strangeness
 
 PADDING = 0xFFFCFFFC
@@ -91,13 +91,14 @@ def values_alone(copies, strangers, begin, own):
 
 
 def unclear_ranges(header):
-    """What a copy lacks, where the copies differ beside it: then where it stood is not clear."""
+    """What a copy lacks, where the copies differ beside it, or damage of another may hide where it stood: then that is not clear."""
     found = []
     for copy in header.copies:
         others = [pair for other in header.copies for pair in other.absent if other is not copy]
         for begin, end in copy.absent[1:] if copy.foreign else copy.absent:
             beside = any(last <= begin <= last + CLEAR or end <= first <= end + CLEAR for first, last in others)
-            if beside or differs_before(header, begin, end) or header.runs.touching(end, end + CLEAR):
+            is_moved = any(may_stand_elsewhere(copy, other, (begin, end)) for other in header.copies if other is not copy)
+            if beside or is_moved or differs_before(header, begin, end) or header.runs.touching(end, end + CLEAR):
                 found.append((begin, end))
     return found
 
@@ -154,8 +155,8 @@ class Doubts:
         # (from where on it counts, the bytes)
         self.texts = [(len(copy.foreign) - NEAR, copy.foreign) for copy in header.copies if copy.foreign]
         self.texts += [(0, stranger.data) for stranger in strangers if stranger.may_be_copy]
-        data = header.merged()
-        self.uids = [(leaf.value, leaf.bytes_of(data)) for leaf in header.leaves if leaf.vr == b"UI"]
+        self.data = bytes(header.merged())
+        self.uids = [(leaf.value, leaf.bytes_of(self.data)) for leaf in header.leaves if leaf.vr == b"UI"]
 
     def has(self, step, own):
         """Whether something speaks against an element, whose bytes these are."""
@@ -165,7 +166,7 @@ class Doubts:
             return True
         if step.kind == "leaf" and is_doubtful(element.vr, value) and not self.is_said_twice(element, value):
             return True
-        if step.kind == "leaf" and element.vr in TEXTS and ZEROS in value:
+        if step.kind == "leaf" and (element.vr in TEXTS and ZEROS in value or has_noise_within(self.data, element.value, element.end)):
             return True
         if any(first < end and element.start < behind for first, behind in self.unclear):
             return True

@@ -6,9 +6,11 @@ import struct
 
 from jls_tools.dicom_alone import PADDING, held_by_one, places_alone
 from jls_tools.dicom_csa import Chains
+from jls_tools.dicom_decider import Decider
 from jls_tools.dicom_file import JPEG_LS, UNDEFINED, tag_name, text_of
 from jls_tools.dicom_result import Place
-from jls_tools.dicom_sectors import Decider
+from jls_tools.dicom_sectors import is_noise_alone
+from jls_tools.dicom_tables import Tables
 from jls_tools.dicom_terms import KNOWN, has_terms, is_made_of, is_term
 from jls_tools.dicom_values import NOT_IN_TEXT, TEXTS, allows, is_written
 
@@ -16,12 +18,12 @@ GROUP_LENGTH, CLASS_IN_META, INSTANCE_IN_META, SYNTAX = 0x00020000, 0x00020002, 
 CLASS, INSTANCE = 0x00080016, 0x00080018
 FRAMES, SAMPLES, ROWS, COLUMNS = 0x00280008, 0x00280002, 0x00280010, 0x00280011
 ALLOCATED, STORED, HIGH, SIGN = 0x00280100, 0x00280101, 0x00280102, 0x00280103
+SMALLEST, LARGEST = 0x00280106, 0x00280107
+BITS = [[allocated, stored, stored - 1] for allocated in (8, 16) for stored in range(1, allocated + 1)]  # allocated, stored, the high one
 TWINS = ((CLASS_IN_META, CLASS), (INSTANCE_IN_META, INSTANCE))
 MOST_TOGETHER = 4096
 PREAMBLE = 128
-TABLE_REACH = 16  # bytes beside an offset table that are lost with it
 ZEROS, IS_PADDING, NO_MEANING = "others are zeros", "padding is zeros", "the preamble has no meaning"
-FRAMES_BEGIN = "there the frames begin"
 GUESSES = (ZEROS, IS_PADDING, NO_MEANING)
 
 
@@ -121,7 +123,9 @@ class Header:
         self.by_values()
         self.by_meta()
         self.by_frames(shape, frame_count)
-        self.by_tables(table)
+        tables = Tables(self)
+        tables.decide(table)
+        self.tables = tables.places
         Chains(self).decide()
         self.by_terms()
         self.by_neighbours()
@@ -193,59 +197,27 @@ class Header:
         if shape.precision <= (self.short(STORED) or 0):
             self.keep_values(HIGH, lambda value: value == struct.pack("<H", self.short(STORED) - 1), "Bits Stored says so")
         self.keep_values(SIGN, lambda value: value in (b"\0\0", b"\1\0"), "no other can be")
+        if self.value(SIGN) == b"\0\0":
+            most = 1 << shape.precision
+            for tag in (SMALLEST, LARGEST):
+                self.keep_values(tag, lambda value: len(value) == 2 and struct.unpack("<H", value)[0] < most, "no sample is larger")
+        self.by_description()
 
-    def by_tables(self, table):
-        for tag, expected in table.items():
-            if tag is None:
-                begin, end = expected[0], expected[0] + len(expected[1])
-                self.keep_bytes(begin, end, expected[1])
-            elif tag in self.elements and self.elements[tag].length == len(expected[1]):
-                self.keep_bytes(self.elements[tag].value, self.elements[tag].end, expected[1])
-
-    def keep_bytes(self, begin, end, expected):
-        """Leaves for each run in a range the ways that have these bytes, if all is so where the copies agree."""
-        if not self.agrees(begin, end, expected):
+    def by_description(self):
+        """Bits Allocated, where Bits Stored and High Bit were decided against a copy in which all three agree: it has another file's."""
+        elements = [self.elements.get(tag) for tag in (ALLOCATED, STORED, HIGH)]
+        if None in elements or any(element.length != 2 for element in elements):
             return
-        for number in self.runs.touching(begin, end):
-            run = self.runs.runs[number]
-            first, last = max(begin, run.begin), min(end, run.end)
-            wanted = expected[first - begin : last - begin]
-            if number in self.left:
-                self.keep(number, {way for way in self.left[number] if run.part(way, begin, end) == wanted}, FRAMES_BEGIN)
-            if number in self.left and all(run.part(way, begin, end) != wanted for way in self.left[number]):
-                is_taken = self.by_bytes(first, wanted)
-                if is_taken and begin <= run.begin and run.end <= end:
-                    self.keep(number, self.left[number][:1], FRAMES_BEGIN)
-
-    def agrees(self, begin, end, expected):
-        """Whether a table can be what it should: some writers count from elsewhere. Zeros beside lost places say nothing."""
-        numbers, wanted = self.runs.touching(begin, end), bytearray(expected)
-        for number in numbers:
-            run = self.runs.runs[number]
-            first, last = max(0, run.begin - begin), min(end, run.end) - begin
-            wanted[first:last] = self.runs.data[begin + first : begin + last]
-        if wanted != self.runs.data[begin:end]:
-            return False
-        apart = [number for number in numbers if number in self.left]
-        return expected.strip(b"\0") != b"" or not any(self.is_beside_lost(number, way) for number in apart for way in self.left[number])
-
-    def is_beside_lost(self, number, way):
-        """Whether zeros of a run are of copies that lost what stands beside it."""
-        run = self.runs.runs[number]
-        if run.ways[way].strip(b"\0"):
-            return False
-        beside = self.runs.touching(run.begin - TABLE_REACH, run.end + TABLE_REACH)
-        decided = [each for each in beside if each != number and len(self.left.get(each, ())) == 1]
-        return any(not self.holders(each) & set(run.holders[way]) for each in decided)
-
-    def by_bytes(self, begin, wanted):
-        """Takes what a table has to have, if some copy has each byte of it, but none all of them; answers whether it is so."""
-        values = [(copy.path, copy.data[begin : begin + len(wanted)]) for copy in self.copies if not copy.lacks(begin, begin + len(wanted))]
-        if not values or any(true not in of_all for true, of_all in zip(wanted, zip(*(value for _, value in values)))):
-            return False
-        names = [([path for path, value in values if value == own], own) for own in dict.fromkeys([wanted, *dict(values).values()])]
-        self.tables.append(Place(begin, len(wanted), self.name_at(begin), names, 0, FRAMES_BEGIN))
-        return True
+        copies = range(len(self.copies))
+        found = [[struct.unpack("<H", element.bytes_of(copy.data))[0] for element in elements] for copy in self.copies]
+        true = [self.short(tag) for tag in (STORED, HIGH)]
+        strange = {copy for copy in copies if all(one != two for one, two in zip(found[copy][1:], true))}
+        if None in true or not strange or any(found[copy][1:] != true for copy in copies if copy not in strange):
+            return
+        if all(found[copy] in BITS for copy in copies):
+            for number in self.open_runs(elements[0].value, elements[0].end):
+                holders = self.runs.runs[number].holders
+                self.keep(number, {way for way in self.left[number] if set(holders[way]) - strange}, "Bits Stored and High Bit go with it")
 
     def by_terms(self):
         """Leaves the readings that are known terms, if there are any."""
@@ -277,8 +249,10 @@ class Header:
             self.keep(number, ways, "the bytes around it are of that copy")
 
     def looks_lost(self, number, ways):
-        """Whether eight bytes or more of one value would be kept, where another way has more values."""
+        """Whether eight bytes or more of one value would be kept, where another way has more values; or noise that stands alone."""
         run = self.runs.runs[number]
+        if all(is_noise_alone(self.copies[copy].data, run.begin, run.end) for way in ways for copy in run.holders[way]):
+            return True
         plain = {way for way in self.left[number] if not run.ways[way].strip(run.ways[way][:1])}
         return run.end - run.begin >= 8 and ways <= plain and plain != set(self.left[number])
 
@@ -337,9 +311,19 @@ class Header:
 
     def value(self, tag):
         element = self.elements.get(tag)
-        if element is None or element.length == UNDEFINED or self.open_runs(element.value, element.end):
-            return None
-        return self.runs.bytes_with(element.value, element.end, self.chosen())
+        return None if element is None or element.length == UNDEFINED else self.value_of(element)
+
+    def value_of(self, element):
+        """The value of an element, if it is decided."""
+        is_open = self.open_runs(element.value, element.end)
+        return None if is_open else self.runs.bytes_with(element.value, element.end, self.chosen())
+
+    def is_touched(self, element):
+        """Whether copies differ in the value of an element."""
+        return any(number in self.left for number in self.runs.touching(element.value, element.end))
+
+    def differs(self, tag):
+        return tag in self.elements and self.is_touched(self.elements[tag])
 
     def text(self, tag):
         value = self.value(tag)

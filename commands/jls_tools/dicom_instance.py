@@ -16,6 +16,7 @@ ITEM_BYTES, END_BYTES = b"\xfe\xff\x00\xe0", b"\xfe\xff\xdd\xe0\0\0\0\0"
 INSTANCE = 0x00080018
 LARGEST_BEGINNING = 1 << 16  # bytes of a foreign beginning whose end is sought at borders of sectors
 MOST_PLACES = 8
+HEAD = 12  # bytes of an element's header, at most
 SHARED = 4  # one block in so many of their second half is equal, at its place, in two files of which one was overwritten
 
 
@@ -114,11 +115,32 @@ def instance_at(data):
     return next((element.start for element in walk(data) if element.tag == INSTANCE), None)
 
 
+def element_across(data, place):
+    """Where the element of the top level begins that goes across a place, and whether another one follows it; or nothing."""
+    elements = list(walk(data))
+    for element, behind in zip(elements, [*elements[1:], None]):
+        if element.start < place and (behind is None or place <= behind.start):
+            return element.start, behind is not None
+    return None
+
+
+def leads_apart(data, other, place):
+    """Whether the elements of two files of one length stand elsewhere before a place, and only those of the other one go on after it."""
+    own, beside = element_across(data, place), element_across(other, place)
+    if len(data) != len(other) or own is None or beside is None:
+        return False
+    return own[0] != beside[0] and not own[1] and beside[1]
+
+
 def overwritten_until(data, other):
     """Where the beginning of its own ends that a file has, if it breaks off there and goes on as the other one; else nothing."""
-    if not share_blocks(data, other) or instance_at(data) == instance_at(other):
-        return None  # two slices of one series begin alike: either can be the one that was overwritten, and have other damage
+    if not share_blocks(data, other):
+        return None
+    is_alike = instance_at(data) == instance_at(other)
     for place in itertools.islice(rests_from(data, other), MOST_PLACES):
+        # Two slices of one series begin alike: either can be the one that was overwritten, and have other damage
+        if is_alike and not leads_apart(data, other, place):
+            continue
         if apart_until(data, other, place) * DENSE < place - FIRST or breaks_at(other, place):
             continue
         # Where all is different, a foreign file may have ended before, and other bytes may follow it
@@ -129,18 +151,41 @@ def overwritten_until(data, other):
     return None
 
 
-def frames_of(data):
-    """The ranges of the items of Pixel Data, if a file goes by its elements and items to its end; else nothing."""
+def items_and_end(data):
+    """The ranges of the items of Pixel Data, and where the elements of a file end or break off; it can be beyond the file."""
     elements = list(walk(data))
-    if not elements or elements[-1].tag != PIXEL_DATA or elements[-1].length != UNDEFINED:
-        return []
+    if not elements or elements[-1].length == UNDEFINED and elements[-1].tag != PIXEL_DATA:
+        return [], 0
+    if elements[-1].length != UNDEFINED:
+        return [], elements[-1].end
     at, found = elements[-1].value, []
     while data[at : at + 4] == ITEM_BYTES:
         begin, at = at + 8, at + 8 + int.from_bytes(data[at + 4 : at + 8], "little")
         found.append((begin, at))
+    if data[at : at + 8] != END_BYTES:
+        return [], at
     rest = list(walk(data, at + 8))
-    is_end = data[at : at + 8] == END_BYTES and (rest[-1].end if rest else at + 8) == len(data)
-    return found if is_end else []
+    return found, rest[-1].end if rest else at + 8
+
+
+def frames_of(data):
+    """The ranges of the items of Pixel Data, if a file goes by its elements and items to its end; else nothing."""
+    found, end = items_and_end(data)
+    return found if end == len(data) else []
+
+
+def is_instead(data, other):
+    """Whether a foreign file stands in the place of all of a copy: it has the length of the whole file, but its own end is elsewhere.
+
+    It is cut there, or more bytes follow its Pixel Data. No file of another length is cut to just this one, but at a border of sectors.
+    """
+    if len(data) != len(other) or len(data) % SECTOR == 0 or not frames_of(other):
+        return False
+    found, end = items_and_end(data)
+    if end <= len(data) - HEAD and not (found and end < len(data)):
+        return False
+    blocks = [data[at : at + BLOCK] for at in range(0, len(data) - BLOCK + 1, BLOCK)]
+    return not any(block == other[at * BLOCK : (at + 1) * BLOCK] for at, block in enumerate(blocks) if block.strip(block[:1]))
 
 
 def border_between(data, other):
@@ -183,6 +228,7 @@ class Instances:
             return next(iter(counts), None)
         self.leave_out_overwritten(counts)
         self.leave_out_half()
+        self.leave_out_foreign(counts)
         counts = Counter(each.uid for at, each in enumerate(self.identities) if each.uid is not None and at not in self.left_out)
         (most, count), *others = counts.most_common()
         if others and (count < 2 or others[0][1] == count):
@@ -201,6 +247,15 @@ class Instances:
                 self.left_out[at] = f"a foreign file, of instance {self.identities[at].uid}, has overwritten its beginning"
                 self.left_out[at] += f"; what follows from {border} on is used"
                 return
+
+    def leave_out_foreign(self, counts):
+        """Leaves out a copy that is a foreign file from its beginning to its end."""
+        for at, beside in itertools.permutations(range(len(self.texts)), 2):
+            own, other = self.identities[at].uid, self.identities[beside].uid
+            if None in (own, other) or own == other or counts[own] > 1 or {at, beside} & self.left_out.keys():
+                continue
+            if is_instead(self.texts[at], self.texts[beside]):
+                self.left_out[at] = f"a foreign file, of instance {own}, stands in its place"
 
     def leave_out_overwritten(self, counts):
         """Leaves out copies whose beginning a foreign file has overwritten: further on they are as a copy of another instance is."""

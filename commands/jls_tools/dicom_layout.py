@@ -1,11 +1,14 @@
 """What stands where in a file of which there are several copies: its structure, its frames, and its header as far as it is decided."""
-from jls_tools.dicom_align import differing, on_one_axis
-from jls_tools.dicom_file import JPEG_LS
-from jls_tools.dicom_frames import EXTENDED_LENGTHS, EXTENDED_TABLE, Fragments
-from jls_tools.dicom_header import ALLOCATED, COLUMNS, FRAMES, ROWS, SAMPLES, STORED, SYNTAX, Header
+from jls_tools.dicom_align import SHIFTED, differing, on_one_axis, size_of
+from jls_tools.dicom_file import JPEG_LS, tag_name
+from jls_tools.dicom_frames import EXTENDED_LENGTHS, EXTENDED_TABLE, Fragments, shape_of
+from jls_tools.dicom_header import ALLOCATED, COLUMNS, FRAMES, ROWS, SAMPLES, STORED, SYNTAX, TWINS, Header
 from jls_tools.dicom_runs import FINEST, Runs
 from jls_tools.dicom_structure import Walk
+from jls_tools.dicom_values import DIGITS_AND_DOTS, NOT_IN_TEXT, TEXTS, is_doubtful, is_written
 from jls_tools.dicom_write import expected_tables
+
+FAR_MORE = 8  # one in so many places still differs, at most, where copies that read in place are taken to have lost bytes
 
 
 class Layout:
@@ -79,16 +82,45 @@ def rank(structure):
 
 
 def laid_out(copies):
-    """The copies on one axis, and their Layout. Where it breaks, they may have lost bytes at different places: if it goes through so."""
+    """The copies on one axis, and their Layout. Where it breaks, or far fewer bytes differ then, they lost bytes at different places."""
     placed = on_one_axis(copies)
     layout = Layout(placed)
-    if not is_through(layout.structure):
+    apart = size_of(layout.ranges)
+    if not is_through(layout.structure) or apart >= SHIFTED:
         shifted = on_one_axis(copies, True)
+        if is_through(layout.structure) and size_of(differing([copy.data for copy in shifted])) * FAR_MORE > apart:
+            return placed, layout
         if [copy.absent for copy in shifted] != [copy.absent for copy in placed]:
             other = Layout(shifted)
             if is_through(other.structure):
                 return shifted, other
     return placed, layout
+
+
+def has_shape(header, stream):
+    """Whether a codestream has the shape that the header says; None if one of both can't be told."""
+    shape, wanted = shape_of(stream), [header.short(tag) for tag in (ROWS, COLUMNS, SAMPLES)]
+    return None if shape is None or None in wanted else [shape.rows, shape.columns, shape.components] == wanted
+
+
+def forbidden(header):
+    """What no file may have, where copies differ: elements that are not equal, or a value that its VR forbids; or nothing."""
+    for first, second in TWINS:
+        one, two = header.text(first), header.text(second)
+        if None not in (one, two) and one != two and (header.differs(first) or header.differs(second)):
+            return f"{tag_name(first)} and {tag_name(second)} are not equal"
+    for leaf in header.leaves:
+        value = header.value_of(leaf) if header.is_touched(leaf) else None
+        if value is not None and is_doubtful(leaf.vr, value) and not is_of_writer(leaf.vr, value, header.agreed(leaf)):
+            return f"{tag_name(leaf.tag)} has what its VR forbids"
+        if value and leaf.vr in TEXTS and not value.strip(b"\0") and any(leaf.bytes_of(copy.data).strip(b"\0") for copy in header.copies):
+            return f"{tag_name(leaf.tag)} has zeros, and a copy has a text there"
+    return None
+
+
+def is_of_writer(vr, value, agreed):
+    """Whether a writer put there what a VR forbids: where copies agree, as control characters, or as zeros before numbers of a UID."""
+    return bool(NOT_IN_TEXT.search(agreed.rstrip(b"\0"))) or is_written(vr, value) or vr == b"UI" and bool(DIGITS_AND_DOTS.match(value))
 
 
 def contradiction(header, shape, frame_count):

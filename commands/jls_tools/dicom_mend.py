@@ -10,7 +10,7 @@ from jls_tools.dicom_alone import Stranger
 from jls_tools.dicom_file import JPEG_LS, syntax_name, syntax_of
 from jls_tools.dicom_frames import DELIMITER, by_search, paired_by_bytes, shape_of
 from jls_tools.dicom_instance import Instances, TwoInstances
-from jls_tools.dicom_layout import contradiction, is_through, laid_out
+from jls_tools.dicom_layout import contradiction, forbidden, has_shape, is_through, laid_out
 from jls_tools.dicom_lost import Lost, most_of
 from jls_tools.dicom_result import FAILED, NOT_WHOLE, REFUSED, WHOLE, FrameResult, MendOptions, MendResult, Place
 from jls_tools.dicom_write import find_sum, in_fragments, packed, padding, put_frames, store, top_level, with_choices
@@ -204,6 +204,7 @@ class Mending:
             if self.options.header not in names:
                 raise Refused(f"--header names {self.options.header}, which was left out", NOT_WHOLE)
             self.header.by_copy(names.index(self.options.header))
+        self.deny_other_shapes()
         self.result.frames = [frame.result for frame in self.mended]
         self.note_breaks()
         self.data = self.header.merged()
@@ -212,6 +213,15 @@ class Mending:
         else:
             self.without_sum()
         self.result.places = self.header.places()
+
+    def deny_other_shapes(self):
+        """A frame of another shape than the header says is of another file, if most bytes of codestreams are of the header's."""
+        sizes = {True: 0, False: 0, None: 0}
+        for stream in (stream for streams in self.streams for stream in streams):
+            sizes[has_shape(self.header, stream)] += len(stream)
+        for frame in self.mended if sizes[True] > sizes[False] else ():
+            if frame.is_whole and has_shape(self.header, frame.stream) is False:
+                frame.result.kind, frame.result.note = "disputed", "it has another shape than the header says"
 
     def name_counts(self):
         """A frame of which there is nothing has as many lines missing as the others have."""
@@ -236,7 +246,8 @@ class Mending:
             return "the header is broken where no copy has it"
         if self.layout.structure.is_cut_outside:
             return "an element is cut in every copy"
-        return contradiction(self.header, self.shape, len(self.mended))
+        fault = contradiction(self.header, self.shape, len(self.mended))
+        return fault if fault or self.options.header is not None else forbidden(self.header)
 
     def is_in_pixels(self, begin, end):
         structure = self.layout.structure

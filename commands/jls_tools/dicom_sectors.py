@@ -4,7 +4,6 @@ Disks and tapes lose bytes by sectors, and a file's own bytes change their kind 
 noise, or is bytes of another kind than stand before and after it, if that begins and ends at its borders. The other copy must not look
 lost too: then nothing is decided.
 """
-import itertools
 import math
 
 SECTOR = 512
@@ -18,14 +17,9 @@ SHARE = len(PLAIN) / 256
 FITS, STRANGE, LEAST_MORE, MOST_BITS = 1.0, 2.0, 3.0, 5.0  # bits a byte
 MOST = 1 << 20  # bytes of sectors next to each other that are looked at
 LOST_VALUES = (b"\0", b"\xff")  # what stands where bytes were lost
-REACH = 128  # so near have places to be that go with others of one run
-DECIDED = 3  # so many places of a range were decided, at least, where others go with them
 IS_VALUE, IS_NOISE = "others are one value, from border to border of sectors", "others are noise"
 IS_STRANGE = "others are of another kind, from border to border of sectors"
-IS_COMPANY = "the places around it in its sector are of that copy"
 LONGEST_SUM = 64  # bytes, of SHA-512
-IS_PATCH = "others are noise, and what stands around them is none"
-IS_ONE_RUN = "others are part of a run of one value that was written over places beside it"
 
 
 def plainness(data):
@@ -46,6 +40,23 @@ def is_noise(data):
 def is_plain(data):
     """Whether bytes are surely no noise."""
     return len(data) >= 16 and (plainness(data) >= 5 or variety(data) <= 0.7)
+
+
+def is_noise_alone(data, begin, end):
+    """Whether noise that is longer than a sum stands in a range, and none beside it."""
+    beside = (data[max(0, begin - BESIDE) : begin], data[end : end + BESIDE])
+    return end - begin > LONGEST_SUM and is_noise(data[begin:end]) and all(map(is_plain, beside))
+
+
+def has_noise_within(data, begin, end):
+    """Whether sectors of noise stand in a range between others that are none: damage that no other copy shows."""
+    borders = range(-(-begin // SECTOR) * SECTOR, end - SECTOR + 1, SECTOR)
+    noisy = [is_noise(data[at : at + SECTOR]) for at in borders]
+    first = next((at for at, border in enumerate(borders) if noisy[at] and is_plain(data[max(begin, border - BESIDE) : border])), None)
+    if first is None:
+        return False
+    last = next((at for at in range(first, len(noisy)) if not noisy[at]), len(noisy)) * SECTOR + borders.start
+    return is_plain(data[last : min(end, last + BESIDE)])
 
 
 def run_length(data, value):
@@ -186,6 +197,30 @@ class Pair:
         before = run_length(self.own[max(0, begin - WINDOW) : begin][::-1], value)
         return begin - before, end + run_length(self.own[end : end + WINDOW], value)
 
+    def lost_around(self, border):
+        """The sectors around a border that have nothing but the one lost value that the sector there has; else that sector alone."""
+        first, last = border, min(border + SECTOR, self.total)
+        value = self.own[first : first + 1]
+        if value in LOST_VALUES and not self.own[first:last].strip(value):
+            while first > 0 and not self.own[first - SECTOR : first].strip(value) and last - first < MOST:
+                first -= SECTOR
+            while last < self.total and not self.own[last : last + SECTOR].strip(value) and last - first < MOST:
+                last = min(last + SECTOR, self.total)
+        return first, last
+
+    def begins_or_ends(self, first, last):
+        """Whether one lost value begins or ends in a copy just at a border of sectors, where the other copy goes on: one of both is enough.
+
+        Where true bytes of that value are beside the border, so much as can be seen has to speak for it on both sides.
+        """
+        value, other = self.own[first : first + 1], self.other[first:last]
+        if value not in LOST_VALUES or self.own[first:last].strip(value):
+            return False
+        is_begun, is_ended = first > 0 and self.own[first - 1 : first] != value, self.own[last : last + 1] not in (value, b"")
+        begins = run_length(other, value) <= NEAR and self.agree(first - BESIDE, first)
+        ends = run_length(other[::-1], value) <= NEAR and self.agree(last, last + BESIDE)
+        return is_begun and begins or is_ended and ends or (is_begun or begins) and (is_ended or ends)
+
     def is_noise_alone(self, begin):
         """Whether a copy has noise in a sector, and the other one has none."""
         return 0 <= begin < self.total and is_noise(self.own[begin : begin + SECTOR]) and self.is_other_plain(begin)
@@ -232,129 +267,6 @@ class Pair:
                     yield first, last, IS_NOISE, True
                 elif (first, last) == (begin, end) and self.is_strange(first, last):
                     yield first, last, IS_STRANGE, False
-
-
-class Decider:
-    """Takes from a Header what a copy has where it lost sectors, or has noise."""
-
-    def __init__(self, header):
-        self.header = header
-        self.runs = header.runs
-
-    def decide(self):
-        """For each two copies, unless nothing is open."""
-        header = self.header
-        for own, other in itertools.permutations(range(len(header.copies)), 2):
-            if not header.open_runs():
-                return
-            pair = Pair(header.copies[own].data, header.copies[other].data, header.leaves)
-            for begin, end, why, is_doubted in pair.lost([begin for begin, _ in self.stretches()]):
-                self.drop(own, other, begin, end, why, DECIDED if is_doubted else 0)
-            for begin, end in self.wholes():
-                if pair.is_patch(begin, end):
-                    self.drop(own, other, begin, end, IS_PATCH)
-            self.by_noise(pair, own, other)
-            self.by_company(pair, own, other)
-            self.by_runs_of_one_value(pair, own, other)
-
-    def wholes(self):
-        """The ranges that were cut at borders of sectors, with each of their parts, of which one is open."""
-        wholes = {}
-        for number in sorted(self.header.left):
-            wholes.setdefault(self.runs.runs[number].whole, []).append(number)
-        is_open = set(self.header.open_runs())
-        parts = [numbers for numbers in wholes.values() if is_open & set(numbers)]
-        return [(self.runs.runs[numbers[0]].begin, self.runs.runs[numbers[-1]].end) for numbers in parts]
-
-    def stretches(self):
-        """The ranges of open runs, those together that were cut at a border of sectors."""
-        wholes = {}
-        for number in self.header.open_runs():
-            wholes.setdefault(self.runs.runs[number].whole, []).append(self.runs.runs[number])
-        return [(runs[0].begin, runs[-1].end) for runs in wholes.values()]
-
-    def drop(self, own, other, begin, end, why, least=0):
-        """Drops what a copy alone has of a range in which it was damaged, unless some of it was decided for it and against the other."""
-        header = self.header
-        if any(header.copies[copy].lacks(begin, end) for copy in (own, other)):
-            return
-        numbers = [number for number in self.runs.touching(begin, end) if number in header.left]
-        if any(self.is_for(number, own, other) for number in numbers):
-            return
-        if sum(self.is_for(number, other, own) for number in numbers) < least:
-            return
-        for number in numbers:
-            holders = self.runs.runs[number].holders
-            header.keep(number, {way for way in header.left[number] if set(holders[way]) - {own}}, why)
-
-    def is_for(self, number, one, two):
-        """Whether a run was decided for one copy and against another one."""
-        if len(self.header.left[number]) > 1:
-            return False
-        holders = self.header.holders(number)
-        return one in holders and two not in holders
-
-    def by_noise(self, pair, own, other):
-        """Open sectors next to others of noise, in which places were decided against a copy: that one lost all of them."""
-        for border in sorted({self.runs.runs[number].begin // SECTOR * SECTOR for number in self.header.open_runs()}):
-            if not pair.is_noise_alone(border) or pair.is_cut_out(border):
-                continue
-            first, last = border, border + SECTOR
-            while pair.is_noise_alone(first - SECTOR):
-                first -= SECTOR
-            while pair.is_noise_alone(last):
-                last += SECTOR
-            numbers = [number for number in self.runs.touching(first, last) if number in self.header.left]
-            against = [number for number in numbers if self.is_for(number, other, own)]
-            if sum(self.length(number) for number in against) >= BESIDE and not any(self.is_for(each, own, other) for each in numbers):
-                self.drop(own, other, border, border + SECTOR, IS_NOISE)
-
-    def by_company(self, pair, own, other):
-        """Open places between others of one sector, all of which were decided against a copy: that one lost the sector there."""
-        for border in sorted({self.runs.runs[number].begin // SECTOR * SECTOR for number in self.header.open_runs()}):
-            numbers = [number for number in self.runs.touching(border, border + SECTOR) if number in self.header.left]
-            against = [number for number in numbers if self.is_for(number, other, own)]
-            if len(against) < DECIDED and sum(self.length(number) for number in against) < BESIDE:
-                continue
-            if any(self.is_for(number, own, other) for number in numbers):
-                continue
-            for number in numbers:
-                before, behind = self.around(pair, number, against, border)
-                if None not in (before, behind) and pair.is_lost_between(before, behind):
-                    self.drop(own, other, self.runs.runs[number].begin, self.runs.runs[number].end, IS_COMPANY)
-
-    def around(self, pair, number, against, border):
-        """Where the places end and begin between which a run lies, or the borders of its sector if it reaches them; else nothing."""
-        run, runs = self.runs.runs[number], self.runs.runs
-        before = max((runs[each].end for each in against if each < number), default=None)
-        behind = min((runs[each].begin for each in against if each > number), default=None)
-        if before is None and run.begin <= border + NEAR and pair.agree(border - BESIDE, border):
-            before = run.begin
-        if behind is None and run.end >= border + SECTOR - NEAR and pair.agree(border + SECTOR, border + SECTOR + BESIDE):
-            behind = run.end
-        return before, behind
-
-    def by_runs_of_one_value(self, pair, own, other):
-        """Open places in a run of one value that was written over places near them, before and behind: true zeros can follow lost ones."""
-        waiting = self.header.open_runs()
-        for number in waiting + waiting[::-1]:
-            run = self.runs.runs[number]
-            around = pair.run_around(run.begin, run.end) if len(self.header.left[number]) > 1 else None
-            if around is None:
-                continue
-            numbers = [each for each in self.runs.touching(*around) if each in self.header.left]
-            against = [each for each in numbers if self.is_for(each, other, own)]
-            near = [each for each in against if self.distance(each, run) <= REACH]
-            is_between = any(each < number for each in near) and any(each > number for each in near)
-            if is_between and len(against) >= DECIDED and not any(self.is_for(each, own, other) for each in numbers):
-                self.drop(own, other, run.begin, run.end, IS_ONE_RUN)
-
-    def length(self, number):
-        return self.runs.runs[number].end - self.runs.runs[number].begin
-
-    def distance(self, number, run):
-        other = self.runs.runs[number]
-        return max(other.begin - run.end, run.begin - other.end)
 
 
 def equal_end(one, other):

@@ -1,0 +1,174 @@
+"""Checks of tables, losses, foreign files and sectors in two copies, each with a case in which the same rule would be wrong."""
+import random
+import struct
+
+from dicom_files import UID, File, changed, element, frame, with_value
+from dicom_rules import csa_header, put_before
+
+NEIGHBOUR = UID[:-1] + "8"
+
+
+def told(bench, name, copies, true, is_back=True, status=None):
+    """A check: the file comes back to the byte; or else nothing false does, and if it is given the status is this one."""
+    got, out, printed, faults, _ = bench.mend(copies)
+    if is_back:
+        return f"{name}: the same file ({got}, {printed}, {faults})", (got, out == true) == (0, True)
+    is_refused = out in (None, true) and (out is None) == (got != 0)
+    return f"{name}: nothing false ({got}, {printed}, {faults})", is_refused and status in (None, got)
+
+
+def checks_of_entries(bench, single):
+    """The one entry of a table of one frame is 0, whatever a copy has there that leads nowhere; but some writers count from elsewhere."""
+    true, at = single.bytes, single.table_at
+    pairs = {
+        "an entry beyond the file": [(at, b"\xe2\xaa\xa5\x6c")],
+        "an entry from nowhere": [(at - 3, b"\x14\x9e\xe6\x7c")],
+    }
+    for name, changes in pairs.items():
+        copies = [changed(true, *changes), changed(true, (at - 8 if changes[0][0] < at else at - 4, bytes(4)))]
+        yield told(bench, name, copies, true)
+    for name, entry in (("an entry that counts from the table", 12), ("one that counts from elsewhere", 100)):
+        odd = changed(true, (at, struct.pack("<I", entry)))
+        yield told(bench, name, [odd, changed(odd, (at - 4, bytes(8)))], odd, False)
+
+
+def checks_of_losses(bench, made):
+    """A loss stands where fewest bytes differ. One byte that differs beside it can be a flipped bit of the other copy."""
+    blank, lines = b" " * 400, b"".join(b"asSlice[%d].dFlow = %d.5\n" % (at % 30, at % 4) for at in range(300))
+    true, at = with_value(made, blank[:200] + b"Lv2" + blank + b"end")
+    yield told(bench, "a loss in blanks", [true[: at + 195] + true[at + 211 :], true], true)
+    noted, at = with_value(made, blank + b"end.")
+    copies = [noted[: at + 220] + noted[at + 236 :], changed(noted, (at + 200, b"!"))]
+    yield told(bench, "a flipped bit in blanks beside a loss", copies, noted, False)
+    empty, at = with_value(made, bytes(400) + b"end.")
+    copies = [empty[: at + 220] + empty[at + 236 :], changed(empty, (at + 200, b"\x91\x1e\x07\xd2"))]
+    yield told(bench, "noise in zeros beside a loss", copies, empty, False)
+    text, at = with_value(made, lines)
+    yield told(bench, "a loss in lines that repeat", [text[: at + 2013] + text[at + 2525 :], text], text)
+    both = [text[: at + 1013] + text[at + 1029 :], text[: at + 3000] + text[at + 3016 :]]
+    yield told(bench, "a loss of each copy in one value", both, text)
+    noise = random.Random(5)
+    twice = [changed(text, (at + place, noise.randbytes(40))) for place in (1000, 3000)]
+    yield told(bench, "noise in each copy, no loss", twice, text, False)
+
+
+def checks_of_foreign_files(bench, folder, rng):
+    """A whole foreign file in the place of a copy, and a neighbour's beginning whose elements lead nowhere."""
+    true = File([frame(rng, 8, 40, 30, folder)], 8, 40, 30).bytes
+    true += b"\0\0" if len(true) % 512 == 0 else b""
+    large = File([frame(rng, 12, 90, 60, folder)], 12, 90, 60, uid="1.2.3.9.9").bytes
+    foreign = large[: len(true)]
+    for copies in ([foreign, true], [true, foreign]):
+        yield told(bench, "a foreign file in the place of a copy", copies, true)
+    broken = changed(true, (true.index(b"\xe0\x7f\x10\x00OB\0\0\xff\xff\xff\xff"), bytes(24)))
+    yield told(bench, "the same, and the other copy is broken", [foreign, broken], true, False, 3)
+    pad = -(len(true) + 12) % 512
+    even = true[:-42] + element(0xFFFCFFFC, "OB", bytes(30 + 12 + pad + len(true) % 2))
+    even += bytes(-len(even) % 512)
+    yield told(bench, "the same at a border of sectors", [large[: len(even)], even], even, False, 3)
+    slice_ = changed(true.replace(UID.encode(), NEIGHBOUR.encode()), (160, bytes(4)), (len(true) - 60, bytes(60)))
+    yield told(bench, "a damaged slice of the series", [slice_, true], true, False, 3)
+
+
+def series(made, value, name):
+    """A file with a private value of a slice, and a name before it."""
+    data = put_before(with_value(made, value)[0], 0x90010, element(0x80060, "CS", "MR"))
+    return data.replace(element(0x80060, "CS", "MR"), element(0x80060, "CS", "MR") + element(0x80070, "LO", name))
+
+
+def checks_of_beginnings(bench, made):
+    """A neighbour's beginning is told by its elements, which lead nowhere; that of one with elements at the same places isn't."""
+    value = csa_header(random.Random(4))
+    true = series(made, value, "ACME")
+    longer, alike = (series(made, value, name).replace(UID.encode(), NEIGHBOUR.encode()) for name in ("ACME Works", "EMCA"))
+    for name, other, is_back in (("a neighbour's beginning", longer, True), ("that of one with the same places", alike, False)):
+        foreign = other[:3072] + true[3072:]
+        damaged = changed(true, (true.index(made.frames[1]) + 80, bytes(8)))
+        yield told(bench, name, [foreign, damaged], true, is_back, 3)
+
+
+def described(made, bits, *more):
+    """A file that says so of its samples: Bits Allocated, Bits Stored, High Bit, Pixel Representation and others."""
+    at = made.bytes.index(struct.pack("<HH", 0x28, 0x100) + b"US", 132)
+    end = made.bytes.index(struct.pack("<HH", 0x88, 0x200) + b"SQ")
+    tags = (0x280100, 0x280101, 0x280102, 0x280103, 0x280106, 0x280107)
+    return made.bytes[:at] + b"".join(element(tag, "US", value) for tag, value in zip(tags, (*bits, *more))) + made.bytes[end:]
+
+
+def checks_of_samples(bench, made):
+    """Bits Allocated goes with Bits Stored and High Bit; no sample of a frame of 8 bits is larger than 255."""
+    true = described(made, (8, 8, 7), 0, 3, 255)
+    for name, other, is_back in (
+        ("what another file says of samples", described(made, (16, 16, 15), 0, 3, 65535), True),
+        ("Bits Allocated alone", described(made, (16, 8, 7), 0, 3, 255), False),
+        ("two of three", described(made, (16, 16, 7), 0, 3, 255), False),
+        ("another largest sample that can be", described(made, (8, 8, 7), 0, 3, 191), False),
+    ):
+        yield told(bench, name, [other, true], true, is_back)
+    signed = described(made, (8, 8, 7), 1, 3, 65535)
+    yield told(bench, "a largest sample, with signs", [signed, described(made, (8, 8, 7), 1, 3, 255)], signed, False)
+
+
+def sectored(made):
+    """A file with a sector of elements and then zeros in a value, of which one byte is none; where the sector is."""
+    at = made.bytes.index(struct.pack("<HH", 0x28, 2) + b"US", 132)
+    head = made.bytes[:at] + element(0x190010, "LO", "MINE")
+    border = (len(head) // 512 + 1) * 512
+    parts = [element(0x191010 + number, "LO", f"value {number} of it") for number in range(60)]
+    while len(head) < border + 300:
+        head += parts.pop(0)
+    value = bytes(border + 512 - 6 - len(head) - 12) + b"\3" + bytes(5) + b"abcdef" * 20
+    return head + element(0x1910FF, "OB", value) + made.bytes[at:], border
+
+
+def checks_of_whole_sectors(bench, made):
+    """Places in a sector that was lost from border to border go together; in another range they don't."""
+    true, border = sectored(made)
+    yield told(bench, "zeros in a sector", [changed(true, (border, bytes(512))), true], true)
+    yield told(bench, "zeros from elsewhere on", [changed(true, (border + 37, bytes(475))), true], true, False, 1)
+    parts = [element(0x191010 + at, "LO", f"value {at} of it") for at in range(60)]
+    true = put_before(made.bytes, 0x280002, element(0x190010, "LO", "MINE"), *parts)
+    middle = true[border + 44 : border + 460].replace(b"of it", b"OF IT")
+    sector = b"x" * 44 + middle + b"y" * 52
+    yield told(bench, "another file's sector", [changed(true, (border, sector)), true], true)
+    inner = changed(true, (border + 44, middle), (border + 20, b"x" * 24), (border + 460, b"y" * 30))
+    yield told(bench, "the same, not from border to border", [inner, true], true, False, 1)
+
+
+def checks_of_refusals(bench, made, folder, rng):
+    """What no copy has is not taken from one of them: a UID, a value that its VR forbids, noise in a text, a frame of another shape."""
+    true, uid = made.bytes, made.bytes.rindex(UID.encode(), 0, made.name_at)
+    noise = random.Random(8)
+    date = true.index(b"20200131")
+    for name, place, wrong in (
+        ("another UID", uid, UID[:-1].encode() + b"8"),
+        ("no UID", uid, b"1.2\x81\x82.4"),
+        ("no date", date, b"20\x8d00\x0431"),
+    ):
+        lost = changed(true, (place - 8, noise.randbytes(20)))
+        yield told(bench, f"{name}, where the other copy has noise", [lost, changed(true, (place, wrong))], true, False, 1)
+    status, out, printed, _, _ = bench.mend([lost, changed(true, (date, wrong))], "--header", "COPY1")
+    yield f"--header names the copy with no date: as it has it ({status}, {printed})", (status, out) == (0, changed(true, (date, wrong)))
+    text, at = with_value(made, b"".join(b"<Step.%d> sSlice[%d]\n" % (line % 7, line % 40) for line in range(600)))
+    border = (at // 512 + 2) * 512
+    both = [changed(text, (border, bytes(4096))), changed(text, (border + 1024, noise.randbytes(512)))]
+    yield told(bench, "zeros in a text, and noise in the midst of them", both, text, False, 1)
+    alone = [text[: border + 300], changed(text, (border + 1024, noise.randbytes(512)))]
+    yield told(bench, "a cut copy, and noise in the text of the other", alone, text, False, 1)
+    small = File([frame(rng, 8, 16, 12, folder) for _ in range(3)], 8, 16, 12)
+    begin, size = small.items[1] + 8, len(small.frames[1])
+    other = frame(rng, 8, 9, 7, folder)
+    other = other + bytes(size - len(other))
+    copies = [changed(small.bytes, (begin, other)), changed(small.bytes, (begin, bytes(size)))]
+    status, out, printed, _, _ = bench.mend(copies)
+    yield f"a frame of another shape: not whole ({status}, {printed})", (status, out) == (1, None) and "frame 1 whole" not in printed
+
+
+def checks_of_pairs(bench, made, folder, rng):
+    yield from checks_of_entries(bench, File([frame(rng, 8, 40, 30, folder)], 8, 40, 30))
+    yield from checks_of_losses(bench, made)
+    yield from checks_of_foreign_files(bench, folder, rng)
+    yield from checks_of_beginnings(bench, made)
+    yield from checks_of_samples(bench, File([frame(rng, 8, 16, 12, folder)], 8, 16, 12))
+    yield from checks_of_whole_sectors(bench, made)
+    yield from checks_of_refusals(bench, made, folder, rng)
