@@ -135,6 +135,18 @@ def checks_of_whole_sectors(bench, made):
     yield told(bench, "the same, not from border to border", [inner, true], true, False, 1)
 
 
+def checks_of_zeros(bench, made):
+    """Zeros of two damages that meet: one way goes on there, and has zeros for a text. Zeros that end within a text are dropped."""
+    parts = [element(0x200011 + at, "IS", str(at)) for at in range(3)]
+    true = put_before(made.bytes, 0x280002, *parts)
+    begin = true.index(parts[0])
+    end = begin + len(parts[0]) + len(parts[1])
+    for name, until, is_back in (("zeros of two damages that meet", end, False), ("zeros that end within a text", end - 1, True)):
+        copies = [changed(true, (begin, bytes(until - begin))), changed(true, (end, bytes(9)))]
+        for order in (copies, copies[::-1]):
+            yield told(bench, name, order, true, is_back, 1)
+
+
 def checks_of_refusals(bench, made, folder, rng):
     """What no copy has is not taken from one of them: a UID, a value that its VR forbids, noise in a text, a frame of another shape."""
     true, uid = made.bytes, made.bytes.rindex(UID.encode(), 0, made.name_at)
@@ -171,4 +183,5 @@ def checks_of_pairs(bench, made, folder, rng):
     yield from checks_of_beginnings(bench, made)
     yield from checks_of_samples(bench, File([frame(rng, 8, 16, 12, folder)], 8, 16, 12))
     yield from checks_of_whole_sectors(bench, made)
+    yield from checks_of_zeros(bench, made)
     yield from checks_of_refusals(bench, made, folder, rng)
