@@ -70,6 +70,22 @@ def checks_of_foreign_files(bench, folder, rng):
     yield told(bench, "a damaged slice of the series", [slice_, true], true, False, 3)
 
 
+def checks_of_shorter_copies(bench, made):
+    """A copy that is cut or lost bytes, and whose beginning a foreign file has overwritten: what follows in it counts."""
+    other = File(made.frames, 12, 24, 20, uid="1.2.3.9.9").bytes
+    head = (other[: other.index(bytes(range(64))) - 12] + element(0x91001, "OB", bytes(range(256)) * 256))[:512]
+    true = made.bytes
+    damaged = changed(true, (true.index(made.frames[1]) + 80, bytes(8)))
+    for name, rest in (("is cut", true[512:-200]), ("lost bytes", true[512:-400] + true[-384:])):
+        yield told(bench, f"a foreign beginning of a copy that {name}", [head + rest, damaged], true)
+    lines = b"".join(b"asSlice[%d].dFlow = %d.5\n" % (line % 30, line % 4) for line in range(300))
+    text, at = with_value(made, lines)
+    flipped = changed(text, (at + 2600, b"Z"), (at + 2700, b"Z"))
+    noisy = changed(text, ((at // 512 + 4) * 512, random.Random(6).randbytes(1024)))
+    copies = [head + text[512:-200], flipped, noisy]
+    yield told(bench, "two letters of a copy where another one has noise", copies, text, False, 1)
+
+
 def series(made, value, name):
     """A file with a private value of a slice, and a name before it."""
     data = put_before(with_value(made, value)[0], 0x90010, element(0x80060, "CS", "MR"))
@@ -180,6 +196,7 @@ def checks_of_pairs(bench, made, folder, rng):
     yield from checks_of_entries(bench, File([frame(rng, 8, 40, 30, folder)], 8, 40, 30))
     yield from checks_of_losses(bench, made)
     yield from checks_of_foreign_files(bench, folder, rng)
+    yield from checks_of_shorter_copies(bench, made)
     yield from checks_of_beginnings(bench, made)
     yield from checks_of_samples(bench, File([frame(rng, 8, 16, 12, folder)], 8, 16, 12))
     yield from checks_of_whole_sectors(bench, made)
