@@ -1,8 +1,9 @@
 """Checks of tables, losses, foreign files and sectors in two copies, each with a case in which the same rule would be wrong."""
+import os
 import random
 import struct
 
-from dicom_files import UID, File, changed, element, frame, with_value
+from dicom_files import UID, File, changed, element, frame, get, with_value
 from dicom_rules import csa_header, put_before
 
 NEIGHBOUR = UID[:-1] + "8"
@@ -84,6 +85,17 @@ def checks_of_shorter_copies(bench, made):
     noisy = changed(text, ((at // 512 + 4) * 512, random.Random(6).randbytes(1024)))
     copies = [head + text[512:-200], flipped, noisy]
     yield told(bench, "two letters of a copy where another one has noise", copies, text, False, 1)
+
+
+def checks_of_foreign_frames(bench, made, folder, rng):
+    """No frame of a foreign beginning is taken, also where no header leads to Pixel Data and frames are searched for."""
+    small = File([frame(rng, 8, 9, 7, folder)], 8, 9, 7, uid="1.2.3.9.9").bytes
+    begun = small[:-42] + element(0xFFFCFFFC, "OB", bytes(range(1, 256)) * 256)
+    true = with_value(made, b"of a slice " * 300)[0]
+    broken = changed(true, (true.index(b"\xe0\x7f\x10\x00OB\0\0\xff\xff\xff\xff"), bytes(30)))
+    status, _, printed, _, name = bench.mend([begun[:2048] + broken[2048:], broken])
+    found = {get(f"{name}.frames/{each}").rstrip(b"\0") for each in os.listdir(f"{name}.frames")}
+    yield f"frames of a foreign beginning ({status}, {printed})", (status, found) == (1, set(made.frames))
 
 
 def series(made, value, name):
@@ -197,6 +209,7 @@ def checks_of_pairs(bench, made, folder, rng):
     yield from checks_of_losses(bench, made)
     yield from checks_of_foreign_files(bench, folder, rng)
     yield from checks_of_shorter_copies(bench, made)
+    yield from checks_of_foreign_frames(bench, made, folder, rng)
     yield from checks_of_beginnings(bench, made)
     yield from checks_of_samples(bench, File([frame(rng, 8, 16, 12, folder)], 8, 16, 12))
     yield from checks_of_whole_sectors(bench, made)
