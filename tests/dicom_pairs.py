@@ -87,6 +87,28 @@ def checks_of_shorter_copies(bench, made):
     yield told(bench, "two letters of a copy where another one has noise", copies, text, False, 1)
 
 
+def place_of(data, tag):
+    """Where the value of an element of the top level begins that has the VR US."""
+    return data.index(struct.pack("<HH", tag >> 16, tag & 0xFFFF) + b"US", 132) + 8
+
+
+def checks_of_one_copy_alone(bench, made):
+    """A flipped bit in what one copy alone has, which PS3.5 or PS3.10 forbids: the other copy is cut, lost bytes or has zeros there."""
+    true, rest = made.bytes, made.bytes[: made.name_at + 4]
+    for name, tag in (("Bits Stored", 0x280101), ("High Bit", 0x280102), ("Pixel Representation", 0x280103)):
+        flipped = changed(true, (place_of(true, tag), bytes([true[place_of(true, tag)] ^ 4])))
+        yield told(bench, f"a bit of {name} in one copy alone", [flipped, rest], true, False, 1)
+    at = true.index(b"OB\0\0\2\0\0\0\0\1") + 9
+    flipped, lost = changed(true, (at, b"\x21")), true[: at - 11] + true[at + 5 :]
+    yield told(bench, "a bit of the version in one copy alone", [flipped, lost], true, False, 1)
+    yield told(bench, "a bit of the version", [flipped, changed(true, (made.items[0] + 60, bytes(8)))], true)
+    text = put_before(true, 0x280002, element(0x190010, "LO", "MINE"), element(0x191010, "LT", "of a slice " * 80))
+    at = place_of(text, 0x280102)
+    zeros = changed(text, (at // 512 * 512, bytes(512)))
+    yield told(bench, "a sector of zeros over High Bit", [text, zeros], text)
+    yield told(bench, "the same, and a bit of it", [changed(text, (at, bytes([text[at] ^ 4]))), zeros], text, False, 1)
+
+
 def checks_of_foreign_frames(bench, made, folder, rng):
     """No frame of a foreign beginning is taken, also where no header leads to Pixel Data and frames are searched for."""
     small = File([frame(rng, 8, 9, 7, folder)], 8, 9, 7, uid="1.2.3.9.9").bytes
@@ -210,6 +232,7 @@ def checks_of_pairs(bench, made, folder, rng):
     yield from checks_of_foreign_files(bench, folder, rng)
     yield from checks_of_shorter_copies(bench, made)
     yield from checks_of_foreign_frames(bench, made, folder, rng)
+    yield from checks_of_one_copy_alone(bench, made)
     yield from checks_of_beginnings(bench, made)
     yield from checks_of_samples(bench, File([frame(rng, 8, 16, 12, folder)], 8, 16, 12))
     yield from checks_of_whole_sectors(bench, made)
