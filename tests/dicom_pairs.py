@@ -1,8 +1,9 @@
 """Checks of tables, losses, foreign files and sectors in two copies, each with a case in which the same rule would be wrong."""
+import os
 import random
 import struct
 
-from dicom_files import UID, File, changed, element, frame, with_value
+from dicom_files import UID, File, changed, element, frame, get, with_value
 from dicom_rules import csa_header, put_before
 
 NEIGHBOUR = UID[:-1] + "8"
@@ -70,6 +71,55 @@ def checks_of_foreign_files(bench, folder, rng):
     yield told(bench, "a damaged slice of the series", [slice_, true], true, False, 3)
 
 
+def checks_of_shorter_copies(bench, made):
+    """A copy that is cut or lost bytes, and whose beginning a foreign file has overwritten: what follows in it counts."""
+    other = File(made.frames, 12, 24, 20, uid="1.2.3.9.9").bytes
+    head = (other[: other.index(bytes(range(64))) - 12] + element(0x91001, "OB", bytes(range(256)) * 256))[:512]
+    true = made.bytes
+    damaged = changed(true, (true.index(made.frames[1]) + 80, bytes(8)))
+    for name, rest in (("is cut", true[512:-200]), ("lost bytes", true[512:-400] + true[-384:])):
+        yield told(bench, f"a foreign beginning of a copy that {name}", [head + rest, damaged], true)
+    lines = b"".join(b"asSlice[%d].dFlow = %d.5\n" % (line % 30, line % 4) for line in range(300))
+    text, at = with_value(made, lines)
+    flipped = changed(text, (at + 2600, b"Z"), (at + 2700, b"Z"))
+    noisy = changed(text, ((at // 512 + 4) * 512, random.Random(6).randbytes(1024)))
+    copies = [head + text[512:-200], flipped, noisy]
+    yield told(bench, "two letters of a copy where another one has noise", copies, text, False, 1)
+
+
+def place_of(data, tag):
+    """Where the value of an element of the top level begins that has the VR US."""
+    return data.index(struct.pack("<HH", tag >> 16, tag & 0xFFFF) + b"US", 132) + 8
+
+
+def checks_of_one_copy_alone(bench, made):
+    """A flipped bit in what one copy alone has, which PS3.5 or PS3.10 forbids: the other copy is cut, lost bytes or has zeros there."""
+    true, rest = made.bytes, made.bytes[: made.name_at + 4]
+    for name, tag in (("Bits Stored", 0x280101), ("High Bit", 0x280102), ("Pixel Representation", 0x280103)):
+        flipped = changed(true, (place_of(true, tag), bytes([true[place_of(true, tag)] ^ 4])))
+        yield told(bench, f"a bit of {name} in one copy alone", [flipped, rest], true, False, 1)
+    at = true.index(b"OB\0\0\2\0\0\0\0\1") + 9
+    flipped, lost = changed(true, (at, b"\x21")), true[: at - 11] + true[at + 5 :]
+    yield told(bench, "a bit of the version in one copy alone", [flipped, lost], true, False, 1)
+    yield told(bench, "a bit of the version", [flipped, changed(true, (made.items[0] + 60, bytes(8)))], true)
+    text = put_before(true, 0x280002, element(0x190010, "LO", "MINE"), element(0x191010, "LT", "of a slice " * 80))
+    at = place_of(text, 0x280102)
+    zeros = changed(text, (at // 512 * 512, bytes(512)))
+    yield told(bench, "a sector of zeros over High Bit", [text, zeros], text)
+    yield told(bench, "the same, and a bit of it", [changed(text, (at, bytes([text[at] ^ 4]))), zeros], text, False, 1)
+
+
+def checks_of_foreign_frames(bench, made, folder, rng):
+    """No frame of a foreign beginning is taken, also where no header leads to Pixel Data and frames are searched for."""
+    small = File([frame(rng, 8, 9, 7, folder)], 8, 9, 7, uid="1.2.3.9.9").bytes
+    begun = small[:-42] + element(0xFFFCFFFC, "OB", bytes(range(1, 256)) * 256)
+    true = with_value(made, b"of a slice " * 300)[0]
+    broken = changed(true, (true.index(b"\xe0\x7f\x10\x00OB\0\0\xff\xff\xff\xff"), bytes(30)))
+    status, _, printed, _, name = bench.mend([begun[:2048] + broken[2048:], broken])
+    found = {get(f"{name}.frames/{each}").rstrip(b"\0") for each in os.listdir(f"{name}.frames")}
+    yield f"frames of a foreign beginning ({status}, {printed})", (status, found) == (1, set(made.frames))
+
+
 def series(made, value, name):
     """A file with a private value of a slice, and a name before it."""
     data = put_before(with_value(made, value)[0], 0x90010, element(0x80060, "CS", "MR"))
@@ -135,6 +185,18 @@ def checks_of_whole_sectors(bench, made):
     yield told(bench, "the same, not from border to border", [inner, true], true, False, 1)
 
 
+def checks_of_zeros(bench, made):
+    """Zeros of two damages that meet: one way goes on there, and has zeros for a text. Zeros that end within a text are dropped."""
+    parts = [element(0x200011 + at, "IS", str(at)) for at in range(3)]
+    true = put_before(made.bytes, 0x280002, *parts)
+    begin = true.index(parts[0])
+    end = begin + len(parts[0]) + len(parts[1])
+    for name, until, is_back in (("zeros of two damages that meet", end, False), ("zeros that end within a text", end - 1, True)):
+        copies = [changed(true, (begin, bytes(until - begin))), changed(true, (end, bytes(9)))]
+        for order in (copies, copies[::-1]):
+            yield told(bench, name, order, true, is_back, 1)
+
+
 def checks_of_refusals(bench, made, folder, rng):
     """What no copy has is not taken from one of them: a UID, a value that its VR forbids, noise in a text, a frame of another shape."""
     true, uid = made.bytes, made.bytes.rindex(UID.encode(), 0, made.name_at)
@@ -168,7 +230,11 @@ def checks_of_pairs(bench, made, folder, rng):
     yield from checks_of_entries(bench, File([frame(rng, 8, 40, 30, folder)], 8, 40, 30))
     yield from checks_of_losses(bench, made)
     yield from checks_of_foreign_files(bench, folder, rng)
+    yield from checks_of_shorter_copies(bench, made)
+    yield from checks_of_foreign_frames(bench, made, folder, rng)
+    yield from checks_of_one_copy_alone(bench, made)
     yield from checks_of_beginnings(bench, made)
     yield from checks_of_samples(bench, File([frame(rng, 8, 16, 12, folder)], 8, 16, 12))
     yield from checks_of_whole_sectors(bench, made)
+    yield from checks_of_zeros(bench, made)
     yield from checks_of_refusals(bench, made, folder, rng)

@@ -17,6 +17,8 @@ from jls_tools.dicom_values import DIGITS_AND_DOTS, TEXTS, allows, is_doubtful, 
 PADDING = 0xFFFCFFFC
 # Group length, transfer syntax, Samples per Pixel, Number of Frames, Rows and Columns: the file or its frames say what they have to be
 CONFIRMED = frozenset((0x00020000, 0x00020010, 0x00280002, 0x00280008, 0x00280010, 0x00280011, PIXEL_DATA))
+VERSION, STORED, HIGH, SIGN = 0x00020001, 0x00280101, 0x00280102, 0x00280103
+ONLY_VERSION = b"\0\1"  # of the meta information (PS3.10, 7.1)
 PAIRS = ((0x00020002, 0x00080016), (0x00020003, 0x00080018))
 ONE_ALONE = "one copy alone has it"
 CLEAR = 32  # so many bytes beside a loss are equal in all copies, where its place is clear
@@ -146,10 +148,21 @@ def denies(text, own, element):
     return not (element.vr in TEXTS and (ZEROS in other[head:] or not allows(element.vr, other[head:])))
 
 
+def is_against_rules(header, element, value):
+    """Whether an element of the top level has what PS3.10, 7.1, or PS3.5, 8.1.1, forbids: High Bit is one less than Bits Stored."""
+    if element.tag == VERSION:
+        return value != ONLY_VERSION
+    if element.tag == SIGN:
+        return value not in (b"\0\0", b"\1\0")
+    stored, high = header.short(STORED), header.short(HIGH)
+    return element.tag in (STORED, HIGH) and None not in (stored, high) and high != stored - 1
+
+
 class Doubts:
     """What speaks against the values that one copy alone has."""
 
     def __init__(self, header, strangers):
+        self.header = header
         self.unclear = unclear_ranges(header)
         self.borders = [copy.absent[0][1] for copy in header.copies if copy.foreign and not ends_clearly(copy)]
         # (from where on it counts, the bytes)
@@ -166,6 +179,8 @@ class Doubts:
             return True
         if step.kind == "leaf" and is_doubtful(element.vr, value) and not self.is_said_twice(element, value):
             return True
+        if step.depth == 0 and is_against_rules(self.header, element, value):
+            return True
         if step.kind == "leaf" and (element.vr in TEXTS and ZEROS in value or has_noise_within(self.data, element.value, element.end)):
             return True
         if any(first < end and element.start < behind for first, behind in self.unclear):
@@ -173,7 +188,6 @@ class Doubts:
         if step.kind == "leaf" and any(is_across(element, border) for border in self.borders) and not is_chain(value):
             return True
         return any(element.start >= first and denies(text, own, element) for first, text in self.texts)
-
 
     def is_said_twice(self, element, value):
         """Whether a UID has zeros before numbers, which none should have, but another one of the file begins with them too."""

@@ -4,7 +4,7 @@ import itertools
 import re
 import struct
 
-from jls_tools.dicom_alone import PADDING, held_by_one, places_alone
+from jls_tools.dicom_alone import ONLY_VERSION, PADDING, VERSION, held_by_one, places_alone
 from jls_tools.dicom_csa import Chains
 from jls_tools.dicom_decider import Decider
 from jls_tools.dicom_file import JPEG_LS, UNDEFINED, tag_name, text_of
@@ -162,6 +162,7 @@ class Header:
         if meta and GROUP_LENGTH in self.elements:
             size = struct.pack("<I", meta[-1].end - self.elements[GROUP_LENGTH].end)
             self.keep_values(GROUP_LENGTH, lambda value: value == size, "so long is the meta information")
+        self.keep_values(VERSION, lambda value: value == ONLY_VERSION, "no other version is there")
         self.keep_values(SYNTAX, lambda value: text_of(value) == JPEG_LS, "the frames are JPEG-LS")
         for first, second in TWINS:
             self.by_twins(first, second)

@@ -267,6 +267,6 @@ class Instances:
             until = overwritten_until(self.texts[at], self.texts[beside])
             if is_odd or until is not None:
                 self.left_out[at] = f"a foreign file, of instance {own}, has overwritten its beginning"
-            if until is not None and len(self.texts[at]) == len(self.texts[beside]):
+            if until is not None:
                 self.rests[at] = until, beside
                 self.left_out[at] += f"; what follows from {until} on is used"

@@ -1,5 +1,6 @@
 """What stands where in a file of which there are several copies: its structure, its frames, and its header as far as it is decided."""
 from jls_tools.dicom_align import SHIFTED, differing, on_one_axis, size_of
+from jls_tools.dicom_alone import is_against_rules
 from jls_tools.dicom_file import JPEG_LS, tag_name
 from jls_tools.dicom_frames import EXTENDED_LENGTHS, EXTENDED_TABLE, Fragments, shape_of
 from jls_tools.dicom_header import ALLOCATED, COLUMNS, FRAMES, ROWS, SAMPLES, STORED, SYNTAX, TWINS, Header
@@ -113,6 +114,8 @@ def forbidden(header):
         value = header.value_of(leaf) if header.is_touched(leaf) else None
         if value is not None and is_doubtful(leaf.vr, value) and not is_of_writer(leaf.vr, value, header.agreed(leaf)):
             return f"{tag_name(leaf.tag)} has what its VR forbids"
+        if value is not None and header.elements.get(leaf.tag) is leaf and is_against_rules(header, leaf, value):
+            return f"{tag_name(leaf.tag)} has what PS3.5 or PS3.10 forbids"
         if value and leaf.vr in TEXTS and not value.strip(b"\0") and any(leaf.bytes_of(copy.data).strip(b"\0") for copy in header.copies):
             return f"{tag_name(leaf.tag)} has zeros, and a copy has a text there"
     return None

@@ -133,7 +133,7 @@ class Mending:
         self.streams = [list(dict.fromkeys(own.values())) for own in filled]
         self.refuse_other_codings()
         if not self.layout.places:
-            texts = [self.texts[at] for at in chosen]
+            texts = [self.texts[at][self.rests.get(at, (0,))[0] :] for at in chosen]  # a foreign beginning has frames of its own
             self.streams = paired_by_bytes([[text[begin:end] for begin, end in by_search(text)] for text in texts])
             self.own = [dict(enumerate(streams)) for streams in self.streams]
         self.mended = []
