@@ -142,6 +142,8 @@ impl Findings {
             None => Partial::empty(alloc, shape.to_owned()),
             Some(partial) => partial,
         };
+        // The lines are held already, so this asks for no more than what the bytes gave.
+        partial.reserve(lines.len() as u32)?;
         take_lines(&mut partial, plan.components(), first_row, lines)?;
         self.partial = Some(partial);
         Ok(())

@@ -153,6 +153,13 @@ impl Store {
         take_at(&mut self.packed, &mut self.pages, at, samples, sources)
     }
 
+    /// Makes room for the samples of so many lines more. What is held stays.
+    pub(crate) fn reserve(&mut self, lines: u32) -> Result<(), AllocError>
+        ensures { self.new ≡ self.old }
+    {
+        self.packed.reserve(lines)
+    }
+
     /// Adds a source to the line of a place that has `i` others below it.
     pub(crate) fn mark(&mut self, at: LinePlace, i: usize, source: u32) -> Result<(), AllocError>
         requires { i < length (set.items (stored_at self.old at).lines) }

@@ -1,6 +1,6 @@
 //! Samples of lines of one width, one line after the other.
 
-ghost use Rattle.std.specs.Prelude.{◌≡◌, ◌<◌, ◌≤◌, ◌+◌, ◌++◌, ◌∷◌, [], length, true, not, IfOk, IsOk, OnOk, OnErr};
+ghost use Rattle.std.specs.Prelude.{◌≡◌, ◌<◌, ◌≤◌, ◌+◌, ◌*◌, ◌++◌, ◌∷◌, [], length, true, not, IfOk, IsOk, OnOk, OnErr};
 ghost use Rattle.std.specs.Prelude.{vec_len, vec_capacity};
 ghost use Rattle.jls_partial.specs.LineEntries.{MarksLine};
 ghost use Rattle.jls_partial.specs.Slots.{slots_of};
@@ -113,6 +113,16 @@ impl PackedLines {
         let slots = Slots::of(self.alloc, self.next_slot(sources)?)?;
         self.samples.reserve(self.width as usize)?;
         Ok(slots)
+    }
+
+    /// Makes room for so many lines more. What is held stays.
+    pub(crate) fn reserve(&mut self, lines: u32) -> Result<(), AllocError>
+        ensures same { self.new.samples.items ≡ self.old.samples.items }
+        ensures precision { self.new.precision ≡ self.old.precision }
+        ensures width { self.new.width ≡ self.old.width }
+        ensures room { OnOk result (vec_len self.new.samples + lines * self.new.width ≤ vec_capacity self.new.samples) }
+    {
+        self.samples.reserve(lines as usize * self.width as usize)
     }
 
     /// Puts a line in where there is room for it. This needs no memory.

@@ -103,6 +103,14 @@ impl Partial {
         Ok(self.keep(LinePlace { component, line }, samples, &[])?)
     }
 
+    /// Makes room for the samples of so many readings more, so that they are taken without the whole being moved. What is held stays.
+    /// The only refusal is out of memory.
+    pub fn reserve(&mut self, readings: u32) -> Result<(), AllocError>
+        ensures { self.new ≡ self.old }
+    {
+        self.store.reserve(readings)
+    }
+
     /// Takes one reading that fits, and adds these sources to its own. True where it is new.
     fn keep(&mut self, at: LinePlace, samples: &[u16], sources: &[u32]) -> Result<bool, AllocError>
         requires { reading_fault self.old.shape at.component at.line samples.now ≡ None }

@@ -10,4 +10,5 @@ take_lines-requires c =
       | in-None w ↦ (let a = w.partial-is in let b = w.empty-partial.ensures in let d = w.to_owned.ensures in cc)
       | in-Some w ↦ ap (λ p. p.shape) w.partial-is ∙ c.requires.held _ (sym c.take.ensures.value ∙ w.in-Some.is)
     ] in
-    rw (same, c.components.ensures.value, c.rows-first_row.ensures.first) fit
+    let kept : c.reserve.new.self.shape ≡ c.args.shape.now = ap (λ p. p.shape) c.reserve.ensures ∙ same in
+    rw (kept, c.components.ensures.value, c.rows-first_row.ensures.first) fit
