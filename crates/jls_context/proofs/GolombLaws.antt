@@ -3,7 +3,7 @@ use Rattle.std.proofs.Common.{◌≡◌, ℕ, zero, suc, ◌+◌, ◌-◌, ◌*�
 use Rattle.std.proofs.Common.{arith, inl, inr}
 use mir.Val.{bool_byte}
 use Rattle.std.specs.Prelude.{max}
-use Rattle.std.proofs.lemmas.Bool.{cases_Bool, cases_lt, le-leb, lt-leb, lt-ltb, le-ltb, ne_eqb}
+use Rattle.std.proofs.lemmas.Bool.{cases_Bool, cases_eq, cases_lt, le-leb, leb-true, leb-false, lt-leb, lt-ltb, le-ltb, ne_eqb}
 use Rattle.std.proofs.Math.Nat.{le-max_left, le-max_right, max-eq_left, max-eq_right, mod-eq_of_lt}
 use Rattle.std.proofs.lemmas.Nat.{pow_pos, pow-add, mul-le}
 use Rattle.std.proofs.Math.Pow.{pow_mono}
@@ -11,6 +11,7 @@ use Rattle.std.proofs.lemmas.Grind.{pow_more}
 use Rattle.jls_values.proofs.Least.{least_from-first}
 use Rattle.jls_values.specs.Params.{least_from}
 use Rattle.jls_context.specs.Regular.{golomb_k, IsGolombK}
+use Rattle.jls_context.proofs.Sizes.{least_from-passes}
 
 pub self-lt-pow : (n : ℕ) → n < 2 ^ n
 self-lt-pow zero = omega arith
@@ -37,6 +38,32 @@ unfolding least_from
 least_from-at_least passes zero from = omega arith
 least_from-at_least passes (suc count) from =
     elim (cases_Bool (passes from)) [ inl e ↦ rw e (omega arith) | inr e ↦ (let later = least_from-at_least passes count (suc from) in rw e (omega arith)) ]
+
+-- no number before the one that is found passes
+least_from-before : (passes : ℕ → Bool) (count from j : ℕ) → from ≤ j → j < least_from passes count from → passes j ≡ false
+unfolding least_from
+least_from-before passes zero from j low high = absurd (omega arith)
+least_from-before passes (suc count) from j low high =
+    elim (cases_Bool (passes from)) [
+      | inl e ↦ (let h : j < from = rw e at high in absurd (omega arith))
+      | inr e ↦
+          let h : j < least_from passes count (suc from) = rw e at high in
+          elim (cases_eq j from) [ inl is ↦ rw is e | inr apart ↦ least_from-before passes count (suc from) j (omega arith) h ]
+    ]
+
+-- k is the least number that passes
+pub golomb_k_found : (n a : ℕ) → 1 ≤ n → IsGolombK n a (golomb_k n a)
+unfolding golomb_k
+golomb_k_found n a some =
+    let size : a < 2 ^ a = self-lt-pow a in
+    let raised : 1 * 2 ^ a ≤ n * 2 ^ a = mul-le 1 (2 ^ a) n (2 ^ a) some (omega arith) in
+    let last : a ≤ n * 2 ^ a = omega arith in
+    let same : 0 + a ≡ a = omega arith in
+    let top : leb a (n * 2 ^ (0 + a)) ≡ true = rw same (le-leb a (n * 2 ^ a) last) in
+    record {
+      enough = leb-true a _ (least_from-passes (λ k. leb a (n * 2 ^ k)) a 0 top);
+      least = λ below lt. leb-false a (n * 2 ^ below) (least_from-before (λ k. leb a (n * 2 ^ k)) a 0 below (omega arith) lt);
+    }
 
 -- k is 0 exactly where N is at least A
 pub golomb_k_is_zero : (n a : ℕ) → eqb (golomb_k n a) 0 ≡ leb a n

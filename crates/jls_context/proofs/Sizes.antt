@@ -11,7 +11,7 @@ use Rattle.jls_context.specs.declared.interruption.RunCell.{RunCell}
 use Rattle.jls_context.specs.Interruption.{interruption_mapped}
 
 -- the number found passes, where the number after all of them does
-least_from-passes : (passes : ℕ → Bool) (count from : ℕ) → passes (from + count) ≡ true → passes (least_from passes count from) ≡ true
+pub least_from-passes : (passes : ℕ → Bool) (count from : ℕ) → passes (from + count) ≡ true → passes (least_from passes count from) ≡ true
 unfolding least_from
 least_from-passes passes zero from last = subst (λ z. passes z ≡ true) (let e : from + 0 ≡ from = omega arith in e) last
 least_from-passes passes (suc count) from last =
@@ -34,6 +34,13 @@ error_mapped_at_most p true (pos n) is = omega (arith, ints)
 error_mapped_at_most p true (negsuc n) is = omega (arith, ints)
 error_mapped_at_most p false (pos n) is = omega (arith, ints)
 error_mapped_at_most p false (negsuc n) is = omega (arith, ints)
+
+-- below MAXVAL each number is an error's
+pub small_is_error : (p : CodingParameters) (special : Bool) (e : ℤ) → error_mapped special e < p.maxval → IsError p e
+small_is_error p true (pos n) small = record { at_least = omega (arith, ints); below = omega (arith, ints) }
+small_is_error p true (negsuc n) small = record { at_least = omega (arith, ints); below = omega (arith, ints) }
+small_is_error p false (pos n) small = record { at_least = omega (arith, ints); below = omega (arith, ints) }
+small_is_error p false (negsuc n) small = record { at_least = omega (arith, ints); below = omega (arith, ints) }
 
 pub interruption_mapped_at_most : (p : CodingParameters) (same : Bool) (cell : RunCell) (e : ℤ) → IsError p e
     → interruption_mapped same cell e ≤ range p

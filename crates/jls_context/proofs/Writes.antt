@@ -1,13 +1,14 @@
 -- One cell is written, and all others stay.
-use Rattle.std.proofs.Common.{◌≡◌, ◌≢◌, ℕ, ◌<◌, List, length, get_or, replicate, set, sym, subst, ◌∙◌, arith, inl, inr}
+use Rattle.std.proofs.Common.{◌≡◌, ◌≢◌, ℕ, ◌<◌, List, length, get_or, replicate, set, map, ap, refl, zero, suc, ◌∷◌, sym, subst, ◌∙◌, arith, inl, inr}
 use Rattle.std.specs.List.{All}
-use Rattle.std.proofs.lemmas.List.{get_or-set_same, get_or-set_other, get_or-replicate, length-set, length-replicate}
+use Rattle.std.proofs.lemmas.List.{get_or-map, map-set, get_or-set_same, get_or-set_other, get_or-replicate, length-set, length-replicate}
 use Rattle.std.proofs.lemmas.Bool.{cases_eq, cases_lt}
 use Rattle.jls_context.specs.declared.regular.Cell.{Cell}
 use Rattle.jls_context.specs.declared.interruption.RunCell.{RunCell}
-use Rattle.jls_context.specs.Bounds.{IsCell, AreVariables}
+use Rattle.jls_context.specs.declared.regular.CellCode.{CellCode}
+use Rattle.jls_context.specs.Bounds.{IsCell, AreVariables, AreCells}
 use Rattle.jls_context.specs.Variables.{Variables, cell_at}
-use Rattle.jls_context.specs.Regular.{initial_cell}
+use Rattle.jls_context.specs.Regular.{initial_cell, code_of}
 use Rattle.jls_values.specs.Params.{CodingParameters}
 use Rattle.std.proofs.Math.ListN.{get_or-eq_default}
 
@@ -51,3 +52,33 @@ written_right v i x within are ok = record {
   run_other = are.run_other;
   run_same = are.run_same;
 }
+
+-- the codes of cells that are all the same
+pub codes_alike : (n : ℕ) (x : Cell) (code : CellCode) → code ≡ code_of x → replicate n code ≡ map code_of (replicate n x)
+codes_alike zero x code is = refl
+codes_alike (suc n) x code is = ap2 is (codes_alike n x code is)
+  where
+    ap2 : {c d : CellCode} {cs ds : List CellCode} → c ≡ d → cs ≡ ds → (c ∷ cs) ≡ (d ∷ ds)
+    ap2 a b = cc
+
+-- the code that is kept for a cell
+pub code_there : (v : Variables) (codes : List CellCode) (i : ℕ) (d : CellCode) → AreCells v codes → i < 365
+    → get_or codes i d ≡ code_of (cell_at v i)
+unfolding cell_at
+code_there v codes i d are within =
+    let length_is = are.variables.length_is in
+    ap (λ (cs : List CellCode). get_or cs i d) are.codes_are ∙ get_or-map code_of v.regular i (initial_cell v.parameters) d (omega arith)
+
+-- a cell is written, and its code with it
+pub codes_right : (v : Variables) (codes : List CellCode) (i : ℕ) (x : Cell) (code : CellCode) → i < 365 → AreCells v codes
+    → IsCell v.parameters.reset x → code ≡ code_of x → AreCells (written v i x) (set codes i code)
+codes_right v codes i x code within are ok is = record {
+  variables = written_right v i x within are.variables ok;
+  codes_are = ap (λ (cs : List CellCode). set cs i code) are.codes_are ∙ ap (λ (c : CellCode). set (map code_of v.regular) i c) is
+      ∙ sym (map-set code_of v.regular i x);
+}
+
+-- each cell is in its ranges
+pub cell_right : (v : Variables) (i : ℕ) → AreVariables v → i < 365 → IsCell v.parameters.reset (cell_at v i)
+unfolding cell_at
+cell_right v i are within = let length_is = are.length_is in are.regular i (initial_cell v.parameters) (omega arith)

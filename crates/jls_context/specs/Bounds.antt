@@ -1,9 +1,11 @@
 -- What is true of the cells after any number of errors.
-use Rattle.std.specs.Prelude.{◌≡◌, ℕ, ◌+◌, ◌*◌, ◌^◌, ◌<◌, ◌≤◌, length, pos, negsuc, neg_ℤ, ◌≤ℤ◌, ◌<ℤ◌}
+use Rattle.std.specs.Prelude.{◌≡◌, ℕ, ◌+◌, ◌*◌, ◌^◌, ◌<◌, ◌≤◌, List, length, map, pos, negsuc, neg_ℤ, ◌≤ℤ◌, ◌<ℤ◌}
 use Rattle.std.specs.List.{All}
 use Rattle.jls_values.specs.Params.{AreCodingParameters}
+use Rattle.jls_context.specs.Regular.{code_of}
 use Rattle.jls_context.specs.Variables.{Variables}
 use Rattle.jls_context.specs.declared.regular.Cell.{Cell}
+use Rattle.jls_context.specs.declared.regular.CellCode.{CellCode}
 use Rattle.jls_context.specs.declared.interruption.RunCell.{RunCell}
 
 -- The ranges of a cell: N from 1 to RESET, A so small that k is at most 16, B above -N and at most 0, C from -128 to 127
@@ -32,3 +34,8 @@ pub record AreVariables (v : Variables) : Type 0 where
   pub regular : All (IsCell v.parameters.reset) v.regular
   pub run_other : IsRunCell v.parameters.reset v.run_other
   pub run_same : IsRunCell v.parameters.reset v.run_same
+
+-- the variables, with what each cell says of its next code beside it
+pub record AreCells (v : Variables) (codes : List CellCode) : Type 0 where
+  pub variables : AreVariables v
+  pub codes_are : codes ≡ map code_of v.regular

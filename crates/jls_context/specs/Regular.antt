@@ -4,6 +4,7 @@ use Rattle.std.specs.Prelude.{ℤ, pos, negsuc, ◌+ℤ◌, ◌-ℤ◌, ◌*ℤ�
 use Rattle.std.specs.Int.{int_div_euclid, int_max, int_min}
 use Rattle.jls_values.specs.Params.{CodingParameters, range, least_from}
 use Rattle.jls_context.specs.declared.regular.Cell.{Cell}
+use Rattle.jls_context.specs.declared.regular.CellCode.{CellCode}
 use Rattle.jls_context.specs.Errors.{error_mapped}
 
 -- A of a cell at the start of an interval: max(2, floor((RANGE + 32) / 64)) (T.87 A.2)
@@ -32,6 +33,10 @@ regular_k cell = golomb_k cell.occurrences cell.magnitudes
 abbrev pub uses_special_mapping : Cell → Bool
 uses_special_mapping cell =
     (regular_k cell == 0) && int_le (pos 2 *ℤ cell.bias) (neg_ℤ (pos cell.occurrences))
+
+-- k and the mapping of a cell's next code (T.87 A.5.1, A.5.2)
+abbrev pub code_of : Cell → CellCode
+code_of cell = record { k = regular_k cell; special = uses_special_mapping cell }
 
 -- the number that an error is mapped to (T.87 A.5.2)
 abbrev pub regular_mapped : Cell → ℤ → ℕ

@@ -6,16 +6,16 @@ ghost use Rattle.jls_context.specs.declared.mode.Neighbours.{Neighbours};
 ghost use Rattle.jls_context.specs.Mode.{IsMode, IsStep, AreGradients};
 ghost use Rattle.jls_context.specs.Prediction.{edge_detecting_predictor, corrected_prediction};
 ghost use Rattle.jls_context.specs.Errors.{IsError, IsModuloReduced, modulo_reduced, prediction_error};
-ghost use Rattle.jls_context.specs.Regular.{initial_cell, regular_k, regular_mapped, updated, IsGolombK};
+ghost use Rattle.jls_context.specs.Regular.{initial_cell, regular_k, regular_mapped, code_of, updated, IsGolombK};
 ghost use Rattle.jls_context.specs.Interruption.{initial_run_cell, interruption_magnitudes, run_k, interruption_mapped, run_updated};
 ghost use Rattle.jls_context.specs.Variables.{initial_variables, cell_at, run_cell_at};
 ghost use Rattle.jls_context.specs.Bounds.{IsCell, IsRunCell, AreVariables};
 
-use crate::errors::{error_mapped, error_unmapped, is_error, reduced, restored};
+use crate::errors::{error_mapped, error_unmapped, is_error, is_error_of, reduced, restored};
 use crate::interruption::RunCell;
 use crate::mode::{Mode, quantized_gradient};
 use crate::prediction::{corrected_prediction, edge_detecting_predictor};
-use crate::regular::Cell;
+use crate::regular::{Cell, CellCode};
 use jls_values::Params;
 use std::marker::Model;
 
@@ -29,24 +29,26 @@ use std::marker::Model;
 pub struct Cells {
     params: Params,
     regular: [Cell; 365],
+    /// What each cell of regular mode says of its next code, as its last update left it.
+    codes: [CellCode; 365],
     run_other: RunCell,
     run_same: RunCell,
 }
 
 impl Model for Cells {
-    ghost use Rattle.jls_context.specs.Bounds.{AreVariables};
+    ghost use Rattle.jls_context.specs.Bounds.{AreCells};
     ghost use Rattle.jls_context.specs.Variables.{Variables};
 
     ghost Value = { Variables };
 
     ghost view = { λ a. record { parameters = a.params; regular = a.regular; run_other = a.run_other; run_same = a.run_same } };
 
-    ghost invariant = { λ a. AreVariables (record {
+    ghost invariant = { λ a. AreCells (record {
       parameters = a.params;
       regular = a.regular;
       run_other = a.run_other;
       run_same = a.run_same;
-    }) };
+    }) a.codes };
 }
 
 impl Cells {
@@ -56,9 +58,11 @@ impl Cells {
         ensures cells { (cell : ℕ) → cell_at result cell ≡ initial_cell params.now }
         ensures run_cells { (same : Bool) → run_cell_at result same ≡ initial_run_cell params.now }
     {
+        let cell = Cell::initial(params);
         Cells {
             params: *params,
-            regular: [Cell::initial(params); 365],
+            regular: [cell; 365],
+            codes: [cell.code(); 365],
             run_other: RunCell::initial(params),
             run_same: RunCell::initial(params),
         }
@@ -71,6 +75,7 @@ impl Cells {
         Cells {
             params: self.params,
             regular: self.regular,
+            codes: self.codes,
             run_other: self.run_other,
             run_same: self.run_same,
         }
@@ -117,6 +122,17 @@ impl Cells {
         self.regular[usize::from(cell)]
     }
 
+    /// What a context says of its next code.
+    fn code(&self, cell: u16) -> &CellCode
+        requires { cell ≤ 364 }
+        ensures value { result.now ≡ code_of (cell_at self.now cell) }
+        ensures least { let at = cell_at self.now cell in IsGolombK at.occurrences at.magnitudes result.now.k }
+        ensures at_most { result.now.k ≤ 16 }
+    {
+        // Each part is read by itself, since they were written one by one.
+        &self.codes[usize::from(cell)]
+    }
+
     fn run_cell(&self, same: bool) -> RunCell
         ensures value { result ≡ run_cell_at self.now same }
         ensures cell { IsRunCell self.now.parameters.reset result }
@@ -127,6 +143,7 @@ impl Cells {
 
     /// The predicted sample of regular mode, with the correction of its context and clamped to 0 to MAXVAL
     /// (A.4.1, A.4.2).
+    #[inline(always)]
     pub fn predict(&self, cell: u16, negative: bool, ra: u16, rb: u16, rc: u16) -> u16
         requires { cell ≤ 364 }
         ensures value { result ≡ corrected_prediction self.now.parameters negative (cell_at self.now cell).correction
@@ -153,6 +170,7 @@ impl Cells {
     }
 
     /// The sample that has this error against its prediction: no other has it (A.4.3 to A.4.5).
+    #[inline(always)]
     pub fn restore(&self, predicted: u16, negative: bool, error: i32) -> u16
         requires predicted { predicted ≤ self.now.parameters.maxval }
         requires error { IsError self.now.parameters error }
@@ -171,7 +189,7 @@ impl Cells {
         ensures least { let at = cell_at self.now cell in IsGolombK at.occurrences at.magnitudes result }
         ensures at_most { result ≤ 16 }
     {
-        self.regular_cell(cell).k()
+        self.code(cell).k
     }
 
     /// k, and the number that an error is mapped to, which is what the Golomb code stands for (A.5.1, A.5.2).
@@ -183,11 +201,13 @@ impl Cells {
         ensures k_at_most { result.0 ≤ 16 }
         ensures mapped_at_most { result.1 ≤ 2 ^ qbpp self.now.parameters }
     {
-        let cell = self.regular_cell(cell);
-        (cell.k(), error_mapped(cell.uses_special_mapping(), error))
+        let _cell = self.regular_cell(cell);
+        let code = self.code(cell);
+        (code.k, error_mapped(code.special, error))
     }
 
     /// The error that `regular_code` maps to this number (A.5.2). None where it maps none to it.
+    #[inline(always)]
     pub fn regular_error(&self, cell: u16, mapped: u32) -> Option<i32>
         requires { cell ≤ 364 }
         ensures error { IfSome result (IsError self.now.parameters) }
@@ -195,9 +215,9 @@ impl Cells {
         ensures only { IfSome result (λ e. (other : ℤ) → regular_mapped (cell_at self.now cell) other ≡ mapped → other ≡ e) }
         ensures none { IfNone result ((e : ℤ) → IsError self.now.parameters e → regular_mapped (cell_at self.now cell) e ≢ mapped) }
     {
-        let cell = self.regular_cell(cell);
-        let error = error_unmapped(cell.uses_special_mapping(), mapped);
-        if is_error(&self.params, error) {
+        let special = self.code(cell).special;
+        let error = error_unmapped(special, mapped);
+        if is_error_of(&self.params, special, mapped, error) {
             Some(error)
         } else {
             None
@@ -205,6 +225,7 @@ impl Cells {
     }
 
     /// Updates a context by the error of a sample in regular mode (A.6). All other contexts stay.
+    #[inline(always)]
     pub fn update_regular(&mut self, cell: u16, error: i32)
         requires cell { cell ≤ 364 }
         requires error { IsError self.old.parameters error }
@@ -215,7 +236,9 @@ impl Cells {
     {
         let old = self.regular_cell(cell);
         let reset = u32::from(self.params.reset());
-        self.regular[usize::from(cell)] = old.updated(reset, error);
+        let new = old.updated(reset, error);
+        self.regular[usize::from(cell)] = new;
+        self.codes[usize::from(cell)] = new.code();
     }
 
     /// The k of the Golomb code of the next sample that interrupts a run (A.7.2).

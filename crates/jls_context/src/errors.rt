@@ -33,6 +33,14 @@ pub(crate) fn is_error(params: &Params, error: i32) -> bool
     limit - range_of(params) <= error && error < limit
 }
 
+/// The same of a number that is mapped to another. Below MAXVAL each one is an error that a prediction can have.
+pub(crate) fn is_error_of(params: &Params, special: bool, mapped: u32, error: i32) -> bool
+    requires { Rattle.jls_context.specs.Errors.error_mapped special error ≡ mapped }
+    ensures { IsTrue result ↔ IsError params.now error }
+{
+    mapped < u32::from(params.maxval()) || is_error(params, error)
+}
+
 /// The remainder modulo RANGE of a number that is at most RANGE away from 0 to MAXVAL, without a division.
 fn remainder(maxval: u16, value: i32) -> u16
     requires at_least { neg_ℤ (pos (maxval + 1)) ≤ℤ value }

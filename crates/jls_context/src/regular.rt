@@ -3,7 +3,7 @@
 ghost use Rattle.std.specs.Prelude.{◌≡◌, ℕ, ◌+◌, ◌*◌, ◌^◌, ◌<◌, ◌≤◌, pos, negsuc, neg_ℤ, ◌≤ℤ◌, ◌<ℤ◌};
 ghost use Rattle.jls_values.specs.Params.{AreCodingParameters};
 ghost use Rattle.jls_context.specs.BiasSteps;
-ghost use Rattle.jls_context.specs.Regular.{initial_cell, regular_k, updated, IsGolombK};
+ghost use Rattle.jls_context.specs.Regular.{initial_cell, regular_k, code_of, updated, IsGolombK};
 ghost use Rattle.jls_context.specs.Bounds.{IsCell};
 
 use crate::golomb::{golomb_k, is_zero_k};
@@ -20,6 +20,13 @@ pub struct Cell {
     pub bias: i32,
     /// C: the correction of its predictions.
     pub correction: i32,
+}
+
+/// What a cell says of the next code: k, and whether errors are mapped by the special mapping (ITU-T T.87, A.5.1, A.5.2).
+#[derive(Clone, Copy)]
+pub struct CellCode {
+    pub k: u8,
+    pub special: bool,
 }
 
 /// A at the start of an interval.
@@ -98,6 +105,19 @@ impl Cell {
         ensures { result ≡ Rattle.jls_context.specs.Regular.uses_special_mapping self }
     {
         is_zero_k(self.occurrences, self.magnitudes) && 2 * self.bias <= -(self.occurrences as i32)
+    }
+
+    /// Its k, and whether its errors are mapped by the special mapping.
+    pub(crate) fn code(self) -> CellCode
+        requires cell { (reset : ℕ) × (reset < 2 ^ 16) × IsCell reset self }
+        ensures value { result ≡ code_of self }
+        ensures least { IsGolombK self.occurrences self.magnitudes result.k }
+        ensures at_most { result.k ≤ 16 }
+    {
+        CellCode {
+            k: self.k(),
+            special: self.uses_special_mapping(),
+        }
     }
 
     /// The cell with its bias brought back into its range.
