@@ -91,7 +91,8 @@ impl IntervalReader {
             }
             EventStep::Moved => {
                 if self.reader.line.len() == self.reader.width {
-                    let line = mem::replace(&mut self.reader.line, Vec::new(self.alloc));
+                    let next = Vec::with_capacity(self.alloc, self.reader.width)?;
+                    let line = mem::replace(&mut self.reader.line, next);
                     self.lines.push(line)?;
                     if self.lines.len() == self.count {
                         self.state = State::Complete(0);

@@ -93,6 +93,26 @@ pub(crate) fn take_samples(
     ensures width { reader.new.width ≡ reader.old.width }
     ensures parameters { reader.new.coder.cells.parameters ≡ reader.old.coder.cells.parameters }
 {
+    // A copy of its own, which the loop can hold in registers.
+    let mut bits = chunk.fork();
+    let taken = take_samples_of(reader, place, looked_for, &mut bits);
+    *chunk = bits;
+    taken
+}
+
+/// The same, from a chunk that nothing else refers to.
+#[inline(always)]
+fn take_samples_of(
+    reader: &mut LineReader,
+    place: &Place<'_>,
+    looked_for: u8,
+    chunk: &mut Chunk,
+) -> Result<(), AllocError>
+    requires columns { length reader.old.line.items < reader.old.width }
+    ensures taken { OnOk result (TakesInLine place.now.component (above_of place.now) reader.old reader.new chunk.old chunk.new) }
+    ensures width { reader.new.width ≡ reader.old.width }
+    ensures parameters { reader.new.coder.cells.parameters ≡ reader.old.coder.cells.parameters }
+{
     let OpenEvent::NotBegun = reader.open_event else {
         return Ok(());
     };

@@ -36,6 +36,7 @@ pub(crate) enum SampleStep {
 }
 
 /// The sample of regular mode whose error is mapped to this number. None where there is none.
+#[inline(always)]
 pub(crate) fn sample_of(
     coder: &Coder,
     neighbours: Neighbours,

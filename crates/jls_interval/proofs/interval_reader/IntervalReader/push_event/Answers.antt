@@ -150,9 +150,9 @@ returns-else-len-self-clause-bits c = λ p given h.
 pub returns-then-len-self-2-clause-bits : goal.returns-then-len-self-2-clause-bits
 returns-then-len-self-2-clause-bits c = λ p given h.
     let place = c.after-place.ensures in let e = c.push_to_event.ensures in
-    complete h c.requires.state c.deref.ensures.value place.component place.above e.width e.parameters c.in_ok-push_to_event.ensures.step c.in-Moved.is (let f = c.if-len-self.true in let l = c.len.ensures in omega arith) c.push.new.self c.replace-line.ensures.after c.new.ensures.items c.replace-line.ensures.value c.in_ok-push-in-Moved.ensures.items (let f = c.if-len-self-2.true in let l = c.len-then-len-self.ensures in omega arith)
+    complete h c.requires.state c.deref.ensures.value place.component place.above e.width e.parameters c.in_ok-push_to_event.ensures.step c.in-Moved.is (let f = c.if-len-self.true in let l = c.len.ensures in omega arith) c.push.new.self c.replace-line.ensures.after c.in_ok-next-in-Moved.ensures.items c.replace-line.ensures.value c.in_ok-push-in-Moved.ensures.items (let f = c.if-len-self-2.true in let l = c.len-then-len-self.ensures in omega arith)
 
 pub returns-else-len-self-2-clause-bits : goal.returns-else-len-self-2-clause-bits
 returns-else-len-self-2-clause-bits c = λ p given h.
     let place = c.after-place.ensures in let e = c.push_to_event.ensures in
-    goes_on h c.requires.state c.deref.ensures.value place.component place.above e.width e.parameters c.in_ok-push_to_event.ensures.step c.in-Moved.is (let f = c.if-len-self.true in let l = c.len.ensures in omega arith) c.push.new.self c.replace-line.ensures.after c.new.ensures.items c.replace-line.ensures.value c.in_ok-push-in-Moved.ensures.items (λ o. (let f = c.if-len-self-2.false in let l = c.len-then-len-self.ensures in omega arith))
+    goes_on h c.requires.state c.deref.ensures.value place.component place.above e.width e.parameters c.in_ok-push_to_event.ensures.step c.in-Moved.is (let f = c.if-len-self.true in let l = c.len.ensures in omega arith) c.push.new.self c.replace-line.ensures.after c.in_ok-next-in-Moved.ensures.items c.replace-line.ensures.value c.in_ok-push-in-Moved.ensures.items (λ o. (let f = c.if-len-self-2.false in let l = c.len-then-len-self.ensures in omega arith))

@@ -5,7 +5,7 @@ use Rattle.jls_interval.specs.Place.{above_of}
 use Rattle.jls_interval.specs.OpenEvents.{now_at}
 use Rattle.jls_interval.specs.LineSamples.{TakesInLine}
 use Rattle.jls_interval.specs.declared.line_reader.OpenEvent.TheVariants.{NotBegun}
-use Rattle.jls_interval.proofs.line_samples.take_samples.Given as goal
+use Rattle.jls_interval.proofs.line_samples.take_samples_of.Given as goal
 
 abbrev pub invariant-columns : goal.invariant-columns
 invariant-columns l = record {

@@ -7,7 +7,7 @@ use Rattle.jls_context.specs.Mode.{IsStep, quantized_gradient}
 use Rattle.jls_interval.specs.Events.{Above, neighbours}
 use Rattle.jls_interval.specs.Place.{above_of}
 use Rattle.jls_interval.proofs.LineSamples.{taken_more, taken_none, taken_same, begun_same}
-use Rattle.jls_interval.proofs.line_samples.take_samples.Goals as goal
+use Rattle.jls_interval.proofs.line_samples.take_samples_of.Goals as goal
 
 pub returns-in_default : goal.returns-in_default
 returns-in_default c =
