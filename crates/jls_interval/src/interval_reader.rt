@@ -36,9 +36,9 @@ pub(crate) struct IntervalReader {
     pub state: State,
 }
 
-/// As long as a chunk has so many bits, a sample is taken from it while others wait for more bytes. A code of fewer that isn't whole is
-/// looked for in vain.
-const LOOKED_FOR: u8 = 20;
+/// As long as a chunk has so many bits, a sample is taken from it while others wait for more bytes. Most codes of smooth pictures have no
+/// more. If a code isn't whole, its bits stay until there are more.
+const LOOKED_FOR: u8 = 8;
 
 /// The same lines once more.
 fn cloned_lines(alloc: Global, lines: &[Vec<u16>]) -> Result<Vec<Vec<u16>>, AllocError>

@@ -81,7 +81,8 @@ fn take_sample(
 }
 
 /// Takes samples of regular mode as long as there are at least `looked_for` bits and their codes are short and stand whole at the
-/// prefix, and the first bits of one after them: none, where an event has begun. The last two columns of the line are not taken.
+/// prefix: none, where an event has begun. Where one bit is enough, it takes the first bits of a code after them too. The last two
+/// columns of the line are not taken.
 pub(crate) fn take_samples(
     reader: &mut LineReader,
     place: &Place<'_>,
@@ -121,9 +122,15 @@ fn take_samples_of(
     let mut second = reader.coder.cells.gradient(near.rb, near.rc);
     'columns: while column + 2 < reader.width && chunk.len() >= looked_for {
         let first = reader.coder.cells.gradient(near.rd, near.rb);
+        let before = chunk.fork();
         match take_sample(&mut reader.coder, near, first, second, chunk) {
             Prefix::Other => return Ok(()),
             Prefix::Begun(code) => {
+                if looked_for > 1 {
+                    // More bytes are to come, and the whole code is taken at once then.
+                    *chunk = before;
+                    return Ok(());
+                }
                 reader.open_event = OpenEvent::Sample(code);
                 return Ok(());
             }

@@ -18,6 +18,11 @@ returns-in-Begun-clause-taken c =
     let i = c.columns.invariant in let s = c.in-Begun.ensures.prefix in
     begun_same c.args.place.now.component (above_of c.args.place.now) c.args.reader.now c.columns.reader c.args.chunk.now c.columns.chunk c.take_sample.new.chunk c.columns.near c.in-Begun.code c.take_sample.new.coder s.0 s.1 i.open_event i.parameters i.near i.taking
 
+pub returns-then-looked_for-gt1-clause-taken : goal.returns-then-looked_for-gt1-clause-taken
+returns-then-looked_for-gt1-clause-taken c =
+    let i = c.columns.invariant in let s = c.in-Begun.ensures.prefix in
+    taken_same c.args.place.now.component (above_of c.args.place.now) c.args.reader.now c.columns.reader c.args.chunk.now c.columns.chunk c.fork-before.result c.take_sample.new.coder s.1 c.fork-before.ensures i.taking
+
 pub returns-in-Other-clause-taken : goal.returns-in-Other-clause-taken
 returns-in-Other-clause-taken c =
     let none = c.in-Other.ensures.prefix in
