@@ -38,7 +38,7 @@ pub(crate) struct IntervalReader {
 
 /// As long as a chunk has so many bits, a sample is taken from it while others wait for more bytes. Most codes of smooth pictures have no
 /// more. If a code isn't whole, its bits stay until there are more.
-const LOOKED_FOR: u8 = 8;
+const LOOKED_FOR: u8 = 15;
 
 /// The same lines once more.
 fn cloned_lines(alloc: Global, lines: &[Vec<u16>]) -> Result<Vec<Vec<u16>>, AllocError>
