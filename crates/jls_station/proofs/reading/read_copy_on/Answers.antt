@@ -9,7 +9,8 @@ use Rattle.jls_station.specs.KnownCopies.{IsPrefixOf}
 use Rattle.jls_station.specs.Reading.{AreBytes, IsRead, IsReadInPart}
 use Rattle.jls_station.specs.declared.input.ReadStop.TheVariants.{Whole, Failed}
 use Rattle.jls_station.proofs.CopySteps.{of_reader, goes_on, copy_more, prefix_of, consumes_no_more}
-use Rattle.jls_station.proofs.OneInput.{on_error, one_read_more, read_to_end, read_to_failure, read_in_part}
+use Rattle.jls_partial.proofs.TextPrefixes.{on_error}
+use Rattle.jls_station.proofs.OneInput.{one_read_more, read_to_end, read_to_failure, read_in_part}
 use Rattle.jls_station.proofs.reading.read_copy_on.Goals as goal
 
 pub returns-in-Err-clause-read : goal.returns-in-Err-clause-read

@@ -5,7 +5,8 @@ use Rattle.jls_io.specs.Event.{GrewBy}
 use Rattle.jls_station.specs.Inputs.{IsEnough}
 use Rattle.jls_station.specs.Reading.{AreBytes, IsReadInPart, ReadSoFar}
 use Rattle.jls_station.specs.Texts.{is_text}
-use Rattle.jls_station.proofs.OneInput.{on_error, never_enough, still_text, one_read_more, read_to_end, read_in_part, consumes_on}
+use Rattle.jls_partial.proofs.TextPrefixes.{on_error}
+use Rattle.jls_station.proofs.OneInput.{never_enough, still_text, one_read_more, read_to_end, read_in_part, consumes_on}
 use Rattle.jls_station.proofs.reading.read_text_on.Goals as goal
 
 pub returns-then-n-eq0-clause-read : goal.returns-then-n-eq0-clause-read

@@ -2,7 +2,8 @@ use Rattle.std.proofs.Common.{rules, ◌≡◌, ◌<◌, ◌+◌, ◌++◌, ap, 
 use Rattle.std.proofs.lemmas.List.{length-take}
 use Rattle.jls_io.specs.Event.{GrewBy}
 use Rattle.jls_station.specs.Reading.{IsReadInPart}
-use Rattle.jls_station.proofs.OneInput.{on_error, read_to_end, read_to_failure, read_enough, read_in_part}
+use Rattle.jls_partial.proofs.TextPrefixes.{on_error}
+use Rattle.jls_station.proofs.OneInput.{read_to_end, read_to_failure, read_enough, read_in_part}
 use Rattle.jls_station.specs.CopyFiles.{begins_as_text, IsTextPrefix}
 use Rattle.jls_station.proofs.CopyReads.{no_prefix, none_known_yet, none_yet, one_more, one_more_known}
 use Rattle.jls_station.proofs.whole_reading.read_to_end.Goals as goal
