@@ -1,11 +1,12 @@
 -- Lemmas of this crate.
+mod ErrorKinds
 mod FaultLineExamples
+mod Numbers
 pub mod OutputSteps
-mod SalvageNumbers
+pub mod PrintedNumbers
 mod SalvageSimpleCommand
 pub mod SalvageWordsRead
 mod SalvageWordsTakenExamples
-mod SpliceNumbers
 mod SpliceSimpleCommand
 mod SpliceWordsRead
 mod SpliceWordsTakenExamples
