@@ -10,7 +10,7 @@ use Rattle.jls_station.specs.declared.input.InputFault.TheVariants as fault
 use Rattle.jls_station.specs.declared.input.ReadStop.TheVariants.{Failed}
 use Rattle.jls_cli.specs.declared.outcome.Cause.TheVariants as cause
 use Rattle.jls_cli.specs.FaultLines.{cause_line}
-use Rattle.jls_cli.proofs.PrintedNumbers.{d0, d1, d3, d4, d5, d6, d16, d18, d19, d29, d30, d31, d33, d60}
+use Rattle.jls_report.proofs.PrintedNumbers.{d0, d1, d3, d4, d5, d6, d16, d18, d19, d29, d30, d31, d33, d60}
 
 -- inputs that are not read
 not_opened : cause_line (codes "jls-salvage") (codes "N") cause.NotOpened ≡ codes "jls-salvage: N: cannot be opened\n"

@@ -3,7 +3,6 @@ mod ErrorKinds
 mod FaultLineExamples
 mod Numbers
 pub mod OutputSteps
-pub mod PrintedNumbers
 mod SalvageSimpleCommand
 pub mod SalvageWordsRead
 mod SalvageWordsTakenExamples
