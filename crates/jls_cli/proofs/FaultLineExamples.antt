@@ -1,59 +1,16 @@
 -- Fault lines of worked refusals, as both programs print them. The offsets of bad texts were counted by hand, each in a change of the text
 -- of a picture of 1x2 samples that ends at byte 31.
-use Rattle.std.proofs.Common.{◌≡◌, ◌∷◌, [], true, false, refl, lit<}
-use Rattle.std.specs.Prelude.{codes, decimal}
+use Rattle.std.proofs.Common.{◌≡◌, ◌∷◌, [], true, false, refl}
+use Rattle.std.specs.Prelude.{codes}
 use Rattle.std.specs.Char.{encode_utf8}
 use Rattle.std.specs.Str.{chars}
-use Rattle.std.proofs.lemmas.Fmt.{decimal_digit, decimal-digits_of}
 use Rattle.jls_marker.specs.declared.fault.MarkerFault.TheVariants.{NoSoi, Ended}
 use Rattle.jls_partial.specs.declared.text_fault.TextFault.TheVariants as text_fault
 use Rattle.jls_station.specs.declared.input.InputFault.TheVariants as fault
 use Rattle.jls_station.specs.declared.input.ReadStop.TheVariants.{Failed}
 use Rattle.jls_cli.specs.declared.outcome.Cause.TheVariants as cause
 use Rattle.jls_cli.specs.FaultLines.{cause_line}
-
--- the numbers in them
-d0 : decimal 0 ≡ codes "0"
-d0 = decimal_digit 0 (lit< tt)
-
-d1 : decimal 1 ≡ codes "1"
-d1 = decimal_digit 1 (lit< tt)
-
-d3 : decimal 3 ≡ codes "3"
-d3 = decimal_digit 3 (lit< tt)
-
-d4 : decimal 4 ≡ codes "4"
-d4 = decimal_digit 4 (lit< tt)
-
-d5 : decimal 5 ≡ codes "5"
-d5 = decimal_digit 5 (lit< tt)
-
-d6 : decimal 6 ≡ codes "6"
-d6 = decimal_digit 6 (lit< tt)
-
-d16 : decimal 16 ≡ codes "16"
-d16 = decimal-digits_of 16 (lit< tt) (lit< tt)
-
-d18 : decimal 18 ≡ codes "18"
-d18 = decimal-digits_of 18 (lit< tt) (lit< tt)
-
-d19 : decimal 19 ≡ codes "19"
-d19 = decimal-digits_of 19 (lit< tt) (lit< tt)
-
-d29 : decimal 29 ≡ codes "29"
-d29 = decimal-digits_of 29 (lit< tt) (lit< tt)
-
-d30 : decimal 30 ≡ codes "30"
-d30 = decimal-digits_of 30 (lit< tt) (lit< tt)
-
-d31 : decimal 31 ≡ codes "31"
-d31 = decimal-digits_of 31 (lit< tt) (lit< tt)
-
-d33 : decimal 33 ≡ codes "33"
-d33 = decimal-digits_of 33 (lit< tt) (lit< tt)
-
-d60 : decimal 60 ≡ codes "60"
-d60 = decimal-digits_of 60 (lit< tt) (lit< tt)
+use Rattle.jls_report.proofs.PrintedNumbers.{d0, d1, d3, d4, d5, d6, d16, d18, d19, d29, d30, d31, d33, d60}
 
 -- inputs that are not read
 not_opened : cause_line (codes "jls-salvage") (codes "N") cause.NotOpened ≡ codes "jls-salvage: N: cannot be opened\n"

@@ -1,11 +1,11 @@
 -- Lemmas of this crate.
+mod ErrorKinds
 mod FaultLineExamples
+mod Numbers
 pub mod OutputSteps
-mod SalvageNumbers
 mod SalvageSimpleCommand
 pub mod SalvageWordsRead
 mod SalvageWordsTakenExamples
-mod SpliceNumbers
 mod SpliceSimpleCommand
 mod SpliceWordsRead
 mod SpliceWordsTakenExamples

@@ -292,7 +292,7 @@ longest (x ∷ y ∷ []) b =
 longest (x ∷ y ∷ z ∷ zs) b = absurd (let n = ap length b.lines_are in omega (arith, n))
 
 -- so the head is the first line
-is_head : IsHeadOfPiece (interval_of cut.plan 0) (0x50 ∷ []) ((1 ∷ []) ∷ [])
+pub is_head : IsHeadOfPiece (interval_of cut.plan 0) (0x50 ∷ []) ((1 ∷ []) ∷ [])
 is_head =
     let own : AreWholeLines (interval_shape cut.bits_8 1 1 2) (bits_read (0x50 ∷ [])) both ((1 ∷ []) ∷ []) =
     record { begins = cut_off.begins; longest = longest } in

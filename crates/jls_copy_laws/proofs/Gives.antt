@@ -2,6 +2,7 @@
 use Rattle.std.proofs.Common.{◌≡◌, ℕ, ◌+◌, Bool, true, false, List, [], ◌∷◌, ◌++◌, length, map, Some, refl, sym, ap, ◌∙◌, subst, inl, inr}
 use Rattle.std.specs.List.{AllByRecursion, Contains, flat_map, zip}
 use Rattle.std.proofs.lemmas.List.Elements.{Contains-append_left, Contains-append_right, Contains-append_cases}
+use Rattle.std.proofs.lemmas.Bool.{false≢true}
 use Rattle.jls_values.specs.Shape.{PictureShape}
 use Rattle.jls_partial.specs.Reading.{Reading}
 use Rattle.jls_marker.specs.Scan.{Scan, intervals}
@@ -177,7 +178,7 @@ cut_found index s number given at (c ∷ closed) last cut n piece m is =
     let next = number_after (intervals s) given c.mark in
     let following = at + length (closed_bytes c) in
     elim (first_or_rest (n, piece) (number, whole_piece c) (numbered_pieces s next (given_last given next) closed last cut) m) [
-      | inl e ↦ absurd (not_both (ap (λ (q : PieceNumber × ScanPiece). q.1.ended_by_input) e ∙ is))
+      | inl e ↦ absurd (false≢true (ap (λ (q : PieceNumber × ScanPiece). q.1.ended_by_input) e ∙ is))
       | inr later ↦ (
           let r = cut_found index s next (given_last given next) following closed last cut n piece later is in
           let p = found index s n r.0 piece.bytes in
@@ -185,9 +186,6 @@ cut_found index s number given at (c ∷ closed) last cut n piece m is =
           (r.0, r.1, last_after_one q (piece_begun index s next following) (given_last given next) closed last p r.2))
     ]
   where
-    not_both : false ≡ true → ⊥
-    not_both e = cc
-
     -- the last piece is the last after the first
     last_after_one : (q begun : FoundPiece) (given : ℕ) (closed : List ClosedPiece) (last : List ℕ) (p : FoundPiece)
         → Contains (last_piece (pieces_from begun given closed last)) p → Contains (last_piece (q ∷ pieces_from begun given closed last)) p

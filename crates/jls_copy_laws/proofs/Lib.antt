@@ -5,4 +5,4 @@ pub mod SegmentSets
 pub mod CutOff
 pub mod CopyScans
 pub mod Gives
-mod FileExamples
+pub mod FileExamples

@@ -31,6 +31,7 @@ use Rattle.jls_marker.proofs.SegmentLaws.{written_reads_back}
 use Rattle.jls_write.specs.Picture.{WholePicture}
 use Rattle.jls_write.specs.Options.{WriteOptions, components_of_scan, rows_of_interval}
 use Rattle.jls_write.specs.WrittenFile.{are_values_of, are_defaults, restart_segments, components_of_scans, scan_of, scan_segment}
+use Rattle.jls_write.proofs.FileLength.{tail_length}
 use Rattle.jls_file_laws.specs.FileLaw.{IsWritable}
 use Rattle.jls_file_laws.proofs.Covering.{IsScanOf, scans_of, scan_components}
 use Rattle.jls_file_laws.proofs.WrittenUnits.{Steps, ScanSteps, AreTaken}
@@ -125,9 +126,6 @@ threes_length (x ∷ ids) = let e = threes_length ids in omega (arith, e)
 pairs_length : (ids : List ℕ) → length (flat_map (λ id. id ∷ 0 ∷ []) ids) ≡ 2 * length ids
 pairs_length [] = refl
 pairs_length (x ∷ ids) = let e = pairs_length ids in omega (arith, e)
-
-tail_length : (xs : List ℕ) (x : ℕ) → length (xs ++ 0 ∷ x ∷ 0 ∷ []) ≡ length xs + 3
-tail_length xs x = length-append xs (0 ∷ x ∷ 0 ∷ [])
 
 scan_short : (s : ScanSelection) → length s.ids ≤ 4 → length (written.scan_payload s) + 2 < 2 ^ 16
 scan_short s few =

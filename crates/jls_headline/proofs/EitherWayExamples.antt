@@ -12,7 +12,6 @@ use Rattle.jls_partial.specs.Partial.{PartialPicture, without_sources, nothing_k
 use Rattle.jls_write.specs.Options.{OptionsFit}
 use Rattle.jls_file_laws.specs.Covering.{IsLineOf}
 use Rattle.jls_marker.specs.Scan.{first_row}
-use Rattle.jls_copy.specs.Numbers.{Interval, numbers_after}
 use Rattle.jls_copy.specs.Pieces.{placed}
 use Rattle.jls_copy_laws.specs.Gives.{ScanGives, GivesReading}
 use Rattle.jls_copy_laws.proofs.CopyScans.{one_list_of_scans}
@@ -43,9 +42,6 @@ use Rattle.jls_headline.proofs.TwoLineExamples.{another_is_not_of_it, line_1_is_
 
 line_of_interval_1 : placed (0 ∷ []) (first_row plan 1) 0 ((255 ∷ []) ∷ []) ≡ reading_of 0 1 (255 ∷ []) ∷ []
 line_of_interval_1 = refl
-
-numbers_of_marks : numbers_after 10 0 (7 ∷ 0 ∷ []) ≡ Interval 8 ∷ Interval 9 ∷ []
-numbers_of_marks = refl
 
 with_its_number : numbered_pieces third_data [] ≡ (0, piece_of (0x50 ∷ [])) ∷ []
 with_its_number = refl

@@ -1,5 +1,5 @@
 -- What there is where a premise of the laws on stations and files is not met. `TwoLineExamples` has those on marks, refusal and survival.
-use Rattle.std.proofs.Common.{◌≡◌, ℕ, zero, suc, ◌<◌, ◌≤◌, Bool, true, false, List, [], None, ◌∷◌, ◌++◌, length, map, replicate, refl, sym}
+use Rattle.std.proofs.Common.{◌≡◌, ℕ, zero, suc, ◌<◌, ◌≤◌, true, false, List, [], None, ◌∷◌, length, map, replicate, refl, sym}
 use Rattle.std.proofs.Common.{ap, subst, ◌∙◌, lit<, lit≤, arith, inl, inr}
 use Rattle.std.specs.Prelude.{get_or}
 use Rattle.std.specs.List.{range_with_len}
@@ -9,7 +9,7 @@ use Rattle.jls_values.specs.OrderedSetLaws.{contains-empty}
 use Rattle.jls_values.specs.Join.{IsBetween}
 use Rattle.jls_values.specs.Params.{CodingParameters, least_from}
 use Rattle.jls_values.specs.SameShape.{same_shape}
-use Rattle.jls_bits.specs.Bits.{bits, width_after, bits_read, bits_read_after, ends_data, is_whole, is_whole_after}
+use Rattle.jls_bits.specs.Bits.{bits, width_after, bits_read_after, ends_data, is_whole_after}
 use Rattle.jls_bits.specs.Golomb.{golomb}
 use Rattle.jls_context.specs.Mode.{quantized_gradient, is_negative, context}
 use Rattle.jls_context.specs.Errors.{modulo_reduced}
@@ -20,8 +20,7 @@ use Rattle.jls_interval.specs.Events.{events_from, events_after}
 use Rattle.jls_interval.specs.Cells.{cell_before, run_cell_before}
 use Rattle.jls_interval.specs.Runs.{block_columns, full_blocks, blocks, run_index_before}
 use Rattle.jls_interval.specs.Code.{event_bits, bits_of_events, code}
-use Rattle.jls_interval.specs.Heads.{BeginsWithFirst, AreWholeLines, IsHeadOfPiece}
-use Rattle.jls_interval.specs.Laws.{IsCutCode}
+use Rattle.jls_interval.specs.Heads.{IsHeadOfPiece}
 use Rattle.jls_interval.specs.Reads.{Reads}
 use Rattle.jls_interval.proofs.HeadLines.{read_has_none}
 use Rattle.jls_interval.specs.Lines.{interval_shape}
@@ -39,6 +38,7 @@ use Rattle.jls_headline.specs.Stations.{HoldsExactly}
 use Rattle.jls_headline.specs.Sources.{sourced_copy}
 use Rattle.jls_headline.specs.Collected.{Collected, new_station, reader_finished, partial_ran_out, CollectedFrom}
 use Rattle.jls_headline.specs.ReadsAs.{GivesPicture, ReadsAs}
+use Rattle.jls_copy_laws.proofs.FileExamples.{is_head}
 use Rattle.jls_copy_laws.proofs.Members.{none_in, bytes_of_test}
 use Rattle.jls_headline.proofs.CopyGives.{copy_gives}
 use Rattle.jls_headline.proofs.LostIntervals.{surviving_lines_are_given}
@@ -132,60 +132,9 @@ holds_more p held h = (let from = (h.readings (picture_reading pic 0 0)).0 held 
 abbrev pub both_lines : Scan
 both_lines = record { components = 0 ∷ []; params = bits_8; width = 1; height = 2; restart_interval = 0 }
 
--- 0x50 is the sample 1, and then what the code of a 9 below it begins with
-abbrev one_and_nine : List (List ℕ)
-one_and_nine = (1 ∷ []) ∷ (9 ∷ []) ∷ []
-
-record CutOff : Type 0 where
-  cut : IsCutCode (interval_shape bits_8 1 1 2) (bits_read (0x50 ∷ []))
-  lines_are : cut.lines ≡ one_and_nine
-  begins : BeginsWithFirst (interval_shape bits_8 1 1 2) (bits_read (0x50 ∷ [])) one_and_nine ((1 ∷ []) ∷ [])
-  not_both : (unread : List Bool) → bits_read (0x50 ∷ []) ≡ code bits_8 1 1 one_and_nine ++ unread → ⊥
-  whole : is_whole (0x50 ∷ []) ≡ true
-
-cut_off : CutOff
-unfolding least_from bits width_after golomb quantized_gradient is_negative context modulo_reduced corrected_prediction golomb_k updated
-    run_updated events_from events_after cell_before run_cell_before block_columns full_blocks blocks run_index_before event_bits
-    bits_of_events code bits_read_after is_whole_after ends_data
-cut_off = record {
-  cut = record {
-    lines = one_and_nine;
-    are_lines = record { count_is = refl; each = ((refl, (lit≤ tt, tt)), ((refl, (lit≤ tt, tt)), tt)) };
-    missing = true;
-    more_missing = false ∷ false ∷ [];
-    code_is = refl;
-  };
-  lines_are = refl;
-  begins = record { others = (9 ∷ []) ∷ []; lines_are = refl; unread = replicate 4 false; given_is = refl };
-  not_both = λ unread e. (let n = ap length e in omega (arith, n));
-  whole = refl;
-}
-
--- of the first lines of these two that the bits begin with, the longest list is the first line
-longest : (first : List (List ℕ)) → BeginsWithFirst (interval_shape bits_8 1 1 2) (bits_read (0x50 ∷ [])) one_and_nine first
-    → length first ≤ 1
-longest [] b = lit≤ tt
-longest (x ∷ []) b = lit≤ tt
-longest (x ∷ y ∷ []) b =
-    let both : one_and_nine ≡ x ∷ y ∷ b.others = b.lines_are in
-    let none : [] ≡ b.others = cc in
-    let same : x ∷ y ∷ [] ≡ one_and_nine = sym (both ∙ ap (λ (zs : List (List ℕ)). x ∷ y ∷ zs) (sym none)) in
-    absurd (cut_off.not_both b.unread (b.given_is ∙ ap (λ (lines : List (List ℕ)). code bits_8 1 1 lines ++ b.unread) same))
-longest (x ∷ y ∷ z ∷ zs) b = absurd (let n = ap length b.lines_are in omega (arith, n))
-
--- so its head is another line than the picture's
+-- 0x50 is the sample 1, and then what the code of a 9 below it begins with. So its head is another line than the picture's
 pub another_head : IsHeadOfPiece (interval_of both_lines 0) (0x50 ∷ []) ((1 ∷ []) ∷ [])
-another_head =
-    let own : AreWholeLines (interval_shape bits_8 1 1 2) (bits_read (0x50 ∷ [])) one_and_nine ((1 ∷ []) ∷ []) =
-    record { begins = cut_off.begins; longest = longest } in
-    inl (
-      cut_off.whole,
-      inl (
-        cut_off.cut,
-        subst (λ lines. AreWholeLines (interval_shape bits_8 1 1 2) (bits_read (0x50 ∷ [])) lines ((1 ∷ []) ∷ []))
-            (sym cut_off.lines_are) own,
-      ),
-    )
+another_head = is_head
 
 no_lines_of_the_picture : HasPictureLines pic both_lines (0, record { bytes = 0x50 ∷ []; ended_by_input = true }) → ⊥
 no_lines_of_the_picture h =

@@ -24,6 +24,7 @@ use Rattle.jls_headline.specs.NoOtherLaws.{InputHasLine, SomeInputHasEachLine, S
 use Rattle.jls_headline.specs.Damaged.{picture_reading, Survives}
 use Rattle.jls_headline.specs.ReadsAs.{GivesPicture}
 use Rattle.jls_headline.specs.Stations.{HasShape}
+use Rattle.jls_salvage_run.proofs.InTurn.{shape_of_join}
 use Rattle.jls_headline.proofs.Held.{is_at_line}
 use Rattle.jls_headline.proofs.Collected.{no_text}
 use Rattle.jls_headline.proofs.CollectedRuns.{given_holds, all_of_shape}
@@ -51,10 +52,6 @@ held_on p (q ∷ qs) r h =
     held_on (union p q) qs r
     (contains-union reading_total p.readings q.readings r ∙ or_left (set.contains p.readings r) (set.contains q.readings r) h)
 
-shape_on : (p : PartialPicture) (ps : List PartialPicture) → (join_all union p ps).shape ≡ p.shape
-shape_on p [] = refl
-shape_on p (q ∷ qs) = shape_on (union p q) qs
-
 given_later : (source : Option ℕ) (p : PartialPicture) (ps : List PartialPicture) (inputs : List (List ℕ)) (bytes : List ℕ)
     → AreGiven source inputs ps → AllOfShape has_same_shape p ps → Contains inputs bytes → IsJoined source bytes (join_all union p ps)
 given_later source p [] [] bytes given shapes c = absurd (none_in bytes c)
@@ -64,7 +61,7 @@ given_later source p (q ∷ qs) (x ∷ inputs) bytes given shapes (zero, l, e) =
   partial = q;
   low = subst AreBytes e given.0;
   gives = subst (λ (b : List ℕ). GivesPartial source b q) e given.1;
-  shape_is = sym (one_shape p.shape q.shape shapes.0) ∙ sym (shape_on (union p q) qs);
+  shape_is = sym (one_shape p.shape q.shape shapes.0) ∙ sym (shape_of_join (union p q) qs);
   held = λ r h. held_on (union p q) qs r
       (contains-union reading_total p.readings q.readings r ∙ or_right (set.contains p.readings r) (set.contains q.readings r) h);
 }
@@ -79,7 +76,7 @@ is_joined source (p ∷ ps) joined (x ∷ inputs) bytes given shapes u (zero, l,
   partial = p;
   low = subst AreBytes e given.0;
   gives = subst (λ (b : List ℕ). GivesPartial source b p) e given.1;
-  shape_is = sym (shape_on p ps) ∙ ap (λ (q : PartialPicture). q.shape) (sym u);
+  shape_is = sym (shape_of_join p ps) ∙ ap (λ (q : PartialPicture). q.shape) (sym u);
   held = λ r h. subst (λ (q : PartialPicture). set.contains q.readings r ≡ true) (sym u) (held_on p ps r h);
 }
 is_joined source (p ∷ ps) joined (x ∷ inputs) bytes given shapes u (suc k, l, e) =

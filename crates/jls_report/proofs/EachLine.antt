@@ -3,7 +3,7 @@ use Rattle.std.proofs.Common.{◌≡◌, ℕ, zero, suc, ◌+◌, ◌-◌, ◌<�
 use Rattle.std.proofs.Common.{ap, sym, ◌∙◌, arith, inl, inr, add-zero, zero-add}
 use Rattle.std.specs.Prelude.{◌==◌, nat_le, not}
 use Rattle.std.specs.List.{range_with_len, flat_map, sum_by, count_by}
-use Rattle.std.proofs.lemmas.Bool.{and_parts, eqb-true, ne_eqb, leb-true, le-leb, cases_lt}
+use Rattle.std.proofs.lemmas.Bool.{false≢true, and_parts, eqb-true, ne_eqb, leb-true, le-leb, cases_lt}
 use Rattle.std.proofs.lemmas.List.Sums.{sum_by-append, sum_by-cons}
 use Rattle.jls_partial.specs.Partial.{PartialPicture}
 use Rattle.jls_partial.specs.PartialLaws.{eqb_itself}
@@ -100,14 +100,11 @@ record BeginsAt (missing : ℕ → Bool) (line first : ℕ) : Type 0 where
   each : (k : ℕ) → first ≤ k → k < line → missing k ≡ true
   above : (k : ℕ) → k + 1 ≡ first → missing k ≡ false
 
-not_both : (b : Bool) → b ≡ true → b ≡ false → ⊥
-not_both b is is_not = let e : true ≡ false = sym is ∙ is_not in cc
-
 not_before : (missing : ℕ → Bool) (line f g : ℕ) → BeginsAt missing line f → BeginsAt missing line g → f < g → ⊥
 not_before missing line f g at_f at_g less =
     let most = at_g.at_most in
     let before : g - 1 + 1 ≡ g = omega arith in
-    not_both (missing (g - 1)) (at_f.each (g - 1) (omega arith) (omega arith)) (at_g.above (g - 1) before)
+    false≢true (sym (at_g.above (g - 1) before) ∙ at_f.each (g - 1) (omega arith) (omega arith))
 
 one_beginning : (missing : ℕ → Bool) (line f g : ℕ) → BeginsAt missing line f → BeginsAt missing line g → (f ≡ g → ⊥) → ⊥
 one_beginning missing line f g at_f at_g differ =
@@ -241,7 +238,7 @@ module _ (p : PartialPicture) (component line : ℕ) (component_in : component <
       beyond less =
           let rising = range.rising in
           let after : is_missing p component (last + 1) ≡ false = range.below (omega arith) in
-          not_both (is_missing p component (last + 1)) (is_missing_at (cases_lt (last + 1) line)) after
+          false≢true (sym after ∙ is_missing_at (cases_lt (last + 1) line))
         where
           is_missing_at : (last + 1 < line) ⊎ (line ≤ last + 1) → is_missing p component (last + 1) ≡ true
           is_missing_at (inl before) = at.each (last + 1) (let rising = range.rising in omega arith) before

@@ -6,6 +6,7 @@ pub mod LongestRanges
 pub mod Members
 pub mod OfShape
 pub mod OneMore
+pub mod PrintedNumbers
 pub mod RangeEnds
 mod ReportTextExamples
 pub mod WorkedRows

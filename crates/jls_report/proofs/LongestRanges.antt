@@ -3,7 +3,8 @@ use Rattle.std.proofs.Common.{◌≡◌, ℕ, zero, suc, ◌+◌, ◌-◌, ◌<�
 use Rattle.std.proofs.Common.{arith, inl, inr}
 use Rattle.std.specs.Prelude.{◌==◌, not, Contains}
 use Rattle.std.specs.List.{range_with_len, prefix_len}
-use Rattle.std.proofs.lemmas.Bool.{and_parts, ne_eqb, leb-true, le-leb}
+use Rattle.std.proofs.lemmas.Bool.{and_parts, ne_eqb, leb-true, le-leb, not-true}
+use Rattle.std.proofs.Math.Bool.{or-true}
 use Rattle.std.proofs.lemmas.List.FromFn.{get_or-range_with_len, length-range_with_len}
 use Rattle.std.proofs.lemmas.List.Sums.{prefix_len_passes, prefix_len_stops, prefix_len-le-length}
 use Rattle.jls_partial.specs.Partial.{PartialPicture}
@@ -43,10 +44,6 @@ some_pass test a (suc n) more here =
 
 -- ---- tests
 
-not_true : (b : Bool) → not b ≡ true → b ≡ false
-not_true true is = absurd cc
-not_true false is = refl
-
 or_second : (b d : Bool) → (b || d) ≡ true → b ≡ false → d ≡ true
 or_second true d is first = absurd cc
 or_second false d is first = is
@@ -60,11 +57,7 @@ first_or zero missing above = refl
 first_or (suc n) missing above =
     let before : suc n - 1 ≡ n = omega arith in
     let here : missing (suc n - 1) ≡ false = ap missing before ∙ above n (omega arith) in
-    ap (λ b. (suc n == 0) || not b) here ∙ last_true (suc n == 0)
-  where
-    last_true : (b : Bool) → (b || true) ≡ true
-    last_true true = refl
-    last_true false = refl
+    ap (λ b. (suc n == 0) || not b) here ∙ or-true (suc n == 0)
 
 -- ---- where a range begins
 
@@ -87,7 +80,7 @@ range_is_longest p component line component_in line_in begins =
       above = λ k next.
           let not_first : (line == 0) ≡ false = ne_eqb line 0 (λ e. omega arith) in
           let k_is : line - 1 ≡ k = omega arith in
-          subst (λ (i : ℕ). missing i ≡ false) k_is (not_true (missing (line - 1)) (or_second (line == 0) (not (missing (line - 1))) both.1 not_first));
+          subst (λ (i : ℕ). missing i ≡ false) k_is (not-true (missing (line - 1)) (or_second (line == 0) (not (missing (line - 1))) both.1 not_first));
       below = λ more.
           let next_is : line + missing_from p component line ≡ line + missing_from p component line - 1 + 1 = omega arith in
           subst (λ (i : ℕ). missing i ≡ false) next_is (stops missing line n (omega arith));

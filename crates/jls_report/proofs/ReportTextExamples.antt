@@ -1,8 +1,7 @@
 -- The text of a report of two components, written by hand.
-use Rattle.std.proofs.Common.{◌≡◌, ◌∙◌, ap, ℕ, List, [], ◌∷◌, refl, lit<}
-use Rattle.std.specs.Prelude.{codes, decimal}
+use Rattle.std.proofs.Common.{◌≡◌, ◌∙◌, ap, ℕ, List, [], ◌∷◌, refl}
+use Rattle.std.specs.Prelude.{codes}
 use Rattle.std.specs.List.Sorted.{IsStrictlySortedBy}
-use Rattle.std.proofs.lemmas.Fmt.{decimal_digit}
 use Rattle.jls_values.specs.OrderedSet as set
 use Rattle.jls_values.specs.OrderedSetLaws.{items-from_list}
 use Rattle.jls_values.specs.Shape.{PictureShape}
@@ -12,6 +11,7 @@ use Rattle.jls_partial.specs.ReadingOrder.{reading_total}
 use Rattle.jls_report.specs.declared.entry.ReportEntry.TheVariants.{Missing, Disputed}
 use Rattle.jls_report.specs.Report.{PictureReport, report_of}
 use Rattle.jls_report.specs.ReportText.{report_text}
+use Rattle.jls_report.proofs.PrintedNumbers.{d1, d2, d3, d4, d5, d8, d9}
 
 -- four lines of one sample of 8 bits, of the components 5 and 9
 abbrev two_components : PictureShape
@@ -40,28 +40,6 @@ of_both = record {
 
 report_of_both : report_of both_damaged ≡ of_both
 report_of_both = rw (items-from_list reading_total five_read five_rise) refl
-
--- the numbers in its text
-d1 : decimal 1 ≡ codes "1"
-d1 = decimal_digit 1 (lit< tt)
-
-d2 : decimal 2 ≡ codes "2"
-d2 = decimal_digit 2 (lit< tt)
-
-d3 : decimal 3 ≡ codes "3"
-d3 = decimal_digit 3 (lit< tt)
-
-d4 : decimal 4 ≡ codes "4"
-d4 = decimal_digit 4 (lit< tt)
-
-d5 : decimal 5 ≡ codes "5"
-d5 = decimal_digit 5 (lit< tt)
-
-d8 : decimal 8 ≡ codes "8"
-d8 = decimal_digit 8 (lit< tt)
-
-d9 : decimal 9 ≡ codes "9"
-d9 = decimal_digit 9 (lit< tt)
 
 abbrev text_of_both : List ℕ
 text_of_both = codes "picture 1x4, 8 bits, components 5,9\nsettled 3, missing 4, disputed 1\nmissing 5 1-2\ndisputed 5 3 2\nmissing 9 2-3\n"

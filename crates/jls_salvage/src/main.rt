@@ -3,46 +3,9 @@
 //! `run_program` of jls_host runs it over the files and standard streams of the machine. That has no contract, so read it.
 #![tactic(auto)]
 
-use jls_host::{Guard, Program, run_program};
-use jls_io::{Desk, Sink};
-use jls_salvage_run::PROGRAM;
-use std::alloc::Global;
+use jls_host::run_program;
+use jls_salvage_run::Salvage;
 use std::process::ExitCode;
-
-/// The program `jls-salvage`.
-struct Salvage;
-
-impl Program for Salvage {
-    fn name() -> &'static str {
-        PROGRAM
-    }
-
-    /// A join replaces no JPEG file.
-    fn guard(words: &[String]) -> Guard {
-        match words.get(1) {
-            Some(command) if command.as_str() == "join" => Guard::Jpeg,
-            _ => Guard::Nothing,
-        }
-    }
-
-    fn run<D: Desk, W: Sink, E: Sink>(
-        alloc: Global,
-        words: &[String],
-        desk: &mut D,
-        report: &mut W,
-        faults: &mut E,
-    ) -> u8 {
-        jls_salvage_run::run(alloc, words, desk, report, faults)
-    }
-
-    fn print_not_replaced<E: Sink>(faults: &mut E, name: &str) {
-        jls_salvage_run::print_not_replaced(faults, name);
-    }
-
-    fn print_not_created<E: Sink>(faults: &mut E, name: &str) {
-        jls_cli::print_not_created(faults, PROGRAM, name);
-    }
-}
 
 fn main(rt: HostRuntime) -> ExitCode {
     run_program::<Salvage>(rt)

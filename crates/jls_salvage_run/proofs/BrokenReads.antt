@@ -1,7 +1,6 @@
 -- What causes status 4 where nothing failed but reads; and the greatest status.
 use Rattle.std.proofs.Common.{Ok, Err, ◌≡◌, ◌≤◌, ◌⊎◌, inl, inr, ℕ, Bool, true, false, List, [], ◌∷◌, ◌++◌, length, Option, None, sym, subst}
 use Rattle.std.proofs.Common.{◌∙◌, refl, lit≤, arith}
-use Rattle.std.specs.Prelude.{◌||◌}
 use Rattle.std.specs.List.{list_any}
 use Rattle.std.proofs.lemmas.List.Folds.{list_any-append}
 use Rattle.jls_write.specs.Picture.{picture_of}
@@ -20,6 +19,7 @@ use Rattle.jls_station.specs.Reading.{IsRead}
 use Rattle.jls_station.specs.declared.input.ReadStop.{ReadStop}
 use Rattle.jls_station.specs.declared.input.InputFault.{InputFault}
 use Rattle.jls_station.specs.declared.input.InputFault.TheVariants as fault
+use Rattle.jls_write.proofs.Lending.{or_false}
 use Rattle.jls_cli.specs.declared.outcome.Cause.{Cause}
 use Rattle.jls_cli.specs.declared.outcome.Refusal.{Refusal}
 use Rattle.jls_cli.specs.declared.outcome.Cause.TheVariants as cause
@@ -82,13 +82,9 @@ statuses_at_most words status desk desk' report report' faults faults' ran =
 
 -- ---- events among which nothing else failed
 
-neither : (a b : Bool) → (a || b) ≡ false → (a ≡ false) × (b ≡ false)
-neither true b e = absurd cc
-neither false b e = (refl, e)
-
 parts_fine : (a b : List Event) → NothingElseFailed (a ++ b) → NothingElseFailed a × NothingElseFailed b
 parts_fine a b h =
-    neither (list_any is_other_failure a) (list_any is_other_failure b) (sym (list_any-append is_other_failure a b) ∙ h)
+    or_false (list_any is_other_failure a) (list_any is_other_failure b) (sym (list_any-append is_other_failure a b) ∙ h)
 
 not_cut : (bytes : List ℕ) (count : ℕ) (events : List Event) → WrotePrefix bytes count events → NothingElseFailed events → ⊥
 not_cut bytes count events h fine =

@@ -3,6 +3,7 @@ use Rattle.std.proofs.Common.{◌≡◌, ◌≤◌, ℕ, Bool, true, false, inl,
 use Rattle.std.proofs.Common.{arith}
 use Rattle.std.specs.Borrow.{Bor}
 use Rattle.std.specs.Prelude.{◌↔◌, IsTrue}
+use Rattle.std.proofs.lemmas.Bool.{false≢true}
 use Rattle.std.proofs.lemmas.List.{append-nil}
 use Rattle.clap.specs.Words.{Text}
 use Rattle.jls_partial.specs.Partial.{PartialPicture}
@@ -114,10 +115,7 @@ came_of_run words _ _ _ faults (nothing_asked _ _ asks line) asked k le = let e 
 done_status : (settled whole : Bool) (p : PartialPicture) → (IsTrue settled ↔ IsSettled p) → exit_status (finished settled whole) ≤ 1
     → ((exit_status (finished settled whole) ≡ 0) ↔ IsSettled p) × (whole ≡ true)
 done_status true true p s le = ((λ _. s.0 refl, λ _. refl), refl)
-done_status false true p s le = ((λ e. absurd (omega (arith, e)), λ is. absurd (by_settled (s.1 is))), refl)
-  where
-    by_settled : false ≡ true → ⊥
-    by_settled e = cc
+done_status false true p s le = ((λ e. absurd (omega (arith, e)), λ is. absurd (false≢true (s.1 is))), refl)
 done_status settled false p s le = absurd (omega (arith, le))
 
 join_finished : (source : Option ℕ) (out : Text) (names : List Text) (outcome : Outcome) (events : List Event) (desk desk' : History)

@@ -52,7 +52,7 @@ join_one_more p [] q = refl
 join_one_more p (x ∷ xs) q = join_one_more (union p x) xs q
 
 -- a union has the shape of the first
-shape_of_join : (p : PartialPicture) (ps : List PartialPicture) → (join_all union p ps).shape ≡ p.shape
+pub shape_of_join : (p : PartialPicture) (ps : List PartialPicture) → (join_all union p ps).shape ≡ p.shape
 shape_of_join p [] = refl
 shape_of_join p (x ∷ xs) = shape_of_join (union p x) xs
 

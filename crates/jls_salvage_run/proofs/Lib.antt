@@ -11,9 +11,11 @@ pub mod WholeRuns
 pub mod Written
 mod BrokenReads
 mod FaultLineExamples
+mod FailedRuns
 pub mod Finished
 mod RefusedRuns
 pub mod RefusedWords
 pub mod Running
-mod Statuses
+mod RunsWithoutOutput
+mod WantOfMemory
 mod WordStatuses

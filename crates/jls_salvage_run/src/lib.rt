@@ -7,6 +7,7 @@
 //! - `inputs`: opens inputs by their names, reads them, and takes those of `join` in turn
 //! - `command_laws`: laws of the commands
 //! - `program`, `performing`: `run`: reads the words, does what they ask for, prints the line of the outcome and answers its status
+//! - `hosted`: the program as `run_program` of jls_host runs it
 //! - `printing`: the lines on the fault output that this program alone has
 //! - `run_laws`: what a run of each command did that is done
 //!
@@ -88,6 +89,7 @@
 #![tactic(auto)]
 
 mod command_laws;
+mod hosted;
 mod inputs;
 mod joining;
 mod performing;
@@ -99,9 +101,10 @@ mod tracing;
 mod writing;
 
 pub use command_laws::{same_inputs_same_output, surviving_lines_give_the_picture};
+pub use hosted::Salvage;
 pub use inputs::JoinInputs;
 pub use joining::join;
-pub use printing::{PROGRAM, print_not_replaced};
+pub use printing::PROGRAM;
 pub use program::run;
 pub use reporting::print_report;
 pub use run_laws::{

@@ -2,9 +2,9 @@
 
 ghost use Rattle.jls_io.specs.Event.{GrewBy};
 ghost use Rattle.jls_io.specs.Writing.{Printed};
-ghost use Rattle.jls_salvage_run.specs.FaultLines.{not_replaced_line, unknown_value_line};
+ghost use Rattle.jls_salvage_run.specs.FaultLines.{unknown_value_line};
 
-use jls_io::{Sink, print_about, print_plain};
+use jls_io::{Sink, print_plain};
 
 /// The name of the program, with which each fault line begins.
 pub const PROGRAM: &str = "jls-salvage";
@@ -18,16 +18,4 @@ pub(crate) fn print_unknown_value<E: Sink>(faults: &mut E, format_is_known: bool
     } else {
         print_plain(faults, PROGRAM, "--as takes jls or pnm");
     }
-}
-
-/// Prints why a join did not create the output of this name: it would replace a JPEG file.
-pub fn print_not_replaced<E: Sink>(faults: &mut E, name: &str)
-    ensures { GrewBy (Printed (not_replaced_line name.now)) (E.history faults.old) (E.history faults.new) }
-{
-    print_about(
-        faults,
-        PROGRAM,
-        name,
-        " is a JPEG file, and join does not replace one",
-    );
 }

@@ -3,24 +3,17 @@ use Rattle.std.proofs.Common.{◌≡◌, ℕ, zero, suc, ◌<◌, ◌≤◌, ◌
 use Rattle.std.proofs.Common.{get_or, Option, Some, None, refl, sym, ap, ◌∙◌, subst, arith, inl, inr}
 use Rattle.std.specs.Prelude.{◌^◌, ◌⊎◌, IfSome, IfNone, option_map, if◌then◌else◌}
 use Rattle.std.specs.List.{sum_by}
+use Rattle.std.proofs.lemmas.List.{length-map}
 use Rattle.std.proofs.lemmas.List.Sums.{sum_by-cons}
 use Rattle.jls_diff.specs.Parts.{AreParts, Part, Same, made, way}
 use Rattle.jls_search.proofs.Prefixes.{prefix_more}
-use Rattle.jls_search.specs.Choices.{IsFirstWay, IsPath, prefix_of}
+use Rattle.jls_search.specs.Choices.{IsPath, prefix_of}
 use Rattle.jls_search.specs.SearchLaws.{AreShort}
 use Rattle.jls_search.specs.Found.{Found}
 use Rattle.jls_splice_run.specs.Limits.{has_some}
 use Rattle.jls_splice_run.specs.Making.{files_reported, lacks_single, promise_of}
 use Rattle.jls_splice_run.specs.declared.found.Promise.TheVariants.{Picture, Lines}
 use Rattle.jls_splice_run.specs.Single.{IsSingleAsked}
-
--- each choice of a path
-pub path_at : (ps : List Part) (cs : List ℕ) (i : ℕ) → IsPath ps cs → i < length cs
-    → (i < length ps) × IsFirstWay (get_or ps i (Same [])) (get_or cs i 0)
-path_at ps [] i h l = absurd (omega (arith, l))
-path_at [] (c ∷ cs) i h l = absurd h
-path_at (p ∷ ps) (c ∷ cs) zero h l = (omega arith, h.0)
-path_at (p ∷ ps) (c ∷ cs) (suc i) h l = let r = path_at ps cs i h.1 (omega (arith, l)) in (omega (arith, r.0), r.1)
 
 -- one choice more
 pub prefix_one_more : (ps : List Part) (cs : List ℕ) (i : ℕ) (file bytes : List ℕ) → IsPath ps cs → i < length cs
@@ -48,15 +41,11 @@ lacks_maps f g None y = refl
 lacks_maps f g (Some x) None = refl
 lacks_maps f g (Some x) (Some y) = refl
 
-pub length-map : {X Y : Type 0} (f : X → Y) (xs : List X) → length (map f xs) ≡ length xs
-length-map f [] = refl
-length-map f (x ∷ xs) = ap suc (length-map f xs)
-
 -- how many files have a name, as the code has it
 pub reported_maps : {A B C D : Type 0} (f : A → C) (g : B → D) (x : Option A) (ys : List B)
     → files_reported (option_map f x) (map g ys) ≡ files_reported x ys
 reported_maps f g None ys = refl
-reported_maps f g (Some x) ys = ap Some (length-map g ys)
+reported_maps f g (Some x) ys = ap Some (length-map ys g)
 
 -- a single file that is asked for by a name, as the code has the name
 pub single_maps : {A B : Type 0} (f : A → B) (o : Option A) (files : List (List ℕ)) (single : Option (List ℕ))
@@ -118,9 +107,3 @@ pub path_taken : (P : List ℕ → Type 0) (Q : Vec ℕ Global → Type 0) (take
     → (taken ≡ cut) ⊎ ((taken ≡ None) × IfSome cut Q) → IfSome cut (λ path. P path.items) → IfSome taken (λ path. P path.items)
 path_taken P Q taken cut (inl same) h = subst (λ (o : Option (Vec ℕ Global)). IfSome o (λ path. P path.items)) (sym same) h
 path_taken P Q taken cut (inr (none, why)) h = subst (λ (o : Option (Vec ℕ Global)). IfSome o (λ path. P path.items)) (sym none) tt
-
--- a path has no more choices than there are parts
-pub path_within : (ps : List Part) (cs : List ℕ) → IsPath ps cs → length cs ≤ length ps
-path_within ps [] h = omega arith
-path_within [] (c ∷ cs) h = absurd h
-path_within (p ∷ ps) (c ∷ cs) h = let r = path_within ps cs h.1 in omega (arith, r)

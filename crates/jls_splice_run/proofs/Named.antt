@@ -11,7 +11,7 @@ use Rattle.jls_cli.specs.declared.outcome.Refusal.{Refusal}
 use Rattle.jls_splice_run.specs.Handing.{HandsFiles, StopsAtFiles, StopsAtNumber, one_handed}
 use Rattle.jls_splice_run.specs.Listing.{NamedFile, is_named, named_file, named_files, numbered}
 use Rattle.jls_splice_run.specs.declared.listing.NumberedFile.{NumberedFile}
-use Rattle.jls_splice_run.proofs.MakingLemmas.{length-map}
+use Rattle.std.proofs.lemmas.List.{length-map}
 
 or_true : (b : _) → true ≡ (b || true)
 or_true true = refl
@@ -54,7 +54,7 @@ pub named_with : (named : List NumberedFile) (file start : List ℕ) (f : Number
     → new ≡ named ++ f ∷ [] → string_bytes f.name ≡ numbered start (length named + 1) → f.bytes.items ≡ file
     → named_files named ++ record { name = numbered start (length (named_files named) + 1); bytes = file } ∷ [] ≡ named_files new
 named_with named file start f new pushed called made =
-    (λ i. named_files named ++ record { name = numbered start (length-map named_file named i + 1); bytes = file } ∷ [])
+    (λ i. named_files named ++ record { name = numbered start (length-map named named_file i + 1); bytes = file } ∷ [])
     ∙ (λ i. named_files named ++ record { name = sym called i; bytes = sym made i } ∷ [])
     ∙ sym (map-append named_file named (f ∷ [])) ∙ ap named_files (sym pushed)
 

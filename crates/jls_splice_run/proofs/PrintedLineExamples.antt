@@ -1,7 +1,6 @@
 -- Parts of two copies, and what is printed of them, worked out by hand.
-use Rattle.std.proofs.Common.{◌≡◌, true, false, List, [], ◌∷◌, Some, None, refl, lit<}
-use Rattle.std.specs.Prelude.{codes, decimal}
-use Rattle.std.proofs.lemmas.Fmt.{decimal_digit, decimal-digits_of}
+use Rattle.std.proofs.Common.{◌≡◌, true, false, List, [], ◌∷◌, Some, None, refl}
+use Rattle.std.specs.Prelude.{codes}
 use Rattle.jls_diff.specs.Parts.{Part, Same, Differ}
 use Rattle.jls_splice_run.specs.Differences.{differences}
 use Rattle.jls_splice_run.specs.Lines.{before_line, differ_lines, files_line, found_text, groups_line, limit_line, more_line, progress_line}
@@ -9,31 +8,7 @@ use Rattle.jls_splice_run.specs.Lines.{promise_line, single_line, splices_line, 
 use Rattle.jls_splice_run.specs.declared.differences.Difference.{Difference}
 use Rattle.jls_splice_run.specs.declared.found.Promise.TheVariants.{Picture, Lines}
 use Rattle.jls_splice_run.specs.declared.found.SearchReport.{SearchReport}
-
--- the numbers in the lines
-d0 : decimal 0 ≡ codes "0"
-d0 = decimal_digit 0 (lit< tt)
-
-d1 : decimal 1 ≡ codes "1"
-d1 = decimal_digit 1 (lit< tt)
-
-d2 : decimal 2 ≡ codes "2"
-d2 = decimal_digit 2 (lit< tt)
-
-d3 : decimal 3 ≡ codes "3"
-d3 = decimal_digit 3 (lit< tt)
-
-d4 : decimal 4 ≡ codes "4"
-d4 = decimal_digit 4 (lit< tt)
-
-d12 : decimal 12 ≡ codes "12"
-d12 = decimal-digits_of 12 (lit< tt) (lit< tt)
-
-d128 : decimal 128 ≡ codes "128"
-d128 = decimal-digits_of 128 (lit< tt) (lit< tt)
-
-d4095 : decimal 4095 ≡ codes "4095"
-d4095 = decimal-digits_of 4095 (lit< tt) (lit< tt)
+use Rattle.jls_report.proofs.PrintedNumbers.{d0, d1, d2, d3, d4, d12, d128, d4095}
 
 -- "abXc" and "abYcZZ": one byte differs, and two stand after the end of the first
 abbrev parts : List Part

@@ -1,7 +1,7 @@
 -- Lines of a search, one after the other.
-use Rattle.std.proofs.Common.{◌≡◌, ℕ, suc, ◌+◌, ◌*◌, ◌<◌, ◌≤◌, Bool, true, false, List, [], ◌∷◌, ◌++◌, length, map, Result, Ok, Err, refl}
+use Rattle.std.proofs.Common.{◌≡◌, ℕ, ◌+◌, ◌*◌, ◌<◌, ◌≤◌, Bool, true, false, List, [], ◌++◌, length, Result, Ok, Err, refl}
 use Rattle.std.proofs.Common.{ap, ◌∙◌, subst, arith, inl, inr}
-use Rattle.std.specs.Prelude.{min, OnOk, OnErr}
+use Rattle.std.specs.Prelude.{min, OnOk}
 use Rattle.std.proofs.lemmas.Bool.{cases_lt}
 use Rattle.jls_io.specs.Event.{Event}
 use Rattle.jls_diff.specs.Parts.{Part}
@@ -10,27 +10,15 @@ use Rattle.jls_search.specs.declared.whole_search.WholeSearch.{WholeSearch}
 use Rattle.jls_splice_run.specs.Telling.{line, nothing_tried, GoesOn, HasReported, IsReported, TellsLine}
 use Rattle.jls_splice_run.specs.declared.options.SearchOptions.{SearchOptions}
 
-pub length-map : {X Y : Type 0} (f : X → Y) (xs : List X) → length (map f xs) ≡ length xs
-length-map f [] = refl
-length-map f (x ∷ xs) = ap suc (length-map f xs)
-
 -- what holds where something else does
 pub on_ok : {T E : Type 0} (r : Result T E) (P Q : Type 0) → (P → Q) → OnOk r P → OnOk r Q
 on_ok (Ok x) P Q f h = f h
 on_ok (Err e) P Q f h = tt
 
-pub on_ok_anyway : {T E : Type 0} (r : Result T E) (P : Type 0) → P → OnOk r P
-on_ok_anyway (Ok x) P h = h
-on_ok_anyway (Err e) P h = tt
-
 -- nothing is reported before anything was tried
 pub none_reported : (tells : Bool) → IsReported tells 0 0 []
 none_reported true = nothing_tried
 none_reported false = refl
-
-pub on_err_anyway : {T E : Type 0} (r : Result T E) (P : Type 0) → P → OnErr r P
-on_err_anyway (Ok x) P h = tt
-on_err_anyway (Err e) P h = h
 
 -- one line more
 reported_more : (tells : Bool) (rounds found tries files : ℕ) (events more : List Event) → IsReported tells (64 * rounds) found events

@@ -12,6 +12,7 @@
 //! - `shallow`: the limit under which a cut file is sought, where the searches had none and found nothing
 //! - `differences`: where copies differ: the offset in the first copy, and how many bytes that one has there
 //! - `found`, `lines`: what is reported of a search, as one value; its lines, and the line that says how far a search is
+//! - `hosted`: the program as `run_program` of jls_host runs it
 //! - `printing`: the lines on the fault output that this program alone has
 //!
 //! Definitions: `Tasks`, `Copies`, `Making`, `Single`, `Files`, `Listing`, `Handing`, `Runs`; `Limits`, `Telling`; `Differences`,
@@ -30,6 +31,7 @@ mod differences;
 mod files;
 mod found;
 mod handing;
+mod hosted;
 mod limits;
 mod lines;
 mod listing;
@@ -48,15 +50,14 @@ mod task;
 
 pub use differences::{Difference, differences_of};
 pub use found::{CutEnd, GroupSearch, Promise, SearchReport};
+pub use hosted::Splice;
 pub use limits::{SearchedInTurn, search_and_tell};
 pub use lines::{put_found, put_progress};
 pub use listing::NumberedFile;
 pub use made::Made;
 pub use noting::put_noted;
 pub use options::SearchOptions;
-pub use printing::{
-    PROGRAM, print_named_twice, print_not_replaced, print_not_understood, print_numbered_out,
-};
+pub use printing::{PROGRAM, print_named_twice, print_not_understood, print_numbered_out};
 pub use program::run;
 pub use splicing::splice;
 pub use task::Task;

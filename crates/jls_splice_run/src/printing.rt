@@ -2,24 +2,12 @@
 
 ghost use Rattle.jls_io.specs.Event.{GrewBy};
 ghost use Rattle.jls_io.specs.Writing.{Printed};
-ghost use Rattle.jls_splice_run.specs.FaultLines.{named_twice_line, not_replaced_line, not_understood_line, numbered_out_line};
+ghost use Rattle.jls_splice_run.specs.FaultLines.{named_twice_line, not_understood_line, numbered_out_line};
 
 use jls_io::{Sink, print_about, print_plain};
 
 /// The name of the program, with which each fault line begins.
 pub const PROGRAM: &str = "jls-splice";
-
-/// Prints why the output of this name was not created: it would replace a JPEG file.
-pub fn print_not_replaced<E: Sink>(faults: &mut E, name: &str)
-    ensures { GrewBy (Printed (not_replaced_line name.now)) (E.history faults.old) (E.history faults.new) }
-{
-    print_about(
-        faults,
-        PROGRAM,
-        name,
-        " is a JPEG file, and jls-splice replaces none",
-    );
-}
 
 /// Prints that both outputs have this name.
 pub fn print_named_twice<E: Sink>(faults: &mut E, name: &str)

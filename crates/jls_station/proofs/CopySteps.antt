@@ -1,29 +1,28 @@
--- Steps of the loop that reads a copy.
-use Rattle.std.proofs.Common.{◌≡◌, ◌⊎◌, ◌<◌, ◌≤◌, ℕ, ◌+◌, ◌*◌, Bool, false, List, [], ◌∷◌, ◌++◌, Option, Some, None, length, sym, subst, ap}
-use Rattle.std.proofs.Common.{◌∙◌, arith}
-use Rattle.std.specs.Prelude.{◌↔◌, IsTrue, IfSome, IsSomeAnd}
+-- Steps of the loop that reads an input.
+use Rattle.std.proofs.Common.{◌≡◌, ◌⊎◌, ◌<◌, ◌≤◌, ℕ, ◌+◌, ◌*◌, Bool, true, false, List, [], ◌∷◌, ◌++◌, Option, Some, None, length, sym, subst, ap}
+use Rattle.std.proofs.Common.{◌∙◌, arith, refl}
+use Rattle.std.specs.Prelude.{◌↔◌, IsTrue, IfSome, IsSomeAnd, if◌then◌else◌, ◌-◌, ◌^◌}
 use Rattle.std.specs.Io.KnownBytes.{Consumes, IsAtEnd}
 use Rattle.std.proofs.lemmas.Bool.{false≢true}
-use Rattle.std.proofs.lemmas.List.{append-nil, length-append}
-use Rattle.jls_copy.specs.ReadCopy.{after}
+use Rattle.std.proofs.lemmas.List.{append-nil, append_assoc, length-append}
 use Rattle.jls_io.specs.Event.{History, GrewBy, gave}
-use Rattle.jls_station.specs.Inputs.{IsCopyDone}
+use Rattle.jls_station.specs.Inputs.{IsCopyDone, IsEnough}
 use Rattle.jls_station.specs.KnownCopies.{IsPrefixOf}
 use Rattle.jls_station.specs.Reading.{AreBytes, ReadSoFar}
 use Rattle.jls_station.specs.Texts.{is_text}
 use Rattle.jls_station.specs.declared.input.ReadStop.{ReadStop}
 use Rattle.jls_station.specs.declared.input.ReadStop.TheVariants.{Whole}
-use Rattle.jls_station.proofs.OneInput.{one_read_more, same_first, consumes_on}
+use Rattle.jls_station.proofs.OneInput.{one_read_more, never_enough, still_text, consumes_on}
 
--- What a reader of a copy, which was fed as `first` says and is fed as `reader` says now, got by so many reads. `left` is what its source
--- had left before them and has left now, where that is known
-pub record CopySoFar (first reader : Option (List ℕ)) (made count : ℕ) (old new : History) (left left' : Option (List ℕ)) : Type 0 where
+-- What an intake, which was fed as `first` says and is fed as `held` says now, got by so many reads. `left` is what its source had left
+-- before them and has left now, where that is known
+pub record SoFar (E : List ℕ → Type 0) (first held : Option (List ℕ)) (made count : ℕ) (old new : History) (left left' : Option (List ℕ)) : Type 0 where
   pub bytes : List ℕ
-  pub is : reader ≡ Some bytes
+  pub is : held ≡ Some bytes
   pub few : length bytes ≤ 4096 * count
-  pub begins : (fed : List ℕ) → first ≡ Some fed → 0 < length fed → (0 < length bytes) × (is_text bytes ≡ is_text fed)
-  pub so_far : (before : History) (fed : List ℕ) → first ≡ Some fed → GrewBy (ReadSoFar IsCopyDone made fed) before old
-      → GrewBy (ReadSoFar IsCopyDone count bytes) before new
+  pub longer : (fed : List ℕ) → first ≡ Some fed → (more : List ℕ) × (bytes ≡ fed ++ more)
+  pub so_far : (before : History) (fed : List ℕ) → first ≡ Some fed → GrewBy (ReadSoFar E made fed) before old
+      → GrewBy (ReadSoFar E count bytes) before new
   pub known : (before : Option (List ℕ)) (fed : List ℕ) → first ≡ Some fed → Consumes before left fed → Consumes before left' bytes
 
 -- what was read of known bytes
@@ -47,23 +46,72 @@ about Q reader bytes is h = subst (λ (o : Option (List ℕ)). IfSome o Q) is h
 pub of_reader : (Q : List ℕ → Type 0) (reader : Option (List ℕ)) (bytes : List ℕ) → reader ≡ Some bytes → Q bytes → IsSomeAnd reader Q
 of_reader Q reader bytes is h = subst (λ (o : Option (List ℕ)). IsSomeAnd o Q) (sym is) h
 
--- more bytes are wanted
-pub goes_on : (enough : Bool) (reader : Option (List ℕ)) (bytes : List ℕ) → reader ≡ Some bytes
-    → IfSome reader (λ b. IsTrue enough ↔ IsCopyDone b) → enough ≡ false → IsCopyDone bytes → ⊥
-goes_on enough reader bytes is h no_more done = false≢true (sym no_more ∙ (about (λ b. IsTrue enough ↔ IsCopyDone b) reader bytes is h).1 done)
+-- no read was made yet
+pub none_more : (E : List ℕ → Type 0) (held : Option (List ℕ)) (made : ℕ) (now : History) (left : Option (List ℕ))
+    → IsSomeAnd held (λ fed. length fed ≤ 4096 * made) → SoFar E held held made made now now left left
+none_more E None made now left few = absurd few
+none_more E (Some bytes) made now left few = record {
+  bytes = bytes;
+  is = refl;
+  few = few;
+  longer = λ fed was. ([], (let same : bytes ≡ fed = cc in same) ∙ sym (append-nil fed));
+  so_far = λ before fed was h. subst (λ (t : List ℕ). GrewBy (ReadSoFar E made t) before now) (sym (let same : bytes ≡ fed = cc in same)) h;
+  known = λ before fed was h. subst (λ (t : List ℕ). Consumes before left t) (sym (let same : bytes ≡ fed = cc in same)) h;
+}
+
+-- whether more bytes are wanted
+module _ (E : List ℕ → Type 0) (enough : Bool) (held : Option (List ℕ)) (bytes : List ℕ) (is : held ≡ Some bytes)
+    (h : IfSome held (λ b. IsTrue enough ↔ E b)) where
+  pub goes_on : enough ≡ false → E bytes → ⊥
+  goes_on no_more done = false≢true (sym no_more ∙ (about (λ b. IsTrue enough ↔ E b) held bytes is h).1 done)
+
+  pub is_over : enough ≡ true → E bytes
+  is_over over = (about (λ b. IsTrue enough ↔ E b) held bytes is h).0 over
+
+-- a slice that fits the count of bytes
+pub put_fits : (held : Option (List ℕ)) (bytes more : List ℕ) → held ≡ Some bytes → length bytes + length more ≤ 2 ^ 63 - 1
+    → IfSome held (λ b. length b + length more ≤ 2 ^ 63 - 1)
+put_fits held bytes more is le = subst (λ (o : Option (List ℕ)). IfSome o (λ b. length b + length more ≤ 2 ^ 63 - 1)) (sym is) le
 
 -- one read more, which gave some bytes
-pub copy_more : (first reader reader' : Option (List ℕ)) (made count : ℕ) (old mid new : History) (room : ℕ) (more : List ℕ) (left mid_left left' : Option (List ℕ))
-    (h : CopySoFar first reader made count old mid left mid_left)
-    → reader' ≡ after reader more → new ≡ mid ++ gave room more ∷ [] → (IsCopyDone h.bytes → ⊥) → room ≤ 4096 → 0 < length more → length more ≤ 4096 → AreBytes more
-    → Consumes mid_left left' more → CopySoFar first reader' made (count + 1) old new left left'
-copy_more first reader reader' made count old mid new room more left mid_left left' h is e not fits some few low consumed = record {
+pub one_more : (E : List ℕ → Type 0) (first held held' : Option (List ℕ)) (made count : ℕ) (old mid new : History) (room : ℕ) (more : List ℕ) (left mid_left left' : Option (List ℕ))
+    (h : SoFar E first held made count old mid left mid_left)
+    → held' ≡ Some (h.bytes ++ more) → new ≡ mid ++ gave room more ∷ [] → (E h.bytes → ⊥) → room ≤ 4096 → 0 < length more → length more ≤ 4096 → AreBytes more
+    → Consumes mid_left left' more → SoFar E first held' made (count + 1) old new left left'
+one_more E first held held' made count old mid new room more left mid_left left' h is e not fits some few low consumed = record {
   bytes = h.bytes ++ more;
-  is = is ∙ ap (λ (o : Option (List ℕ)). after o more) h.is;
+  is = is;
   few = omega (arith, length-append h.bytes more, h.few, few);
-  begins = λ fed was any.
-      let b = h.begins fed was any in
-      (omega (arith, length-append h.bytes more, b.0), same_first h.bytes more b.0 ∙ b.1);
-  so_far = λ before fed was so. one_read_more IsCopyDone count before mid new h.bytes room more (h.so_far before fed was so) e not fits some low;
+  longer = λ fed was.
+      let b = h.longer fed was in
+      (b.0 ++ more, ap (λ (t : List ℕ). t ++ more) b.1 ∙ append_assoc fed b.0 more);
+  so_far = λ before fed was so. one_read_more E count before mid new h.bytes room more (h.so_far before fed was so) e not fits some low;
   known = λ before fed was so. consumes_on before mid_left left' h.bytes more (h.known before fed was so) consumed;
 }
+
+-- the bytes of a text, and nothing where they are no text
+abbrev pub text_in : List ℕ → Option (List ℕ)
+text_in bytes = if is_text bytes then Some bytes else None
+
+-- no bytes of a text are enough, and it stays a text
+pub none_enough : (bytes : List ℕ) → IfSome (text_in bytes) (λ b. IsTrue false ↔ IsEnough b)
+none_enough bytes = by (is_text bytes) refl
+  where
+    by : (b : Bool) → is_text bytes ≡ b → IfSome (if b then Some bytes else None) (λ b. IsTrue false ↔ IsEnough b)
+    by true text = (λ no. absurd (false≢true no), λ e. absurd (never_enough bytes text e))
+    by false text = tt
+
+pub text_held : (bytes : List ℕ) → is_text bytes ≡ true → text_in bytes ≡ Some bytes
+text_held bytes text = ap (λ (b : Bool). if b then Some bytes else None) text
+
+pub held_text : (bytes before : List ℕ) → text_in bytes ≡ Some before → (is_text bytes ≡ true) × (bytes ≡ before)
+held_text bytes before = by (is_text bytes) refl
+  where
+    by : (b : Bool) → is_text bytes ≡ b → (if b then Some bytes else None) ≡ Some before → (is_text bytes ≡ true) × (bytes ≡ before)
+    by true text e = (text, (let same : bytes ≡ before = cc in same))
+    by false text e = absurd cc
+
+pub text_put : (bytes before more : List ℕ) → text_in bytes ≡ Some before → text_in (bytes ++ more) ≡ Some (before ++ more)
+text_put bytes before more e =
+    let h = held_text bytes before e in
+    text_held (bytes ++ more) (still_text bytes more h.0) ∙ ap (λ (t : List ℕ). Some (t ++ more)) h.1

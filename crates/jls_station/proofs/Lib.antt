@@ -7,3 +7,4 @@ pub mod Mapped
 pub mod OneInput
 pub mod CopiesInTurn
 pub mod CopyReads
+pub mod ReadingOn

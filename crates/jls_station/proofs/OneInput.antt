@@ -1,10 +1,11 @@
 -- Reads of one input, one after the other.
-use Rattle.std.proofs.Common.{◌≡◌, ◌<◌, ◌≤◌, ℕ, zero, suc, ◌+◌, get_or, take, true, false, List, [], ◌∷◌, ◌++◌, Option, Some, None, Result}
-use Rattle.std.proofs.Common.{Ok, Err, length, refl, sym, subst, ap, ◌∙◌, append_assoc, arith}
+use Rattle.std.proofs.Common.{◌≡◌, ◌<◌, ◌≤◌, ℕ, zero, suc, ◌+◌, get_or, take, true, false, List, [], ◌∷◌, ◌++◌, Option, Some, None}
+use Rattle.std.proofs.Common.{length, refl, sym, subst, ap, ◌∙◌, append_assoc, arith}
 use Rattle.std.proofs.lemmas.Bool.{false≢true}
 use Rattle.std.proofs.lemmas.List.{append-nil, length-append}
-use Rattle.std.specs.Prelude.{IfSome, OnErr}
+use Rattle.std.specs.Prelude.{IfSome}
 use Rattle.std.specs.Io.KnownBytes.{Consumes, IsAtEnd}
+use Rattle.jls_bits.proofs.Appending.{bytes_append}
 use Rattle.jls_marker.specs.declared.fault.MarkerFault.TheVariants as marker
 use Rattle.jls_partial.specs.Partial.{PartialPicture}
 use Rattle.jls_partial.specs.TextReading.{Fails, read_text}
@@ -34,10 +35,6 @@ use Rattle.jls_station.specs.declared.input.InputFault.TheVariants as fault
 
 -- ---- bytes
 
-bytes_both : (xs ys : List ℕ) → AreBytes xs → AreBytes ys → AreBytes (xs ++ ys)
-bytes_both [] ys h k = k
-bytes_both (x ∷ xs) ys h k = (h.0, bytes_both xs ys h.1 k)
-
 bytes_prefix : (n : ℕ) (xs : List ℕ) → AreBytes xs → AreBytes (take n xs)
 bytes_prefix zero xs h = tt
 bytes_prefix (suc n) [] h = tt
@@ -50,12 +47,6 @@ bytes_each (x ∷ xs) h = (h 0, bytes_each xs (λ k. h (suc k)))
 -- the prefix of a buffer
 pub prefix_of_buffer : (n : ℕ) (xs : List ℕ) → ((k : ℕ) → get_or xs k 0 < 256) → AreBytes (take n xs)
 prefix_of_buffer n xs h = bytes_prefix n xs (bytes_each xs h)
-
--- ---- results
-
-pub on_error : {T E : Type 0} (r : Result T E) (P : Type 0) → P → OnErr r P
-on_error (Ok x) P h = tt
-on_error (Err e) P h = h
 
 -- ---- reads of an input, as long as its bytes are not enough
 
@@ -110,7 +101,7 @@ module _ (E : List ℕ → Type 0) where
           they_are = record {
             goes_on = on.0;
             bytes_are = ap (λ (b : List ℕ). b ++ more) is ∙ sym on.1;
-            are_bytes = bytes_both bytes more h.they_are.are_bytes low;
+            are_bytes = bytes_append bytes more h.they_are.are_bytes low;
             number = omega (arith, length-append h.events (gave room more ∷ []), h.they_are.number);
           };
         }

@@ -16,7 +16,8 @@ ghost use Rattle.jls_station.specs.declared.input.InputFault.TheVariants.{OutOfM
 ghost use Rattle.jls_station.specs.declared.input.ReadStop.TheVariants.{Whole};
 
 use crate::copy_end::{CopyGiven, read_of_copy};
-use crate::reading::{prefix, read_copy_on, read_text_on};
+use crate::intakes::{read_copy_on, read_text_on};
+use crate::reading::prefix;
 use crate::take_report::TakeReport;
 use jls_copy::{CopyReader, copies_have_one_course};
 use jls_io::Source;
@@ -155,7 +156,8 @@ pub fn input_fault(fault: TextFault) -> InputFault
 /// Reads a text to its end, whose first read gave these bytes, into the room of `text`.
 /// In the clauses `before` is what the device had done, or what it had left to give, before the first read.
 fn read_text<S: Source>(device: &mut S, first: &[u8], text: &mut Vec<u8>) -> Result<(), InputFault>
-    requires { is_text first.now ≡ true }
+    requires text { is_text first.now ≡ true }
+    requires few { length first.now ≤ 4096 }
     ensures text { OnOk result (is_text text.new.items ≡ true) }
     ensures read { (before : History) → GrewBy (ReadSoFar IsEnough 1 first.now) before (S.history device.old)
         → OnOk result (GrewBy (λ reads. IsRead IsEnough reads text.new.items Whole) before (S.history device.new)) }

@@ -1,10 +1,11 @@
 //! Stations, the copies that they take, the reading of one input, and copies of one file read whole into memory.
 //!
-//! - `input`, `reading`, `copy_end`: read one input. `read_form` gives the bytes of a text, not judged yet, or what a copy gives.
-//!   `read_input` gives what either gives. `reading` has the two loops, `copy_end` what a copy gives where they stop
+//! - `input`, `reading`, `intakes`, `copy_end`: read one input. `read_form` gives the bytes of a text, not judged yet, or what a copy gives.
+//!   `read_input` gives what either gives. `reading` has the loop, and the trait that says when bytes are enough. `intakes` has what a text
+//!   and a copy are read into, `copy_end` what a copy gives where the loop stops
 //! - `take_report`: what is said of a copy that was taken
 //! - `station`, `take_copy`: take partial pictures of one shape, texts of them, and copies
-//! - `whole_reading`: reads a copy to its end, also after its EOI. It stops if the bytes begin like a partial picture
+//! - `whole_reading`: reads a copy to its end by that loop, also after its EOI. It stops if the bytes begin like a partial picture
 //! - `copy`: opens, reads and keeps one copy, or gives the cause why not
 //! - `copies`: all copies in turn, until one is not taken
 //!
@@ -17,6 +18,7 @@ mod copies;
 mod copy;
 mod copy_end;
 mod input;
+mod intakes;
 mod reading;
 mod station;
 mod take_copy;

@@ -1,22 +1,39 @@
-//! The loops that read an input: a text to its end, and a copy as long as more bytes can change what it gives.
+//! The loop that reads an input: as long as more of its bytes are wanted.
 
-ghost use Rattle.std.specs.Prelude.{◌≡◌, ◌≤◌, ◌<◌, ◌*◌, ◌↔◌, ℕ, List, Option, Some, true, IsTrue, length, IfOk, OnErr, IfSome, IsSomeAnd};
-ghost use Rattle.std.specs.Prelude.{take};
+ghost use Rattle.std.specs.Prelude.{◌≡◌, ◌≤◌, ◌+◌, ◌-◌, ◌*◌, ◌^◌, ◌++◌, ◌↔◌, ◌⊎◌, ℕ, List, Option, Some, IsTrue, length, take};
+ghost use Rattle.std.specs.Prelude.{IfOk, OnOk, OnErr, IfSome, IsSomeAnd};
 ghost use Rattle.std.specs.Io.KnownBytes.{Consumes, IsAtEnd};
 ghost use Rattle.jls_io.specs.Event.{History, GrewBy};
-ghost use Rattle.jls_station.specs.Inputs.{IsEnough, IsCopyDone};
-ghost use Rattle.jls_station.specs.KnownCopies.{IsPrefixOf};
 ghost use Rattle.jls_station.specs.Reading.{AreBytes, ReadSoFar, IsRead, IsReadInPart};
-ghost use Rattle.jls_station.specs.Texts.{is_text};
 ghost use Rattle.jls_station.specs.declared.input.ReadStop.TheVariants.{Whole};
 
 use crate::input::ReadStop;
-use jls_copy::{CopyReader, copies_have_one_course};
 use jls_io::Source;
 use std::alloc::AllocError;
 
 /// The most reads of one input.
 const READS: u64 = 4_294_967_295;
+
+/// What the bytes of an input go into as it is read, and how many of them are wanted.
+pub(crate) trait Intake {
+    /// What the bytes go into.
+    type Held;
+
+    /// The bytes that it was fed. There are none where it takes no more.
+    ghost fed: { Self.Held → Option (List ℕ) };
+
+    /// These bytes are enough: no more are wanted.
+    ghost IsEnough: { List ℕ → Type 0 };
+
+    /// Whether no more bytes are wanted.
+    fn is_enough(held: &Self::Held) -> bool
+        ensures { IfSome (fed held.now) (λ bytes. IsTrue result ↔ IsEnough bytes) };
+
+    /// Takes the bytes that a read gave.
+    fn put(held: &mut Self::Held, bytes: &[u8]) -> Result<(), AllocError>
+        requires { IfSome (fed held.old) (λ before. length before + length bytes.now ≤ 2 ^ 63 - 1) }
+        ensures { (before : List ℕ) → fed held.old ≡ Some before → OnOk result (fed held.new ≡ Some (before ++ bytes.now)) };
+}
 
 /// The prefix of a buffer, which has as many bytes as a read gave.
 pub(crate) fn prefix(buffer: &[u8], count: usize) -> &[u8]
@@ -27,68 +44,32 @@ pub(crate) fn prefix(buffer: &[u8], count: usize) -> &[u8]
     &buffer[..count]
 }
 
-/// Reads a text on, whose first read gave these bytes, to its end or as far as the source goes, and adds what the reads give.
-/// In the clauses `before` is what the device had done, or what it had left to give, before the first read.
-pub(crate) fn read_text_on<S: Source>(
+/// Reads an input on, of which so many reads gave what was fed, until that is enough or as far as the source goes.
+/// In the clauses `before` is what the device had done, or what it had left to give, before these reads.
+pub(crate) fn read_on<S: Source, I: Intake>(
     device: &mut S,
-    bytes: &mut Vec<u8>,
-) -> Result<ReadStop, AllocError>
-    requires { is_text bytes.old.items ≡ true }
-    ensures text { IfOk result (λ stop. is_text bytes.new.items ≡ true) }
-    ensures read { (before : History) → GrewBy (ReadSoFar IsEnough 1 bytes.old.items) before (S.history device.old)
-        → IfOk result (λ stop. GrewBy (λ reads. IsRead IsEnough reads bytes.new.items stop) before (S.history device.new)) }
-    ensures refused { (before : History) → GrewBy (ReadSoFar IsEnough 1 bytes.old.items) before (S.history device.old)
-        → OnErr result (GrewBy (IsReadInPart IsEnough) before (S.history device.new)) }
-    ensures known { (before : Option (List ℕ)) → Consumes before (S.remaining device.old) bytes.old.items
-        → IfOk result (λ stop. Consumes before (S.remaining device.new) bytes.new.items) }
-    ensures end { IfOk result (λ stop. stop ≡ Whole → IsAtEnd (S.remaining device.new)) }
-{
-    let mut chunk = [0u8; 4096];
-    for _ in 1..READS {
-        let n = match device.read_some(&mut chunk) {
-            Ok(n) => n,
-            Err(_) => return Ok(ReadStop::Failed),
-        };
-        if n == 0 {
-            return Ok(ReadStop::Whole);
-        }
-        bytes.extend_from_slice(prefix(&chunk, n))?;
-    }
-    Ok(ReadStop::Turns)
-}
-
-/// Whether no byte more changes what the reader gives.
-fn is_enough(reader: &CopyReader) -> bool
-    ensures { IfSome reader.now (λ bytes. IsTrue result ↔ IsCopyDone bytes) }
-{
-    copies_have_one_course();
-    reader.is_done()
-}
-
-/// Reads a copy on, of which so many reads gave what the reader was fed, until the reader is done or as far as the source goes.
-pub(crate) fn read_copy_on<S: Source>(
-    device: &mut S,
-    reader: &mut CopyReader,
+    held: &mut I::Held,
     made: u64,
 ) -> Result<ReadStop, AllocError>
     requires made_few { made ≤ 1 }
-    requires fed_few { IsSomeAnd reader.old (λ fed. length fed ≤ 4096 * made) }
-    ensures begins { (fed : List ℕ) → reader.old ≡ Some fed → 0 < length fed
-        → IfOk result (λ stop. IsSomeAnd reader.new (λ bytes. is_text bytes ≡ is_text fed)) }
-    ensures read { (before : History) (fed : List ℕ) → reader.old ≡ Some fed
-        → GrewBy (ReadSoFar IsCopyDone made fed) before (S.history device.old)
-        → IfOk result (λ stop. IsSomeAnd reader.new (λ bytes. GrewBy (λ reads. IsRead IsCopyDone reads bytes stop) before
+    requires fed_few { IsSomeAnd (I.fed held.old) (λ fed. length fed ≤ 4096 * made) }
+    ensures longer { (fed : List ℕ) → I.fed held.old ≡ Some fed
+        → IfOk result (λ stop. IsSomeAnd (I.fed held.new) (λ bytes. (more : List ℕ) × (bytes ≡ fed ++ more))) }
+    ensures read { (before : History) (fed : List ℕ) → I.fed held.old ≡ Some fed
+        → GrewBy (ReadSoFar I.IsEnough made fed) before (S.history device.old)
+        → IfOk result (λ stop. IsSomeAnd (I.fed held.new) (λ bytes. GrewBy (λ reads. IsRead I.IsEnough reads bytes stop) before
         (S.history device.new))) }
-    ensures refused { (before : History) (fed : List ℕ) → reader.old ≡ Some fed
-        → GrewBy (ReadSoFar IsCopyDone made fed) before (S.history device.old)
-        → OnErr result (GrewBy (IsReadInPart IsCopyDone) before (S.history device.new)) }
-    ensures known { (before : Option (List ℕ)) (fed : List ℕ) → reader.old ≡ Some fed
+    ensures refused { (before : History) (fed : List ℕ) → I.fed held.old ≡ Some fed
+        → GrewBy (ReadSoFar I.IsEnough made fed) before (S.history device.old)
+        → OnErr result (GrewBy (IsReadInPart I.IsEnough) before (S.history device.new)) }
+    ensures known { (before : Option (List ℕ)) (fed : List ℕ) → I.fed held.old ≡ Some fed
         → Consumes before (S.remaining device.old) fed
-        → IfOk result (λ stop. IsSomeAnd reader.new (λ prefix. IfSome before (λ bytes. IsPrefixOf bytes prefix stop))) }
+        → IfOk result (λ stop. IsSomeAnd (I.fed held.new) (λ bytes. Consumes before (S.remaining device.new) bytes)) }
+    ensures end { IfOk result (λ stop. stop ≡ Whole → IsSomeAnd (I.fed held.new) I.IsEnough ⊎ IsAtEnd (S.remaining device.new)) }
 {
     let mut chunk = [0u8; 4096];
     for _ in made..READS {
-        if is_enough(reader) {
+        if I::is_enough(held) {
             return Ok(ReadStop::Whole);
         }
         let n = match device.read_some(&mut chunk) {
@@ -98,9 +79,9 @@ pub(crate) fn read_copy_on<S: Source>(
         if n == 0 {
             return Ok(ReadStop::Whole);
         }
-        reader.feed(prefix(&chunk, n))?;
+        I::put(held, prefix(&chunk, n))?;
     }
-    if is_enough(reader) {
+    if I::is_enough(held) {
         Ok(ReadStop::Whole)
     } else {
         Ok(ReadStop::Turns)

@@ -8,7 +8,7 @@ ghost use Rattle.jls_station.specs.TakingCopies.{IsTakenFor, CopyGives, CopyStop
 
 use crate::copy_end::{CopyGiven, read_of_copy};
 use crate::input::{InputFault, ReadStop};
-use crate::reading::read_copy_on;
+use crate::intakes::read_copy_on;
 use crate::station::Station;
 use crate::take_report::TakeReport;
 use jls_copy::CopyReader;

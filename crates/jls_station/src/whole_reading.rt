@@ -1,32 +1,40 @@
-//! The loop that reads a copy to its end.
+//! A copy that is read to its end.
 
-ghost use Rattle.std.specs.Prelude.{◌≡◌, ◌≤◌, [], length, take, true, IfOk, OnErr, OnOk};
+ghost use Rattle.std.specs.Prelude.{◌≡◌, [], Some, IfOk, OnErr, OnOk};
 ghost use Rattle.std.specs.Io.KnownBytes.{Consumes};
 ghost use Rattle.jls_io.specs.Event.{GrewBy};
-ghost use Rattle.jls_station.specs.Reading.{AreBytes, IsRead, IsReadInPart};
+ghost use Rattle.jls_station.specs.Reading.{IsRead, IsReadInPart};
 ghost use Rattle.jls_station.specs.CopyFiles.{begins_as_text, IsTextPrefix};
 
 use crate::input::ReadStop;
+use crate::reading::{Intake, read_on};
 use jls_io::Source;
 use std::alloc::AllocError;
-
-/// The most reads of one copy.
-const READS: u64 = 4_294_967_295;
-
-/// The prefix of a buffer, which has as many bytes as a read gave.
-fn prefix(buffer: &[u8], count: usize) -> &[u8]
-    requires { count ≤ length buffer.now }
-    ensures prefix { result.now ≡ take count buffer.now }
-    ensures bytes { AreBytes result.now }
-{
-    &buffer[..count]
-}
 
 /// Whether the bytes begin as each text of a partial picture does.
 pub(crate) fn is_text(bytes: &[u8]) -> bool
     ensures { result ≡ begins_as_text bytes.now }
 {
     bytes.starts_with(b"JLSP")
+}
+
+/// A copy that is read to its end, unless it begins as a text.
+struct WholeIntake;
+
+impl Intake for WholeIntake {
+    type Held = Vec<u8>;
+
+    ghost fed = { λ bytes. Some bytes.items };
+
+    ghost IsEnough = { IsTextPrefix };
+
+    fn is_enough(bytes: &Vec<u8>) -> bool {
+        is_text(bytes)
+    }
+
+    fn put(bytes: &mut Vec<u8>, more: &[u8]) -> Result<(), AllocError> {
+        bytes.extend_from_slice(more)
+    }
 }
 
 /// Reads a copy to the end of the device, from its current position on. Bytes after the end of the picture are read too. They go into
@@ -39,23 +47,5 @@ pub fn read_to_end<S: Source>(device: &mut S, bytes: &mut Vec<u8>) -> Result<Rea
     ensures known { OnOk result (Consumes (S.remaining device.old) (S.remaining device.new) bytes.new.items) }
 {
     bytes.clear();
-    let mut chunk = [0u8; 4096];
-    for _ in 0..READS {
-        if is_text(bytes) {
-            return Ok(ReadStop::Whole);
-        }
-        let n = match device.read_some(&mut chunk) {
-            Ok(n) => n,
-            Err(_) => return Ok(ReadStop::Failed),
-        };
-        if n == 0 {
-            return Ok(ReadStop::Whole);
-        }
-        bytes.extend_from_slice(prefix(&chunk, n))?;
-    }
-    if is_text(bytes) {
-        Ok(ReadStop::Whole)
-    } else {
-        Ok(ReadStop::Turns)
-    }
+    read_on::<S, WholeIntake>(device, bytes, 0)
 }

@@ -44,7 +44,7 @@ few_components pic o count shape of_scan = subst (λ n. n ≤ 4) (sym of_scan) (
     by_line true = shape.ids_at_most
     by_line false = omega arith
 
-tail_length : (xs : List ℕ) (x : ℕ) → length (xs ++ 0 ∷ x ∷ 0 ∷ []) ≡ length xs + 3
+pub tail_length : (xs : List ℕ) (x : ℕ) → length (xs ++ 0 ∷ x ∷ 0 ∷ []) ≡ length xs + 3
 tail_length xs x = length-append xs (0 ∷ x ∷ 0 ∷ [])
 
 -- what stands before an interval

@@ -9,7 +9,7 @@ pub mod Sizes
 pub mod WholePictures
 mod IntervalLines
 pub mod Defaults
-mod FileLength
+pub mod FileLength
 mod FileHanding
 mod PackedLength
 mod ScanIds

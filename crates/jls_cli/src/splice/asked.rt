@@ -74,36 +74,40 @@ fn is_set(value: Option<&str>) -> bool
     }
 }
 
-fn options_of<'a>(
-    source: Option<&str>,
-    tries: Option<&str>,
-    ceiling: Option<&str>,
-    progress: Option<&str>,
+/// The values of the options, as clap gives them.
+#[derive(Clone, Copy)]
+struct OptionValues<'v, 'a> {
+    source: Option<&'v str>,
+    tries: Option<&'v str>,
+    ceiling: Option<&'v str>,
+    progress: Option<&'v str>,
     file: Option<&'a str>,
     files: Option<&'a str>,
-) -> Option<Options<'a>>
+}
+
+fn options_of<'a>(values: OptionValues<'_, 'a>) -> Option<Options<'a>>
     ensures { option_map options_in result
-        ≡ spec.options_of (option_map (λ s. s.now) source.entry) (option_map (λ s. s.now) tries.entry)
-        (option_map (λ s. s.now) ceiling.entry) (option_map (λ s. s.now) progress.entry) (option_map (λ s. s.now) file.entry)
-        (option_map (λ s. s.now) files.entry) }
+        ≡ spec.options_of (option_map (λ s. s.now) values.entry.source) (option_map (λ s. s.now) values.entry.tries)
+        (option_map (λ s. s.now) values.entry.ceiling) (option_map (λ s. s.now) values.entry.progress)
+        (option_map (λ s. s.now) values.entry.file) (option_map (λ s. s.now) values.entry.files) }
 {
-    let source = match source {
+    let source = match values.source {
         Some(value) => Some(source_number(value)?),
         None => None,
     };
-    let tries = tries_number(tries?)?;
-    let ceiling = match ceiling {
+    let tries = tries_number(values.tries?)?;
+    let ceiling = match values.ceiling {
         Some(value) => Some(ceiling_number(value)?),
         None => None,
     };
-    let progress = is_set(progress);
+    let progress = is_set(values.progress);
     Some(Options {
         source,
         tries,
         ceiling,
         progress,
-        file,
-        files,
+        file: values.file,
+        files: values.files,
     })
 }
 
@@ -135,14 +139,14 @@ fn asked_with<'m, 'a>(
 pub fn asked_splice<'m, 'a>(matches: &'m ArgMatches<'a>) -> Option<Asked<'m, 'a>>
     ensures { option_map asked_of result ≡ spec.asked_by (rows_of (found_of matches.now)) }
 {
-    let options = options_of(
-        matches.get_str("source"),
-        matches.get_str("tries"),
-        matches.get_str("max"),
-        matches.get_str("progress"),
-        matches.get_str("file"),
-        matches.get_str("files"),
-    );
+    let options = options_of(OptionValues {
+        source: matches.get_str("source"),
+        tries: matches.get_str("tries"),
+        ceiling: matches.get_str("max"),
+        progress: matches.get_str("progress"),
+        file: matches.get_str("file"),
+        files: matches.get_str("files"),
+    });
     let out = matches.get_str("OUT");
     let first = matches.get_str("COPY");
     asked_with(options, out, first, matches.get_strs("OTHERS"))

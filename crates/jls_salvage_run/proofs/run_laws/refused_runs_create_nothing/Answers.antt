@@ -1,4 +1,4 @@
-use Rattle.jls_salvage_run.proofs.Statuses.{nothing_created}
+use Rattle.jls_salvage_run.proofs.RunsWithoutOutput.{nothing_created}
 use Rattle.jls_salvage_run.proofs.run_laws.refused_runs_create_nothing.Goals as goal
 
 pub returns : goal.returns

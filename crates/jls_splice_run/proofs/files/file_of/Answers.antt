@@ -1,6 +1,7 @@
 use Rattle.std.proofs.Common.{List, ◌∙◌}
 use Rattle.jls_diff.specs.Parts.{Part}
-use Rattle.jls_splice_run.proofs.MakingLemmas.{prefix_one_more, path_at}
+use Rattle.jls_search.proofs.Paths.{path_at}
+use Rattle.jls_splice_run.proofs.MakingLemmas.{prefix_one_more}
 use Rattle.jls_splice_run.proofs.files.file_of.Goals as goal
 
 pub way-requires : goal.way-requires

@@ -4,7 +4,7 @@ use Rattle.jls_io.specs.Event.{GrewBy}
 use Rattle.jls_io.proofs.Growing.{grew_as, grew_on}
 use Rattle.jls_splice_run.specs.Limits.{last_or, limits, made_under}
 use Rattle.jls_splice_run.specs.Telling.{HasSearched, IsReported, ReportedUpTo, TookTurns}
-use Rattle.jls_splice_run.proofs.Rounds.{on_err_anyway}
+use Rattle.jls_partial.proofs.TextPrefixes.{on_error}
 use Rattle.jls_splice_run.proofs.Turns.{none_given, one_before, searched_in_turn, searched_once}
 use Rattle.jls_splice_run.proofs.limits.search_all.Goals.{then-is_some-via-then-is_some, then-is_some-via-else-is_some+then-not-first}
 use Rattle.jls_splice_run.proofs.limits.search_all.Goals as goal
@@ -32,7 +32,7 @@ returns-in_err-turned-clause-reported_some g c =
     let first = made_under options.ceiling c.in_ok-first.first in
     let h = history c.args.faults.now in
     let h' = history c.search_in_turn.new.faults in
-    on_err_anyway _ (GrewBy (ReportedUpTo options.tries options.tells) h h')
+    on_error _ (GrewBy (ReportedUpTo options.tries options.tells) h h')
     (grew_on (IsReported options.tells first.tries (length first.choices)) (ReportedUpTo options.tries options.tells) (ReportedUpTo options.tries options.tells)
     h (history c.search_once.new.faults) h'
     (λ a b reported up. one_before options.tries options.tells first a b c.in_ok-first.ensures.is_made.within reported up)

@@ -5,7 +5,7 @@ use Rattle.jls_diff.proofs.Slices.{count_of_slices}
 use Rattle.jls_diff.specs.PartsOf.{bytes_of}
 use Rattle.jls_splice_run.specs.Limits.{made_under}
 use Rattle.jls_splice_run.specs.Telling.{HasChosenLimit, HasSearched, ReportedUpTo}
-use Rattle.jls_splice_run.proofs.Rounds.{on_err_anyway}
+use Rattle.jls_partial.proofs.TextPrefixes.{on_error}
 use Rattle.jls_splice_run.proofs.Turns.{nothing_reported, searched_before}
 use Rattle.jls_splice_run.proofs.limits.search_and_tell.Goals as goal
 
@@ -13,7 +13,7 @@ pub returns-in_err-parts-clause-reported_some : goal.returns-in_err-parts-clause
 returns-in_err-parts-clause-reported_some g c =
     let options = c.args.options in
     let h = g.E.Device.history c.args.faults.now in
-    on_err_anyway _ (GrewBy (ReportedUpTo options.tries options.tells) h h)
+    on_error _ (GrewBy (ReportedUpTo options.tries options.tells) h h)
     (grew_not (ReportedUpTo options.tries options.tells) h (nothing_reported options.tries options.tells))
 
 pub search_all-requires-clause-short : goal.search_all-requires-clause-short
@@ -36,7 +36,7 @@ returns-in_err-cut_limit-clause-reported_some g c =
     let s = made_under all.ceiling all.searched in
     let before = g.E.Device.history c.args.faults.now in
     let now = g.E.Device.history c.search_all.new.faults in
-    on_err_anyway _ (GrewBy (ReportedUpTo options.tries options.tells) before now)
+    on_error _ (GrewBy (ReportedUpTo options.tries options.tells) before now)
     (grew_as (HasSearched options parts s all.cut_limit) (ReportedUpTo options.tries options.tells) before now
     (λ events h. searched_before options parts s all.cut_limit events h)
     c.in_ok-all.ensures.searched)

@@ -4,7 +4,7 @@ use Rattle.jls_io.specs.Event.{GrewBy}
 use Rattle.jls_io.proofs.Growing.{grew_as, grew_not, grew_on}
 use Rattle.jls_splice_run.specs.Limits.{made_under}
 use Rattle.jls_splice_run.specs.Telling.{HasTurned, IsReported, ReportedSome, ReportedUpTo, TookTurns}
-use Rattle.jls_splice_run.proofs.Rounds.{on_err_anyway}
+use Rattle.jls_partial.proofs.TextPrefixes.{on_error}
 use Rattle.jls_splice_run.proofs.Turns.{some_before, split_at, took_all, turned_not, turned_on, turned_up_to}
 use Rattle.jls_splice_run.proofs.limits.search_in_turn.Goals as goal
 
@@ -23,7 +23,7 @@ returns-in_err-searched-clause-reported_some g c =
     let limits = take c.loop-limit.limit-index c.args.limits.now in
     let h = history c.args.faults.now in
     let h' = history c.search_once.new.faults in
-    on_err_anyway _ (GrewBy (ReportedUpTo options.tries options.tells) h h')
+    on_error _ (GrewBy (ReportedUpTo options.tries options.tells) h h')
     (grew_on (HasTurned parts options limits turned) (ReportedSome turned.tries options.tells) (ReportedUpTo options.tries options.tells)
     h (history c.loop-limit.faults) h' (λ a b t some. some_before parts options limits turned a b t some)
     c.loop-limit.invariant c.in_err-searched.ensures.reported_some)

@@ -4,7 +4,7 @@ use Rattle.std.specs.String.{string_bytes}
 use Rattle.jls_search.specs.Faultless.{IsFaultless}
 use Rattle.jls_splice_run.specs.Listing.{AreNamed, NamedFile, is_named, left_out, named_file, named_files, numbered, one_named}
 use Rattle.jls_splice_run.specs.declared.listing.NumberedFile.{NumberedFile}
-use Rattle.jls_splice_run.proofs.MakingLemmas.{length-map}
+use Rattle.std.proofs.lemmas.List.{length-map}
 use Rattle.jls_splice_run.proofs.Named.{named_with}
 use Rattle.jls_splice_run.proofs.listing.name_file.Goals.{then-len-ge-MOST_NAMED-via-then-len-ge-MOST_NAMED}
 use Rattle.jls_splice_run.proofs.listing.name_file.Goals.{then-len-ge-MOST_NAMED-via-else-len-ge-MOST_NAMED+then-has_name}
@@ -12,7 +12,7 @@ use Rattle.jls_splice_run.proofs.listing.name_file.Goals as goal
 
 -- as many names as the code has
 counted : (named : List NumberedFile) → length (named_files named) ≡ length named
-counted named = length-map named_file named
+counted named = length-map named named_file
 
 pub returns-then-len-ge-MOST_NAMED : goal.returns-then-len-ge-MOST_NAMED
 returns-then-len-ge-MOST_NAMED c = λ files are.

@@ -8,7 +8,7 @@ use Rattle.jls_search.specs.Found.{found_of}
 use Rattle.jls_splice_run.specs.Limits.{SearchMade, made_under}
 use Rattle.jls_splice_run.specs.Making.{search_of}
 use Rattle.jls_splice_run.specs.Telling.{HasChosenLimit, ReportedUpTo}
-use Rattle.jls_splice_run.proofs.Rounds.{on_err_anyway}
+use Rattle.jls_partial.proofs.TextPrefixes.{on_error}
 use Rattle.jls_splice_run.proofs.Turns.{nothing_reported, searched_before, searched_made}
 use Rattle.jls_splice_run.proofs.MakingLemmas.{first_is_short}
 use Rattle.jls_splice_run.proofs.made.search.Goals as goal
@@ -70,7 +70,7 @@ returns-in_err-more-clause-reported_some g c =
     let now = g.E.Device.history c.search_and_tell.new.faults in
     let parts = found.copies.parts in
     let s = made_under found.copies.ceiling found.copies.searched in
-    on_err_anyway _ (GrewBy (ReportedUpTo options.tries options.tells) before now)
+    on_error _ (GrewBy (ReportedUpTo options.tries options.tells) before now)
     (grew_as (HasChosenLimit options parts s found.cut_limit) (ReportedUpTo options.tries options.tells) before now
     (λ events h. searched_before options parts s h.0 events h.1)
     c.in_ok-found.ensures.searched)

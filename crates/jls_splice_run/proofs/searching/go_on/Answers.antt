@@ -3,7 +3,8 @@ use Rattle.jls_io.specs.Event.{GrewBy}
 use Rattle.jls_io.proofs.Growing.{grew_as}
 use Rattle.jls_search.specs.Search.{IsSearch, Tried, lists_of}
 use Rattle.jls_splice_run.specs.Telling.{GoesOn, TellsLine}
-use Rattle.jls_splice_run.proofs.Rounds.{on_ok, on_ok_anyway, went_on}
+use Rattle.jls_search.proofs.Prefixes.{on_ok as on_ok_anyway}
+use Rattle.jls_splice_run.proofs.Rounds.{on_ok, went_on}
 use Rattle.jls_splice_run.proofs.searching.go_on.Goals as goal
 
 pub next_pause-pause-requires : goal.next_pause-pause-requires

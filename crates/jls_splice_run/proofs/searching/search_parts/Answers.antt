@@ -5,7 +5,8 @@ use Rattle.jls_search.specs.Search.{lists_of, nothing}
 use Rattle.jls_search.specs.declared.whole_search.WholeSearch.{WholeSearch}
 use Rattle.jls_splice_run.specs.Telling.{GoesOn, HasReported, IsReported, ReportedSome}
 use Rattle.jls_splice_run.specs.declared.options.SearchOptions.{SearchOptions}
-use Rattle.jls_splice_run.proofs.Rounds.{none_reported, on_err_anyway, reported_on, tried_on}
+use Rattle.jls_partial.proofs.TextPrefixes.{on_error}
+use Rattle.jls_splice_run.proofs.Rounds.{none_reported, reported_on, tried_on}
 use Rattle.jls_splice_run.proofs.searching.search_parts.Goals as goal
 
 begun_reported : (options : SearchOptions) (walk : WholeSearch) → walk.tries ≡ 0 → length (lists_of walk.splices.items) ≡ 0 → HasReported options walk []
@@ -21,7 +22,7 @@ some_reported options walk events h = (walk.tries, length (lists_of walk.splices
 pub returns-in_err-walk-clause-reported_some : goal.returns-in_err-walk-clause-reported_some
 returns-in_err-walk-clause-reported_some g c =
     let h = g.E.Device.history c.args.faults.now in
-    on_err_anyway _ (GrewBy (ReportedSome c.args.options.tries c.args.options.tells) h h) (grew_not (ReportedSome c.args.options.tries c.args.options.tells) h (0, 0, omega arith, none_reported c.args.options.tells))
+    on_error _ (GrewBy (ReportedSome c.args.options.tries c.args.options.tells) h h) (grew_not (ReportedSome c.args.options.tries c.args.options.tells) h (0, 0, omega arith, none_reported c.args.options.tells))
 
 pub loop-alloc-init : goal.loop-alloc-init
 loop-alloc-init g c =
@@ -66,7 +67,7 @@ pub returns-in_err-go_on-clause-reported_some : goal.returns-in_err-go_on-clause
 returns-in_err-go_on-clause-reported_some g c =
     let history = g.E.Device.history in
     let h = history c.args.faults.now in
-    on_err_anyway _ (GrewBy (ReportedSome c.args.options.tries c.args.options.tells) h (history c.go_on.new.faults))
+    on_error _ (GrewBy (ReportedSome c.args.options.tries c.args.options.tells) h (history c.go_on.new.faults))
     (subst (λ now. GrewBy (ReportedSome c.args.options.tries c.args.options.tells) h now) (sym c.in_err-go_on.ensures.unreported)
     (grew_as (HasReported c.args.options c.loop-alloc.walk) (ReportedSome c.args.options.tries c.args.options.tells) h (history c.loop-alloc.faults)
     (some_reported c.args.options c.loop-alloc.walk) c.loop-alloc.invariant.reported))

@@ -5,7 +5,7 @@ use Rattle.jls_io.proofs.Growing.{grew_not}
 use Rattle.jls_search.specs.Search.{lists_of}
 use Rattle.jls_splice_run.specs.Lines.{progress_line}
 use Rattle.jls_splice_run.specs.Telling.{TellsLine}
-use Rattle.jls_splice_run.proofs.Rounds.{length-map}
+use Rattle.std.proofs.lemmas.List.{length-map}
 use Rattle.jls_splice_run.proofs.searching.tell.Goals as goal
 
 pub returns-then-not-tells-clause-reported : goal.returns-then-not-tells-clause-reported
@@ -20,7 +20,7 @@ returns-clause-reported g c =
     let history = g.E.Device.history in
     let walk = c.args.walk.now in
     let files = length (lists_of walk.splices.items) in
-    let all = length-map (λ (v : Vec ℕ Global). v.items) walk.splices.items in
+    let all = length-map walk.splices.items (λ (v : Vec ℕ Global). v.items) in
     let held = walk.splices.ok.0 in
     let count : c.len.result ≡ files = omega (arith, all, held, c.len.ensures) in
     let line : c.deref.result.now ≡ progress_line walk.tries files =

@@ -7,7 +7,7 @@ use Rattle.jls_splice_run.specs.Copies.{AreWhole}
 use Rattle.jls_splice_run.specs.Making.{CantMake, HoldsMade}
 use Rattle.jls_splice_run.specs.Tasks.{task_of, texts_of}
 use Rattle.jls_splice_run.proofs.Done.{is_done, read_count, stops_at_copies, stops_in_handing, stops_unmade}
-use Rattle.jls_splice_run.proofs.MakingLemmas.{length-map}
+use Rattle.std.proofs.lemmas.List.{length-map}
 use Rattle.std.specs.Prelude.{◌↔◌, IsTrue}
 use Rattle.jls_splice_run.proofs.splicing.splice.Goals as goal
 
@@ -16,8 +16,8 @@ counts : (names : List (Bor (List ℕ))) (copies : List CopyFile) (events : List
     → length names ≡ length copies
 counts names copies events read =
     let count = read_count (texts_of names) (copies_of copies) events read in
-    let n = length-map (λ (s : Bor (List ℕ)). s.now) names in
-    let m = length-map copy_of copies in
+    let n = length-map names (λ (s : Bor (List ℕ)). s.now) in
+    let m = length-map copies copy_of in
     omega (arith, count, n, m)
 
 pub returns-in-Err : goal.returns-in-Err

@@ -1,5 +1,5 @@
 use Rattle.std.proofs.Common.{refl, arith}
-use Rattle.jls_cli.proofs.SpliceNumbers.{number_read, number_refused}
+use Rattle.jls_cli.proofs.Numbers.{number_read, number_refused}
 use Rattle.jls_cli.proofs.splice.asked.source_number.Goals as goal
 
 pub returns-in-Ok : goal.returns-in-Ok

@@ -1,5 +1,5 @@
 use Rattle.std.proofs.Common.{refl, arith}
-use Rattle.jls_cli.proofs.SpliceNumbers.{number_low, number_read, number_refused}
+use Rattle.jls_cli.proofs.Numbers.{number_low, number_read, number_refused}
 use Rattle.jls_cli.proofs.splice.asked.tries_number.Goals as goal
 
 pub returns-then-number-eq0 : goal.returns-then-number-eq0

@@ -1,4 +1,4 @@
-use Rattle.std.proofs.Common.{◌≡◌, Bool, true, false, Result, Err, ap, refl, sym, subst}
+use Rattle.std.proofs.Common.{◌≡◌, Result, Err, ap, refl, sym, subst}
 use Rattle.std.proofs.lemmas.Result.{err_from_is_err_and}
 use Rattle.jls_values.specs.declared.merge.MergeFault.{MergeFault}
 use Rattle.jls_values.specs.declared.merge.MergeFault.TheVariants as merge
@@ -8,12 +8,9 @@ use Rattle.jls_io.proofs.Growing.{grew_as}
 use Rattle.jls_station.specs.KnownCopies.{BytesGive, TakesBytes, RefusesBytes}
 use Rattle.jls_station.specs.TakingCopies.{CopyGives, CopyStops, TakesCopy, RefusesCopy, gives_none, other_shape, no_memory}
 use Rattle.jls_station.specs.declared.take_copy.TakeFault.TheVariants as take
+use Rattle.jls_values.proofs.Joins.{not_false-true}
 use Rattle.jls_station.proofs.KnownCopies.{some_then, ran_out}
 use Rattle.jls_station.proofs.station.Station.take_copy.Goals as goal
-
-not_false : (b : Bool) → (b ≡ false → ⊥) → b ≡ true
-not_false true h = refl
-not_false false h = absurd (h refl)
 
 not_both : (r : Result (Unit {0}) MergeFault) (f : MergeFault) → r ≡ Err f → f ≡ merge.OutOfMemory → r ≡ Err merge.ShapeDiffers → ⊥
 not_both r f is memory other = cc
@@ -41,7 +38,7 @@ returns-in-Err-OutOfMemory-clause-refused g c =
     let history = g.S.Device.history in
     let given = c.in_ok-given.given in
     let f = c.in-Err-OutOfMemory.field-0 in
-    let same = not_false (has_same_shape c.args.self.now given.partial) (λ e. not_both (Err f) f refl c.in-Err-OutOfMemory.field-0-is (c.in-Err-OutOfMemory.ensures.shape_differs.1 e)) in
+    let same = not_false-true (has_same_shape c.args.self.now given.partial) (λ e. not_both (Err f) f refl c.in-Err-OutOfMemory.field-0-is (c.in-Err-OutOfMemory.ensures.shape_differs.1 e)) in
     grew_as (CopyGives c.args.source given.partial given.report) (RefusesCopy c.args.source c.args.self.now c.take.new.self take.OutOfMemory) (history c.args.device.now) (history c.read_from_start.new.device)
     (λ reads h. no_memory c.args.source c.args.self.now c.take.new.self given.partial given.report reads h same
     (c.in-Err-OutOfMemory.ensures.out_of_memory (ap (λ e. Err e) c.in-Err-OutOfMemory.field-0-is))) c.in_ok-given.ensures.given
