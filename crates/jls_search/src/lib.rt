@@ -16,7 +16,7 @@
 //! - `setting`: what is searched at a time: a group, and the copy that the rest of the file is taken from
 //! - `choosing`: goes through choices for such a group
 //! - `offsets`, `reading_between`: the offsets of a group in the file that choices make; whether the file decodes between them
-//! - `reading_group`: whether a file reads in a group; no more of it is fed than tells it
+//! - `reading_group`: whether a file reads in a group, which its first bytes may tell
 //! - `trying`: one try
 //! - `order`, `group_search`: all groups in turn, each with each copy and with tries of its own
 //! - `found`: what both searches found
@@ -26,12 +26,13 @@
 //! - `files`: the copies and the splices that a search found, as one value
 //! - `seen`: what is seen of each file: its shape, and whether it has a fault
 //! - `reading_files`: each file is read once: what is seen of it is kept, and a station of the first frame's shape takes it
+//! - `reading_splices`: the splices among them; what several begin with alike is read once, as long as its reader is kept
 //! - `shape_rule`: the shape that is taken, or the copy that is named
 //! - `file`, `taking`: a station takes one file; all files
 //! - `settling`: the station of the shape that is taken, or why there is none
 //! - `cut`: where all those files have a fault, a station of the cut file's shape takes it after them
 //!
-//! Each file is decoded once. If the shape that is taken is not the first frame's, as after a damaged header, each is decoded once more.
+//! Each file is decoded once at most. If the shape that is taken is not the first frame's, as after a damaged header, each is decoded once more.
 //!
 //! Definitions: `Choices`, `Faultless`, `Search`, `Order`, `Levels`; `Places`, `ReadsBetween`, `OfGroups`, `GroupTries`, `Found`; `Files`,
 //! `Shapes`, `Stations`, `Settling`, `Cuts`. Inside the crate: `Seen`, `Reading`.
@@ -65,6 +66,7 @@ mod path;
 mod reading_between;
 mod reading_files;
 mod reading_group;
+mod reading_splices;
 mod seen;
 mod setting;
 mod settling;

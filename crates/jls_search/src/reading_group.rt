@@ -1,4 +1,4 @@
-//! Whether files read in a group. No more of them is fed than tells it.
+//! Whether files read in a group. They are fed until that is told, if it is told early.
 
 ghost use Rattle.std.specs.Prelude.{◌≡◌, ◌+◌, ◌-◌, ◌^◌, ◌<◌, ◌≤◌, ℕ, true, false, length, take, Some, IfOk, IfSome, OnOk};
 ghost use Rattle.std.specs.List.{AllByRecursion};
@@ -67,7 +67,7 @@ fn are_bytes(way: &[u8])
 }
 
 /// So is what the path makes.
-fn makes_bytes(parts: &Parts<'_>, path: &[usize])
+pub(crate) fn makes_bytes(parts: &Parts<'_>, path: &[usize])
     requires path { IsPath parts.now path.now }
     ensures { AllByRecursion (λ b. b < 256) (prefix_of parts.now path.now) }
 {

@@ -155,7 +155,7 @@ fn try_prefix(
     let sight = look_at_prefix(alloc, parts, setting.group, kept, &walk.path)?;
     match sight {
         Sight::Open(reader) => {
-            let is_before = walk.path.len() <= setting.group.begin.part;
+            let is_before = walk.path.len().saturating_sub(1) <= setting.group.begin.part;
             keep_one(alloc, &mut walk.kept, is_before, reader, &walk.path)?;
             descend(parts, setting, &mut walk.path)?;
             Ok(true)

@@ -35,7 +35,7 @@ fn has_choice(parts: &Parts<'_>, path: &[usize]) -> bool {
 }
 
 /// The limit of a shallow picture, if it is one: 16383. It is one if the path that `lone_path` finds under this limit goes past a place
-/// where the copies differ, is the path that it finds under 46340, and is not the one that it finds without a limit. Then wrong ways soon
+/// where the copies differ, is not the one that it finds without a limit, and is the path that it finds under 46340. Then wrong ways soon
 /// have samples above both limits, and a cut file without a limit has fewer lines, or wrong ones. A picture with larger samples before the
 /// cut seldom has one path under both. Each of the three has so many tries. `Err` comes where memory is refused.
 pub(crate) fn shallow_limit(
@@ -54,18 +54,18 @@ pub(crate) fn shallow_limit(
     if !chooses {
         return Ok(None);
     }
+    if let Some(unlimited) = lone_path(alloc, parts, None, tries)? {
+        let gains = !are_same(&path, &unlimited);
+        if !gains {
+            return Ok(None);
+        }
+    }
     let Some(last) = lone_path(alloc, parts, Some(LAST), tries)? else {
         return Ok(None);
     };
     let agree = are_same(&path, &last);
     if !agree {
         return Ok(None);
-    }
-    if let Some(unlimited) = lone_path(alloc, parts, None, tries)? {
-        let gains = !are_same(&path, &unlimited);
-        if !gains {
-            return Ok(None);
-        }
     }
     Ok(Some(SHALLOW))
 }
