@@ -1,7 +1,8 @@
 //! Splices of copies: files each of whose stretches is what one of the copies has there. The search for those without a fault, of whole
 //! files and by groups, and the station of the files taken.
 //!
-//! - `path`: goes through choices in depth-first order
+//! - `choosing`: choices at a part; `path`: goes through choices of parts in depth-first order, for both searches
+//! - `setting`: what a search goes through: all splices, or a group and the copy that the rest of the file is taken from
 //! - `feeding`: feeds what they make to a `CopyReader`
 //! - `faultless`: judges it: a file without a fault, or a prefix that none begins with
 //! - `lines`: whether each line of a picture was read
@@ -13,8 +14,6 @@
 //!
 //! The search by groups: splices that read between two markers, where no splice is without a fault.
 //!
-//! - `setting`: what is searched at a time: a group, and the copy that the rest of the file is taken from
-//! - `choosing`: goes through choices for such a group
 //! - `offsets`, `reading_between`: the offsets of a group in the file that choices make; whether the file decodes between them
 //! - `reading_group`: whether a file reads in a group, which its first bytes may tell
 //! - `trying`: one try
@@ -35,7 +34,7 @@
 //! Each file is decoded once at most. If the shape that is taken is not the first frame's, as after a damaged header, each is decoded once more.
 //!
 //! Definitions: `Choices`, `Faultless`, `Search`, `Order`, `Levels`; `Places`, `ReadsBetween`, `OfGroups`, `GroupTries`, `Found`; `Files`,
-//! `Shapes`, `Stations`, `Settling`, `Cuts`. Inside the crate: `Seen`, `Reading`.
+//! `Shapes`, `Stations`, `Settling`, `Cuts`. Inside the crate: `Seen`, `Reading`, `Tried`.
 //!
 //! Not proved:
 //!
@@ -77,6 +76,7 @@ mod taking;
 mod trying;
 mod whole_search;
 
+pub use choosing::next_way_at;
 pub use copies::SearchedCopies;
 pub use cut::settle_with_cut;
 pub use faultless::{is_dead, is_faultless, is_read_faultless, is_sought};
@@ -87,7 +87,6 @@ pub use group_search::{MOST_BY_GROUPS, SearchedGroups, search_groups};
 pub use kept::{Judge, KeptReader};
 pub use laws::{parts_can_be_searched, searches_come_to_each_splice};
 pub use levels::lone_path;
-pub use path::next_way_at;
 pub use reading_between::reads_between;
 pub use settling::{Settled, settle_files};
 pub use shape_found::ShapeFound;
