@@ -13,6 +13,7 @@ use crate::ceiling::is_above;
 use crate::choosing::next_way_at;
 use crate::faultless::is_dead;
 use crate::kept::{Judge, keep, reader_on};
+use crate::living::living_on;
 use crate::path::follow;
 use crate::setting::Goal;
 use jls_diff::Parts;
@@ -52,7 +53,9 @@ fn is_found_dead(
     ensures { IfOk result
         (λ dead. dead ≡ true → IsDead (IsSought judge.now.ceiling) (prefix_of parts.now path.now)) }
 {
-    let reader = reader_on(alloc, parts, &judge.kept, path)?;
+    let Some(reader) = living_on(alloc, parts, &judge.kept, path)? else {
+        return Ok(true);
+    };
     let above = is_above(judge.ceiling, &reader)?;
     if above {
         return Ok(true);

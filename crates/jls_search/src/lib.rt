@@ -8,6 +8,7 @@
 //! - `lines`: whether each line of a picture was read
 //! - `ceiling`: whether samples are at most the greatest that a file may have that is sought
 //! - `kept`: the reader that a search keeps, and readers that go on from it
+//! - `living`: readers that are fed as long as a file without a fault may begin so
 //! - `looking`: what is seen of a path
 //! - `whole_search`: the search of whole files, as a value that goes on as far as its caller wants
 //! - `levels`: the search level by level, for the last level at which exactly one path lives
@@ -58,6 +59,7 @@ mod kept;
 mod laws;
 mod levels;
 mod lines;
+mod living;
 mod looking;
 mod offsets;
 mod order;
