@@ -2,7 +2,7 @@
 use Rattle.std.proofs.Common.{◌≡◌, ℕ, suc, zero, ◌+◌, ◌<◌, ◌≤◌, false, true, List, [], ◌∷◌, ◌++◌, length, take, drop, Option, Some, None}
 use Rattle.std.proofs.Common.{Result, Ok, Err, Bool}
 use Rattle.std.proofs.Common.{refl, sym, ap, ◌∙◌, subst, arith, append_assoc, length-append, inl, inr}
-use Rattle.std.specs.Prelude.{get_or, IfOk, IfSome, ◌==◌}
+use Rattle.std.specs.Prelude.{get_or, IfNone, IfOk, IfSome, ◌==◌}
 use Rattle.std.specs.List.{AllByRecursion, Contains}
 use Rattle.std.proofs.lemmas.Bool.{eqb-true}
 use Rattle.std.proofs.lemmas.List.{append-nil}
@@ -15,6 +15,7 @@ use Rattle.jls_copy.specs.declared.end.End.{End}
 use Rattle.jls_copy.specs.declared.end.End.TheVariants.{Eoi, Input, Header}
 use Rattle.jls_diff.specs.Parts.{Part, Same, way}
 use Rattle.jls_search.specs.Choices.{IsPath, prefix_of}
+use Rattle.jls_search.specs.Faultless.{IsDead, IsFaultless}
 use Rattle.jls_search.specs.ReadsBetween.{IsBetween, Reaches, ReadsBetween}
 use Rattle.jls_search.specs.Search.{IsFedPast, IsFedUntil}
 use Rattle.jls_copy.specs.Prefixes.{offset_of_end}
@@ -66,13 +67,16 @@ pub fed_longer : (start reader fed : Option (List ℕ)) (begin slice : List ℕ)
 fed_longer start reader fed begin slice is more = more ∙ ap (λ o. after o slice) is ∙ after_then start begin slice
 
 -- what one choice more takes was fed, all of it or up to where that is enough
-module _ (offset : ℕ) (ps : List Part) (path : List ℕ) (i : ℕ) (is : IsPath ps path) (l : i < length path)
+module _ (Enough : List ℕ → Type 0) (ps : List Part) (path : List ℕ) (i : ℕ) (is : IsPath ps path) (l : i < length path)
     (reader new : Option (List ℕ)) (bytes : List ℕ) (here : bytes ≡ way (get_or path i 0) (get_or ps i (Same [])))
-    (fed : reader ≡ Some (prefix_of ps (take i path))) (past : Bool) (u : IsFedUntil offset bytes reader new past) where
+    (fed : reader ≡ Some (prefix_of ps (take i path))) (past : Bool) (u : IsFedUntil Enough bytes reader new past) where
   here_fed : new ≡ Some (prefix_of ps (take i path) ++ u.begin)
   here_fed = u.fed ∙ ap (λ o. after o u.begin) fed
 
-  pub fed_past : past ≡ true → IsFedPast offset (prefix_of ps path) new
+  pub enough_here : past ≡ true → Enough (prefix_of ps (take i path) ++ u.begin)
+  enough_here e = subst (λ o. IfSome o Enough) here_fed (u.past_it e)
+
+  pub fed_past : past ≡ true → IsFedPast Enough (prefix_of ps path) new
   fed_past e = record {
     begin = prefix_of ps (take i path) ++ u.begin;
     rest = u.rest ++ prefix_of (drop (suc i) ps) (drop (suc i) path);
@@ -84,13 +88,39 @@ module _ (offset : ℕ) (ps : List Part) (path : List ℕ) (i : ℕ) (is : IsPat
         ∙ u.way_is))
         ∙ append_assoc first (u.begin ++ u.rest) others ∙ ap (λ xs. first ++ xs) (append_assoc u.begin u.rest others)
         ∙ sym (append_assoc first u.begin (u.rest ++ others));
-    enough = inr (subst (λ o. IfSome o (IsPast offset)) here_fed (u.past_it e));
+    enough = inr (enough_here e);
   }
 
   pub fed_all : past ≡ false → new ≡ Some (prefix_of ps (take (i + 1) path))
   fed_all e =
       let all : u.begin ≡ bytes = sym (u.way_is ∙ ap (λ xs. u.begin ++ xs) (u.all e) ∙ append-nil u.begin) in
       u.fed ∙ ap (after reader) all ∙ one_fed_on ps path i is l reader bytes here fed
+
+-- no file begins with what begins with bytes with which none does
+dead_longer : (Sought : List ℕ → Type 0) (begin rest file : List ℕ) → file ≡ begin ++ rest → IsDead Sought begin → IsDead Sought file
+dead_longer Sought begin rest file is dead =
+    subst (IsDead Sought) (sym is)
+    (λ more low sought. dead (rest ++ more) (subst (AllByRecursion (λ b. b < 256)) (append_assoc begin rest more) low)
+    (subst Sought (append_assoc begin rest more) sought))
+
+pub dead_past : (Sought : List ℕ → Type 0) (ps : List Part) (path : List ℕ) (i : ℕ) (is : IsPath ps path) (l : i < length path)
+    (reader new : Option (List ℕ)) (bytes : List ℕ) (here : bytes ≡ way (get_or path i 0) (get_or ps i (Same [])))
+    (fed : reader ≡ Some (prefix_of ps (take i path))) (past : Bool) (u : IsFedUntil (IsDead Sought) bytes reader new past)
+    → past ≡ true → IsDead Sought (prefix_of ps path)
+unfolding fed_past
+dead_past Sought ps path i is l reader new bytes here fed past u e =
+    let f = fed_past (IsDead Sought) ps path i is l reader new bytes here fed past u e in
+    dead_longer Sought f.begin f.rest (prefix_of ps path) f.file_is
+    (enough_here (IsDead Sought) ps path i is l reader new bytes here fed past u e)
+
+-- a reader that was fed all of it, if there is one
+pub fed_some : (ps : List Part) (path : List ℕ) (fed : Option (Option (List ℕ))) (reader : Option (List ℕ)) → fed ≡ Some reader
+    → IfSome fed (λ r. r ≡ Some (prefix_of ps path)) → reader ≡ Some (prefix_of ps path)
+fed_some ps path fed reader is h = subst (λ o. IfSome o (λ r. r ≡ Some (prefix_of ps path))) is h
+
+pub fed_none : (ps : List Part) (path : List ℕ) (fed : Option (Option (List ℕ))) → fed ≡ None → IfNone fed (IsDead IsFaultless (prefix_of ps path))
+    → IsDead IsFaultless (prefix_of ps path)
+fed_none ps path fed is h = subst (λ o. IfNone o (IsDead IsFaultless (prefix_of ps path))) is h
 
 -- What it tells ----------------------------------------------------------------------------------------------------
 
@@ -149,7 +179,7 @@ module _ (law : PrefixesSettlePieces) (some : SomeCourse) (from to at : ℕ) (fr
         each = each_between from to at between.course past.course to_low a.first_in_second between.each;
       }
 
-  module _ (reader : Option (List ℕ)) (is : IsFedPast at file reader) where
+  module _ (reader : Option (List ℕ)) (is : IsFedPast (IsPast at) file reader) where
     whole : is.rest ≡ [] → is.begin ≡ file
     whole e = sym (is.file_is ∙ ap (λ xs. is.begin ++ xs) e ∙ append-nil is.begin)
 

@@ -16,19 +16,6 @@ use Rattle.jls_search.proofs.Paths.{order, path_at, path_len}
 
 -- Parts that all copies have alike ---------------------------------------------------------------------------------
 
--- one part more
-pub same_more : (ps : List Part) (from : ℕ) (path next : List ℕ) → next ≡ path ++ 0 ∷ []
-    → (Differs (get_or ps (length path) (Same [])) → ⊥) → AreSame ps from (length path) → AreSame ps from (length next)
-same_more ps from path next e here before place least less =
-    let l = ap length e ∙ length-append path (0 ∷ []) in
-    elim (order place (length path)) [
-      | inl earlier ↦ before place least earlier
-      | inr r ↦ elim r [
-        | inl at ↦ subst (λ n. Differs (get_or ps n (Same [])) → ⊥) (sym at) here
-        | inr later ↦ absurd (omega (arith, l, less, later))
-      ]
-    ]
-
 only_way : (part : Part) (choice : ℕ) → (Differs part → ⊥) → IsFirstWay part choice → choice ≡ 0
 only_way (Same bytes) choice same first = first
 only_way (Differ ways) choice same first = absurd (same tt)

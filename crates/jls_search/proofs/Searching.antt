@@ -10,6 +10,9 @@ use Rattle.jls_diff.specs.Parts.{Part, Same, Differ, way, HasWays, IsSplice}
 use Rattle.jls_search.specs.Choices.{IsFirstWay, IsPrefix, IsPath, IsWhole, prefix_of}
 use Rattle.jls_search.specs.Order.{IsToCome, IsLater}
 use Rattle.jls_search.specs.Faultless.{IsDead}
+use Rattle.jls_search.specs.Tried.{IsSetFor, IsSetWholeFor, IsStop}
+use Rattle.jls_search.specs.declared.setting.Goal.TheVariants.{Whole}
+use Rattle.jls_search.proofs.Sets.{prefix_of_stop, set_whole_of_all}
 use Rattle.jls_search.specs.Search.{HasEachSplice, MakeFiles, files_of, MakesFile, StandsAt, IsOver, GoesOn, IsStep}
 use Rattle.jls_search.proofs.Paths.{order}
 
@@ -121,32 +124,33 @@ faulty_file Sought ps path l faulty choices file t =
 -- Steps ------------------------------------------------------------------------------------------------------------
 
 module _ (Sought : List ℕ → Type 0) (ps : List Part) (path next : List ℕ) (found : List (List ℕ)) (stands : StandsAt Sought ps path found) where
-  pub descended : IsPath ps next → IsPrefix ps next → ((choices : List ℕ) → IsWhole ps choices → IsToCome path choices → IsToCome next choices) → StandsAt Sought ps next found
-  descended is prefix kept = record {
-    is_path = is;
-    prefix = prefix;
+  pub descended : IsSetFor ps Whole next → IsStop ps Whole next
+      → ((choices : List ℕ) → IsSetWholeFor ps Whole choices → IsToCome path choices → IsToCome next choices) → StandsAt Sought ps next found
+  descended set stop kept = record {
+    is_path = set.0;
+    prefix = prefix_of_stop ps next stop;
     files = stands.files;
-    all = λ choices file. elim (stands.all choices file) [ inl f ↦ inl f | inr t ↦ inr (kept choices file.whole t) ];
+    all = λ choices file. elim (stands.all choices file) [ inl f ↦ inl f | inr t ↦ inr (kept choices (set_whole_of_all ps choices file.whole) t) ];
   }
 
   -- all that begin with the path are found, or were none
   module _ (more_found : List (List ℕ)) (files : MakeFiles Sought ps more_found)
       (found_or_after : (choices : List ℕ) → MakesFile Sought ps choices → Contains more_found choices ⊎ IsLater path choices) where
-    pub turned_on : (r : Result Bool AllocError) → IfOk r (λ more. more ≡ true → IsPath ps next)
-        → IfOk r (λ more. more ≡ true → IsPrefix ps next)
-        → IfOk r (λ more. more ≡ true → (choices : List ℕ) → IsWhole ps choices → IsLater path choices → IsToCome next choices)
-        → IfOk r (λ more. more ≡ false → (choices : List ℕ) → IsWhole ps choices → IsLater path choices → ⊥)
+    pub turned_on : (r : Result Bool AllocError) → IfOk r (λ more. more ≡ true → IsSetFor ps Whole next)
+        → IfOk r (λ more. more ≡ true → IsStop ps Whole next)
+        → IfOk r (λ more. more ≡ true → (choices : List ℕ) → IsSetWholeFor ps Whole choices → IsLater path choices → IsToCome next choices)
+        → IfOk r (λ more. more ≡ false → (choices : List ℕ) → IsSetWholeFor ps Whole choices → IsLater path choices → ⊥)
         → IfOk r (λ more. GoesOn Sought ps next more_found more)
     turned_on (Err e) a f b c = tt
     turned_on (Ok true) a f b c = record {
-      is_path = a refl;
-      prefix = f refl;
+      is_path = (a refl).0;
+      prefix = prefix_of_stop ps next (f refl);
       files = files;
-      all = λ choices file. elim (found_or_after choices file) [ inl f ↦ inl f | inr t ↦ inr (b refl choices file.whole t) ];
+      all = λ choices file. elim (found_or_after choices file) [ inl f ↦ inl f | inr t ↦ inr (b refl choices (set_whole_of_all ps choices file.whole) t) ];
     }
     turned_on (Ok false) a f b c = record {
       files = files;
-      all = λ choices file. elim (found_or_after choices file) [ inl f ↦ f | inr t ↦ absurd (c refl choices file.whole t) ];
+      all = λ choices file. elim (found_or_after choices file) [ inl f ↦ f | inr t ↦ absurd (c refl choices (set_whole_of_all ps choices file.whole) t) ];
     }
 
   pub dead_after : ((choices : List ℕ) → MakesFile Sought ps choices → IsToCome path choices → IsLater path choices)

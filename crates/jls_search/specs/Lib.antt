@@ -7,6 +7,7 @@ pub mod SearchLaws
 pub mod Places
 pub mod ReadsBetween
 pub mod OfGroups
+pub mod Tried
 pub mod GroupTries
 pub mod Found
 pub mod Files

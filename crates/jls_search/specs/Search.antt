@@ -4,7 +4,6 @@ use Rattle.std.specs.Prelude.{IfSome, ◌⊎◌}
 use Rattle.std.specs.List.{AllByRecursion, Contains}
 use Rattle.std.specs.declared.vec.Vec.{Vec}
 use Rattle.std.specs.declared.alloc.Global.{Global}
-use Rattle.jls_copy.specs.Prefixes.{IsPast}
 use Rattle.jls_copy.specs.ReadCopy.{after}
 use Rattle.jls_diff.specs.Parts.{Part, HasWays, IsSplice}
 use Rattle.jls_search.specs.Choices.{IsPrefix, IsPath, IsWhole, prefix_of}
@@ -149,22 +148,22 @@ AreEachKept parts readers = AllByRecursion (λ reader. IfSome reader (IsKept par
 abbrev pub IsBegunOn : List Part → List ℕ → BegunReader → Type 0
 IsBegunOn parts path begun = (begun.choices ≤ length path) × (begun.reader ≡ Some (prefix_of parts (take begun.choices path)))
 
--- a reader was fed the first bytes of a file, up to a piece that begins at the offset or after it, or all of them
-pub record IsFedPast (offset : ℕ) (file : List ℕ) (reader : Option (List ℕ)) : Type 0 where
+-- a reader was fed the first bytes of a file, up to some that are enough, or all of them
+pub record IsFedPast (Enough : List ℕ → Type 0) (file : List ℕ) (reader : Option (List ℕ)) : Type 0 where
   pub begin : List ℕ
   pub rest : List ℕ
   pub fed : reader ≡ Some begin
   pub file_is : file ≡ begin ++ rest
-  pub enough : (rest ≡ []) ⊎ IsPast offset begin
+  pub enough : (rest ≡ []) ⊎ Enough begin
 
--- of more bytes so many were fed to a reader: all, or those up to a piece that begins at the offset or after it
-pub record IsFedUntil (offset : ℕ) (way : List ℕ) (before after_it : Option (List ℕ)) (past : Bool) : Type 0 where
+-- of more bytes so many were fed to a reader: all, or those up to some with which what it was fed is enough
+pub record IsFedUntil (Enough : List ℕ → Type 0) (way : List ℕ) (before after_it : Option (List ℕ)) (past : Bool) : Type 0 where
   pub begin : List ℕ
   pub rest : List ℕ
   pub way_is : way ≡ begin ++ rest
   pub fed : after_it ≡ after before begin
   pub all : past ≡ false → rest ≡ []
-  pub past_it : past ≡ true → IfSome after_it (IsPast offset)
+  pub past_it : past ≡ true → IfSome after_it Enough
 
 -- what is kept: a reader with the path that it was fed; where there is none, what was kept before
 abbrev pub Keeps : Option KeptReader → Option (Option (List ℕ)) → List ℕ → Option KeptReader → Type 0

@@ -1,19 +1,94 @@
-//! Paths of a search by groups: a way for each of the first parts, outside of the group that of one copy.
+//! Choices at a part: its ways in turn, those with equal bytes once; what one copy has there; and those that a search tries.
 
-ghost use Rattle.std.specs.Prelude.{◌≡◌, ℕ, List, ◌<◌, map, length, get_or, [], true, false, IfOk, IfSome, IfNone, OnOk};
+ghost use Rattle.std.specs.Prelude.{◌≡◌, ℕ, List, ◌<◌, ◌↔◌, map, length, get_or, [], true, false, IsTrue, IfSome, IfNone};
 ghost use Rattle.std.specs.List.{AllByRecursion};
-ghost use Rattle.jls_diff.specs.Parts.{Same};
+ghost use Rattle.jls_diff.specs.Parts.{Differs, Same};
 ghost use Rattle.jls_diff.specs.Parts as spec;
 ghost use Rattle.jls_diff.specs.PartsOf.{part_of, parts_of};
-ghost use Rattle.jls_search.specs.Choices.{IsNew, IsFirstWay};
-ghost use Rattle.jls_diff.specs.Groups.{IsInside};
-ghost use Rattle.jls_search.specs.OfGroups.{HasCopy, IsSet, IsSetWhole};
-ghost use Rattle.jls_search.specs.Order.{IsToCome, IsLater};
+ghost use Rattle.jls_search.specs.Choices.{HasSomeWay, IsFirstWay, IsNew};
+ghost use Rattle.jls_search.specs.OfGroups.{HasCopy};
+ghost use Rattle.jls_search.specs.Tried.{HasCopyElsewhere, IsFree, IsTried, copy_of};
 
-use crate::path::next_way_at;
-use crate::setting::{Setting, is_free};
+use crate::setting::{Goal, Setting};
 use jls_diff::{Part, Parts};
-use std::alloc::AllocError;
+
+/// Whether no way before this one has the same bytes.
+fn is_new(ways: &[&[u8]], choice: usize) -> bool
+    requires { choice < length ways.now }
+    ensures { IsTrue result ↔ IsNew (map (λ way. way.now) ways.now) choice }
+{
+    for other in 0..choice {
+        if *ways[other] == *ways[choice] {
+            return false;
+        }
+    }
+    true
+}
+
+/// The next of these ways after one, before which none has the same bytes.
+fn next_new(ways: &[&[u8]], after: usize) -> Option<usize>
+    requires { after < length ways.now }
+    ensures some { IfSome result (λ choice. (after < choice) × (choice < length ways.now) × IsNew (map (λ way. way.now) ways.now) choice
+        × ((other : ℕ) → after < other → other < choice → ¬ IsNew (map (λ way. way.now) ways.now) other)) }
+    ensures none { IfNone result ((other : ℕ) → after < other → other < length ways.now → ¬ IsNew (map (λ way. way.now) ways.now) other) }
+{
+    let mut choice = after + 1;
+    while choice < ways.len() {
+        if is_new(ways, choice) {
+            return Some(choice);
+        }
+        choice += 1;
+    }
+    None
+}
+
+/// The next way of a part after one, before which none has the same bytes.
+fn next_way(part: &Part<'_>, after: usize) -> Option<usize>
+    requires { IsFirstWay (part_of part.now) after }
+    ensures some { IfSome result (λ choice. IsFirstWay (part_of part.now) choice
+        × ((other : ℕ) → after < other → other < choice → ¬ IsFirstWay (part_of part.now) other)) }
+    ensures rises { IfSome result (λ choice. after < choice) }
+    ensures none { IfNone result ((other : ℕ) → after < other → ¬ IsFirstWay (part_of part.now) other) }
+{
+    match part {
+        Part::Same(_) => None,
+        Part::Differ(ways) => next_new(ways, after),
+    }
+}
+
+/// The next way of the part at this place after one, before which none has the same bytes.
+pub fn next_way_at(parts: &Parts<'_>, place: usize, after: usize) -> Option<usize>
+    requires place { place < length parts.now }
+    requires first { IsFirstWay (get_or parts.now place (Same [])) after }
+    ensures some { IfSome result (λ choice. IsFirstWay (get_or parts.now place (Same [])) choice
+        × ((other : ℕ) → after < other → other < choice → ¬ IsFirstWay (get_or parts.now place (Same [])) other)) }
+    ensures rises { IfSome result (λ choice. after < choice) }
+    ensures none { IfNone result ((other : ℕ) → after < other → ¬ IsFirstWay (get_or parts.now place (Same [])) other) }
+{
+    next_way(parts.part(place), after)
+}
+
+/// Whether all copies have the part alike.
+fn is_same(part: &Part<'_>) -> bool
+    ensures same { result ≡ true → IsFirstWay (part_of part.now) 0 }
+    ensures alike { result ≡ true → ¬ Differs (part_of part.now) }
+    ensures differ { result ≡ false → Differs (part_of part.now) }
+{
+    match part {
+        Part::Same(_) => true,
+        Part::Differ(_) => false,
+    }
+}
+
+/// The same, of the part at this place.
+pub(crate) fn is_same_at(parts: &Parts<'_>, place: usize) -> bool
+    requires { place < length parts.now }
+    ensures same { result ≡ true → IsFirstWay (get_or parts.now place (Same [])) 0 }
+    ensures alike { result ≡ true → ¬ Differs (get_or parts.now place (Same [])) }
+    ensures differ { result ≡ false → Differs (get_or parts.now place (Same [])) }
+{
+    is_same(parts.part(place))
+}
 
 /// The first of these ways with the bytes of one of them.
 fn first_equal(ways: &[&[u8]], copy: usize) -> usize
@@ -53,93 +128,64 @@ pub(crate) fn choice_at(parts: &Parts<'_>, place: usize, copy: usize) -> usize
     choice_of(parts.part(place), copy)
 }
 
-/// Goes on with the copy's ways, up to the next part of the group in which copies differ.
-pub(crate) fn follow(
-    parts: &Parts<'_>,
-    setting: Setting,
-    path: &mut Vec<usize>,
-) -> Result<(), AllocError>
-    requires copy { AllByRecursion (HasCopy setting.copy) parts.now }
-    requires path { IsSet parts.now setting path.old.items }
-    ensures path { OnOk result (IsSet parts.now setting path.new.items) }
-    ensures kept { OnOk result ((choices : List ℕ) → IsSetWhole parts.now setting choices
-        → IsToCome path.old.items choices → IsToCome path.new.items choices) }
+/// Whether the ways of the part at this place are tried, and copies differ in it.
+pub(crate) fn is_free(parts: &Parts<'_>, goal: Goal, place: usize) -> bool
+    requires { place < length parts.now }
+    ensures free { result ≡ true → IsFree parts.now goal place }
+    ensures fixed { result ≡ false → ¬ IsFree parts.now goal place }
 {
-    while path.len() < parts.len() && !is_free(parts, setting.group, path.len()) {
-        path.push(choice_at(parts, path.len(), setting.copy))?;
-    }
-    Ok(())
+    !is_same_at(parts, place) && goal.is_tried(place)
 }
 
-/// The first choice of the part at this place: its first way, if it is one of the group, and else the copy's.
-fn first_choice(parts: &Parts<'_>, setting: Setting, place: usize) -> usize
+/// The choice of a part whose ways are not tried, or that all copies have alike.
+pub(crate) fn fixed_choice(parts: &Parts<'_>, goal: Goal, place: usize) -> usize
     requires place { place < length parts.now }
-    requires copy { AllByRecursion (HasCopy setting.copy) parts.now }
+    requires copy { HasCopyElsewhere parts.now goal }
+    requires fixed { ¬ IsFree parts.now goal place }
     ensures first { IsFirstWay (get_or parts.now place (Same [])) result }
-    ensures same { ¬ IsInside setting.group place → spec.way result (get_or parts.now place (Same []))
-        ≡ spec.way setting.copy (get_or parts.now place (Same [])) }
-    ensures least { IsInside setting.group place → result ≡ 0 }
+    ensures same { spec.way result (get_or parts.now place (Same [])) ≡ spec.way (copy_of goal) (get_or parts.now place (Same [])) }
 {
-    if setting.group.is_inside(place) {
+    match goal {
+        Goal::Whole => 0,
+        Goal::Group(Setting { copy, .. }) => choice_at(parts, place, copy),
+    }
+}
+
+/// The first choice of the part at this place: its first way, if its ways are tried, and else the copy's.
+pub(crate) fn first_choice(parts: &Parts<'_>, goal: Goal, place: usize) -> usize
+    requires place { place < length parts.now }
+    requires copy { HasCopyElsewhere parts.now goal }
+    requires some_way { AllByRecursion HasSomeWay parts.now }
+    ensures first { IsFirstWay (get_or parts.now place (Same [])) result }
+    ensures same { ¬ IsTried goal place → spec.way result (get_or parts.now place (Same []))
+        ≡ spec.way (copy_of goal) (get_or parts.now place (Same [])) }
+    ensures least { IsTried goal place → result ≡ 0 }
+{
+    if goal.is_tried(place) {
         return 0;
     }
-    choice_at(parts, place, setting.copy)
+    fixed_choice(parts, goal, place)
 }
 
-/// The choice of the part at this place after one, if it is one of the group and has another.
-fn next_choice(parts: &Parts<'_>, setting: Setting, place: usize, choice: usize) -> Option<usize>
+/// The choice of the part at this place after one, if its ways are tried and it has another.
+pub(crate) fn next_choice(
+    parts: &Parts<'_>,
+    goal: Goal,
+    place: usize,
+    choice: usize,
+) -> Option<usize>
     requires place { place < length parts.now }
     requires first { IsFirstWay (get_or parts.now place (Same [])) choice }
     ensures first { IfSome result (λ next. IsFirstWay (get_or parts.now place (Same [])) next) }
-    ensures inside { IfSome result (λ next. IsInside setting.group place) }
+    ensures rises { IfSome result (λ next. choice < next) }
+    ensures tried { IfSome result (λ next. IsTried goal place) }
     ensures between { IfSome result (λ next. (other : ℕ) → choice < other → other < next
         → ¬ IsFirstWay (get_or parts.now place (Same [])) other) }
-    ensures none { IfNone result (IsInside setting.group place → (other : ℕ) → choice < other
+    ensures none { IfNone result (IsTried goal place → (other : ℕ) → choice < other
         → ¬ IsFirstWay (get_or parts.now place (Same [])) other) }
 {
-    if !setting.group.is_inside(place) {
+    if !goal.is_tried(place) {
         return None;
     }
     next_way_at(parts, place, choice)
-}
-
-/// Goes on with the first choice of the next part, and then with the copy's ways.
-pub(crate) fn descend(
-    parts: &Parts<'_>,
-    setting: Setting,
-    path: &mut Vec<usize>,
-) -> Result<(), AllocError>
-    requires copy { AllByRecursion (HasCopy setting.copy) parts.now }
-    requires path { IsSet parts.now setting path.old.items }
-    requires more { length path.old.items < length parts.now }
-    ensures path { OnOk result (IsSet parts.now setting path.new.items) }
-    ensures kept { OnOk result ((choices : List ℕ) → IsSetWhole parts.now setting choices
-        → IsToCome path.old.items choices → IsToCome path.new.items choices) }
-{
-    path.push(first_choice(parts, setting, path.len()))?;
-    follow(parts, setting, path)
-}
-
-/// Gives up all choices that begin with the path, and goes to the next path; `false` where there is none.
-pub(crate) fn turn(
-    parts: &Parts<'_>,
-    setting: Setting,
-    path: &mut Vec<usize>,
-) -> Result<bool, AllocError>
-    requires copy { AllByRecursion (HasCopy setting.copy) parts.now }
-    requires path { IsSet parts.now setting path.old.items }
-    ensures path { IfOk result (λ more. more ≡ true → IsSet parts.now setting path.new.items) }
-    ensures to_come { IfOk result (λ more. more ≡ true → (choices : List ℕ) → IsSetWhole parts.now setting choices
-        → IsLater path.old.items choices → IsToCome path.new.items choices) }
-    ensures none { IfOk result (λ more. more ≡ false → (choices : List ℕ) → IsSetWhole parts.now setting choices
-        → ¬ IsLater path.old.items choices) }
-{
-    while let Some(choice) = path.pop() {
-        if let Some(next) = next_choice(parts, setting, path.len(), choice) {
-            path.push(next)?;
-            follow(parts, setting, path)?;
-            return Ok(true);
-        }
-    }
-    Ok(false)
 }

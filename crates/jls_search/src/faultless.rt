@@ -103,19 +103,31 @@ fn has_fault(reader: CopyReader) -> Result<bool, AllocError>
     Ok(true)
 }
 
+/// Whether it is known that no file without a fault begins with the bytes fed, whatever comes: a piece that a marker closed is faulty, or the
+/// piece in hand is broken. `false` says nothing.
+pub(crate) fn is_broken(reader: &CopyReader) -> bool
+    ensures { result ≡ true → IfSome reader.now (λ prefix. IsDead IsFaultless prefix) }
+{
+    prefixes_stay_broken();
+    let faulty = reader.has_faulty_piece();
+    if faulty {
+        return true;
+    }
+    let broken = reader.is_piece_broken();
+    if broken {
+        return true;
+    }
+    false
+}
+
 /// Whether it is known that no file without a fault begins with the bytes fed. A piece that a marker closed is faulty, or the piece in hand
 /// is broken, or the copy has ended and has a fault. `false` says nothing. The only refusal is out of memory.
 pub fn is_dead(reader: CopyReader) -> Result<bool, AllocError>
     ensures { IfOk result (λ dead. dead ≡ true → IfSome reader (λ prefix. IsDead IsFaultless prefix)) }
 {
-    prefixes_stay_broken();
     final_ends_stay();
-    let faulty = reader.has_faulty_piece();
-    if faulty {
-        return Ok(true);
-    }
-    let broken = reader.is_piece_broken();
-    if broken {
+    let already = is_broken(&reader);
+    if already {
         return Ok(true);
     }
     let done = reader.is_done();

@@ -10,11 +10,11 @@ ghost use Rattle.jls_diff.specs.Groups.{CoverParts, IsGroup};
 ghost use Rattle.jls_search.specs.OfGroups.{AreOfGroups, IsOfGroup, IsOnce, IsSetting};
 ghost use Rattle.jls_search.specs.GroupTries.{AreGroupsSearched, GoesThrough, GoesThroughCopies};
 
-use crate::choosing::follow;
 use crate::kept::{GroupReaders, KeptReader};
 use crate::laws::parts_can_be_searched;
 use crate::order::groups_in_order;
-use crate::setting::Setting;
+use crate::path::follow;
+use crate::setting::{Goal, Setting};
 use crate::trying::{GroupWalk, try_next};
 use crate::whole_search::{MOST_FOUND, Searched};
 use jls_diff::{Group, Parts, find_groups};
@@ -86,7 +86,7 @@ fn search_setting(
     } = searched;
     let most = most_after(splices.len());
     let mut path = Vec::new(alloc);
-    follow(parts, setting, &mut path)?;
+    follow(parts, Goal::Group(setting), &mut path)?;
     let mut walk = GroupWalk {
         path,
         found: splices,

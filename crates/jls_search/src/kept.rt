@@ -60,7 +60,11 @@ pub(crate) fn begun_on(
 }
 
 /// A reader that was fed what the path makes. It goes on from one that was fed what the first choices make.
-fn fed_on(begun: BegunReader, parts: &Parts<'_>, path: &[usize]) -> Result<CopyReader, AllocError>
+pub(crate) fn fed_on(
+    begun: BegunReader,
+    parts: &Parts<'_>,
+    path: &[usize],
+) -> Result<CopyReader, AllocError>
     requires begun { IsBegunOn parts.now path.now begun }
     requires path { IsPath parts.now path.now }
     requires few { length (prefix_of parts.now path.now) ≤ 2 ^ 63 - 1 }
@@ -92,6 +96,18 @@ pub(crate) fn reader_on(
     fed_on(begun, parts, path)
 }
 
+/// A reader with the path that it was fed.
+pub(crate) fn kept_reader(
+    alloc: Global,
+    reader: CopyReader,
+    path: &[usize],
+) -> Result<KeptReader, AllocError>
+    ensures { IfOk result (λ kept. (kept.reader ≡ reader) × (kept.choices.items ≡ path.now)) }
+{
+    let choices: Vec<usize> = path.iter().copied().collect(alloc)?;
+    Ok(KeptReader { reader, choices })
+}
+
 /// Keeps a reader that was fed what the path makes, if there is one. The reader that was kept before is let go.
 pub(crate) fn keep(
     alloc: Global,
@@ -102,8 +118,7 @@ pub(crate) fn keep(
     ensures { OnOk result (Keeps kept.old reader path.now kept.new) }
 {
     if let Some(reader) = reader {
-        let choices: Vec<usize> = path.iter().copied().collect(alloc)?;
-        *kept = Some(KeptReader { reader, choices });
+        *kept = Some(kept_reader(alloc, reader, path)?);
     }
     Ok(())
 }

@@ -10,9 +10,12 @@ ghost use Rattle.jls_search.specs.Search.{IsKept, IsShort, lists_of};
 ghost use Rattle.jls_search.specs.Levels.{AreJudged, IsFirstDead, IsLevel, IsLone, IsNext, IsTaken};
 
 use crate::ceiling::is_above;
+use crate::choosing::next_way_at;
 use crate::faultless::is_dead;
 use crate::kept::{Judge, keep, reader_on};
-use crate::path::{follow_same, next_way_at};
+use crate::living::living_on;
+use crate::path::follow;
+use crate::setting::Goal;
 use jls_diff::Parts;
 use std::alloc::{AllocError, Global};
 
@@ -50,7 +53,9 @@ fn is_found_dead(
     ensures { IfOk result
         (λ dead. dead ≡ true → IsDead (IsSought judge.now.ceiling) (prefix_of parts.now path.now)) }
 {
-    let reader = reader_on(alloc, parts, &judge.kept, path)?;
+    let Some(reader) = living_on(alloc, parts, &judge.kept, path)? else {
+        return Ok(true);
+    };
     let above = is_above(judge.ceiling, &reader)?;
     if above {
         return Ok(true);
@@ -73,7 +78,7 @@ fn take_path(
         (lists_of living.old.items) (lists_of living.new.items)) }
 {
     let mut path = begin;
-    follow_same(parts, &mut path)?;
+    follow(parts, Goal::Whole, &mut path)?;
     let dead = is_found_dead(alloc, parts, judge, &path)?;
     if dead {
         return Ok(());

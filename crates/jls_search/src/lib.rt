@@ -1,22 +1,22 @@
 //! Splices of copies: files each of whose stretches is what one of the copies has there. The search for those without a fault, of whole
 //! files and by groups, and the station of the files taken.
 //!
-//! - `path`: goes through choices in depth-first order
+//! - `choosing`: choices at a part; `path`: goes through choices of parts in depth-first order, for both searches
+//! - `setting`: what a search goes through: all splices, or a group and the copy that the rest of the file is taken from
 //! - `feeding`: feeds what they make to a `CopyReader`
 //! - `faultless`: judges it: a file without a fault, or a prefix that none begins with
 //! - `lines`: whether each line of a picture was read
 //! - `ceiling`: whether samples are at most the greatest that a file may have that is sought
 //! - `kept`: the reader that a search keeps, and readers that go on from it
+//! - `living`: readers that are fed as long as a file without a fault may begin so
 //! - `looking`: what is seen of a path
 //! - `whole_search`: the search of whole files, as a value that goes on as far as its caller wants
 //! - `levels`: the search level by level, for the last level at which exactly one path lives
 //!
 //! The search by groups: splices that read between two markers, where no splice is without a fault.
 //!
-//! - `setting`: what is searched at a time: a group, and the copy that the rest of the file is taken from
-//! - `choosing`: goes through choices for such a group
 //! - `offsets`, `reading_between`: the offsets of a group in the file that choices make; whether the file decodes between them
-//! - `reading_group`: whether a file reads in a group; no more of it is fed than tells it
+//! - `reading_group`: whether a file reads in a group, which its first bytes may tell
 //! - `trying`: one try
 //! - `order`, `group_search`: all groups in turn, each with each copy and with tries of its own
 //! - `found`: what both searches found
@@ -26,15 +26,16 @@
 //! - `files`: the copies and the splices that a search found, as one value
 //! - `seen`: what is seen of each file: its shape, and whether it has a fault
 //! - `reading_files`: each file is read once: what is seen of it is kept, and a station of the first frame's shape takes it
+//! - `reading_splices`: the splices among them; what several begin with alike is read once, as long as its reader is kept
 //! - `shape_rule`: the shape that is taken, or the copy that is named
 //! - `file`, `taking`: a station takes one file; all files
 //! - `settling`: the station of the shape that is taken, or why there is none
 //! - `cut`: where all those files have a fault, a station of the cut file's shape takes it after them
 //!
-//! Each file is decoded once. If the shape that is taken is not the first frame's, as after a damaged header, each is decoded once more.
+//! Each file is decoded once at most. If the shape that is taken is not the first frame's, as after a damaged header, each is decoded once more.
 //!
 //! Definitions: `Choices`, `Faultless`, `Search`, `Order`, `Levels`; `Places`, `ReadsBetween`, `OfGroups`, `GroupTries`, `Found`; `Files`,
-//! `Shapes`, `Stations`, `Settling`, `Cuts`. Inside the crate: `Seen`, `Reading`.
+//! `Shapes`, `Stations`, `Settling`, `Cuts`. Inside the crate: `Seen`, `Reading`, `Tried`.
 //!
 //! Not proved:
 //!
@@ -58,6 +59,7 @@ mod kept;
 mod laws;
 mod levels;
 mod lines;
+mod living;
 mod looking;
 mod offsets;
 mod order;
@@ -65,6 +67,7 @@ mod path;
 mod reading_between;
 mod reading_files;
 mod reading_group;
+mod reading_splices;
 mod seen;
 mod setting;
 mod settling;
@@ -75,6 +78,7 @@ mod taking;
 mod trying;
 mod whole_search;
 
+pub use choosing::next_way_at;
 pub use copies::SearchedCopies;
 pub use cut::settle_with_cut;
 pub use faultless::{is_dead, is_faultless, is_read_faultless, is_sought};
@@ -85,7 +89,6 @@ pub use group_search::{MOST_BY_GROUPS, SearchedGroups, search_groups};
 pub use kept::{Judge, KeptReader};
 pub use laws::{parts_can_be_searched, searches_come_to_each_splice};
 pub use levels::lone_path;
-pub use path::next_way_at;
 pub use reading_between::reads_between;
 pub use settling::{Settled, settle_files};
 pub use shape_found::ShapeFound;

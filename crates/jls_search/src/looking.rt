@@ -8,7 +8,8 @@ ghost use Rattle.jls_search.specs.Search.{IsKept, IsSeen};
 
 use crate::ceiling::is_above;
 use crate::faultless::{is_dead, is_sought};
-use crate::kept::{Judge, reader_on};
+use crate::kept::Judge;
+use crate::living::living_on;
 use jls_copy::CopyReader;
 use jls_diff::Parts;
 use std::alloc::{AllocError, Global};
@@ -37,7 +38,9 @@ fn look_at_file(
     requires whole { length path.now ≡ length parts.now }
     ensures { IfOk result (λ sight. IsSeen (IsSought judge.now.ceiling) parts.now path.now sight) }
 {
-    let reader = reader_on(alloc, parts, &judge.kept, path)?;
+    let Some(reader) = living_on(alloc, parts, &judge.kept, path)? else {
+        return Ok(Sight::Dead);
+    };
     let sought = is_sought(judge.ceiling, reader)?;
     if sought {
         return Ok(Sight::Found);
@@ -58,7 +61,9 @@ fn look_at_prefix(
     requires more { length path.now < length parts.now }
     ensures { IfOk result (λ sight. IsSeen (IsSought judge.now.ceiling) parts.now path.now sight) }
 {
-    let reader = reader_on(alloc, parts, &judge.kept, path)?;
+    let Some(reader) = living_on(alloc, parts, &judge.kept, path)? else {
+        return Ok(Sight::Dead);
+    };
     let above = is_above(judge.ceiling, &reader)?;
     if above {
         return Ok(Sight::Dead);

@@ -9,12 +9,11 @@ ghost use Rattle.jls_station.specs.Reading.{AreBytes};
 ghost use Rattle.jls_search.specs.Files.{files_taken};
 ghost use Rattle.jls_search.specs.Reading.{AreRead, HasTaken, ReadsMore};
 
-use crate::feeding::feed_prefix;
 use crate::file::take_read;
 use crate::files::Files;
+use crate::reading_splices::read_splices;
 use crate::seen::{Seen, see};
 use jls_copy::{CopyFault, CopyRead, CopyReader};
-use jls_diff::Parts;
 use jls_station::Station;
 use std::alloc::{AllocError, Global};
 
@@ -38,7 +37,7 @@ fn station_for(alloc: Global, station: Option<Station>, read: &CopyRead) -> Stat
 }
 
 /// Adds the file that was fed.
-fn read_file(
+pub(crate) fn read_file(
     alloc: Global,
     source: Option<u32>,
     before: FilesRead,
@@ -79,23 +78,6 @@ fn read_copy(
     read_file(alloc, source, before, reader)
 }
 
-/// Adds the splice of these choices, which is read part by part.
-fn read_splice(
-    alloc: Global,
-    source: Option<u32>,
-    before: FilesRead,
-    parts: &Parts<'_>,
-    choices: &[usize],
-) -> Result<FilesRead, AllocError>
-    requires path { IsPath parts.now choices.now }
-    requires few { length (prefix_of parts.now choices.now) ≤ 2 ^ 63 - 1 }
-    ensures { IfOk result (λ read. ReadsMore source (prefix_of parts.now choices.now ∷ []) before read) }
-{
-    let mut reader = CopyReader::new(alloc);
-    feed_prefix(&mut reader, parts, choices)?;
-    read_file(alloc, source, before, reader)
-}
-
 /// Reads the copies, in turn.
 fn read_copies(
     alloc: Global,
@@ -110,25 +92,6 @@ fn read_copies(
     };
     for copy in copies {
         read = read_copy(alloc, source, read, copy)?;
-    }
-    Ok(read)
-}
-
-/// Adds the splices, in turn.
-fn read_splices(
-    alloc: Global,
-    source: Option<u32>,
-    before: FilesRead,
-    parts: &Parts<'_>,
-    splices: &[Vec<usize>],
-) -> Result<FilesRead, AllocError>
-    requires whole { AllByRecursion (IsWhole parts.now) (lists_of splices.now) }
-    requires short { IsShort parts.now }
-    ensures { IfOk result (λ read. ReadsMore source (files_of parts.now (lists_of splices.now)) before read) }
-{
-    let mut read = before;
-    for choices in splices {
-        read = read_splice(alloc, source, read, parts, choices)?;
     }
     Ok(read)
 }

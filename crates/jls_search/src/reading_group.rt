@@ -1,7 +1,8 @@
-//! Whether files read in a group. No more of them is fed than tells it.
+//! Whether files read in a group. They are fed until that is told, if it is told early.
 
 ghost use Rattle.std.specs.Prelude.{◌≡◌, ◌+◌, ◌-◌, ◌^◌, ◌<◌, ◌≤◌, ℕ, true, false, length, take, Some, IfOk, IfSome, OnOk};
 ghost use Rattle.std.specs.List.{AllByRecursion};
+ghost use Rattle.jls_copy.specs.Prefixes.{IsPast};
 ghost use Rattle.jls_diff.specs.Groups.{IsGroup};
 ghost use Rattle.jls_diff.specs.PartsOf.{parts_of};
 ghost use Rattle.jls_search.specs.Choices.{IsPath, prefix_of};
@@ -17,12 +18,12 @@ use jls_diff::{Group, Parts};
 use std::alloc::{AllocError, Global};
 
 /// How many bytes are fed before it is asked whether they tell it.
-const STEP: usize = 4096;
+pub(crate) const STEP: usize = 4096;
 
 /// Feeds what a choice takes of a part, until the piece in hand begins at the offset or after it. Then the answer is `true`.
 fn feed_until(reader: &mut CopyReader, way: &[u8], offset: u64) -> Result<bool, AllocError>
     requires { IfSome reader.old (λ before. length before + length way.now ≤ 2 ^ 63 - 1) }
-    ensures { IfOk result (λ past. IsFedUntil offset way.now reader.old reader.new past) }
+    ensures { IfOk result (λ past. IsFedUntil (IsPast offset) way.now reader.old reader.new past) }
 {
     let mut rest = way;
     while !rest.is_empty() {
@@ -48,7 +49,7 @@ fn feed_past(
     requires fed { reader.old ≡ Some (prefix_of parts.now (take place path.now)) }
     requires path { IsPath parts.now path.now }
     requires few { length (prefix_of parts.now path.now) ≤ 2 ^ 63 - 1 }
-    ensures { OnOk result (IsFedPast offset (prefix_of parts.now path.now) reader.new) }
+    ensures { OnOk result (IsFedPast (IsPast offset) (prefix_of parts.now path.now) reader.new) }
 {
     for at in place..path.len() {
         let past = feed_until(reader, parts.way(at, path[at]), offset)?;
@@ -67,7 +68,7 @@ fn are_bytes(way: &[u8])
 }
 
 /// So is what the path makes.
-fn makes_bytes(parts: &Parts<'_>, path: &[usize])
+pub(crate) fn makes_bytes(parts: &Parts<'_>, path: &[usize])
     requires path { IsPath parts.now path.now }
     ensures { AllByRecursion (λ b. b < 256) (prefix_of parts.now path.now) }
 {

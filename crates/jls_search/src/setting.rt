@@ -1,13 +1,9 @@
-//! What is searched at a time.
+//! What a search goes through.
 
-ghost use Rattle.std.specs.Prelude.{◌≡◌, ◌<◌, [], false, length, get_or};
-ghost use Rattle.jls_diff.specs.Groups.{IsInside};
-ghost use Rattle.jls_diff.specs.Parts.{Same};
-ghost use Rattle.jls_diff.specs.PartsOf.{parts_of};
-ghost use Rattle.jls_diff.specs.Parts.{Differs};
+ghost use Rattle.std.specs.Prelude.{◌↔◌, IsTrue};
+ghost use Rattle.jls_search.specs.Tried.{IsTried};
 
-use crate::path::is_same_at;
-use jls_diff::{Group, Parts};
+use jls_diff::Group;
 
 /// A group that is searched, and the copy whose ways are taken outside of it.
 #[derive(Clone, Copy)]
@@ -16,13 +12,23 @@ pub(crate) struct Setting {
     pub(crate) copy: usize,
 }
 
-/// Whether the part at this place is one of the group, and copies differ in it.
-pub(crate) fn is_free(parts: &Parts<'_>, group: Group, place: usize) -> bool
-    requires { place < length parts.now }
-    ensures { result ≡ false → Differs (get_or parts.now place (Same [])) → ¬ IsInside group place }
-{
-    if is_same_at(parts, place) {
-        return false;
+/// What a search is after: of which parts it tries the ways.
+#[derive(Clone, Copy)]
+pub(crate) enum Goal {
+    /// Whole files: those of all parts.
+    Whole,
+    /// Files that read in a group: those of the group. Elsewhere it takes one copy's.
+    Group(Setting),
+}
+
+impl Goal {
+    /// Whether the ways of the part at this place are tried.
+    pub(crate) fn is_tried(self, place: usize) -> bool
+        ensures { IsTrue result ↔ IsTried self place }
+    {
+        match self {
+            Goal::Whole => true,
+            Goal::Group(setting) => setting.group.is_inside(place),
+        }
     }
-    group.is_inside(place)
 }

@@ -8,13 +8,13 @@ ghost use Rattle.jls_search.specs.OfGroups.{AddsOne, GoesOnWith, HasManyFaults, 
 ghost use Rattle.jls_search.specs.OfGroups.{ReadsInGroup, StandsWith};
 ghost use Rattle.jls_search.specs.Search.{AreKept, IsKept, IsShort, lists_of};
 
-use crate::choosing::{descend, turn};
 use crate::kept::{GroupReaders, KeptReader, keep_one, nearest, reader_on};
 use crate::looking::Sight;
 use crate::offsets::border_offset;
+use crate::path::{descend, turn};
 use crate::reading_between::is_read_between;
 use crate::reading_group::reads_in_group;
-use crate::setting::Setting;
+use crate::setting::{Goal, Setting};
 use jls_diff::{Group, Parts};
 use std::alloc::{AllocError, Global};
 
@@ -131,7 +131,7 @@ fn try_whole(
     ensures kept { OnOk result (AreKept parts.now walk.new.kept) }
 {
     try_file(alloc, parts, setting, walk)?;
-    turn(parts, setting, &mut walk.path)
+    turn(parts, Goal::Group(setting), &mut walk.path)
 }
 
 /// Tries a shorter path, and goes to the next; `false` where there is none.
@@ -155,13 +155,13 @@ fn try_prefix(
     let sight = look_at_prefix(alloc, parts, setting.group, kept, &walk.path)?;
     match sight {
         Sight::Open(reader) => {
-            let is_before = walk.path.len() <= setting.group.begin.part;
+            let is_before = walk.path.len().saturating_sub(1) <= setting.group.begin.part;
             keep_one(alloc, &mut walk.kept, is_before, reader, &walk.path)?;
-            descend(parts, setting, &mut walk.path)?;
+            descend(parts, Goal::Group(setting), &mut walk.path)?;
             Ok(true)
         }
-        Sight::Dead => turn(parts, setting, &mut walk.path),
-        Sight::Found => turn(parts, setting, &mut walk.path),
+        Sight::Dead => turn(parts, Goal::Group(setting), &mut walk.path),
+        Sight::Found => turn(parts, Goal::Group(setting), &mut walk.path),
     }
 }
 

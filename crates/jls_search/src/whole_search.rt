@@ -12,7 +12,8 @@ ghost use Rattle.jls_search.specs.Search.{CameTo, HasEachSplice, MakeFiles, file
 
 use crate::kept::{Judge, keep};
 use crate::looking::{Sight, look};
-use crate::path::{descend, follow_same, turn};
+use crate::path::{descend, follow, turn};
+use crate::setting::Goal;
 use jls_diff::Parts;
 use std::alloc::{AllocError, Global};
 
@@ -57,7 +58,7 @@ fn pass_found(
     ensures step { IfOk result (λ more. IsStep path.old.items (lists_of found.old.items) path.new.items (lists_of found.new.items) more) }
 {
     take_found(alloc, path, found)?;
-    turn(parts, path)
+    turn(parts, Goal::Whole, path)
 }
 
 /// Tries the path, and goes to the next; `false` where there is none.
@@ -84,11 +85,11 @@ fn try_next(
     match sight {
         Sight::Open(reader) => {
             keep(alloc, &mut judge.kept, reader, path)?;
-            descend(parts, path)?;
+            descend(parts, Goal::Whole, path)?;
             Ok(true)
         }
         Sight::Found => pass_found(alloc, parts, path, found),
-        Sight::Dead => turn(parts, path),
+        Sight::Dead => turn(parts, Goal::Whole, path),
     }
 }
 
@@ -121,7 +122,7 @@ impl WholeSearch {
         ensures untried { IfOk result (λ begun. IsBegun begun) }
     {
         let mut path = Vec::new(alloc);
-        follow_same(parts, &mut path)?;
+        follow(parts, Goal::Whole, &mut path)?;
         Ok(WholeSearch {
             splices: Vec::new(alloc),
             tries: 0,

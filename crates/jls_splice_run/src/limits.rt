@@ -1,11 +1,13 @@
 //! All searches of a run: the one that is asked for, and where it has no limit of samples and is cut off, others under limits in turn.
 
-ghost use Rattle.std.specs.Prelude.{◌≡◌, ◌*◌, ◌<◌, ℕ, Option, None, Some, false, length, map, max, min, IfOk, OnErr};
+ghost use Rattle.std.specs.Prelude.{◌≡◌, ◌*◌, ◌<◌, ℕ, Option, None, Some, false, length, map, max, min, IfOk, IfSome, OnErr};
 ghost use Rattle.std.specs.List.{AllByRecursion};
 ghost use Rattle.jls_io.specs.Event.{GrewBy};
 ghost use Rattle.jls_diff.specs.Parts.{AreParts};
 ghost use Rattle.jls_diff.specs.PartsOf.{bytes_of, parts_of};
 ghost use Rattle.jls_search.specs.Choices.{HasSomeWay};
+ghost use Rattle.jls_search.specs.Faultless.{IsSought};
+ghost use Rattle.jls_search.specs.Levels.{IsLone};
 ghost use Rattle.jls_search.specs.Search.{IsShort, lists_of};
 ghost use Rattle.jls_search.specs.SearchLaws.{AreShort};
 ghost use Rattle.jls_splice_run.specs.Limits.{IsCutLimit, IsSearchMade, SearchMade, counting_of, last_or, made_under, next_tries};
@@ -14,7 +16,7 @@ ghost use Rattle.jls_splice_run.specs.Telling.{HasChosenLimit, HasSearched, Repo
 
 use crate::options::SearchOptions;
 use crate::searching::search_once;
-use crate::shallow::shallow_limit;
+use crate::shallow::{CutLimit, shallow_limit};
 use jls_diff::{Parts, find_parts};
 use jls_io::Sink;
 use jls_search::{Searched, SearchedCopies, parts_can_be_searched};
@@ -58,6 +60,8 @@ pub struct SearchedInTurn<'a> {
     pub copies: SearchedCopies<'a>,
     /// The limit under which a cut file is sought, if there is one.
     pub cut_limit: Option<u16>,
+    /// The path that `lone_path` finds without a limit, if it was asked for, and there is one.
+    pub unlimited: Option<Vec<usize>>,
 }
 
 /// How many tries a search has after one that found a file and made so many.
@@ -201,14 +205,18 @@ fn limit_of_cut(
     parts: &Parts<'_>,
     all: &CountingSearch,
     tries: u32,
-) -> Result<Option<u16>, AllocError>
+) -> Result<CutLimit, AllocError>
     requires some_way { AllByRecursion HasSomeWay parts.now }
     requires short { IsShort parts.now }
-    ensures { IfOk result (λ limit.
-        IsCutLimit parts.now all.now.cut_limit (lists_of all.now.searched.splices.items) limit) }
+    ensures limit { IfOk result (λ cut.
+        IsCutLimit parts.now all.now.cut_limit (lists_of all.now.searched.splices.items) cut.limit) }
+    ensures lone { IfOk result (λ cut. IfSome cut.unlimited (λ path. IsLone (IsSought None) parts.now path.items)) }
 {
     if all.cut_limit.is_some() || !all.searched.splices.is_empty() {
-        return Ok(all.cut_limit);
+        return Ok(CutLimit {
+            limit: all.cut_limit,
+            unlimited: None,
+        });
     }
     shallow_limit(alloc, parts, tries)
 }
@@ -231,18 +239,22 @@ pub fn search_and_tell<'a, E: Sink>(
     ensures searched { IfOk result (λ found. GrewBy (HasChosenLimit options found.copies.parts
         (made_under found.copies.ceiling found.copies.searched) found.cut_limit)
         (E.history faults.old) (E.history faults.new)) }
+    ensures lone { IfOk result (λ found.
+        IfSome found.unlimited (λ path. IsLone (IsSought None) found.copies.parts path.items)) }
     ensures reported_some { OnErr result (GrewBy (ReportedUpTo options.tries options.tells) (E.history faults.old) (E.history faults.new)) }
 {
     parts_can_be_searched();
     let parts = find_parts(alloc, copies)?;
     let all = search_all(alloc, &parts, options, faults)?;
-    let cut_limit = limit_of_cut(alloc, &parts, &all, options.tries)?;
+    let cut = limit_of_cut(alloc, &parts, &all, options.tries)?;
+    let CutLimit { limit, unlimited } = cut;
     Ok(SearchedInTurn {
         copies: SearchedCopies {
             parts,
             ceiling: all.ceiling,
             searched: all.searched,
         },
-        cut_limit,
+        cut_limit: limit,
+        unlimited,
     })
 }

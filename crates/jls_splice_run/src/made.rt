@@ -1,6 +1,6 @@
 //! What is made of the copies, in memory.
 
-ghost use Rattle.std.specs.Prelude.{◌≡◌, ◌<◌, ◌≤◌, ◌^◌, ◌↔◌, ℕ, List, Option, length, IfOk, IfErr, IfSome, IfNone, IsTrue, OnErr};
+ghost use Rattle.std.specs.Prelude.{◌≡◌, ◌<◌, ◌≤◌, ◌^◌, ◌↔◌, ℕ, List, None, Option, length, IfOk, IfErr, IfSome, IfNone, IsTrue, OnErr};
 ghost use Rattle.std.specs.Prelude.{option_map};
 ghost use Rattle.std.specs.List.{AllByRecursion};
 ghost use Rattle.std.specs.declared.vec.Vec.{Vec};
@@ -11,6 +11,8 @@ ghost use Rattle.jls_diff.specs.Parts.{made};
 ghost use Rattle.jls_diff.specs.PartsOf.{bytes_of, parts_of};
 ghost use Rattle.jls_partial.specs.Status.{IsSettled};
 ghost use Rattle.jls_search.specs.Choices.{HasSomeWay, IsPath, IsWhole};
+ghost use Rattle.jls_search.specs.Faultless.{IsSought};
+ghost use Rattle.jls_search.specs.Levels.{IsLone};
 ghost use Rattle.jls_search.specs.Search.{IsShort, files_of, lists_of};
 ghost use Rattle.jls_search.specs.Found.{IsFound, IsGroupSearch, by_groups_of, found_of, splices_in};
 ghost use Rattle.jls_search.specs.Files as given;
@@ -67,6 +69,8 @@ struct FoundInTurn<'c> {
     splices: FoundSplices<'c>,
     /// The limit under which a cut file is sought, if there is one.
     cut_limit: Option<u16>,
+    /// The path that is lone without a limit, if it was asked for, and there is one.
+    unlimited: Option<Vec<usize>>,
 }
 
 /// Searches the splices of the copies, and tells how far it is, if that is asked for. Where the search that counts was cut off or came to
@@ -92,6 +96,8 @@ fn search<'c, E: Sink>(
     ensures searched { IfOk result (λ found. GrewBy (HasChosenLimit options found.splices.parts
         (search_of found.splices.ceiling (found_of found.splices) found.splices.tries) found.cut_limit)
         (E.history faults.old) (E.history faults.new)) }
+    ensures lone { IfOk result (λ found.
+        IfSome found.unlimited (λ path. IsLone (IsSought None) found.splices.parts path.items)) }
     ensures reported_some { OnErr result (GrewBy (ReportedUpTo options.tries options.tells) (E.history faults.old) (E.history faults.new)) }
 {
     parts_can_be_searched();
@@ -103,6 +109,7 @@ fn search<'c, E: Sink>(
     Ok(FoundInTurn {
         splices: more,
         cut_limit: found.cut_limit,
+        unlimited: found.unlimited,
     })
 }
 
@@ -115,11 +122,18 @@ fn find_cut(
     requires some_way { AllByRecursion HasSomeWay found.now.splices.parts }
     requires short { IsShort found.now.splices.parts }
     requires whole { found.now.splices.whole ≤ length found.now.splices.splices.items }
+    requires unlimited { IfSome found.now.unlimited (λ path. IsLone (IsSought None) found.now.splices.parts path.items) }
     ensures lone { IfOk result (λ cut. IfSome cut (λ path. IsCut found.now.cut_limit (found_of found.now.splices) path.items)) }
     ensures none { IfOk result (λ cut. IfNone cut (FindsNoCut found.now.cut_limit limit (found_of found.now.splices))) }
 {
     if found.splices.whole != 0 {
         return Ok(None);
+    }
+    if found.cut_limit.is_none() {
+        if let Some(path) = &found.unlimited {
+            let choices: Vec<usize> = path.iter().copied().collect(alloc)?;
+            return Ok(Some(choices));
+        }
     }
     lone_path(alloc, &found.splices.parts, found.cut_limit, limit)
 }

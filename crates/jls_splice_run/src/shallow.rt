@@ -1,9 +1,11 @@
 //! The limit of samples of a shallow picture, under which a cut file is sought.
 
-ghost use Rattle.std.specs.Prelude.{◌≡◌, true, IfOk, IfSome};
+ghost use Rattle.std.specs.Prelude.{◌≡◌, true, None, Some, IfOk, IfSome};
 ghost use Rattle.std.specs.List.{AllByRecursion};
 ghost use Rattle.jls_diff.specs.PartsOf.{parts_of};
 ghost use Rattle.jls_search.specs.Choices.{HasSomeWay};
+ghost use Rattle.jls_search.specs.Faultless.{IsSought};
+ghost use Rattle.jls_search.specs.Levels.{IsLone};
 ghost use Rattle.jls_search.specs.Search.{IsShort};
 ghost use Rattle.jls_splice_run.specs.Limits.{IsShallowLimit};
 
@@ -34,38 +36,71 @@ fn has_choice(parts: &Parts<'_>, path: &[usize]) -> bool {
     false
 }
 
+/// The limit of a shallow picture, if this path, which is lone under it, is also the one under the last limit.
+fn limit_if_same(
+    alloc: Global,
+    parts: &Parts<'_>,
+    path: &[usize],
+    tries: u32,
+) -> Result<Option<u16>, AllocError>
+    requires some_way { AllByRecursion HasSomeWay parts.now }
+    requires short { IsShort parts.now }
+    requires lone { IsLone (IsSought (Some 16383)) parts.now path.now }
+    ensures { IfOk result (λ limit. IfSome limit (IsShallowLimit parts.now)) }
+{
+    let Some(last) = lone_path(alloc, parts, Some(LAST), tries)? else {
+        return Ok(None);
+    };
+    if !are_same(path, &last) {
+        return Ok(None);
+    }
+    Ok(Some(SHALLOW))
+}
+
+/// The limit under which a cut file is sought.
+#[derive(Drop)]
+pub(crate) struct CutLimit {
+    /// The limit, if there is one.
+    pub(crate) limit: Option<u16>,
+    /// The path that `lone_path` finds without a limit, if it was asked for, and there is one.
+    pub(crate) unlimited: Option<Vec<usize>>,
+}
+
+/// Whether there is another path than this one, or none.
+fn is_other(path: &[usize], other: &Option<Vec<usize>>) -> bool {
+    match other {
+        Some(other) => !are_same(path, other),
+        None => true,
+    }
+}
+
 /// The limit of a shallow picture, if it is one: 16383. It is one if the path that `lone_path` finds under this limit goes past a place
-/// where the copies differ, is the path that it finds under 46340, and is not the one that it finds without a limit. Then wrong ways soon
+/// where the copies differ, is not the one that it finds without a limit, and is the path that it finds under 46340. Then wrong ways soon
 /// have samples above both limits, and a cut file without a limit has fewer lines, or wrong ones. A picture with larger samples before the
 /// cut seldom has one path under both. Each of the three has so many tries. `Err` comes where memory is refused.
 pub(crate) fn shallow_limit(
     alloc: Global,
     parts: &Parts<'_>,
     tries: u32,
-) -> Result<Option<u16>, AllocError>
+) -> Result<CutLimit, AllocError>
     requires some_way { AllByRecursion HasSomeWay parts.now }
     requires short { IsShort parts.now }
-    ensures { IfOk result (λ limit. IfSome limit (IsShallowLimit parts.now)) }
+    ensures limit { IfOk result (λ found. IfSome found.limit (IsShallowLimit parts.now)) }
+    ensures lone { IfOk result (λ found. IfSome found.unlimited (λ path. IsLone (IsSought None) parts.now path.items)) }
 {
+    let unlimited = lone_path(alloc, parts, None, tries)?;
     let Some(path) = lone_path(alloc, parts, Some(SHALLOW), tries)? else {
-        return Ok(None);
+        return Ok(CutLimit {
+            limit: None,
+            unlimited,
+        });
     };
-    let chooses = has_choice(parts, &path);
-    if !chooses {
-        return Ok(None);
+    if !has_choice(parts, &path) || !is_other(&path, &unlimited) {
+        return Ok(CutLimit {
+            limit: None,
+            unlimited,
+        });
     }
-    let Some(last) = lone_path(alloc, parts, Some(LAST), tries)? else {
-        return Ok(None);
-    };
-    let agree = are_same(&path, &last);
-    if !agree {
-        return Ok(None);
-    }
-    if let Some(unlimited) = lone_path(alloc, parts, None, tries)? {
-        let gains = !are_same(&path, &unlimited);
-        if !gains {
-            return Ok(None);
-        }
-    }
-    Ok(Some(SHALLOW))
+    let limit = limit_if_same(alloc, parts, &path, tries)?;
+    Ok(CutLimit { limit, unlimited })
 }

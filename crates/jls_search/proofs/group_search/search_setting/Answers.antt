@@ -4,6 +4,7 @@ use Rattle.jls_search.specs.GroupTries.{GoesThrough}
 use Rattle.jls_search.specs.OfGroups.{AreOfGroups}
 use Rattle.jls_search.specs.Search.{IsKept, lists_of}
 use Rattle.jls_search.specs.declared.kept.KeptReader.{KeptReader}
+use Rattle.jls_search.specs.declared.setting.Goal.TheVariants.{Group}
 use Rattle.jls_search.specs.declared.whole_search.Searched.{Searched}
 use Rattle.jls_search.proofs.GroupSearches.{added_more, count_of, none_added, of_groups_more, one_at_most, went}
 use Rattle.jls_search.proofs.Sets.{set_first}
@@ -12,7 +13,7 @@ use Rattle.jls_search.proofs.group_search.search_setting.Goals as goal
 use Rattle.jls_search.proofs.group_search.search_setting.Goals.{then-loop-tries-test+else-len-most, else-loop-tries-test}
 
 pub follow-requires-clause-path : goal.follow-requires-clause-path
-follow-requires-clause-path c = set_first c.args.parts.now c.args.setting _ (search rules)
+follow-requires-clause-path c = set_first c.args.parts.now (Group c.args.setting) _ (search rules)
 
 pub try_next-requires : goal.try_next-requires
 try_next-requires c = record {

@@ -1,3 +1,4 @@
+use Rattle.jls_copy.specs.Prefixes.{IsPast}
 use Rattle.jls_search.proofs.EarlyReads.{fed_all, fed_past}
 use Rattle.jls_search.proofs.KeptReaders.{room_for_one}
 use Rattle.jls_search.proofs.Paths.{path_at}
@@ -13,10 +14,10 @@ feed_until-requires c =
 
 pub returns-then-past : goal.returns-then-past
 returns-then-past c =
-    fed_past c.args.offset c.args.parts.now c.args.path.now c.loop-at.at c.requires.path c.loop-at-test.true c.loop-at.reader
+    fed_past (IsPast c.args.offset) c.args.parts.now c.args.path.now c.loop-at.at c.requires.path c.loop-at-test.true c.loop-at.reader
     c.feed_until.new.reader c.way.result.now c.way.ensures c.loop-at.invariant c.in_ok-past.past c.in_ok-past.ensures c.if-past.true
 
 pub loop-at-preserved : goal.loop-at-preserved
 loop-at-preserved c =
-    fed_all c.args.offset c.args.parts.now c.args.path.now c.loop-at.at c.requires.path c.loop-at-test.true c.loop-at.reader
+    fed_all (IsPast c.args.offset) c.args.parts.now c.args.path.now c.loop-at.at c.requires.path c.loop-at-test.true c.loop-at.reader
     c.feed_until.new.reader c.way.result.now c.way.ensures c.loop-at.invariant c.in_ok-past.past c.in_ok-past.ensures c.if-past.false

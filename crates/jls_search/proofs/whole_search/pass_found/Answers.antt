@@ -5,7 +5,11 @@ use Rattle.jls_search.specs.Order.{IsLater}
 use Rattle.jls_search.specs.Faultless.{IsSought}
 use Rattle.jls_search.specs.Search.{MakeFiles, lists_of}
 use Rattle.jls_search.proofs.Searching.{turned_on, turned_step, found_after, files_more, on_ok}
+use Rattle.jls_search.proofs.Sets.{set_of_all}
 use Rattle.jls_search.proofs.whole_search.pass_found.Goals as goal
+
+pub turn-requires-clause-path : goal.turn-requires-clause-path
+turn-requires-clause-path c = set_of_all c.args.parts.now c.args.path.now.items c.requires.is_path
 
 pub returns-clause-next : goal.returns-clause-next
 returns-clause-next c = λ ceiling stands sought.
@@ -16,7 +20,7 @@ returns-clause-next c = λ ceiling stands sought.
     turned_on Sought ps path next F stands M
     (subst (MakeFiles Sought ps) (sym E) (files_more Sought ps path F stands.files stands.is_path c.requires.whole sought))
     (λ choices file. subst (λ fs. Contains fs choices ⊎ IsLater path choices) (sym E) (found_after Sought ps path next F stands c.requires.whole choices file))
-    c.turn.result c.turn.ensures.path c.turn.ensures.prefix c.turn.ensures.to_come c.turn.ensures.none
+    c.turn.result c.turn.ensures.path c.turn.ensures.stop c.turn.ensures.to_come c.turn.ensures.none
 
 pub returns-clause-count : goal.returns-clause-count
 returns-clause-count c =

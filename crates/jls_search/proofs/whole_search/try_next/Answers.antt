@@ -9,6 +9,7 @@ use Rattle.jls_search.specs.declared.looking.Sight.TheVariants.{Dead, Open, Foun
 use Rattle.jls_search.proofs.Prefixes.{on_ok as anyway}
 use Rattle.jls_search.proofs.KeptReaders.{still_kept}
 use Rattle.jls_search.proofs.Searching.{descended, turned_on, turned_step, dead_after, on_ok}
+use Rattle.jls_search.proofs.Sets.{set_of_all}
 use Rattle.jls_search.proofs.whole_search.try_next.Goals as goal
 
 seen : (Sought : List ℕ → Type 0) (ps : List Part) (path there : List ℕ) (sight is : Sight) → there ≡ path → sight ≡ is
@@ -26,12 +27,17 @@ pub descend-requires : goal.descend-requires
 descend-requires c =
     let more : length c.args.path.now.items < length c.args.parts.now =
     (seen (IsSought c.args.judge.now.ceiling) c.args.parts.now c.args.path.now.items c.deref.result.now c.in_ok-sight.sight (Open c.in-Open.reader) c.deref.ensures.value c.in-Open.is c.in_ok-sight.ensures).0 in
-    record { path = c.requires.stands.is_path; more = more; some_way = c.requires.some_way }
+    record {
+      copy = tt;
+      path = set_of_all c.args.parts.now c.args.path.now.items c.requires.stands.is_path;
+      more = more;
+      some_way = c.requires.some_way;
+    }
 
 pub returns-in_ok-descend-in-Open-clause-next : goal.returns-in_ok-descend-in-Open-clause-next
 returns-in_ok-descend-in-Open-clause-next c =
     descended (IsSought c.args.judge.now.ceiling) c.args.parts.now c.args.path.now.items c.descend.new.path.items (lists_of c.args.found.now.items) c.requires.stands
-    c.in_ok-descend-in-Open.ensures.path c.in_ok-descend-in-Open.ensures.prefix c.in_ok-descend-in-Open.ensures.kept
+    c.in_ok-descend-in-Open.ensures.path c.in_ok-descend-in-Open.ensures.stop c.in_ok-descend-in-Open.ensures.kept
 
 pub pass_found-requires : goal.pass_found-requires
 pass_found-requires c =
@@ -44,7 +50,7 @@ returns-in-Found-clause-next c =
     c.pass_found.ensures.next c.args.judge.now.ceiling c.requires.stands r.1
 
 pub turn-requires : goal.turn-requires
-turn-requires c = c.requires.stands.is_path
+turn-requires c = record { copy = tt; path = set_of_all c.args.parts.now c.args.path.now.items c.requires.stands.is_path }
 
 pub returns-in-Dead-clause-next : goal.returns-in-Dead-clause-next
 returns-in-Dead-clause-next c =
@@ -52,7 +58,7 @@ returns-in-Dead-clause-next c =
     let F : List (List ℕ) = lists_of c.args.found.now.items in
     turned_on (IsSought c.args.judge.now.ceiling) ps path next F c.requires.stands F c.requires.stands.files
     (dead_after (IsSought c.args.judge.now.ceiling) ps path next F c.requires.stands (seen (IsSought c.args.judge.now.ceiling) ps path c.deref.result.now c.in_ok-sight.sight Dead c.deref.ensures.value c.in-Dead.is c.in_ok-sight.ensures))
-    c.turn.result c.turn.ensures.path c.turn.ensures.prefix c.turn.ensures.to_come c.turn.ensures.none
+    c.turn.result c.turn.ensures.path c.turn.ensures.stop c.turn.ensures.to_come c.turn.ensures.none
 
 pub returns-in-Dead-clause-count : goal.returns-in-Dead-clause-count
 returns-in-Dead-clause-count c =

@@ -28,8 +28,8 @@ limit_of_cut-requires-clause-short g c =
     let some : 0 < length copies = subst (λ n. 0 < n) (sym (count_of_slices c.args.copies.now)) c.requires.some_copy in
     (c.parts_can_be_searched.ensures copies c.in_ok-parts.parts c.in_ok-parts.ensures some c.requires.short).1
 
-pub returns-in_err-cut_limit-clause-reported_some : goal.returns-in_err-cut_limit-clause-reported_some
-returns-in_err-cut_limit-clause-reported_some g c =
+pub returns-in_err-cut-clause-reported_some : goal.returns-in_err-cut-clause-reported_some
+returns-in_err-cut-clause-reported_some g c =
     let options = c.args.options in
     let all = c.in_ok-all.all in
     let parts = c.in_ok-parts.parts in
@@ -49,5 +49,5 @@ returns-clause-searched g c =
     let s = made_under all.ceiling all.searched in
     let before = g.E.Device.history c.args.faults.now in
     let now = g.E.Device.history c.search_all.new.faults in
-    grew_as (HasSearched options parts s all.cut_limit) (HasChosenLimit options parts s c.in_ok-cut_limit.cut_limit) before now
-    (λ events h. (all.cut_limit, h, c.in_ok-cut_limit.ensures)) c.in_ok-all.ensures.searched
+    grew_as (HasSearched options parts s all.cut_limit) (HasChosenLimit options parts s c.in_ok-cut.cut.limit) before now
+    (λ events h. (all.cut_limit, h, c.in_ok-cut.ensures.limit)) c.in_ok-all.ensures.searched

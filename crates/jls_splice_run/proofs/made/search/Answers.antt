@@ -1,10 +1,13 @@
-use Rattle.std.proofs.Common.{◌≡◌, ℕ, ◌<◌, List, length, sym, subst}
+use Rattle.std.proofs.Common.{◌≡◌, ℕ, ◌<◌, List, None, length, sym, subst}
+use Rattle.std.specs.Prelude.{IfSome}
 use Rattle.jls_io.specs.Event.{GrewBy}
 use Rattle.jls_io.proofs.Growing.{grew_as, grew_not}
 use Rattle.jls_diff.proofs.Slices.{count_of_slices}
 use Rattle.jls_diff.specs.PartsOf.{bytes_of}
 use Rattle.jls_search.specs.SearchLaws.{AreShort}
 use Rattle.jls_search.specs.Found.{found_of}
+use Rattle.jls_search.specs.Faultless.{IsSought}
+use Rattle.jls_search.specs.Levels.{IsLone}
 use Rattle.jls_splice_run.specs.Limits.{SearchMade, made_under}
 use Rattle.jls_splice_run.specs.Making.{search_of}
 use Rattle.jls_splice_run.specs.Telling.{HasChosenLimit, ReportedUpTo}
@@ -74,3 +77,9 @@ returns-in_err-more-clause-reported_some g c =
     (grew_as (HasChosenLimit options parts s found.cut_limit) (ReportedUpTo options.tries options.tells) before now
     (λ events h. searched_before options parts s h.0 events h.1)
     c.in_ok-found.ensures.searched)
+
+pub returns-clause-lone : goal.returns-clause-lone
+returns-clause-lone g c =
+    let found = c.in_ok-found.found in
+    subst (λ ps. IfSome found.unlimited (λ path. IsLone (IsSought None) ps path.items)) (sym c.in_ok-more.ensures.parts_kept)
+    c.in_ok-found.ensures.lone

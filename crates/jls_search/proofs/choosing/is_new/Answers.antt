@@ -1,6 +1,6 @@
 use Rattle.std.proofs.Common.{◌<◌, length, arith, below_more}
 use Rattle.jls_search.proofs.Paths.{same_ways, other_ways}
-use Rattle.jls_search.proofs.path.is_new.Goals as goal
+use Rattle.jls_search.proofs.choosing.is_new.Goals as goal
 
 pub returns-then-eq : goal.returns-then-eq
 returns-then-eq c =
