@@ -1,4 +1,3 @@
-use Rattle.std.proofs.Common.{List, ℕ, ◌∙◌}
 use Rattle.jls_search.specs.Faultless.{IsDead, IsFaultless}
 use Rattle.jls_search.proofs.EarlyReads.{dead_past, fed_all}
 use Rattle.jls_search.proofs.KeptReaders.{room_for_one}
