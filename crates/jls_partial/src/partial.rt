@@ -103,8 +103,8 @@ impl Partial {
         Ok(self.keep(LinePlace { component, line }, samples, &[])?)
     }
 
-    /// Makes room for the samples of so many readings more, so that they are taken without the whole being moved. What is held stays.
-    /// The only refusal is out of memory.
+    /// Asks for room for the samples of so many readings more. With it, what is held needn't be moved when they are taken. How much room
+    /// there is then, no clause says. The only refusal is out of memory.
     pub fn reserve(&mut self, readings: u32) -> Result<(), AllocError>
         ensures { self.new ≡ self.old }
     {
