@@ -45,7 +45,7 @@ pub fn take_next<S: Source>(
         → IfErr result (λ fault. fault ≡ TakeFault.OutOfMemory → GrewBy
         (λ reads. Collected station.new copies (over ++ sourced_copy source (bytes_given reads) ∷ []))
         (S.history device.old) (S.history device.new)) }
-    // If memory ran out before all of the copy was read, the history goes on as if the call had not been made.
+    // If memory ran out, the reads gave a whole copy, or the history goes on as if the call had not been made.
     ensures ran_out_early { (copies over : List SourcedCopy) → Collected station.old copies over
         → IfErr result (λ fault. fault ≡ TakeFault.OutOfMemory → GrewBy
         (λ reads. Collected station.new copies over ⊎ ((p : PartialPicture) × (report : CopyReport) × CopyGives source p report reads))

@@ -4,7 +4,7 @@ ghost use Rattle.jls_headline.specs.CollectedLaws.{CollectedHoldsExactly, Collec
 
 /// A law: whatever public calls made of copies holds exactly the readings that these copies give. Each reading has exactly the sources
 /// under which a copy was read that gives it. The calls are those of `Collected`, in any number and order. A copy for which memory ran out
-/// must have been read again.
+/// must have been read again; for what is said of sources, under the same source.
 pub fn collected_copies_are_held()
     ensures exactly { CollectedHoldsExactly }
     ensures sources { CollectedHoldsExactlyUnder }

@@ -13,8 +13,9 @@ use jls_write::{Picture, pictures_are_whole};
 ///
 /// For two stations of one shape, calls read the same copies, in any order and with any repeats. A copy for which memory ran out was read
 /// again. Then both hold exactly the readings that these copies give, and so the same ones. Two calls of `write_jls` under equal options
-/// hand the same bytes to their sinks, and two of `write_pnm` do. Two reports have the same text. If the copies were read under the same
-/// sources, the stations are equal, and so are the bytes of two calls of `to_bytes`. This is said of calls that answer Ok.
+/// hand the same bytes to their sinks, and two of `write_pnm` do. Two reports have the same text. Now let the copies be read under the same
+/// sources, also where memory ran out and a copy was read again. Then the stations are equal, and so are the bytes of two calls of
+/// `to_bytes`. This is said of calls that answer Ok.
 ///
 /// Now let calls read damaged copies of one picture alone, in some of which each line survives. Then each line of the station is settled,
 /// as the picture's. `Picture::of` answers the picture. Under options that fit, what `write_jls` hands to its sink reads as that picture

@@ -21,8 +21,8 @@ pub fn joined_copies_give_the_picture()
 /// A law: the same where texts are among the inputs. The text of what public calls made of copies stands for these copies. What a run of
 /// `join` joined that is done was then made of the copies that its inputs stand for. So stations that hand on what they hold as texts come
 /// to what all their copies give. Two such runs of one shape, over the same copies from whatever sources, join what holds and says the
-/// same. Each reading has exactly the sources of the copies that give it. Two such runs of one shape, over the same copies under the same
-/// sources, hand the same bytes to their outputs.
+/// same. For what follows, each copy for which memory ran out was read again under the same source. Each reading has exactly the sources of
+/// the copies that give it. Two such runs of one shape, over the same copies under the same sources, hand the same bytes to their outputs.
 pub fn joined_texts_give_the_picture()
     ensures collected { RunsAreCollected }
     ensures collected_under { RunsAreCollectedUnder }
@@ -44,6 +44,7 @@ pub fn written_joins_read_as_the_picture()
 {}
 
 /// A law: the same where texts are among the inputs of the `join`. The text of what public calls made of copies stands for these copies.
+/// The damaged copies in which every line survives are then those that the inputs stand for.
 pub fn written_text_joins_read_as_the_picture()
     ensures written { WrittenTextJoinsAreThePicture }
     ensures reads { WrittenTextJoinsReadAsThePicture }
