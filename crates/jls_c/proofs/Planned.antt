@@ -2,7 +2,6 @@
 use Rattle.std.proofs.Common.{◌≡◌, ℕ, ◌*◌, ◌^◌, ◌-◌, ◌<◌, ◌≤◌, Bool, true, false, cond, List, ◌++◌, length, Option, Some, None, Ok, Err, ap, sym, subst, ◌∙◌, arith}
 use Rattle.std.specs.Prelude.{All, ◌↔◌, IsTrue, nat_le}
 use Rattle.std.specs.List.{AllByRecursion, list_any}
-use Rattle.std.proofs.lemmas.List.Elements.{All-from_recursion}
 use Rattle.jls_values.specs.Params.{CodingParameters}
 use Rattle.jls_values.specs.ParamsOf.{in_force, param_fault, params_in_range, params_of}
 use Rattle.jls_values.specs.PresetParameters.{no_presets}
@@ -11,6 +10,7 @@ use Rattle.jls_values.specs.ShapeOf.{size_fault, unless_fault, shape_of}
 use Rattle.jls_values.specs.declared.params.ParamFault.{ParamFault}
 use Rattle.jls_values.specs.declared.shape.ShapeFault.{ShapeFault}
 use Rattle.jls_values.specs.declared.shape.ShapeFault.TheVariants.{RepeatedId}
+use Rattle.jls_values.proofs.Lists.{all_at_most}
 use Rattle.jls_write.specs.Options.{WriteOptions, OptionsFit, components_of_scan, rows_of_interval}
 use Rattle.jls_write.specs.Picture.{WholePicture}
 use Rattle.jls_write.specs.Samples.{line_in, picture_in, AreSamplesOf}
@@ -43,9 +43,6 @@ precision_is f shape e =
 
 -- ---- what fits
 
-at_most : (n : ℕ) (xs : List ℕ) → AllByRecursion (λ x. x < n) xs → All (λ x. x ≤ n - 1) xs
-at_most n xs all = λ k d below. let less = All-from_recursion (λ x. x < n) xs all k d below in omega (arith, less)
-
 pub plan_fits : (f : JlsFrame) (count : ℕ) (shape : PictureShape) (options : WriteOptions) (samples : List ℕ) → IsPlanOf f count shape options
     → AreSamplesOf shape samples → shape.width * components_of_scan shape options * rows_of_interval shape options ≤ 2 ^ 28
     → OptionsFit (picture_in shape samples) options
@@ -57,7 +54,7 @@ plan_fits f count shape options samples plan are few =
     record {
       precision = sym (ap (λ (p : CodingParameters). p.precision) params) ∙ precision;
       samples = λ component inside line below.
-          let within = at_most (2 ^ shape.precision) (line_in shape samples component line) (line_fits shape samples are component line inside below).1 in
+          let within = all_at_most (2 ^ shape.precision) (line_in shape samples component line) (line_fits shape samples are component line inside below).1 in
           subst (λ (xs : List ℕ). All (λ sample. sample ≤ options.params.maxval) xs) (sym (lent_line shape samples component line inside below))
           (subst (λ (n : ℕ). All (λ sample. sample ≤ n) (line_in shape samples component line)) most within);
       interval = few;

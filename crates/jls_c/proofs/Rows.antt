@@ -5,8 +5,8 @@ use Rattle.std.proofs.Math.Nat.{suc-mul}
 use Rattle.std.specs.List.{range_with_len, flat_map}
 use Rattle.std.proofs.lemmas.List.{append_assoc, length-append, take_at, drop_at, drop-drop, length-map, length-take, take_all}
 use Rattle.std.proofs.lemmas.List.FromFn.{map-range_with_len_more}
-use Rattle.jls_write.proofs.OneMore.{flat_map_more}
 use borrow.Rule.Slice.PartMut.{put_mid}
+use Rattle.jls_values.proofs.Lists.{flat_map_more}
 
 -- how long they are
 pub length_rows : {X : Type 0} (f : ℕ → List X) (w n : ℕ) → ((k : ℕ) → k < n → length (f k) ≡ w)

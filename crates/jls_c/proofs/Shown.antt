@@ -6,7 +6,7 @@ use Rattle.std.proofs.lemmas.List.FromFn.{length-map-range_with_len}
 use Rattle.jls_partial.specs.Partial.{PartialPicture}
 use Rattle.jls_partial.specs.Status.{status_of}
 use Rattle.jls_partial.specs.declared.status.Status.TheVariants.{Missing, Settled, Disputed}
-use Rattle.jls_write.proofs.Lending.{one_reading}
+use Rattle.jls_partial.proofs.Statuses.{one_reading}
 use Rattle.jls_c.specs.Lines.{shown, line_status, component_statuses, line_statuses, line_of, lines_of_component, lines_of}
 use Rattle.jls_c.specs.Info.{line_count}
 use Rattle.jls_c.proofs.Rows.{length_rows}

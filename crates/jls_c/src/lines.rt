@@ -45,7 +45,7 @@ fn push_lines(partial: &Partial, component: u8, lines: &mut Vec<JlsLine>) -> Res
 }
 
 /// What is reported of all lines.
-#[tactic(auto, using(jls_write::proofs::OneMore::flat_map_more))]
+#[tactic(auto, using(jls_values::proofs::Lists::flat_map_more))]
 fn lines_of(alloc: Global, partial: &Partial) -> Result<Vec<JlsLine>, AllocError>
     ensures { IfOk result (λ lines. lines.items ≡ reported.lines_of partial.now) }
 {

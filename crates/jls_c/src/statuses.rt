@@ -35,7 +35,7 @@ fn push_component(
 }
 
 /// The statuses of all lines.
-#[tactic(auto, using(jls_write::proofs::OneMore::flat_map_more))]
+#[tactic(auto, using(jls_values::proofs::Lists::flat_map_more))]
 pub(crate) fn statuses_of(alloc: Global, partial: &Partial) -> Result<Vec<u8>, AllocError>
     ensures { IfOk result (λ statuses. statuses.items ≡ line_statuses partial.now) }
 {

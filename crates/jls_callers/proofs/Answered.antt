@@ -1,6 +1,5 @@
 -- What is said of a call that answers so, and what follows.
-use Rattle.std.proofs.Common.{ℕ, suc, ◌<◌, List, [], ◌∷◌, get_or, Result, Ok, Err, OnOk, OnErr, IfOk, IfErr}
-use Rattle.std.specs.List.{AllByRecursion}
+use Rattle.std.proofs.Common.{Result, Ok, Err, OnOk, OnErr, IfOk, IfErr}
 
 module _ {T E : Type 0} where
   pub ok_both : (r : Result T E) (A B C : Type 0) → OnOk r A → OnOk r B → (A → B → C) → OnOk r C
@@ -22,8 +21,3 @@ module _ {T E : Type 0} where
   pub fault_then : (r : Result T E) (A B : E → Type 0) → IfErr r A → ((e : E) → A e → B e) → IfErr r B
   fault_then (Ok x) A B a f = tt
   fault_then (Err e) A B a f = f e a
-
--- the items of a slice of bytes
-pub all_bytes : (bytes : List ℕ) → ((i : ℕ) → get_or bytes i 0 < 256) → AllByRecursion (λ b. b < 256) bytes
-all_bytes [] h = tt
-all_bytes (b ∷ bytes) h = (h 0, all_bytes bytes (λ i. h (suc i)))

@@ -1,5 +1,5 @@
 -- Two FF bytes stand for any longer run: a piece with two FF in a row has no data bits, whatever stands round them.
-use Rattle.std.proofs.Common.{◌≡◌, ℕ, Bool, true, false, not, ◌&&◌, List, [], ◌∷◌, ◌++◌, refl, sym, ap, ◌∙◌, subst, inl, inr}
+use Rattle.std.proofs.Common.{◌≡◌, ℕ, Bool, true, false, not, ◌&&◌, List, [], ◌∷◌, ◌++◌, refl, ap, ◌∙◌, subst, inl, inr}
 use Rattle.jls_bits.specs.Bits.{is_whole, is_whole_after, ends_data}
 use Rattle.jls_marker.specs.Scan.{Scan}
 use Rattle.jls_copy.specs.Numbers.{Interval}
@@ -11,6 +11,7 @@ use Rattle.jls_copy.specs.Tells.{SameBytes, HeldIs}
 use Rattle.jls_copy.specs.declared.piece.PieceKind.TheVariants as kind
 use Rattle.jls_copy.specs.declared.scan.Held.{Held}
 use Rattle.jls_copy.specs.declared.scan.Held.TheVariants.{Nothing, One, More}
+use Rattle.jls_interval.proofs.EventsApart.{true_false}
 
 and_false : (b : Bool) → (b && false) ≡ false
 and_false true = refl
@@ -42,18 +43,15 @@ pub same_more : (fed piece : List ℕ) (held : Held) (n b : ℕ) → HeldIs held
 same_more fed piece held n b h (inl e) = same_equal fed piece n b e held h
 same_more fed piece held n b h (inr e) = inr (unwhole_append 0 fed (held_bytes held ++ b ∷ []) e.0, unwhole_append 0 piece (fill_bytes n ++ b ∷ []) e.1)
 
-pub never_both : (b : Bool) → b ≡ true → b ≡ false → ⊥
-never_both b e f = let g : true ≡ false = sym e ∙ f in cc
-
 -- and so has the same outcome
 pub same_outcome : (s : Scan) (k : ℕ) (fed piece : List ℕ) (o : PieceOutcome) → SameBytes fed piece → IsOutcomeAt s (Interval k) fed o
     → IsOutcomeAt s (Interval k) piece o
 same_outcome s k fed piece o (inl e) h = subst (λ bytes. IsOutcomeAt s (Interval k) bytes o) e h
-same_outcome s k fed piece (Lines lines) (inr e) h = absurd (never_both (is_whole fed) h.begins.data_bits.whole e.0)
-same_outcome s k fed piece (Fault kind.Long) (inr e) h = absurd (never_both (is_whole fed) h.begins.data_bits.whole e.0)
+same_outcome s k fed piece (Lines lines) (inr e) h = absurd (true_false (is_whole fed) h.begins.data_bits.whole e.0)
+same_outcome s k fed piece (Fault kind.Long) (inr e) h = absurd (true_false (is_whole fed) h.begins.data_bits.whole e.0)
 same_outcome s k fed piece (Fault kind.Broken) (inr e) h = record {
-  not_read = λ lines r. never_both (is_whole piece) r.begins.data_bits.whole e.1;
-  not_long = λ r. never_both (is_whole piece) r.begins.data_bits.whole e.1;
+  not_read = λ lines r. true_false (is_whole piece) r.begins.data_bits.whole e.1;
+  not_long = λ r. true_false (is_whole piece) r.begins.data_bits.whole e.1;
 }
 same_outcome s k fed piece (Fault kind.Beyond) (inr e) h = h
 
@@ -61,5 +59,5 @@ same_outcome s k fed piece (Fault kind.Beyond) (inr e) h = h
 pub same_head : (s : Scan) (k : ℕ) (fed piece : List ℕ) (head : List (List ℕ)) → SameBytes fed piece → IsHeadAt s (Interval k) fed head
     → IsHeadAt s (Interval k) piece head
 same_head s k fed piece head (inl e) h = subst (λ bytes. IsHeadAt s (Interval k) bytes head) e h
-same_head s k fed piece head (inr e) (inl h) = absurd (never_both (is_whole fed) h.0 e.0)
+same_head s k fed piece head (inr e) (inl h) = absurd (true_false (is_whole fed) h.0 e.0)
 same_head s k fed piece head (inr e) (inr h) = inr (e.1, h.1)

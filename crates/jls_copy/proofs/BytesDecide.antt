@@ -10,6 +10,7 @@ use Rattle.jls_bits.specs.Bits.{bits_read, is_whole}
 use Rattle.jls_interval.proofs.HeadLines.{one_head}
 use Rattle.jls_interval.proofs.PiecesReadOnce.{reads_once, read_not_long}
 use Rattle.jls_interval.specs.Lines.{interval_shape}
+use Rattle.jls_interval.proofs.EventsApart.{true_false}
 use Rattle.jls_marker.specs.Scan.{Scan, IsScan, row_count}
 use Rattle.jls_marker.specs.declared.fault.MarkerFault.{MarkerFault}
 use Rattle.jls_copy.specs.Numbers.{PieceNumber, Interval, BeyondLast}
@@ -17,7 +18,6 @@ use Rattle.jls_copy.specs.Pieces.{FoundPiece, pieces, PieceOutcome, Lines, Fault
 use Rattle.jls_copy.specs.Course.{Course}
 use Rattle.jls_copy.specs.CutPieces.{closed_by_input, last_piece, cut_pieces, IsHeadAt, IsHeadOfCut, head_readings}
 use Rattle.std.specs.Prelude.{if◌then◌else◌}
-use Rattle.jls_copy.proofs.Alike.{never_both}
 use Rattle.jls_copy.specs.ReadCopy.{ReadCopy}
 use Rattle.jls_copy.specs.CopyReads.{CopyReads, no_picture}
 use Rattle.jls_copy.specs.CopyLaws.{BytesDecide}
@@ -93,8 +93,8 @@ one_head_at : (s : Scan) (n : PieceNumber) (bytes : List ℕ) (a b : List (List 
     → a ≡ b
 one_head_at s (Interval k) bytes a b ok (inl h) (inl r) =
     one_head s.params s.width (length s.components) (row_count s k * length s.components) ok.params (let w = ok.width_at_least in omega arith) (bits_read bytes) a b h.1 r.1
-one_head_at s (Interval k) bytes a b ok (inl h) (inr r) = absurd (never_both (is_whole bytes) h.0 r.0)
-one_head_at s (Interval k) bytes a b ok (inr h) (inl r) = absurd (never_both (is_whole bytes) r.0 h.0)
+one_head_at s (Interval k) bytes a b ok (inl h) (inr r) = absurd (true_false (is_whole bytes) h.0 r.0)
+one_head_at s (Interval k) bytes a b ok (inr h) (inl r) = absurd (true_false (is_whole bytes) r.0 h.0)
 one_head_at s (Interval k) bytes a b ok (inr h) (inr r) = h.1 ∙ sym r.1
 one_head_at s (BeyondLast k) bytes a b ok h r = h ∙ sym r
 

@@ -2,11 +2,12 @@
 use Rattle.std.proofs.Common.{◌≡◌, ℕ, suc, ◌+◌, ◌/◌, ◌%◌, Bool, true, false, List, [], ◌∷◌, ◌++◌, length, refl, sym, ◌∙◌, ap, subst}
 use Rattle.std.proofs.Common.{append_assoc, add-zero, length-append}
 use Rattle.std.proofs.lemmas.List.{append-nil}
-use Rattle.jls_copy.proofs.HeaderFacts.{scans_none, scans_one}
+use Rattle.jls_copy.proofs.HeaderFacts.{scans_one}
 use Rattle.jls_copy.specs.ScanData.{fill_bytes, ClosedPiece}
 use Rattle.jls_copy.specs.Numbers.{PieceNumber, Interval}
 use Rattle.jls_marker.specs.HeaderState.{HeaderState}
 use Rattle.jls_marker.specs.Scan.{Scan}
+use Rattle.jls_marker.proofs.HeaderSteps.{others_count_none}
 use Rattle.jls_copy.specs.Pieces.{FoundPiece, piece_begun}
 use Rattle.jls_copy.specs.Course.{by_input, by_marker, CopyUnit, segment, scan, segment_unit_bytes, unit_bytes, AreUnits, Ends, for_good}
 use Rattle.jls_copy.specs.Course.{with_the_input, in_a_unit, fill_alone, marker_alone, half_a_length, short_payload, IsCourse, with_soi}
@@ -45,13 +46,13 @@ cut_after : (index at : ℕ) (u : CopyUnit) (us : List CopyUnit) → is_cut u �
 cut_after index at u [] e = rw e refl
 cut_after index at u (v ∷ us) e = refl
 
-last_after : (ps : List FoundPiece) (q : FoundPiece) (qs : List FoundPiece) → last_piece (ps ++ q ∷ qs) ≡ last_piece (q ∷ qs)
+pub last_after : (ps : List FoundPiece) (q : FoundPiece) (qs : List FoundPiece) → last_piece (ps ++ q ∷ qs) ≡ last_piece (q ∷ qs)
 last_after [] q qs = refl
 last_after (p ∷ []) q qs = refl
 last_after (p ∷ x ∷ ps) q qs = last_after (x ∷ ps) q qs
 
 -- scan data has a piece
-some_pieces : (index : ℕ) (s : Scan) (last : ℕ) (number : PieceNumber) (at : ℕ) (closed : List ClosedPiece) (bytes : List ℕ)
+pub some_pieces : (index : ℕ) (s : Scan) (last : ℕ) (number : PieceNumber) (at : ℕ) (closed : List ClosedPiece) (bytes : List ℕ)
     → (q : FoundPiece) × (qs : List FoundPiece) × (pieces_from (piece_begun index s number at) last closed bytes ≡ q ∷ qs)
 some_pieces index s last number at [] bytes = (_, [], refl)
 some_pieces index s last number at (c ∷ closed) bytes = (_, _, refl)
@@ -98,7 +99,7 @@ passed_course _ _ _ _ _ (passed_soi n x w) rest vs last e qs cut y fol from alik
     )
 passed_course _ _ _ _ _ (passed_segment x h us ps following p n code payload after z known small fol0 e0 w) rest vs last e qs cut y fol from alike alike_cut is =
     let size : length z ≡ length x + length (segment_unit_bytes n code payload) = ap length w ∙ length-append x (segment_unit_bytes n code payload) in
-    let scans : after.scans ≡ h.scans + 0 = scans_none h after code payload e0 ∙ sym (add-zero h.scans) in
+    let scans : after.scans ≡ h.scans + 0 = others_count_none h after code payload e0 ∙ sym (add-zero h.scans) in
     passed_course x h us ps following p (segment_unit_bytes n code payload ++ rest) (segment n code payload ∷ vs) last e qs cut y
     (λ k. (n, code, _, append_assoc (fill_bytes n) _ rest, fol0 k))
     (after, rest, refl, ((known, small), e0), rw size at from) (rw (size, scans) at alike)

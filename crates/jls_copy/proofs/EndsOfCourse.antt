@@ -3,8 +3,10 @@ use Rattle.std.proofs.Common.{◌≡◌, ℕ, ◌+◌, ◌≤◌, List, [], ◌�
 use Rattle.std.proofs.Common.{length-append}
 use Rattle.std.specs.List.{AllByRecursion, Contains, flat_map}
 use Rattle.jls_values.specs.Shape.{PictureShape}
+use Rattle.jls_values.proofs.Lists.{is_first, in_rest, none_in, first_or_rest}
 use Rattle.jls_marker.specs.HeaderState.{HeaderState, no_headers}
 use Rattle.jls_marker.specs.Scan.{Scan, intervals}
+use Rattle.jls_marker.proofs.HeaderSteps.{frame_stays}
 use Rattle.jls_copy.specs.ScanData.{ClosedPiece, closed_bytes}
 use Rattle.jls_copy.specs.Numbers.{PieceNumber, Interval, number_after, given_last}
 use Rattle.jls_copy.specs.Pieces.{FoundPiece, pieces_from, pieces_in, pieces, piece_begun}
@@ -15,8 +17,7 @@ use Rattle.jls_copy.specs.Course.{at_no_marker, at_unknown_code, at_short_length
 use Rattle.jls_copy.specs.Course.{in_a_unit}
 use Rattle.jls_copy.specs.Prefixes.{offset_of_end}
 use Rattle.jls_copy.specs.declared.end.End.{End}
-use Rattle.jls_copy.proofs.HeaderFacts.{frame_kept, scan_is_of_frame}
-use Rattle.jls_copy.proofs.Prefixes.{first_or_rest, in_rest, is_first, none_in}
+use Rattle.jls_copy.proofs.HeaderFacts.{scan_is_of_frame}
 use Rattle.jls_copy.proofs.TellingLaws.{pieces_stand_at_their_offsets}
 use Rattle.jls_copy.specs.TellingLaws.{StandsAt}
 
@@ -116,10 +117,10 @@ units_keep : (h : HeaderState) (at : ℕ) (bytes : List ℕ) (us : List CopyUnit
 units_keep h at bytes [] final e shape u f = ap (λ (x : HeaderState). x.frame) u.0 ∙ f
 units_keep h at bytes (segment fill code payload ∷ us) final e shape (after, rest, whole, unit, more) f =
     units_keep after (at + length (segment_unit_bytes fill code payload)) rest us final e shape more
-    (frame_kept h after code payload None shape unit.1 f)
+    (frame_stays h after code payload None shape unit.1 f)
 units_keep h at bytes (scan fill code payload plan closed last closing ∷ us) final e shape (after, rest, whole, unit, more) f =
     units_keep after (at + length (unit_bytes (scan fill code payload plan closed last closing))) rest us final e shape more
-    (frame_kept h after code payload (Some plan) shape unit.1 f)
+    (frame_stays h after code payload (Some plan) shape unit.1 f)
 
 framed_units : (h : HeaderState) (at : ℕ) (bytes : List ℕ) (us : List CopyUnit) (final : HeaderState) (e : End) (index : ℕ) (q : FoundPiece)
     → AreUnits h at bytes us final e → Contains (pieces_in index at us) q → (shape : PictureShape) × (final.frame ≡ Some shape)

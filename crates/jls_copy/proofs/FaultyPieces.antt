@@ -2,6 +2,7 @@
 use Rattle.std.proofs.Common.{◌≡◌, ℕ, List, [], ◌∷◌, ◌++◌, length, refl, sym, subst, inl}
 use Rattle.std.specs.List.{Contains}
 use Rattle.std.proofs.lemmas.List.Elements.{Contains-append_left}
+use Rattle.jls_values.proofs.Lists.{is_first, in_rest}
 use Rattle.jls_copy.specs.Prefixes.{StaysFaulty}
 use Rattle.jls_copy.specs.Pieces.{AreOutcomes, Fault, FoundPiece, IsOutcome, Lines, PieceOutcome, pieces, records}
 use Rattle.jls_copy.specs.Reader.{all_pieces}
@@ -9,7 +10,7 @@ use Rattle.jls_copy.specs.ReaderState.{Reading, closed_at, reading, reading_from
 use Rattle.jls_copy.specs.declared.piece.PieceKind.{PieceKind}
 use Rattle.jls_copy.proofs.CopyFed.{outcome_alike}
 use Rattle.jls_copy.proofs.CourseFed.{course_fed}
-use Rattle.jls_copy.proofs.Prefixes.{alike_of, among_all, from_append, in_rest, is_first}
+use Rattle.jls_copy.proofs.Prefixes.{alike_of, among_all, from_append}
 use Rattle.jls_copy.proofs.OneCourse.{one_course}
 
 -- of these pieces one is faulty

@@ -21,7 +21,7 @@ times_sum a (suc b) c =
     rw e (omega (arith, f, g, i))
 
 -- no sample is too large
-none_large : (bound : ℕ) (line : List ℕ) → AllByRecursion (λ sample. sample < bound) line → list_any (λ x. nat_le bound x) line ≡ false
+pub none_large : (bound : ℕ) (line : List ℕ) → AllByRecursion (λ sample. sample < bound) line → list_any (λ x. nat_le bound x) line ≡ false
 none_large bound [] each = refl
 none_large bound (x ∷ line) each =
     let here : nat_le bound x ≡ false = grind (arith, nat_tests, each.0) in rw here (none_large bound line each.1)

@@ -5,7 +5,6 @@ use Rattle.std.proofs.lemmas.List.{append-nil, take_all, take-append-le, length-
 use Rattle.std.proofs.lemmas.Bool.{cases_lt}
 use Rattle.std.proofs.lemmas.Bool.Decides.{nat_tests}
 use Rattle.std.specs.Prelude.{nat_lt, ◌==◌, ◌*◌, cond, Result, Ok, Err, IfSome, IfOk, IfErr}
-use Rattle.jls_copy.proofs.HeaderFacts.{frame_kept}
 use Rattle.jls_copy.specs.Conclusion.{SaysNone}
 use Rattle.jls_copy.specs.CopyReads.{no_picture}
 use Rattle.jls_copy.specs.ReaderState.{end_at}
@@ -21,6 +20,7 @@ use Rattle.jls_partial.specs.Partial.{PartialPicture, without_sources}
 use Rattle.jls_marker.specs.HeaderState.{HeaderState}
 use Rattle.jls_marker.specs.Scan.{Scan}
 use Rattle.jls_marker.specs.Headers.{headers_after}
+use Rattle.jls_marker.proofs.HeaderSteps.{frame_stays as frame_kept}
 use Rattle.jls_copy.specs.Pieces.{FoundPiece, PieceOutcome, Lines, Fault, IsOutcome, readings_of, records_of}
 use Rattle.jls_copy.specs.Findings.{Adds, HoldsShape, with_readings, picture_of, kept_with}
 use Rattle.jls_copy.specs.Gathers.{Gathers}

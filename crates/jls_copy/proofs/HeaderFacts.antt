@@ -1,23 +1,18 @@
 -- What the reader needs to know of the headers after a segment.
-use Rattle.std.proofs.Common.{◌≡◌, ℕ, ◌+◌, true, List, Option, Some, None, Ok, Err, refl, ap, ◌∙◌}
+use Rattle.std.proofs.Common.{◌≡◌, ℕ, ◌+◌, true, List, Some, Ok, Err, refl, ap, ◌∙◌}
 use Rattle.std.specs.Prelude.{is_some}
-use Rattle.jls_values.specs.Shape.{PictureShape}
 use Rattle.jls_marker.specs.HeaderState.{HeaderState}
 use Rattle.jls_marker.specs.Headers.{headers_after}
 use Rattle.jls_marker.specs.Scan.{Scan}
 use Rattle.jls_marker.specs.declared.fault.MarkerFault.{MarkerFault}
 use Rattle.jls_marker.specs.declared.fault.MarkerFault.TheVariants as fault
-use Rattle.jls_marker.proofs.HeaderSteps.{frame_stays, scans_begin, others_count_none}
+use Rattle.jls_marker.proofs.HeaderSteps.{scans_begin}
 use Rattle.jls_marker.proofs.FaultsOf.{never_ended}
 use Rattle.jls_copy.specs.CopyReads.{is_final_end}
 use Rattle.jls_copy.specs.Sound.{IsOfFrame}
 use Rattle.jls_copy.specs.declared.end.End.TheVariants.{Header}
 
 module _ (h after : HeaderState) (code : ℕ) (payload : List ℕ) where
-  -- an SOS counts one scan, and no other segment does
-  pub scans_none : headers_after h code payload ≡ Ok (after, None) → after.scans ≡ h.scans
-  scans_none e = others_count_none h after code payload e
-
   pub scans_one : (s : Scan) → headers_after h code payload ≡ Ok (after, Some s) → after.scans ≡ h.scans + 1
   scans_one s e = ap (λ (x : HeaderState). x.scans) (scans_begin h after code payload s e).counted
 
@@ -29,11 +24,6 @@ module _ (h after : HeaderState) (code : ℕ) (payload : List ℕ) where
 
   pub scan_has_frame : (s : Scan) → headers_after h code payload ≡ Ok (after, Some s) → is_some after.frame ≡ true
   scan_has_frame s e = ap is_some (scan_is_of_frame s e).1
-
-  -- a frame that was accepted stays
-  pub frame_kept : (s : Option Scan) (shape : PictureShape) → headers_after h code payload ≡ Ok (after, s) → h.frame ≡ Some shape
-      → after.frame ≡ Some shape
-  frame_kept s shape e f = frame_stays h after code payload s shape e f
 
 -- no segment that is whole has the fault of an input that ends too early
 pub fault_is_final : (h : HeaderState) (code : ℕ) (payload : List ℕ) (f : MarkerFault) (offset : ℕ) → headers_after h code payload ≡ Err f

@@ -1,5 +1,5 @@
 mod OneMoreByte
-mod OneCut
+pub mod OneCut
 mod UnitsCut
 pub mod NumbersGiven
 mod CutExamples
@@ -9,7 +9,7 @@ pub mod ByLineExamples
 pub mod TwoByLineExamples
 pub mod CutCopyExamples
 pub mod OneCourse
-mod Fitting
+pub mod Fitting
 mod HeaderFacts
 mod Alike
 mod Kept
@@ -19,7 +19,7 @@ mod TellsMore
 mod TellsScan
 mod TellsSegment
 mod ReadingTells
-mod CourseFed
+pub mod CourseFed
 mod Stretches
 mod Idle
 mod PayloadStretch
@@ -30,6 +30,7 @@ mod StretchEnds
 mod Gathering
 mod Clones
 mod CutOutcomes
+pub mod CutPieces
 mod CutGathering
 mod CopyFed
 pub mod ScansOfCourse

@@ -5,7 +5,7 @@ use Rattle.std.proofs.lemmas.Bool.Decides.{nat_tests}
 use Rattle.jls_copy.specs.Numbers.{next_number, Interval, mark_before}
 use Rattle.jls_copy.specs.CutLaws.{NumbersAreLeast, LostMarksAreBridged, MarksBeyondChangeNothing}
 
-number_above : (last m : ℕ) → last < next_number last m
+pub number_above : (last m : ℕ) → last < next_number last m
 number_above last m = omega arith
 
 number_mark : (last m : ℕ) → m < 8 → (next_number last m - 1) % 8 ≡ m

@@ -49,7 +49,7 @@ same_mark (suc k) (suc l) c d x y p q e =
     let t : fill_bytes k ++ (255 ∷ c ∷ x) ≡ fill_bytes l ++ (255 ∷ d ∷ y) = cc in
     let r = same_mark k l c d x y p q t in (ap suc r.0, r.1, r.2)
 
-no_mark : (n k c : ℕ) (x : List ℕ) → c ≢ 255 → fill_bytes n ≡ fill_bytes k ++ (255 ∷ c ∷ x) → ⊥
+pub no_mark : (n k c : ℕ) (x : List ℕ) → c ≢ 255 → fill_bytes n ≡ fill_bytes k ++ (255 ∷ c ∷ x) → ⊥
 no_mark zero zero c x p e = cc
 no_mark zero (suc k) c x p e = cc
 no_mark (suc zero) zero c x p e = cc

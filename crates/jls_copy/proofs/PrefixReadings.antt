@@ -6,6 +6,7 @@ use Rattle.std.specs.List.{AllByRecursion, Contains}
 use Rattle.std.proofs.lemmas.List.{take-append-drop, length-take-le}
 use Rattle.std.proofs.lemmas.List.Elements.{Contains-append_cases}
 use Rattle.jls_values.specs.Params.{CodingParameters, AreCodingParameters}
+use Rattle.jls_values.proofs.Lists.{is_first, in_rest, none_in, first_or_rest}
 use Rattle.jls_bits.specs.Bits.{bits_read, bits_read_after, is_whole}
 use Rattle.jls_bits.specs.Appending.{last_after}
 use Rattle.jls_bits.proofs.Appending.{data_append, whole_prefix}
@@ -27,7 +28,7 @@ use Rattle.jls_copy.specs.Reader.{all_pieces}
 use Rattle.jls_copy.specs.ReaderState.{reading, closed_at_end}
 use Rattle.jls_copy.specs.Tells.{FedAs, AlikePiece}
 use Rattle.jls_copy.proofs.CourseFed.{course_fed}
-use Rattle.jls_copy.proofs.Prefixes.{is_first, in_rest, none_in, first_or_rest, alike_of, of_alike, at_once, Stands, stands_from}
+use Rattle.jls_copy.proofs.Prefixes.{alike_of, of_alike, at_once, Stands, stands_from}
 use Rattle.jls_copy.proofs.Prefixes.{from_append, among_all}
 use Rattle.jls_copy.proofs.OneCourse.{one_course}
 use Rattle.jls_copy.proofs.ScansOfCourse.{HasScan, byte_parts, course_has}

@@ -1,12 +1,13 @@
 -- A piece that reads as no lines whatever follows is one in each longer list of bytes.
-use Rattle.std.proofs.Common.{◌≡◌, ℕ, zero, suc, ◌*◌, ◌<◌, false, List, [], ◌∷◌, ◌++◌, length, Option, Some, None, refl, sym, ap, ◌∙◌}
-use Rattle.std.proofs.Common.{subst, append_assoc, arith, ◌⊎◌, inl, inr}
+use Rattle.std.proofs.Common.{◌≡◌, ℕ, ◌*◌, ◌<◌, false, List, [], ◌∷◌, ◌++◌, length, Option, Some, None, refl, sym, ap, ◌∙◌}
+use Rattle.std.proofs.Common.{subst, append_assoc, ◌⊎◌, inl, inr}
 use Rattle.std.specs.Prelude.{IfSome}
 use Rattle.std.specs.Option.{option_map}
 use Rattle.std.specs.List.{AllByRecursion, Contains}
 use Rattle.std.proofs.lemmas.List.{append-nil}
 use Rattle.std.proofs.lemmas.List.Elements.{Contains-append_left, Contains-append_right}
 use Rattle.jls_values.specs.Shape.{PictureShape}
+use Rattle.jls_values.proofs.Lists.{is_first, in_rest, none_in, first_or_rest}
 use Rattle.jls_bits.specs.Bits.{is_whole}
 use Rattle.jls_interval.specs.Reads.{ReadsNoMore}
 use Rattle.jls_interval.proofs.NoMore.{unwhole_reads_no_more}
@@ -34,22 +35,6 @@ use Rattle.jls_copy.proofs.OneCourse.{one_course}
 use Rattle.jls_copy.proofs.ScansOfCourse.{byte_parts}
 use Rattle.jls_copy.proofs.CourseFed.{course_fed}
 use Rattle.jls_copy.specs.IntervalOf.{interval_of}
-
--- Members ----------------------------------------------------------------------------------------------------------
-
-module _ {X : Type 0} where
-  pub is_first : (x : X) (xs : List X) → Contains (x ∷ xs) x
-  is_first x xs = (0, omega arith, refl)
-
-  pub in_rest : (x y : X) (xs : List X) → Contains xs x → Contains (y ∷ xs) x
-  in_rest x y xs (k, l, e) = (suc k, omega (arith, l), e)
-
-  pub none_in : (x : X) → Contains [] x → ⊥
-  none_in x (k, l, e) = omega (arith, l)
-
-  pub first_or_rest : (x y : X) (xs : List X) → Contains (y ∷ xs) x → (y ≡ x) ⊎ Contains xs x
-  first_or_rest x y xs (zero, l, e) = inl e
-  first_or_rest x y xs (suc k, l, e) = inr (k, omega (arith, l), e)
 
 -- of pieces that are alike, one of each
 pub alike_of : (ps qs : List FoundPiece) (p : FoundPiece) → AlikePieces ps qs → Contains ps p → (q : FoundPiece) × Contains qs q × AlikePiece p q
@@ -107,13 +92,10 @@ never_alike p q a h =
 
 -- What a reader tells ----------------------------------------------------------------------------------------------
 
-some_bytes : (o : Option (List ℕ)) (bytes : List ℕ) (P : List ℕ → Type 0) → o ≡ Some bytes → IfSome o P → P bytes
-some_bytes o bytes P e h = subst (λ z. IfSome z P) e h
-
 never_open : (s : Scan) (piece : OpenPiece) → IsOpenPiece s piece → OpenReadsNoMore piece → NeverReads s (number_of piece) (bytes_of piece)
 never_open s (Within k d) is h =
     let a : ReadsNoMore (interval_asked d) is.bytes =
-    some_bytes d.bytes is.bytes (λ bytes. ReadsNoMore (interval_asked d) bytes) is.bytes_are h in
+    subst (λ o. IfSome o (λ bytes. ReadsNoMore (interval_asked d) bytes)) is.bytes_are h in
     let b = subst (λ p. ReadsNoMore (interval_shape p d.width d.components (d.rows * d.components)) is.bytes) is.parameters_are a in
     let e = subst (λ w. ReadsNoMore (interval_shape s.params w d.components (d.rows * d.components)) is.bytes) is.width_is b in
     let f = subst (λ n. ReadsNoMore (interval_shape s.params s.width n (d.rows * n)) is.bytes) is.components_are e in

@@ -33,7 +33,7 @@ pieces_have index s last number at (c ∷ closed) bytes ok =
     let next = number_after (intervals s) last c.mark in
     (ok, pieces_have index s (given_last last next) next (at + length (closed_bytes c)) closed bytes ok)
 
-payload_bytes : (fill code : ℕ) (payload : List ℕ) → AreBytes (segment_unit_bytes fill code payload) → AreBytes payload
+pub payload_bytes : (fill code : ℕ) (payload : List ℕ) → AreBytes (segment_unit_bytes fill code payload) → AreBytes payload
 payload_bytes fill code payload h = (byte_parts (fill_bytes fill) _ h).1.1.1.1.1
 
 units_have : (h : HeaderState) (at : ℕ) (bytes : List ℕ) (us : List CopyUnit) (final : HeaderState) (e : End) (index begin : ℕ)

@@ -3,6 +3,7 @@ use Rattle.std.proofs.Common.{◌≡◌, ℕ, ◌+◌, ◌*◌, ◌-◌, ◌<◌
 use Rattle.std.proofs.Common.{◌⊎◌, inl, inr, Option, Some, None, Result, Ok, Err}
 use Rattle.std.specs.Prelude.{if◌then◌else◌, is_some, nat_lt, ◌==◌, not}
 use Rattle.std.specs.List.{AllByRecursion, Contains}
+use Rattle.jls_values.proofs.Lists.{is_first, none_in, first_or_rest}
 use Rattle.jls_marker.specs.HeaderState.{HeaderState}
 use Rattle.jls_marker.specs.MarkerCodes.{has_segment}
 use Rattle.jls_marker.specs.Headers.{headers_after}
@@ -28,7 +29,7 @@ use Rattle.jls_copy.proofs.CopyFed.{outcome_alike}
 use Rattle.jls_copy.proofs.CourseFed.{course_fed}
 use Rattle.jls_copy.proofs.EndsOfCourse.{either, ends_after, framed_by_piece}
 use Rattle.jls_copy.proofs.OneCourse.{one_course}
-use Rattle.jls_copy.proofs.Prefixes.{alike_of, among_all, at_once, first_or_rest, from_append, is_first, none_in, of_alike, Stands}
+use Rattle.jls_copy.proofs.Prefixes.{alike_of, among_all, at_once, from_append, of_alike, Stands}
 use Rattle.jls_copy.proofs.Prefixes.{stands_from}
 use Rattle.jls_copy.proofs.FaultyPieces.{closed_stay}
 use Rattle.jls_copy.proofs.ReadingTells.{reading_counts}

@@ -88,7 +88,8 @@ pub record ReadAlike (p q : FoundPiece) : Type 0 where
 
 -- each piece of a course that begins before the offset reads like one of the other course
 abbrev pub AreAlsoIn : ℕ → Course → Course → Type 0
-AreAlsoIn offset c d = (p : FoundPiece) → Contains (pieces c) p → p.offset < offset → (q : FoundPiece) × Contains (pieces d) q × ReadAlike p q
+AreAlsoIn offset c d =
+    (p : FoundPiece) → Contains (pieces c) p → p.offset < offset → (q : FoundPiece) × Contains (pieces d) q × ReadAlike p q
 
 -- two courses have a frame each, end at the offset or after it, and before it have pieces that read alike
 pub record AgreeBefore (offset : ℕ) (c d : Course) : Type 0 where

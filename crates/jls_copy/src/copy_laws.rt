@@ -36,8 +36,8 @@ pub fn prefixes_keep_readings()
     ensures { PrefixesKeepReadings }
 {}
 
-/// A law: where the piece in hand begins at an offset or after it, each list of bytes that begins so has the same pieces before that offset,
-/// up to what they read as. Both have a frame, and end at the offset or after it.
+/// A law: where the piece in hand begins at an offset or after it, each list of bytes that begins so has the same pieces before that
+/// offset, up to what they read as. Both have a frame, and end at the offset or after it.
 pub fn prefixes_settle_pieces()
     ensures { PrefixesSettlePieces }
 {}

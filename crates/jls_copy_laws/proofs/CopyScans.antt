@@ -17,7 +17,8 @@ use Rattle.jls_copy.specs.Course.{IsCourse, with_soi, with_another_marker, with_
 use Rattle.jls_copy.specs.CourseLaws.{SomeCourse}
 use Rattle.jls_copy.specs.declared.end.End.{End}
 use Rattle.jls_copy.proofs.OneCourse.{one_unit, no_unit_at_end}
-use Rattle.jls_copy.proofs.ScansOfCourse.{byte_parts}
+use Rattle.jls_copy.proofs.ScansOfCourse.{byte_parts, payload_bytes}
+use Rattle.jls_copy.proofs.OneCut.{no_mark}
 use Rattle.jls_copy_laws.specs.CopyLaws.{HasCourseWith, ScansAreOfTheCourse, OneListOfScans}
 use Rattle.jls_copy_laws.specs.CopyScans.{IsCopyUnit, AreCopyUnits, ScanWithData, scans_of_unit, HasScans}
 use Rattle.jls_copy_laws.specs.SegmentSets.{Sets}
@@ -42,10 +43,6 @@ sets_has_segment _ _ _ _ _ (sets.presets h p below) = refl
 sets_has_segment _ _ _ _ _ (sets.mapping_table h id table is) = refl
 sets_has_segment _ _ _ _ _ (sets.restart h payload least most) = refl
 sets_has_segment _ _ _ _ _ (sets.skipped h code payload e) = skipped_has_segment code e
-
--- the payload of a segment that consists of bytes does too
-payload_bytes : (fill code : ℕ) (payload : List ℕ) → AreBytes (segment_unit_bytes fill code payload) → AreBytes payload
-payload_bytes fill code payload low = (byte_parts (fill_bytes fill) _ low).1.1.1.1.1
 
 -- so does the payload that begins a scan
 pub scan_payload_bytes : (fill code : ℕ) (payload more : List ℕ) → AreBytes (segment_unit_bytes fill code payload ++ more)
@@ -136,14 +133,6 @@ same_marker (suc zero) zero c d x y p q e = absurd (q cc)
 same_marker (suc (suc m)) zero c d x y p q e = absurd (q cc)
 same_marker (suc m) (suc n) c d x y p q e = same_marker m n c d x y p q cc
 
--- fill bytes alone have no marker
-fill_no_marker : (m n c : ℕ) (x : List ℕ) → c ≢ 255 → fill_bytes m ≡ fill_bytes n ++ (255 ∷ c ∷ x) → ⊥
-fill_no_marker zero zero c x p e = cc
-fill_no_marker zero (suc n) c x p e = cc
-fill_no_marker (suc zero) zero c x p e = cc
-fill_no_marker (suc (suc m)) zero c x p e = p cc
-fill_no_marker (suc m) (suc n) c x p e = fill_no_marker m n c x p cc
-
 -- bytes that begin with another byte have none either
 other_no_marker : (b n c : ℕ) (x y : List ℕ) → b ≢ 255 → b ∷ y ≡ fill_bytes n ++ (255 ∷ c ∷ x) → ⊥
 other_no_marker b zero c x y p e = p cc
@@ -198,7 +187,7 @@ course_has_units _ _ shape scans (with_another_marker n code bytes p q) h =
     absurd (q (same_marker n h.fill code soi bytes h.after_soi p soi_not_fill h.copy_is).0)
 course_has_units _ _ shape scans (with_no_marker b bytes p) h =
     absurd (other_no_marker b h.fill soi h.after_soi bytes p h.copy_is)
-course_has_units _ _ shape scans (with_fill_alone n) h = absurd (fill_no_marker n h.fill soi h.after_soi soi_not_fill h.copy_is)
+course_has_units _ _ shape scans (with_fill_alone n) h = absurd (no_mark n h.fill soi h.after_soi soi_not_fill h.copy_is)
 
 -- the course of bytes that have a frame and scans takes this frame, and has these scans
 pub scans_of_course : (copy : List ℕ) (c : Course) (shape : PictureShape) (scans : List ScanWithData) → IsCourse copy c

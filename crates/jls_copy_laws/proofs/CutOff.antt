@@ -1,42 +1,27 @@
 -- The piece that the input's end closes, found among the units of its course.
-use Rattle.std.proofs.Common.{◌≡◌, ℕ, ◌+◌, ◌/◌, ◌%◌, ◌≤◌, Bool, true, false, List, [], ◌∷◌, ◌++◌, length, refl, sym, ap, ◌∙◌, subst, arith}
+use Rattle.std.proofs.Common.{◌≡◌, ℕ, ◌+◌, ◌/◌, ◌%◌, Bool, true, false, List, [], ◌∷◌, ◌++◌, length, refl, sym, ap, ◌∙◌, subst, arith}
 use Rattle.std.proofs.Common.{length-append, inl, inr}
 use Rattle.std.specs.Prelude.{if◌then◌else◌}
 use Rattle.std.specs.List.{AllByRecursion, Contains}
 use Rattle.std.proofs.lemmas.List.{append-nil}
 use Rattle.std.proofs.lemmas.Bool.{cases_Bool}
 use Rattle.jls_marker.specs.HeaderState.{HeaderState, no_headers}
-use Rattle.jls_marker.specs.Scan.{Scan}
-use Rattle.jls_copy.specs.ScanData.{ClosedPiece, fill_bytes}
-use Rattle.jls_copy.specs.Numbers.{PieceNumber, Interval}
+use Rattle.jls_copy.specs.ScanData.{fill_bytes}
+use Rattle.jls_copy.specs.Numbers.{Interval}
 use Rattle.jls_copy.specs.Course.{by_input, by_marker, CopyUnit, segment, scan, segment_unit_bytes, scan_data_bytes, unit_bytes, IsUnit}
 use Rattle.jls_copy.specs.Course.{AreUnits, Course, IsCourse, with_soi, with_another_marker, with_no_marker, with_fill_alone}
 use Rattle.jls_copy.specs.CutPieces.{is_cut, closed_by_input, last_piece}
-use Rattle.jls_copy.specs.Pieces.{FoundPiece, pieces_from, unit_pieces, scans_in, pieces_in, piece_begun}
+use Rattle.jls_copy.specs.Pieces.{FoundPiece, unit_pieces, scans_in, pieces_in}
 use Rattle.jls_copy.specs.declared.end.End.{End}
+use Rattle.jls_copy.proofs.CourseFed.{last_after, some_pieces}
 use Rattle.jls_copy_laws.proofs.Members.{first_or_rest, none_in}
 
 -- The last of pieces -----------------------------------------------------------------------------------------------
-
-some_pieces : (index : ℕ) (s : Scan) (last : ℕ) (number : PieceNumber) (at : ℕ) (closed : List ClosedPiece) (bytes : List ℕ)
-    → (p : FoundPiece) × (ps : List FoundPiece) × (pieces_from (piece_begun index s number at) last closed bytes ≡ p ∷ ps)
-some_pieces index s last number at [] bytes = (_, [], refl)
-some_pieces index s last number at (c ∷ closed) bytes = (_, _, refl)
-
-last_after : (xs : List FoundPiece) (p : FoundPiece) (ps : List FoundPiece) → last_piece (xs ++ p ∷ ps) ≡ last_piece (p ∷ ps)
-last_after [] p ps = refl
-last_after (x ∷ []) p ps = refl
-last_after (x ∷ y ∷ xs) p ps = last_after (y ∷ xs) p ps
 
 some_after : (xs : List FoundPiece) (p : FoundPiece) (ps : List FoundPiece)
     → (q : FoundPiece) × (qs : List FoundPiece) × (xs ++ p ∷ ps ≡ q ∷ qs)
 some_after [] p ps = (p, ps, refl)
 some_after (x ∷ xs) p ps = (x, xs ++ p ∷ ps, refl)
-
-pub last_short : (ps : List FoundPiece) → length (last_piece ps) ≤ 1
-last_short [] = omega arith
-last_short (p ∷ []) = omega arith
-last_short (p ∷ q ∷ ps) = last_short (q ∷ ps)
 
 -- Units ------------------------------------------------------------------------------------------------------------
 

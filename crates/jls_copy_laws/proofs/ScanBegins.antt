@@ -1,17 +1,14 @@
 -- The scan that a selection begins under the headers: its tests pass exactly where the relation lets it begin.
-use Rattle.std.proofs.Common.{◌≡◌, ℕ, zero, suc, ◌+◌, ◌-◌, ◌*◌, ◌^◌, ◌<◌, ◌≤◌, Bool, true, false, List, [], ◌∷◌, map, length, get_or, Some}
-use Rattle.std.proofs.Common.{None, Ok, refl, sym, ◌∙◌, ap, subst, arith, inl, inr}
-use Rattle.std.specs.Prelude.{◌==◌, ◌||◌, nat_lt, max}
-use Rattle.std.specs.List.{AllByRecursion, list_any}
-use Rattle.std.proofs.lemmas.List.Folds.{list_any_at}
+use Rattle.std.proofs.Common.{◌≡◌, ℕ, ◌-◌, ◌*◌, ◌^◌, ◌<◌, ◌≤◌, Bool, true, false, List, [], ◌∷◌, map, length, get_or, Some}
+use Rattle.std.proofs.Common.{Ok, refl, sym, ◌∙◌, ap, subst}
+use Rattle.std.specs.Prelude.{◌==◌, nat_lt}
+use Rattle.std.specs.List.{AllByRecursion}
 use Rattle.std.proofs.lemmas.List.Sums.{passes_at_first}
-use Rattle.std.proofs.lemmas.Bool.{cases_eq, eqb-true, ne_eqb, ltb-true, lt-ltb, leb-true, or_parts}
-use Rattle.std.proofs.lemmas.Bool.Decides.{nat_tests}
-use Rattle.jls_values.specs.Params.{CodingParameters, AreCodingParameters}
-use Rattle.jls_values.specs.ParamsOf.{in_force, param_fault, params_of, params_in_range}
+use Rattle.std.proofs.lemmas.Bool.{eqb-true, ltb-true, lt-ltb, leb-true}
+use Rattle.jls_values.specs.Params.{AreCodingParameters}
+use Rattle.jls_values.specs.ParamsOf.{in_force, params_of, params_in_range}
 use Rattle.jls_values.specs.PresetParameters.{PresetParameters}
 use Rattle.jls_values.specs.Shape.{PictureShape, has_repeat}
-use Rattle.jls_interval.proofs.EventsApart.{true_false}
 use Rattle.jls_marker.specs.ComponentIndex.{index_of}
 use Rattle.jls_marker.specs.HeaderState.{HeaderState, IsHeaderState}
 use Rattle.jls_marker.specs.Headers.{begin_tests, scan_in, scan_judged, scan_under}
@@ -19,7 +16,8 @@ use Rattle.jls_marker.specs.Scan.{Scan, row_count}
 use Rattle.jls_marker.specs.ScanSelection.{ScanSelection}
 use Rattle.jls_marker.proofs.Beginning.{are_known, indices_below, begins, ok_scan}
 use Rattle.jls_marker.proofs.FirstFailing.{all_pass}
-use Rattle.jls_marker.proofs.ParamRanges.{params_ok}
+use Rattle.jls_marker.proofs.ParamRanges.{params_ok, no_param_fault}
+use Rattle.jls_marker.proofs.Indices.{index_again}
 use Rattle.jls_copy_laws.specs.SegmentSets.{BeginsScan}
 
 -- ---- identifiers, and the components that they name
@@ -41,27 +39,6 @@ ids_again ids (id ∷ named) below =
     ap (λ (rest : List ℕ). id ∷ rest) (ids_again ids named below.1)
     ∙ ap (λ (first : ℕ). first ∷ ids_at ids (map (index_of ids) named)) (sym (id_at_index ids id below.0))
 
--- an identifier that no other equals differs from each of them
-none_at : (id : ℕ) (ids : List ℕ) (i : ℕ) → list_any (λ other. other == id) ids ≡ false → i < length ids → (id == get_or ids i 0) ≡ false
-none_at id ids i none below =
-    elim (cases_eq (get_or ids i 0) id) [
-      | inl e ↦
-          let same : (get_or ids i 0 == id) ≡ true = grind (arith, nat_tests, e) in
-          absurd (true_false (list_any (λ other. other == id) ids) (list_any_at (λ other. other == id) ids i 0 below same) none)
-      | inr differs ↦ ne_eqb id (get_or ids i 0) (λ e. differs (sym e))
-    ]
-
--- where identifiers differ, the index of a component's identifier is the component
-index_again : (ids : List ℕ) (c : ℕ) → has_repeat ids ≡ false → c < length ids → index_of ids (get_or ids c 0) ≡ c
-unfolding index_of
-index_again [] c differ below = absurd (omega (arith, below))
-index_again (id ∷ ids) zero differ below = let same : (id == id) ≡ true = grind (arith, nat_tests) in rw same refl
-index_again (id ∷ ids) (suc c) differ below =
-    let parts = or_parts (list_any (λ other. other == id) ids) (has_repeat ids) differ in
-    let other = none_at id ids c parts.0 (omega (arith, below)) in
-    let next : 1 + c ≡ suc c = omega arith in
-    rw other (ap (λ n. 1 + n) (index_again ids c parts.1 (omega (arith, below))) ∙ next)
-
 module _ (ids : List ℕ) (differ : has_repeat ids ≡ false) where
   -- the components that their own identifiers name
   components_again : (components : List ℕ) → AllByRecursion (λ c. c < length ids) components
@@ -80,20 +57,6 @@ module _ (ids : List ℕ) (differ : has_repeat ids ≡ false) where
       rw here (known_again components below.1)
 
 -- ---- parameters
-
--- parameters in their ranges have no fault
-no_param_fault : (p : CodingParameters) → AreCodingParameters p → param_fault p ≡ None
-no_param_fault p i =
-    let a : (nat_lt p.precision 2 || nat_lt 16 p.precision) ≡ false = grind (arith, nat_tests, i.precision_at_least, i.precision_at_most) in
-    let b : (nat_lt p.maxval 1 || nat_lt (2 ^ p.precision - 1) p.maxval) ≡ false =
-    grind (arith, nat_tests, i.maxval_at_least, i.maxval_below) in
-    let c : (nat_lt p.t1 1 || nat_lt p.maxval p.t1) ≡ false =
-    grind (arith, nat_tests, i.t1_at_least, i.t2_at_least, i.t3_at_least, i.t3_at_most) in
-    let d : (nat_lt p.t2 p.t1 || nat_lt p.maxval p.t2) ≡ false =
-    grind (arith, nat_tests, i.t2_at_least, i.t3_at_least, i.t3_at_most) in
-    let e : (nat_lt p.t3 p.t2 || nat_lt p.maxval p.t3) ≡ false = grind (arith, nat_tests, i.t3_at_least, i.t3_at_most) in
-    let f : (nat_lt p.reset 3 || nat_lt (max 255 p.maxval) p.reset) ≡ false = grind (arith, nat_tests, i.reset_at_least, i.reset_at_most) in
-    rw (a, b, c, d, e, f) refl
 
 -- parameters in force that are in their ranges are those of a scan
 params_again : (precision : ℕ) (given : PresetParameters) → AreCodingParameters (in_force precision given)

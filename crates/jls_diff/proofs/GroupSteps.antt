@@ -119,10 +119,10 @@ module _ (ps : List Part) (count : ℕ) (found : Found) (is : IsFound ps count f
   }
 
   -- and with borders
-  pub pass_borders : (Differs (get_or ps count (Same [])) → ⊥) → (closed after : Found) (end next : Border) → IsBorder ps end → IsBorder ps next
+  pub pass_border : (Differs (get_or ps count (Same [])) → ⊥) → (closed after : Found) (end next : Border) → IsBorder ps end → IsBorder ps next
       → end.part ≡ count → next.part ≡ count → IsClosed found (Some end) closed → after ≡ record closed { begin = next }
       → IsFound ps (count + 1) after
-  pass_borders same closed after end next is_end is_next at_end at_next c e =
+  pass_border same closed after end next is_end is_next at_end at_next c e =
       let heads : closed.head ≡ found.head = c.head in
       subst (IsFound ps (count + 1)) (sym e) (record {
         begin = is_next;
@@ -169,9 +169,9 @@ border_is_same ps border is differs = by (get_or ps border.part (Same [])) is.1 
     by (Same bytes) h d = d
     by (Differ ways) h d = h
 
-pub before_first : (ps : List Part) (first : Border) → IsBorder ps first → (place : ℕ) → place < first.part + 1
+pub is_before : (ps : List Part) (first : Border) → IsBorder ps first → (place : ℕ) → place < first.part + 1
     → Differs (get_or ps place (Same [])) → place < first.part
-before_first ps first is place l differs =
+is_before ps first is place l differs =
     elim (last_or_before place first.part l) [
       | inl before ↦ before
       | inr here ↦ absurd (border_is_same ps first is (subst (λ n. Differs (get_or ps n (Same []))) here differs))

@@ -1,5 +1,4 @@
 -- Lemmas of this crate.
-pub mod Members
 pub mod Slices
 mod Splices
 mod PartsExamples

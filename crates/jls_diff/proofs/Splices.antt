@@ -3,7 +3,7 @@ use Rattle.std.proofs.Common.{◌≡◌, ℕ, suc, ◌<◌, List, [], ◌∷◌,
 use Rattle.std.specs.Prelude.{get_or}
 use Rattle.std.specs.List.{AllByRecursion, Contains}
 use Rattle.std.proofs.lemmas.List.Elements.{Contains-get_or, at_from_Contains}
-use Rattle.jls_diff.proofs.Members.{is_first, none_in, first_or_rest, in_map, of_map, in_flat_map, of_flat_map}
+use Rattle.jls_values.proofs.Lists.{is_first, none_in, first_or_rest, in_map, of_map, in_flat_map, of_flat_map}
 use Rattle.jls_diff.specs.Parts.{Part, Same, Differ, way, made, HasWays, IsSplice, splice_of, splices}
 use Rattle.jls_diff.specs.SpliceLaws.{CopiesAreSplices, SplicesAreListed, ChoicesMakeSplices}
 

@@ -66,7 +66,7 @@ fn close(found: &mut Found, end: Option<Border>) -> Result<(), AllocError>
 }
 
 /// Goes on over one part.
-#[tactic(auto, using(crate::proofs::GroupSteps::pass_differ, crate::proofs::GroupSteps::pass_same, crate::proofs::GroupSteps::pass_borders))]
+#[tactic(auto, using(crate::proofs::GroupSteps::pass_differ, crate::proofs::GroupSteps::pass_same, crate::proofs::GroupSteps::pass_border))]
 fn pass(found: &mut Found, parts: &[Part<'_>], part: usize) -> Result<(), AllocError>
     requires within { part < length parts.now }
     requires found { IsFound (parts_of parts.now) part found.old }
@@ -85,7 +85,7 @@ fn pass(found: &mut Found, parts: &[Part<'_>], part: usize) -> Result<(), AllocE
 }
 
 /// What is found in all parts, from the first border on.
-#[tactic(auto, using(crate::proofs::GroupSteps::found_first, crate::proofs::GroupSteps::before_first, crate::proofs::GroupSteps::found_all))]
+#[tactic(auto, using(crate::proofs::GroupSteps::found_first, crate::proofs::GroupSteps::is_before, crate::proofs::GroupSteps::found_all))]
 fn found_in(alloc: Global, parts: &[Part<'_>], first: Border) -> Result<Found, AllocError>
     requires { IsBorder (parts_of parts.now) first }
     ensures { IfOk result (λ found. IsFound (parts_of parts.now) (length parts.now) found) }

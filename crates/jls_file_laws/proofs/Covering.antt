@@ -10,6 +10,7 @@ use Rattle.std.proofs.Math.Seq.{get_or-append_seam}
 use Rattle.std.proofs.lemmas.Bool.{cases_eq, cases_Bool, cases_lt}
 use Rattle.std.proofs.lemmas.Bool.Decides.{nat_tests}
 use Rattle.std.specs.List.{flat_map, AllByRecursion, Contains, range_with_len}
+use Rattle.jls_values.proofs.Lists.{all_append, all_at}
 use Rattle.jls_partial.specs.Reading.{Reading, reading_of}
 use Rattle.jls_marker.specs.Scan.{Scan, intervals}
 use Rattle.jls_copy.specs.Pieces.{placed}
@@ -26,10 +27,6 @@ rows_from pic components row n = flat_map (row_lines pic components) (range_with
 -- the components of each scan
 abbrev pub scan_components : ℕ → Bool → List (List ℕ)
 scan_components n line = if line then range_with_len 0 n ∷ [] else map (λ c. c ∷ []) (range_with_len 0 n)
-
-pub all_append : {X : Type 0} (P : X → Type 0) (xs ys : List X) → AllByRecursion P xs → AllByRecursion P ys → AllByRecursion P (xs ++ ys)
-all_append P [] ys h k = k
-all_append P (x ∷ xs) ys h k = (h.0, all_append P xs ys h.1 k)
 
 module _ (pic : WholePicture) where
   -- one row, from the component after these on
@@ -283,11 +280,6 @@ intervals_cover pic o some =
 
 -- What a list of readings contains --------------------------------------------------------------------------
 
-all_of_contained : {X : Type 0} (P : X → Type 0) (xs : List X) (x : X) → AllByRecursion P xs → Contains xs x → P x
-all_of_contained P [] x h c = absurd (omega (arith, c.1))
-all_of_contained P (y ∷ ys) x h (zero, l, e) = subst P e h.0
-all_of_contained P (y ∷ ys) x h (suc k, l, e) = all_of_contained P ys x h.1 (k, omega (arith, l), e)
-
 abbrev Has : ℕ → ℕ → List Reading → Type 0
 Has c y rs = (q : Reading) × Contains rs q × (q.component ≡ c) × (q.line ≡ y)
 
@@ -319,9 +311,9 @@ one_not_none n e z = omega (arith, e, z)
 contained : (pic : WholePicture) (rs : List Reading) (are : AreThePicture pic rs) (r : Reading) → IsLineOf pic r → Contains rs r
 contained pic rs are r (c, y, e) =
     let f = found r.component r.line rs (one_not_none _ (are.once r.component r.line c y)) in
-    let is = all_of_contained (IsLineOf pic) rs f.0 are.each f.1 in
+    let is = all_at (IsLineOf pic) rs f.0 are.each f.1 in
     let same : f.0.samples ≡ r.samples = is.2 ∙ ap (λ n. line_of pic n f.0.line) f.2 ∙ ap (line_of pic r.component) f.3 ∙ sym e in
     subst (Contains rs) (reading_eq f.0 r f.2 f.3 same) f.1
 
 pub contains_the_picture : ContainsThePicture
-contains_the_picture pic rs are r = (all_of_contained (IsLineOf pic) rs r are.each, contained pic rs are r)
+contains_the_picture pic rs are r = (all_at (IsLineOf pic) rs r are.each, contained pic rs are r)

@@ -1,14 +1,13 @@
 -- The header segments of a written file are taken: each reads as what was meant, and no test of a scan fails.
 use Rattle.std.proofs.Common.{◌≡◌, ℕ, zero, suc, ◌+◌, ◌-◌, ◌*◌, ◌^◌, ◌<◌, ◌≤◌, Bool, true, false, cond, List, [], ◌∷◌, ◌++◌, map, length}
-use Rattle.std.proofs.Common.{get_or, Some, None, Ok, refl, sym, ◌∙◌, ap, append_assoc, arith, inl, inr, length-append}
-use Rattle.std.specs.Prelude.{◌==◌, ◌||◌, nat_lt, min, max, is_ok, if◌then◌else◌}
+use Rattle.std.proofs.Common.{get_or, Some, Ok, refl, sym, ◌∙◌, ap, append_assoc, arith, inl, inr, length-append}
+use Rattle.std.specs.Prelude.{◌==◌, nat_lt, min, is_ok, if◌then◌else◌}
 use Rattle.std.specs.Int.{w32, to_be_bytes}
-use Rattle.std.specs.List.{flat_map, AllByRecursion, list_any, list_all, range_with_len}
+use Rattle.std.specs.List.{flat_map, AllByRecursion, list_all, range_with_len}
 use Rattle.std.proofs.Math.Seq.{get_or-append_seam}
 use Rattle.std.proofs.lemmas.List.{length-drop, length-map}
-use Rattle.std.proofs.lemmas.List.Folds.{list_any_at}
 use Rattle.std.proofs.lemmas.List.FromFn.{length-range_with_len}
-use Rattle.std.proofs.lemmas.Bool.{and_parts, or_parts, cases_eq, eqb-true, ne_eqb, lt-ltb, le-leb}
+use Rattle.std.proofs.lemmas.Bool.{and_parts, cases_eq, eqb-true, ne_eqb, lt-ltb, le-leb}
 use Rattle.std.proofs.lemmas.Bool.Decides.{nat_tests}
 use Rattle.jls_values.specs.Shape.{PictureShape, has_repeat}
 use Rattle.jls_values.specs.Params.{CodingParameters, AreCodingParameters}
@@ -17,7 +16,6 @@ use Rattle.jls_context.proofs.Sizes.{maxval_small}
 use Rattle.jls_marker.specs.MarkerCodes.{has_segment}
 use Rattle.jls_marker.specs.ComponentIndex.{index_of}
 use Rattle.jls_values.specs.PresetParameters.{PresetParameters, no_presets}
-use Rattle.jls_interval.proofs.EventsApart.{true_false}
 use Rattle.jls_marker.specs.ScanSelection.{ScanSelection, IsScanSelection}
 use Rattle.jls_marker.specs.HeaderState.{HeaderState, no_headers}
 use Rattle.jls_marker.specs.Headers.{headers_after, accepted, taking, begun, scan_judged, scan_in, begin_tests}
@@ -26,8 +24,9 @@ use Rattle.jls_marker.specs.Written as written
 use Rattle.jls_marker.specs.declared.segment.Segment.{Segment}
 use Rattle.jls_marker.specs.declared.segment.Segment.TheVariants as segment
 use Rattle.jls_marker.proofs.FirstFailing.{none_fails}
-use Rattle.jls_marker.proofs.ParamRanges.{params_there}
+use Rattle.jls_marker.proofs.ParamRanges.{params_there, no_param_fault}
 use Rattle.jls_marker.proofs.SegmentLaws.{written_reads_back}
+use Rattle.jls_marker.proofs.Indices.{index_again}
 use Rattle.jls_write.specs.Picture.{WholePicture}
 use Rattle.jls_write.specs.Options.{WriteOptions, components_of_scan, rows_of_interval}
 use Rattle.jls_write.specs.WrittenFile.{are_values_of, are_defaults, restart_segments, components_of_scans, scan_of, scan_segment}
@@ -41,36 +40,17 @@ use Rattle.jls_file_laws.proofs.WrittenUnits.{Steps, ScanSteps, AreTaken}
 abbrev ids_at : List ℕ → List ℕ → List ℕ
 ids_at ids components = map (λ c. get_or ids c 0) components
 
-none_at : (x : ℕ) (xs : List ℕ) (i : ℕ) → list_any (λ other. other == x) xs ≡ false → i < length xs → (x == get_or xs i 0) ≡ false
-none_at x xs i h l =
-    elim (cases_eq (get_or xs i 0) x) [
-      | inl e ↦
-          (let t : (get_or xs i 0 == x) ≡ true = grind (arith, nat_tests, e) in
-          absurd (true_false (list_any (λ other. other == x) xs) (list_any_at (λ other. other == x) xs i 0 l t) h))
-      | inr ne ↦ ne_eqb x (get_or xs i 0) (λ e. ne (sym e))
-    ]
-
-index_back : (ids : List ℕ) (c : ℕ) → has_repeat ids ≡ false → c < length ids → index_of ids (get_or ids c 0) ≡ c
-unfolding index_of
-index_back [] c h l = absurd (omega (arith, l))
-index_back (x ∷ xs) zero h l = let t : (x == x) ≡ true = grind (arith, nat_tests) in rw t refl
-index_back (x ∷ xs) (suc c) h l =
-    let parts = or_parts _ _ h in
-    let f = none_at x xs c parts.0 (omega (arith, l)) in
-    let next : 1 + c ≡ suc c = omega arith in
-    rw f (ap (λ n. 1 + n) (index_back xs c parts.1 (omega (arith, l))) ∙ next)
-
 module _ (ids : List ℕ) (differ : has_repeat ids ≡ false) where
   components_back : (cs : List ℕ) → AllByRecursion (λ c. c < length ids) cs → map (index_of ids) (ids_at ids cs) ≡ cs
   components_back [] h = refl
   components_back (c ∷ cs) h =
-      ap (λ t. t ∷ map (index_of ids) (ids_at ids cs)) (index_back ids c differ h.0) ∙ ap (λ t. c ∷ t) (components_back cs h.1)
+      ap (λ t. t ∷ map (index_of ids) (ids_at ids cs)) (index_again ids c differ h.0) ∙ ap (λ t. c ∷ t) (components_back cs h.1)
 
   known : (cs : List ℕ) → AllByRecursion (λ c. c < length ids) cs
       → list_all (λ id. nat_lt (index_of ids id) (length ids)) (ids_at ids cs) ≡ true
   known [] h = refl
   known (c ∷ cs) h =
-      let here : nat_lt (index_of ids (get_or ids c 0)) (length ids) ≡ true = ap (λ n. nat_lt n (length ids)) (index_back ids c differ h.0)
+      let here : nat_lt (index_of ids (get_or ids c 0)) (length ids) ≡ true = ap (λ n. nat_lt n (length ids)) (index_again ids c differ h.0)
       ∙ lt-ltb c (length ids) h.0 in
       rw here (known cs h.1)
 
@@ -148,18 +128,6 @@ params_eq p q a b c d e f =
     let x : p ≡ record { precision = q.precision; maxval = q.maxval; t1 = q.t1; t2 = q.t2; t3 = q.t3; reset = q.reset } =
     rw (sym a, sym b, sym c, sym d, sym e, sym f) refl in x
 
-in_range : (p : CodingParameters) → AreCodingParameters p → param_fault p ≡ None
-in_range p i =
-    let a : (nat_lt p.precision 2 || nat_lt 16 p.precision) ≡ false = grind (arith, nat_tests, i.precision_at_least, i.precision_at_most) in
-    let b : (nat_lt p.maxval 1 || nat_lt (2 ^ p.precision - 1) p.maxval) ≡ false =
-    grind (arith, nat_tests, i.maxval_at_least, i.maxval_below) in
-    let c : (nat_lt p.t1 1 || nat_lt p.maxval p.t1) ≡ false =
-    grind (arith, nat_tests, i.t1_at_least, i.t2_at_least, i.t3_at_least, i.t3_at_most) in
-    let d : (nat_lt p.t2 p.t1 || nat_lt p.maxval p.t2) ≡ false = grind (arith, nat_tests, i.t2_at_least, i.t3_at_least, i.t3_at_most) in
-    let e : (nat_lt p.t3 p.t2 || nat_lt p.maxval p.t3) ≡ false = grind (arith, nat_tests, i.t3_at_least, i.t3_at_most) in
-    let f : (nat_lt p.reset 3 || nat_lt (max 255 p.maxval) p.reset) ≡ false = grind (arith, nat_tests, i.reset_at_least, i.reset_at_most) in
-    rw (a, b, c, d, e, f) refl
-
 kept : (x d : ℕ) → 1 ≤ x → or_default x d ≡ x
 kept x d h = let t : (x == 0) ≡ false = grind (arith, nat_tests, h) in rw t refl
 
@@ -174,7 +142,7 @@ given p precision i e =
     (kept p.t3 _ (omega (arith, i.t1_at_least, i.t2_at_least, i.t3_at_least))) (kept p.reset _ (omega (arith, i.reset_at_least)))
 
 asked : (p q : CodingParameters) → AreCodingParameters q → p ≡ q → params_in_range p (param_fault p) ≡ Ok q
-asked p q i e = ap (λ (r : CodingParameters). params_in_range r (param_fault r)) e ∙ ap (params_in_range q) (in_range q i)
+asked p q i e = ap (λ (r : CodingParameters). params_in_range r (param_fault r)) e ∙ ap (params_in_range q) (no_param_fault q i)
 
 -- parameters of one precision with the same values are the same
 same_values : (d p : CodingParameters) → are_values_of d p ≡ true → d.precision ≡ p.precision → d ≡ p

@@ -7,6 +7,7 @@ use Rattle.std.proofs.Math.Nat.{mod-lt}
 use Rattle.std.proofs.lemmas.List.{length-map}
 use Rattle.jls_values.specs.Shape.{PictureShape, IsShape}
 use Rattle.jls_values.specs.Params.{CodingParameters}
+use Rattle.jls_values.proofs.Lists.{all_append, all_weaker}
 use Rattle.jls_bits.proofs.Padding.{pad_is_pad}
 use Rattle.jls_bits.proofs.Appending.{bytes_append}
 use Rattle.jls_interval.specs.Code.{code}
@@ -22,7 +23,7 @@ use Rattle.jls_write.specs.WrittenFile.{bytes_of, are_defaults, preset_segments,
 use Rattle.jls_write.specs.WrittenFile.{components_of_scans, scan_of, scan_segment, interval_lines, interval_code, restart_marker}
 use Rattle.jls_write.specs.WrittenFile.{before_interval, marked_interval, scan_bytes, scans_bytes, written_file}
 use Rattle.jls_file_laws.specs.FileLaw.{IsWritable}
-use Rattle.jls_file_laws.proofs.Covering.{IsScanOf, scans_of, all_append}
+use Rattle.jls_file_laws.proofs.Covering.{IsScanOf, scans_of}
 
 -- ---- lists of bytes
 
@@ -35,11 +36,6 @@ each_joined f (x ∷ xs) h = bytes_append (f x) (flat_map f xs) h.0 (each_joined
 all_of : {X : Type 0} (P : X → Type 0) (xs : List X) → ((x : X) → P x) → AllByRecursion P xs
 all_of P [] h = tt
 all_of P (x ∷ xs) h = (h x, all_of P xs h)
-
--- what follows from a property that each element has holds of each
-all_weaker : {X : Type 0} (P Q : X → Type 0) (xs : List X) → ((x : X) → P x → Q x) → AllByRecursion P xs → AllByRecursion Q xs
-all_weaker P Q [] f h = tt
-all_weaker P Q (x ∷ xs) f h = (f x h.0, all_weaker P Q xs f h.1)
 
 -- what is left of bytes is bytes
 left_over : (n : ℕ) (xs : List ℕ) → AreBytes xs → AreBytes (drop n xs)

@@ -1,13 +1,13 @@
 -- An interval's bytes: they are a piece of scan data, and read as the interval's lines and as nothing else.
 use Rattle.std.proofs.Common.{◌≡◌, ℕ, zero, suc, ◌+◌, ◌-◌, ◌*◌, ◌<◌, ◌≤◌, false, List, [], ◌∷◌, ◌++◌, length, ap, arith, inl}
-use Rattle.std.proofs.Common.{inr, length-append}
+use Rattle.std.proofs.Common.{inr}
 use Rattle.std.specs.Prelude.{◌==◌, true}
 use Rattle.std.proofs.lemmas.Bool.{cases_eq}
 use Rattle.std.proofs.lemmas.Bool.Decides.{nat_tests}
 use Rattle.std.specs.List.{AllByRecursion, flat_map, range_with_len}
-use Rattle.std.proofs.lemmas.List.{length-map}
 use Rattle.std.proofs.lemmas.List.Elements.{recursion_from_All}
 use Rattle.jls_values.specs.Params.{CodingParameters}
+use Rattle.jls_values.proofs.Lists.{all_append}
 use Rattle.jls_bits.specs.Bits.{BelowMarkers}
 use Rattle.jls_bits.specs.Pad.{IsPad}
 use Rattle.jls_bits.proofs.Markers.{below_markers}
@@ -25,8 +25,8 @@ use Rattle.jls_copy.specs.declared.piece.PieceKind.TheVariants as kind
 use Rattle.jls_write.specs.Picture.{WholePicture, line_of}
 use Rattle.jls_write.specs.Options.{WriteOptions}
 use Rattle.jls_write.specs.WrittenFile.{row_lines, interval_lines, interval_code, scan_of}
+use Rattle.jls_write.proofs.IntervalLines.{rows_length}
 use Rattle.jls_file_laws.specs.FileLaw.{IsWritable}
-use Rattle.jls_file_laws.proofs.Covering.{all_append}
 
 -- ---- packed bytes are a piece
 
@@ -67,15 +67,6 @@ module _ (pic : WholePicture) (o : WriteOptions) (can : IsWritable pic o) where
       (row_is cs row h (omega (arith, k)))
       (rows_are cs (row + 1) n h (omega (arith, k)))
 
-how_many : (pic : WholePicture) (cs : List ℕ) (row n : ℕ) → length (flat_map (row_lines pic cs) (range_with_len row n)) ≡ n * length cs
-how_many pic cs row zero = omega arith
-how_many pic cs row (suc n) =
-    let e = length-append (row_lines pic cs row) (flat_map (row_lines pic cs) (range_with_len (row + 1) n)) in
-    let l = length-map cs (λ c. line_of pic c row) in
-    let r = how_many pic cs (row + 1) n in
-    let m : suc n * length cs ≡ n * length cs + length cs = omega arith in
-    rw m (omega (arith, e, l, r))
-
 rows_within : (s : Scan) (k : ℕ) → row_count s k ≤ s.height - first_row s k
 rows_within s k =
     elim (cases_eq s.restart_interval 0) [
@@ -92,7 +83,7 @@ module _ (pic : WholePicture) (o : WriteOptions) (can : IsWritable pic o) (compo
 
   intervals_fit : AreLines o.params pic.shape.width (row_count plan k * length components) (interval_lines pic plan k)
   intervals_fit = record {
-    count_is = how_many pic components (first_row plan k) (row_count plan k);
+    count_is = rows_length pic components (first_row plan k) (row_count plan k);
     each = rows_are pic o can components (first_row plan k) (row_count plan k) inside (rows_within plan k);
   }
 

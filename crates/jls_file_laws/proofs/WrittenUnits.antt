@@ -1,17 +1,19 @@
 -- The course of a written file, where its segments are taken.
-use Rattle.std.proofs.Common.{◌≡◌, ℕ, zero, suc, ◌+◌, ◌-◌, ◌/◌, ◌%◌, ◌^◌, ◌<◌, ◌≤◌, true, false, List, [], ◌∷◌, ◌++◌, map, length, Some}
-use Rattle.std.proofs.Common.{None, Ok, refl, sym, ◌∙◌, ap, subst, append_assoc, get_or, arith}
+use Rattle.std.proofs.Common.{◌≡◌, ℕ, suc, ◌+◌, ◌-◌, ◌/◌, ◌%◌, ◌^◌, ◌<◌, ◌≤◌, true, false, List, [], ◌∷◌, ◌++◌, map, length, Some}
+use Rattle.std.proofs.Common.{None, Ok, refl, sym, ◌∙◌, ap, subst, append_assoc, arith}
 use Rattle.std.specs.Prelude.{is_some}
 use Rattle.std.specs.Int.{w16, to_be_bytes}
 use Rattle.std.proofs.lemmas.Nat.{be_bytes_2}
 use Rattle.std.proofs.lemmas.List.{append-nil}
 use Rattle.std.proofs.lemmas.Grind.{flat_map-append}
 use Rattle.std.specs.List.{flat_map, AllByRecursion, range_with_len}
+use Rattle.jls_values.proofs.Lists.{all_append}
 use Rattle.jls_marker.specs.HeaderState.{HeaderState, no_headers}
 use Rattle.jls_marker.specs.Headers.{headers_after}
 use Rattle.jls_marker.specs.Scan.{Scan, intervals}
 use Rattle.jls_marker.specs.Written.{code_of, payload_of}
 use Rattle.jls_marker.specs.declared.segment.Segment.{Segment}
+use Rattle.jls_marker.proofs.Layouts.{two_fit}
 use Rattle.jls_marker.proofs.Intervals as marker
 use Rattle.jls_copy.specs.ScanData.{closed_bytes}
 use Rattle.jls_copy.specs.Numbers.{Interval}
@@ -27,16 +29,11 @@ use Rattle.jls_write.specs.WrittenFile.{bytes_of, header_segments, components_of
 use Rattle.jls_write.specs.WrittenFile.{marked_interval, scan_bytes, written_file}
 use Rattle.jls_file_laws.specs.Covering.{interval_readings, scan_readings, written_readings}
 use Rattle.jls_file_laws.specs.FileLaw.{IsWritable, ReadsBack}
-use Rattle.jls_file_laws.proofs.Covering.{IsScanOf, scans_of, all_append}
+use Rattle.jls_file_laws.proofs.Covering.{IsScanOf, scans_of}
 use Rattle.jls_file_laws.proofs.WrittenScans.{closed_from, last_from, bytes_are, each_closed, last_piece, GivesLines, lines_of, all_give}
 use Rattle.jls_file_laws.proofs.WrittenScans.{some_outcomes, pieces_give, pieces_lines}
 
 -- ---- segments
-
-two_fit : (a b : ℕ) → a < 256 → b < 256 → (i : ℕ) → get_or (a ∷ b ∷ []) i 0 < 256
-two_fit a b p q zero = p
-two_fit a b p q (suc zero) = q
-two_fit a b p q (suc (suc i)) = omega arith
 
 two_bytes : (n : ℕ) → n < 2 ^ 16 → to_be_bytes w16 n ≡ n / 256 ∷ n % 256 ∷ []
 two_bytes n h = be_bytes_2 (n / 256 ∷ n % 256 ∷ []) n refl (two_fit (n / 256) (n % 256) (omega (arith, h)) (omega arith)) (omega arith)

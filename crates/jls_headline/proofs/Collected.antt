@@ -17,6 +17,7 @@ use Rattle.jls_partial.specs.PartialLaws.{one_shape}
 use Rattle.jls_partial.specs.Text.{IsTextOf}
 use Rattle.jls_partial.proofs.TextLaws.{one_text}
 use Rattle.jls_partial.proofs.Unions.{either}
+use Rattle.jls_partial.proofs.HeldItems.{item_of_any}
 use Rattle.jls_copy.specs.CopyReads.{CopyReads}
 use Rattle.jls_copy.specs.ReadCopy.{ReadCopy}
 use Rattle.jls_io.specs.Event.{Event, bytes_given}
@@ -37,7 +38,6 @@ use Rattle.jls_headline.specs.Collected.{HoldsEntry, Collected, new_station, rea
 use Rattle.jls_headline.specs.Collected.{copy_taken, copy_refused, copy_ran_out, partial_taken, partial_ran_out, text_taken, text_ran_out}
 use Rattle.jls_headline.specs.Collected.{text_cut_short}
 use Rattle.jls_headline.specs.CollectedLaws.{CollectedHoldsExactly, CollectedHoldsExactlyUnder}
-use Rattle.jls_headline.proofs.Held.{item_of_any}
 use Rattle.jls_headline.proofs.SameCopies.{among_gives}
 use Rattle.jls_headline.proofs.Stations.{is_read, union_read}
 use Rattle.jls_headline.proofs.SourcedStations.{Mark, GivesMark, is_marked, union_marked, copy_holds_under, among_mark, among_aside}

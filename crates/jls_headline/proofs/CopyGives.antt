@@ -1,41 +1,31 @@
 -- What is read of a copy is what the copy gives.
-use Rattle.std.proofs.Common.{◌≡◌, ℕ, ◌<◌, ◌≤◌, Bool, true, false, List, [], ◌∷◌, ◌++◌, length, Option, Some, refl, sym, ap, ◌∙◌, subst}
+use Rattle.std.proofs.Common.{◌≡◌, ℕ, ◌<◌, ◌≤◌, true, List, [], ◌∷◌, ◌++◌, length, Option, Some, sym, ap, ◌∙◌, subst}
 use Rattle.std.proofs.Common.{arith, inl, inr}
-use Rattle.std.specs.Prelude.{◌↔◌, if◌then◌else◌}
+use Rattle.std.specs.Prelude.{◌↔◌}
 use Rattle.std.specs.List.{AllByRecursion, Contains}
 use Rattle.std.proofs.lemmas.List.Elements.{Contains-append_left, Contains-append_right, Contains-append_cases}
 use Rattle.jls_values.specs.OrderedSet as set
 use Rattle.jls_values.specs.Shape.{PictureShape}
 use Rattle.jls_partial.specs.Reading.{Reading}
 use Rattle.jls_partial.specs.Partial.{PartialPicture}
-use Rattle.jls_marker.specs.Scan.{Scan}
-use Rattle.jls_copy.specs.Numbers.{PieceNumber, Interval, BeyondLast}
-use Rattle.jls_copy.specs.Course.{Course}
-use Rattle.jls_copy.specs.CutPieces.{closed_by_input, last_piece, cut_pieces, IsHeadOfCut, head_readings}
+use Rattle.jls_copy.specs.CutPieces.{cut_pieces, IsHeadOfCut, head_readings}
 use Rattle.jls_copy.specs.CopyReads.{CopyReads}
 use Rattle.jls_copy.specs.ReadCopy.{ReadCopy}
-use Rattle.jls_copy.specs.Pieces.{FoundPiece, PieceOutcome, Lines, Fault, IsOutcome, outcome_readings, readings_of, AreOutcomes, readings}
+use Rattle.jls_copy.specs.Pieces.{FoundPiece, PieceOutcome, Lines, IsOutcome, readings_of, AreOutcomes, readings}
 use Rattle.jls_copy.specs.Pieces.{pieces}
 use Rattle.jls_copy.proofs.ScansOfCourse.{HasScan, course_has}
 use Rattle.jls_copy.proofs.BytesDecide.{one_outcome, one_head_of_cut, cut_has}
+use Rattle.jls_copy.proofs.CutPieces.{cut_short, lines_give}
 use Rattle.jls_copy_laws.specs.CourseGives.{FoundPieceGives, FoundHeadGives, CourseGives}
 use Rattle.jls_copy_laws.specs.Gives.{GivesReading}
 use Rattle.jls_copy_laws.proofs.CopyScans.{course_has_scans}
 use Rattle.jls_copy_laws.proofs.Gives.{readings_are_of_the_course}
 use Rattle.jls_headline.specs.Stations.{HasShape}
 use Rattle.jls_copy_laws.proofs.Members.{is_first, in_rest, none_in, first_or_rest}
-use Rattle.jls_copy_laws.proofs.CutOff.{last_short}
 use Rattle.jls_headline.proofs.Held.{made_holds}
 
 abbrev some_shape : PictureShape → Option PictureShape
 some_shape shape = Some shape
-
--- a piece that gives no lines gives no reading
-faults_give_none : (s : Scan) (n : PieceNumber) (r : Reading) (k : PieceOutcome) → Contains (outcome_readings s n k) r
-    → (lines : List (List ℕ)) × (k ≡ Lines lines)
-faults_give_none s n r (Lines lines) c = (lines, refl)
-faults_give_none s (Interval k) r (Fault f) c = absurd (none_in r c)
-faults_give_none s (BeyondLast k) r (Fault f) c = absurd (none_in r c)
 
 -- the readings of pieces that have these outcomes are what the pieces give
 pub listed : (ps : List FoundPiece) (os : List PieceOutcome) (r : Reading) → AreOutcomes ps os → Contains (readings ps os) r
@@ -45,7 +35,7 @@ listed (p ∷ ps) [] r are c = absurd are
 listed (p ∷ ps) (o ∷ os) r are c =
     elim (Contains-append_cases (readings_of p o) (readings ps os) r c) [
       | inl here ↦ (
-          let f = faults_give_none p.plan p.number r o here in (
+          let f = lines_give p.plan p.number r o here in (
             p,
             is_first p ps,
             record { lines = f.0; reads = subst (IsOutcome p) f.1 are.0; among = subst (λ x. Contains (readings_of p x) r) f.1 here },
@@ -87,13 +77,6 @@ head_given (q ∷ []) head p r short ok is c g =
       | inr later ↦ absurd (none_in p later)
     ]
 head_given (q ∷ x ∷ ps) head p r short ok is c g = absurd (omega (arith, short))
-
-cut_short : (c : Course) → length (cut_pieces c) ≤ 1
-cut_short c = by (closed_by_input c.units)
-  where
-    by : (b : Bool) → length (if b then last_piece (pieces c) else []) ≤ 1
-    by true = last_short (pieces c)
-    by false = omega arith
 
 -- the frame of what was read is that of the course
 frame_is : (copy : List ℕ) (read : ReadCopy) (reads : CopyReads copy read) → reads.course.headers.frame ≡ Some read.partial.shape

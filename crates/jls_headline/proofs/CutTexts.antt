@@ -29,10 +29,10 @@ use Rattle.jls_partial.specs.TextReading.{reading_fields, is_source_above, sourc
 use Rattle.jls_partial.specs.TextReading.{readings_fields, place_fields, count_field, entry_fields}
 use Rattle.jls_partial.proofs.TextMerges.{text_between}
 use Rattle.jls_partial.proofs.Unions.{either}
+use Rattle.jls_partial.proofs.HeldItems.{any_of_item}
 use Rattle.jls_copy_laws.proofs.Members.{in_rest, none_in, first_or_rest, in_map, of_map, all_from}
 use Rattle.jls_headline.specs.Collected.{HoldsEntry}
 use Rattle.jls_headline.specs.CollectedLaws.{CutTextsAreHeld}
-use Rattle.jls_headline.proofs.Held.{any_of_item}
 use Rattle.jls_headline.proofs.Stations.{is_read}
 use Rattle.jls_headline.proofs.SourcedStations.{Mark, is_marked}
 

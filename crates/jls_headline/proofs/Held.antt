@@ -2,12 +2,12 @@
 use Rattle.std.proofs.Common.{◌≡◌, ℕ, Bool, true, false, ◌&&◌, ◌||◌, List, [], ◌∷◌, map, refl, sym, ap, ◌∙◌, subst, arith, inl, inr}
 use Rattle.std.specs.Prelude.{filter, ◌==◌, ◌↔◌}
 use Rattle.std.specs.declared.cmp.Ordering.{Ordering}
-use Rattle.std.specs.declared.cmp.Ordering.TheVariants.{Less, Equal, Greater}
-use Rattle.std.specs.Ordering.{is_eq, eq_by_cmp}
+use Rattle.std.specs.declared.cmp.Ordering.TheVariants.{Less, Equal}
+use Rattle.std.specs.Ordering.{eq_by_cmp}
 use Rattle.std.specs.Cmp.{IsTotalOrder}
 use Rattle.std.specs.List.{list_any, AllByRecursion, Contains}
 use Rattle.std.specs.List.Sorted.{IsStrictlySortedBy}
-use Rattle.std.proofs.lemmas.Bool.{and_parts, eqb-true, eq-eqb, cases_Bool, or_left, or_right}
+use Rattle.std.proofs.lemmas.Bool.{and_parts, eqb-true, cases_Bool}
 use Rattle.std.proofs.lemmas.Cmp.{tied_itself}
 use Rattle.std.proofs.lemmas.Map.Lookups.{CmpEqualImpliesEq}
 use Rattle.jls_values.specs.OrderedSet as set
@@ -16,51 +16,22 @@ use Rattle.jls_partial.specs.Partial.{PartialPicture, readings_at}
 use Rattle.jls_partial.specs.Reading.{Reading, reading_cmp, reading_of}
 use Rattle.jls_partial.specs.ReadingOrder.{reading_total, reading_exact}
 use Rattle.jls_partial.proofs.BareEntries.{items_rise}
-use Rattle.jls_partial.proofs.Unions.{either}
+use Rattle.jls_partial.proofs.HeldItems.{any_of_item, item_of_any, any_of_member, member_of_any}
+use Rattle.jls_partial.specs.PartialLaws.{eqb_itself}
 use Rattle.jls_copy_laws.proofs.Members.{is_first, in_rest, none_in, first_or_rest, in_map}
 
--- the test of a list tells its members
 module _ {K : Type 0} {R : K → K → Ordering} (total : IsTotalOrder R) (exact : CmpEqualImpliesEq R) where
-  one_item : (x y : K) → eq_by_cmp R x y ≡ true → x ≡ y
-  one_item x y e = exact x y (equal (R x y) e)
-    where
-      equal : (o : Ordering) → is_eq o ≡ true → o ≡ Equal
-      equal Less e = absurd cc
-      equal Equal e = refl
-      equal Greater e = absurd cc
-
-  pub any_of_item : (ks : List K) (k : K) → Contains ks k → list_any (eq_by_cmp R k) ks ≡ true
-  any_of_item [] k c = absurd (none_in k c)
-  any_of_item (q ∷ qs) k c =
-      elim (first_or_rest k q qs c) [
-        | inl e ↦ or_left (eq_by_cmp R k q) _ (subst (λ x. eq_by_cmp R k x ≡ true) (sym e) (ap is_eq (tied_itself total k)))
-        | inr later ↦ or_right (eq_by_cmp R k q) _ (any_of_item qs k later)
-      ]
-
-  pub item_of_any : (ks : List K) (k : K) → list_any (eq_by_cmp R k) ks ≡ true → Contains ks k
-  item_of_any [] k e = absurd cc
-  item_of_any (q ∷ qs) k e =
-      either (Contains (q ∷ qs) k) (eq_by_cmp R k q) (list_any (eq_by_cmp R k) qs)
-      (λ here. subst (λ x. Contains (q ∷ qs) x) (sym (one_item k q here)) (is_first q qs))
-      (λ later. in_rest k q qs (item_of_any qs k later)) e
-
   -- a set made of a list holds the members of the list
   pub set_of_list_holds : (ks : List K) (k : K) → (set.contains (set.insert_all {R = R} set.empty ks) k ≡ true) ↔ Contains ks k
   set_of_list_holds ks k =
       let reported : set.contains (set.insert_all {R = R} set.empty ks) k ≡ list_any (eq_by_cmp R k) ks =
       contains-insert_all total set.empty ks k ∙ ap (λ b. b || list_any (eq_by_cmp R k) ks) (contains-empty R k) in
-      (λ h. item_of_any ks k (sym reported ∙ h), λ c. reported ∙ any_of_item ks k c)
+      (λ h. item_of_any total exact ks k (sym reported ∙ h), λ c. reported ∙ any_of_item total exact ks k c)
 
   -- what a set holds are its items
   pub set_holds_items : (s : set.OrderedSet R) (k : K) → (set.contains s k ≡ true) ↔ Contains (set.items s) k
   set_holds_items s k =
-      (λ h. item_of_any (set.items s) k (sym (contains-items s k) ∙ h), λ c. contains-items s k ∙ any_of_item (set.items s) k c)
-
-pub any_of_member : (rs : List Reading) (r : Reading) → Contains rs r → list_any (eq_by_cmp reading_cmp r) rs ≡ true
-any_of_member = any_of_item reading_total reading_exact
-
-member_of_any : (rs : List Reading) (r : Reading) → list_any (eq_by_cmp reading_cmp r) rs ≡ true → Contains rs r
-member_of_any = item_of_any reading_total reading_exact
+      (λ h. item_of_any total exact (set.items s) k (sym (contains-items s k) ∙ h), λ c. contains-items s k ∙ any_of_item total exact (set.items s) k c)
 
 pub made_holds : (rs : List Reading) (r : Reading) → (set.contains (set.insert_all {R = reading_cmp} set.empty rs) r ≡ true) ↔ Contains rs r
 made_holds = set_of_list_holds reading_total reading_exact
@@ -76,9 +47,6 @@ is_there component line r = r.component == component && r.line == line
 pub there_is : (component line : ℕ) (r : Reading) → is_there component line r ≡ true → (r.component ≡ component) × (r.line ≡ line)
 there_is component line r e =
     let p = and_parts (r.component == component) (r.line == line) e in (eqb-true r.component component p.0, eqb-true r.line line p.1)
-
-eqb_itself : (n : ℕ) → (n == n) ≡ true
-eqb_itself n = eq-eqb n n refl
 
 is_itself : (component line : ℕ) (samples : List ℕ) → is_there component line (reading_of component line samples) ≡ true
 is_itself component line samples = rw (eqb_itself component, eqb_itself line) refl

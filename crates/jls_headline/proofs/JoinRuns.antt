@@ -22,7 +22,7 @@ use Rattle.jls_headline.specs.RunLaws.{AreNoTexts, InputsStandFor, InputsStandUn
 use Rattle.jls_headline.specs.RunLaws.{RunsSayTheSame, RunsWithTextsSayTheSame, RunsGiveThePicture, RunsWithTextsGiveThePicture}
 use Rattle.jls_headline.specs.RunLaws.{RunsHoldExactlyUnder, RunsUnderSourcesHandOutTheSame}
 use Rattle.jls_partial.specs.Reading.{Reading}
-use Rattle.jls_copy_laws.proofs.Members.{is_first, all_at, all_map, in_map, of_map}
+use Rattle.jls_copy_laws.proofs.Members.{is_first, all_at, all_weaker, in_map, of_map}
 use Rattle.jls_headline.proofs.SameCopies.{same_copy_has_shape}
 use Rattle.jls_headline.proofs.Stations.{same_readings}
 use Rattle.jls_headline.proofs.SourcedStations.{same_under}
@@ -94,7 +94,7 @@ runs_with_texts_give_the_picture source out names joined settled whole events h 
 pub runs_give_the_picture : RunsGiveThePicture
 runs_give_the_picture source out names joined settled whole events h pic is damaged each =
     let none : AreNoTexts (input_bytes events) =
-    all_map (Damaged pic) (λ bytes. is_text bytes ≡ false) (input_bytes events)
+    all_weaker (Damaged pic) (λ bytes. is_text bytes ≡ false) (input_bytes events)
     (λ bytes d. scans_are_no_text bytes pic.shape d.0 d.1) damaged in
     exactly_gives_the_picture pic is joined (input_bytes events)
     (runs_hold_exactly source out names joined settled whole events h none) damaged each

@@ -37,7 +37,7 @@ use Rattle.jls_headline.specs.Sources.{copies_of}
 use Rattle.jls_headline.specs.JoinThenWrite.{JoinsDamagedCopies, JoinsForDamagedCopies, WritesWhatWasJoined, WrittenJoinsAreThePicture}
 use Rattle.jls_headline.specs.JoinThenWrite.{WrittenJoinsReadAsThePicture, WrittenJoinsAreSettled, WrittenTextJoinsAreThePicture}
 use Rattle.jls_headline.specs.JoinThenWrite.{WrittenTextJoinsReadAsThePicture, WrittenTextJoinsAreSettled}
-use Rattle.jls_copy_laws.proofs.Members.{all_map}
+use Rattle.jls_copy_laws.proofs.Members.{all_weaker}
 use Rattle.jls_salvage_run.proofs.InputBytes.{ReadsNone, one_input, handed_out, inputs_of_join, output_of_join}
 use Rattle.jls_headline.proofs.JoinRuns.{scans_are_no_text, marks_of_run, runs_hold_exactly, runs_with_texts_hold_exactly}
 use Rattle.jls_headline.proofs.JoinRuns.{runs_give_the_picture, runs_with_texts_give_the_picture}
@@ -131,7 +131,7 @@ text_of_copies pic joining j = (
   where
     none : AreNoTexts (input_bytes joining)
     none =
-        all_map (Damaged pic) (λ bytes. is_text bytes ≡ false) (input_bytes joining)
+        all_weaker (Damaged pic) (λ bytes. is_text bytes ≡ false) (input_bytes joining)
         (λ bytes d. scans_are_no_text bytes pic.shape d.0 d.1) j.damaged
 
     gives : GivesPicture j.joined pic

@@ -1,8 +1,8 @@
 -- What damaged copies of a picture are joined to has a text, and so an input that gives that text gives what was joined.
-use Rattle.std.proofs.Common.{◌≡◌, ℕ, zero, suc, ◌<◌, ◌≤◌, ◌^◌, Bool, true, false, List, [], ◌∷◌, length, map, Result, Ok, Err, None, refl}
+use Rattle.std.proofs.Common.{◌≡◌, ℕ, zero, suc, ◌<◌, ◌≤◌, ◌^◌, Bool, true, List, [], ◌∷◌, length, map, Result, Ok, Err, None, refl}
 use Rattle.std.proofs.Common.{sym, ap, ◌∙◌, subst, arith, ◌⊎◌, inl, inr}
-use Rattle.std.specs.Prelude.{filter, get_or, nat_le, ◌==◌, ◌&&◌}
-use Rattle.std.specs.List.{list_any, AllByRecursion, Contains}
+use Rattle.std.specs.Prelude.{filter, get_or, ◌==◌, ◌&&◌}
+use Rattle.std.specs.List.{AllByRecursion, Contains}
 use Rattle.std.proofs.lemmas.Bool.{cases_Bool, and_parts, eqb-true}
 use Rattle.std.proofs.lemmas.Bool.Decides.{nat_tests}
 use Rattle.jls_values.specs.OrderedSet as set
@@ -15,6 +15,8 @@ use Rattle.jls_partial.specs.Text.{text, IsPartial, IsTextOf}
 use Rattle.jls_partial.specs.TextReading.{byte_field, version_field}
 use Rattle.jls_partial.proofs.TextEntries.{fits_there}
 use Rattle.jls_partial.proofs.TextLaws.{one_text}
+use Rattle.jls_partial.proofs.HeldItems.{any_of_member}
+use Rattle.jls_partial.proofs.Statuses.{one_reading}
 use Rattle.jls_write.specs.Picture.{WholePicture, line_of}
 use Rattle.jls_file_laws.specs.Covering.{IsLineOf}
 use Rattle.jls_station.specs.Texts.{is_text}
@@ -22,22 +24,15 @@ use Rattle.jls_station.specs.Given.{Given, Gives, by_text, by_copy}
 use Rattle.jls_headline.specs.Damaged.{Damaged}
 use Rattle.jls_headline.specs.Stations.{HoldsExactly}
 use Rattle.jls_write.specs.WholePictures.{IsLineIn, IsPicture}
-use Rattle.jls_write.proofs.Lending.{one_reading}
 use Rattle.jls_headline.specs.ReadsAs.{GivesPicture}
 use Rattle.jls_copy_laws.proofs.Members.{is_first, in_rest, all_at}
-use Rattle.jls_headline.proofs.Held.{any_of_member}
 use Rattle.jls_headline.proofs.LostIntervals.{damaged_copies_give_no_other}
 use Rattle.jls_headline.proofs.Pictures.{heights}
 use Rattle.jls_headline.proofs.WrittenFiles.{component_at}
 use Rattle.jls_headline.proofs.Collected.{no_text}
+use Rattle.jls_copy.proofs.Fitting.{none_large}
 
 -- Lines of a picture fit its shape -------------------------------------------------------------------------------
-
-none_large : (bound : ℕ) (samples : List ℕ) → AllByRecursion (λ sample. sample < bound) samples
-    → list_any (λ x. nat_le bound x) samples ≡ false
-none_large bound [] each = refl
-none_large bound (x ∷ samples) each =
-    let here : nat_le bound x ≡ false = grind (arith, nat_tests, each.0) in rw here (none_large bound samples each.1)
 
 line_fits : (s : PictureShape) (samples : List ℕ) → IsLineIn s samples → samples_fault s.precision s.width samples ≡ None
 line_fits s samples is =

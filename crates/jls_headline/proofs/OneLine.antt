@@ -8,8 +8,8 @@ use Rattle.jls_values.specs.Shape.{PictureShape}
 use Rattle.jls_partial.specs.Partial.{PartialPicture, readings_at}
 use Rattle.jls_partial.specs.Reading.{Reading, reading_of}
 use Rattle.jls_partial.specs.ReadingOrder.{reading_total, reading_exact}
+use Rattle.jls_partial.proofs.Statuses.{settled_by}
 use Rattle.jls_write.specs.Picture.{WholePicture, line_of}
-use Rattle.jls_write.proofs.Lending.{settled_by}
 use Rattle.jls_report.specs.Lines.{is_settled_line}
 use Rattle.jls_report.specs.Report.{PictureReport, report_entries}
 use Rattle.jls_report.specs.Ranges.{speaks_of}

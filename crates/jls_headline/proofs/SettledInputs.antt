@@ -12,6 +12,7 @@ use Rattle.jls_partial.specs.Partial.{PartialPicture, has_same_shape, union, rea
 use Rattle.jls_partial.specs.PartialLaws.{one_shape}
 use Rattle.jls_partial.specs.Status.{IsSettled}
 use Rattle.jls_partial.proofs.TextLaws.{one_text}
+use Rattle.jls_partial.proofs.Parts.{shape_of_join}
 use Rattle.jls_write.specs.Picture.{WholePicture, line_of}
 use Rattle.jls_write.specs.WholePictures.{IsPicture}
 use Rattle.jls_station.specs.Given.{Given, Gives, by_text, by_copy, GivesPartial}
@@ -24,7 +25,6 @@ use Rattle.jls_headline.specs.NoOtherLaws.{InputHasLine, SomeInputHasEachLine, S
 use Rattle.jls_headline.specs.Damaged.{picture_reading, Survives}
 use Rattle.jls_headline.specs.ReadsAs.{GivesPicture}
 use Rattle.jls_headline.specs.Stations.{HasShape}
-use Rattle.jls_salvage_run.proofs.InTurn.{shape_of_join}
 use Rattle.jls_headline.proofs.Held.{is_at_line}
 use Rattle.jls_headline.proofs.Collected.{no_text}
 use Rattle.jls_headline.proofs.CollectedRuns.{given_holds, all_of_shape}

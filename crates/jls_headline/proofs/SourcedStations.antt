@@ -1,5 +1,5 @@
 -- A station that took copies under sources holds exactly their readings, each under exactly the sources of the copies that give it.
-use Rattle.std.proofs.Common.{◌≡◌, ℕ, ◌<◌, true, false, Bool, List, [], ◌∷◌, map, Option, Some, None, refl, sym, ap, ◌∙◌, subst}
+use Rattle.std.proofs.Common.{◌≡◌, ℕ, ◌<◌, true, false, Bool, List, [], ◌∷◌, map, Option, Some, None, sym, ap, ◌∙◌, subst}
 use Rattle.std.specs.Prelude.{◌||◌, ◌↔◌}
 use Rattle.std.specs.List.{AllByRecursion, Contains}
 use Rattle.std.specs.Cmp.{both_ways}
@@ -12,6 +12,7 @@ use Rattle.jls_partial.specs.Partial.{PartialPicture, union}
 use Rattle.jls_copy.specs.CopyReads.{CopyReads}
 use Rattle.jls_copy.specs.ReadCopy.{ReadCopy}
 use Rattle.jls_station.specs.Given.{marked}
+use Rattle.jls_station.proofs.Marked.{marked_shape, marked_readings}
 use Rattle.jls_copy_laws.specs.Gives.{GivesReading}
 use Rattle.jls_headline.specs.Stations.{IsSameCopy, AreAmong}
 use Rattle.jls_headline.specs.Sources.{SourcedCopy, copies_of, GivesUnder, HoldsExactlyUnder, IsSameUnder}
@@ -23,15 +24,6 @@ use Rattle.jls_headline.proofs.Stations.{copy_holds, same_readings}
 use Rattle.jls_headline.proofs.Unions.{GivenBy, one_exactly}
 
 -- What one copy gives --------------------------------------------------------------------------------------------
-
--- a source changes neither the shape nor the readings
-pub marked_shape : (source : Option ℕ) (p : PartialPicture) → (marked source p).shape ≡ p.shape
-marked_shape None p = refl
-marked_shape (Some source) p = refl
-
-pub marked_readings : (source : Option ℕ) (p : PartialPicture) → (marked source p).readings ≡ p.readings
-marked_readings None p = refl
-marked_readings (Some source) p = refl
 
 -- a reading with one source
 abbrev pub Mark : Type 0

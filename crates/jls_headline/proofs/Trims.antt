@@ -1,8 +1,8 @@
 -- A trimmed piece reads as the picture's lines or as none, and its head is the picture's first lines.
-use Rattle.std.proofs.Common.{◌≡◌, ℕ, zero, suc, ◌*◌, ◌<◌, ◌≤◌, Bool, true, List, [], ◌∷◌, ◌++◌, length, take, refl, sym, ap, subst, ◌∙◌}
+use Rattle.std.proofs.Common.{◌≡◌, ℕ, suc, ◌+◌, ◌*◌, ◌<◌, Bool, true, List, [], ◌∷◌, ◌++◌, length, take, drop, refl, sym, ap, subst, ◌∙◌}
 use Rattle.std.proofs.Common.{append_assoc, length-append, arith, ◌⊎◌, inl, inr}
 use Rattle.std.specs.List.{AllByRecursion}
-use Rattle.std.proofs.lemmas.List.{append-nil}
+use Rattle.std.proofs.lemmas.List.{append-nil, take-append-drop, length-take-le}
 use Rattle.jls_values.specs.Params.{CodingParameters, AreCodingParameters}
 use Rattle.jls_bits.specs.Bits.{bits_read, bits_read_after, is_whole}
 use Rattle.jls_bits.specs.Appending.{last_after}
@@ -20,22 +20,13 @@ use Rattle.jls_marker.specs.Scan.{row_count}
 use Rattle.jls_write.specs.Picture.{WholePicture}
 use Rattle.jls_write.specs.WrittenFile.{interval_lines}
 use Rattle.jls_copy_laws.specs.CopyScans.{ScanPiece, ScanWithData}
-use Rattle.jls_copy_laws.proofs.Members.{all_map}
+use Rattle.jls_copy_laws.proofs.Members.{all_weaker}
 use Rattle.jls_headline.specs.Damaged.{numbered_pieces, HasPictureLines, DamagedScan}
 use Rattle.jls_headline.specs.Trimmed.{Trimmed, whole, prefix, longer, IsTrimmed, TrimmedScan}
 use Rattle.jls_headline.specs.ScanLaws.{IsScanUnder}
 use Rattle.jls_headline.specs.LostIntervalLaws.{TrimmedPiecesAreHarmless, TrimmedPiecesHaveHeads, TrimmedPiecesHavePictureLines}
 use Rattle.jls_headline.specs.LostIntervalLaws.{TrimmedCopiesAreDamaged}
 use Rattle.jls_headline.proofs.ScansInRange.{scans_are_of_the_frame}
-
-nothing_is : (xs : List Bool) (y : Bool) (ys : List Bool) → xs ++ y ∷ ys ≡ [] → ⊥
-nothing_is [] y ys h = cc
-nothing_is (x ∷ xs) y ys h = cc
-
-first_lines : (n : ℕ) (xs : List (List ℕ)) → n ≤ length xs → (ys : List (List ℕ)) × (zs : List (List ℕ)) × (xs ≡ ys ++ zs) × (length ys ≡ n)
-first_lines zero xs h = ([], xs, refl, refl)
-first_lines (suc n) [] h = absurd (omega arith)
-first_lines (suc n) (x ∷ xs) h = let r = first_lines n xs (omega arith) in (x ∷ r.0, r.1, ap (λ z. x ∷ z) r.2, ap suc r.3)
 
 own_prefix : (ys zs : List (List ℕ)) → take (length ys) (ys ++ zs) ≡ ys
 own_prefix [] zs = refl
@@ -67,7 +58,9 @@ module _ (p : CodingParameters) (ok : AreCodingParameters p) (w c n : ℕ) (some
       let more = cut.missing ∷ cut.more_missing in
       let both : code p w c xs ++ (t ++ more) ≡ code p w c cut.lines ++ [] = sym (append_assoc (code p w c xs) t more)
       ∙ ap (λ z. z ++ more) (sym e) ∙ cut.code_is ∙ sym (append-nil (code p w c cut.lines)) in
-      nothing_is t cut.missing cut.more_missing (codes_apart p w c n ok some xs cut.lines (t ++ more) [] are cut.are_lines both).1
+      let none : length (t ++ more) ≡ 0 = ap length (codes_apart p w c n ok some xs cut.lines (t ++ more) [] are cut.are_lines both).1 in
+      let some_more : length (t ++ more) ≡ length t + suc (length cut.more_missing) = length-append t more in
+      absurd (omega (arith, none, some_more))
 
   abbrev Lacks : List Bool → List (List ℕ) → Type 0
   Lacks given xs = (missing : Bool) × (more : List Bool) × (given ++ missing ∷ more ≡ code p w c xs)
@@ -104,15 +97,18 @@ module _ (p : CodingParameters) (ok : AreCodingParameters p) (w c n : ℕ) (some
   first_of_others given a b xs f =
       let l = length-append xs f.others in let l1 = ap length f.lines_are in let l2 = b.are_lines.count_is in
       let l3 = a.are_lines.count_is in
-      let t = first_lines (length xs) a.lines (omega (arith, l, l1, l2, l3)) in
+      let first = take (length xs) a.lines in
+      let back = drop (length xs) a.lines in
+      let parted : a.lines ≡ first ++ back = sym (take-append-drop (length xs) a.lines) in
+      let count : length first ≡ length xs = length-take-le (length xs) a.lines (omega (arith, l, l1, l2, l3)) in
       let more = a.missing ∷ a.more_missing in
-      let parts = code_parts p w c t.0 t.1 in
-      let bits_are : code p w c xs ++ (f.unread ++ more) ≡ code p w c t.0 ++ parts.0 = sym (append_assoc (code p w c xs) f.unread more)
-      ∙ ap (λ v. v ++ more) (sym f.given_is) ∙ a.code_is ∙ ap (code p w c) t.2 ∙ parts.1 in
-      let wide : AreLines p w (length xs) t.0 = subst (λ k. AreLines p w k t.0) t.3 (prefix_lines p w n a.lines t.0 t.1 a.are_lines t.2) in
-      let same = codes_apart p w c (length xs) ok some xs t.0 (f.unread ++ more) parts.0
+      let parts = code_parts p w c first back in
+      let bits_are : code p w c xs ++ (f.unread ++ more) ≡ code p w c first ++ parts.0 = sym (append_assoc (code p w c xs) f.unread more)
+      ∙ ap (λ v. v ++ more) (sym f.given_is) ∙ a.code_is ∙ ap (code p w c) parted ∙ parts.1 in
+      let wide : AreLines p w (length xs) first = subst (λ k. AreLines p w k first) count (prefix_lines p w n a.lines first back a.are_lines parted) in
+      let same = codes_apart p w c (length xs) ok some xs first (f.unread ++ more) parts.0
       (prefix_lines p w n b.lines xs f.others b.are_lines f.lines_are) wide bits_are in
-      record { others = t.1; lines_are = t.2 ∙ ap (λ v. v ++ t.1) (sym same.0); unread = f.unread; given_is = f.given_is }
+      record { others = back; lines_are = parted ∙ ap (λ v. v ++ back) (sym same.0); unread = f.unread; given_is = f.given_is }
 
   -- the head of bits that lack a bit of these lines' code is those of them that stand whole
   whole_lines : (given : List Bool) (xs head : List (List ℕ)) → AreLines p w n xs → Lacks given xs
@@ -201,7 +197,7 @@ module _ (pic : WholePicture) where
   scan_is_damaged d ((numbers, are, each), under) = (
     numbers,
     are,
-    all_map (λ (p : ℕ × ScanPiece). IsTrimmed pic d.scan p.0 p.1.bytes) (HasPictureLines pic d.scan) (numbered_pieces d numbers)
+    all_weaker (λ (p : ℕ × ScanPiece). IsTrimmed pic d.scan p.0 p.1.bytes) (HasPictureLines pic d.scan) (numbered_pieces d numbers)
         (λ p t. trimmed_pieces_have_picture_lines pic d.scan p.0 p.1 under.0 t) each,
   )
 
@@ -209,6 +205,6 @@ pub trimmed_copies_are_damaged : TrimmedCopiesAreDamaged
 trimmed_copies_are_damaged pic copy (scans, has, trimmed) = (
   scans,
   has,
-  all_map (TrimmedHere pic) (DamagedScan pic) scans (scan_is_damaged pic)
+  all_weaker (TrimmedHere pic) (DamagedScan pic) scans (scan_is_damaged pic)
       (both_hold (TrimmedScan pic) (IsUnder pic) scans trimmed (scans_are_of_the_frame copy pic.shape scans has).1),
 )

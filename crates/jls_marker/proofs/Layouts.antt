@@ -37,7 +37,7 @@ if_true false x y e = absurd cc
 
 -- ---- numbers of two and four bytes
 
-two_fit : (a b : ℕ) → a < 256 → b < 256 → (i : ℕ) → get_or (a ∷ b ∷ []) i 0 < 256
+pub two_fit : (a b : ℕ) → a < 256 → b < 256 → (i : ℕ) → get_or (a ∷ b ∷ []) i 0 < 256
 two_fit a b p q zero = p
 two_fit a b p q (suc zero) = q
 two_fit a b p q (suc (suc i)) = omega arith

@@ -4,6 +4,7 @@ pub mod FirstFailing
 pub mod HeaderSteps
 pub mod HeadersKept
 pub mod InForce
+pub mod Indices
 pub mod Intervals
 pub mod Layouts
 pub mod ParamRanges

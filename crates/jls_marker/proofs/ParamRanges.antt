@@ -2,6 +2,8 @@
 use Rattle.std.proofs.Common.{◌≡◌, ℕ, ◌-◌, ◌≤◌, ◌^◌, max, Bool, true, false, cond, Option, Some, None, Result, Ok, refl, sym, subst, arith}
 use Rattle.std.specs.Prelude.{nat_lt, is_ok}
 use Rattle.std.proofs.lemmas.Bool.{ltb-false, or_parts}
+use Rattle.std.proofs.lemmas.Bool.Decides.{nat_tests}
+use Rattle.std.proofs.Common.{◌||◌, ◌<◌}
 use Rattle.jls_values.specs.Params.{CodingParameters, AreCodingParameters}
 use Rattle.jls_values.specs.PresetParameters.{PresetParameters}
 use Rattle.jls_values.specs.ParamsOf.{in_force, is_outside, param_fault, params_in_range, params_of}
@@ -64,3 +66,17 @@ judged_ok q (Some f) n e = absurd cc
 pub params_ok : (precision : ℕ) (given : PresetParameters) → is_ok (params_of precision given) ≡ true
     → AreCodingParameters (in_force precision given)
 params_ok precision given e = let q = in_force precision given in judged_ok q (param_fault q) refl e
+
+-- parameters in their ranges have no fault
+pub no_param_fault : (p : CodingParameters) → AreCodingParameters p → param_fault p ≡ None
+no_param_fault p i =
+    let a : (nat_lt p.precision 2 || nat_lt 16 p.precision) ≡ false = grind (arith, nat_tests, i.precision_at_least, i.precision_at_most) in
+    let b : (nat_lt p.maxval 1 || nat_lt (2 ^ p.precision - 1) p.maxval) ≡ false =
+    grind (arith, nat_tests, i.maxval_at_least, i.maxval_below) in
+    let c : (nat_lt p.t1 1 || nat_lt p.maxval p.t1) ≡ false =
+    grind (arith, nat_tests, i.t1_at_least, i.t2_at_least, i.t3_at_least, i.t3_at_most) in
+    let d : (nat_lt p.t2 p.t1 || nat_lt p.maxval p.t2) ≡ false =
+    grind (arith, nat_tests, i.t2_at_least, i.t3_at_least, i.t3_at_most) in
+    let e : (nat_lt p.t3 p.t2 || nat_lt p.maxval p.t3) ≡ false = grind (arith, nat_tests, i.t3_at_least, i.t3_at_most) in
+    let f : (nat_lt p.reset 3 || nat_lt (max 255 p.maxval) p.reset) ≡ false = grind (arith, nat_tests, i.reset_at_least, i.reset_at_most) in
+    rw (a, b, c, d, e, f) refl

@@ -2,6 +2,7 @@ pub mod BareEntries
 pub mod Entries
 pub mod Forks
 pub mod Growth
+pub mod HeldItems
 pub mod KeptEntries
 pub mod KeyedLists
 pub mod LineMarks
@@ -17,6 +18,7 @@ pub mod ReadBack
 pub mod SameEntries
 pub mod Searches
 pub mod SourcedLines
+pub mod Statuses
 pub mod Store
 pub mod StoredLines
 pub mod TextEntries

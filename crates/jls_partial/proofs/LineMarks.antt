@@ -8,7 +8,7 @@ use Rattle.std.specs.Ordering.{nat_cmp, eq_by_cmp}
 use Rattle.std.proofs.lemmas.Cmp.{nat_cmp_total}
 use Rattle.std.proofs.lemmas.List.Folds.{list_any-append}
 use Rattle.jls_values.specs.OrderedSet as sets
-use Rattle.jls_values.specs.OrderedSetLaws.{same_set, contains-insert_all, contains-from_list, contains-items}
+use Rattle.jls_values.specs.OrderedSetLaws.{same_set, contains-insert_all, contains-from_list, contains-items, or_false, or_comm}
 use Rattle.jls_partial.specs.LineSetLaws.{line_marks_total, line_marks_exact}
 use Rattle.jls_partial.specs.Marks.{mark_cmp, marks_of}
 use Rattle.jls_partial.specs.MarkLaws.{eq_mark}
@@ -46,24 +46,14 @@ any_marks x s (k ∷ ks) =
 pub marks_hold : (ks : List Kept) (x : List ℕ) (s : ℕ) → sets.contains (sets.from_list {R = mark_cmp S} (marks_of ks)) (x, s) ≡ has_mark x s ks
 marks_hold ks x s = contains-from_list line_marks_total (marks_of ks) (x, s) ∙ any_marks x s ks
 
-pub or_none : (b : Bool) → (b || false) ≡ b
-or_none true = refl
-or_none false = refl
-
-or_turn : (a b : Bool) → (a || b) ≡ (b || a)
-or_turn true true = refl
-or_turn true false = refl
-or_turn false true = refl
-or_turn false false = refl
-
 -- a line put in with its sources
 pub marks-insert : (ks : List Kept) (i : ℕ) (x ss : List ℕ) → i ≤ length ks
     → sets.from_list {R = mark_cmp S} (marks_of (insert ks i (x, ss))) ≡ sets.insert_all (sets.from_list {R = mark_cmp S} (marks_of ks)) (marks_of ((x, ss) ∷ []))
 marks-insert ks i x ss le = same_set line_marks_total line_marks_exact _ _ (λ m.
     marks_hold (insert ks i (x, ss)) m.0 m.1
     ∙ any-insert (λ k. eq_by_cmp S m.0 k.0 && list_any (eq_by_cmp nat_cmp m.1) k.1) ks i (x, ss) le
-    ∙ or_turn (eq_by_cmp S m.0 x && list_any (eq_by_cmp nat_cmp m.1) ss) (has_mark m.0 m.1 ks)
-    ∙ (λ j. sym (marks_hold ks m.0 m.1) j || sym (or_none (eq_by_cmp S m.0 x && list_any (eq_by_cmp nat_cmp m.1) ss)) j)
+    ∙ or_comm (eq_by_cmp S m.0 x && list_any (eq_by_cmp nat_cmp m.1) ss) (has_mark m.0 m.1 ks)
+    ∙ (λ j. sym (marks_hold ks m.0 m.1) j || sym (or_false (eq_by_cmp S m.0 x && list_any (eq_by_cmp nat_cmp m.1) ss)) j)
     ∙ ap (λ b. sets.contains (sets.from_list {R = mark_cmp S} (marks_of ks)) m || b) (sym (any_marks m.0 m.1 ((x, ss) ∷ [])))
     ∙ sym (contains-insert_all line_marks_total (sets.from_list (marks_of ks)) (marks_of ((x, ss) ∷ [])) m))
 
@@ -100,6 +90,6 @@ marks-set ks i x old ss d lt is = same_set line_marks_total line_marks_exact _ _
     marks_hold (set ks i (x, sets.items (sets.insert_all old ss))) m.0 m.1
     ∙ has-set ks i x (sets.items old) (sets.items (sets.insert_all old ss)) ss d m.0 m.1 lt is
     (sym (contains-items (sets.insert_all old ss) m.1) ∙ contains-insert_all nat_cmp_total old ss m.1 ∙ ap (λ b. b || list_any (eq_by_cmp nat_cmp m.1) ss) (contains-items old m.1))
-    ∙ (λ j. sym (marks_hold ks m.0 m.1) j || sym (or_none (eq_by_cmp S m.0 x && list_any (eq_by_cmp nat_cmp m.1) ss)) j)
+    ∙ (λ j. sym (marks_hold ks m.0 m.1) j || sym (or_false (eq_by_cmp S m.0 x && list_any (eq_by_cmp nat_cmp m.1) ss)) j)
     ∙ ap (λ b. sets.contains (sets.from_list {R = mark_cmp S} (marks_of ks)) m || b) (sym (any_marks m.0 m.1 ((x, ss) ∷ [])))
     ∙ sym (contains-insert_all line_marks_total (sets.from_list (marks_of ks)) (marks_of ((x, ss) ∷ [])) m))

@@ -16,7 +16,7 @@ use Rattle.std.proofs.lemmas.List.{map-set, map-append, length-map, length-set, 
 use Rattle.std.proofs.lemmas.Map.Lookups.{CmpEqualImpliesEq, exact_unsigned}
 use Rattle.jls_values.specs.Join.{IsBelow}
 use Rattle.jls_values.specs.OrderedSet as sets
-use Rattle.jls_values.specs.OrderedSetLaws.{items-from_list, same_set, contains-insert, contains-insert_all, contains-from_list}
+use Rattle.jls_values.specs.OrderedSetLaws.{items-from_list, same_set, contains-insert, contains-insert_all, contains-from_list, or_false}
 use Rattle.jls_values.specs.OrderedSetLaws.{contains-items, contains-union, contains-empty, insert_all-append}
 use Rattle.jls_partial.specs.declared.slots.Slot.{Slot}
 use Rattle.jls_partial.specs.declared.insert_fault.InsertFault.{InsertFault}
@@ -31,7 +31,7 @@ use Rattle.jls_partial.specs.PackedLines.{seen_lines, IsLineSet}
 use Rattle.jls_partial.specs.ReadingOrder.{same_samples}
 use Rattle.jls_partial.proofs.PackedLines.{kept_more, lines_more, packed_more, all-insert, from_list-insert, gap-new, there-held}
 use Rattle.jls_partial.proofs.PackedLines.{kept_lines, length-kept, inside_at, line_at}
-use Rattle.jls_partial.proofs.LineMarks.{has_mark, any_marks, marks_hold, or_none, marks-insert, marks-set}
+use Rattle.jls_partial.proofs.LineMarks.{has_mark, any_marks, marks_hold, marks-insert, marks-set}
 
 abbrev S : List ℕ → List ℕ → Ordering
 S = slice_cmp nat_cmp
@@ -204,7 +204,7 @@ own_sources : (ks : List Kept) (i : ℕ) (d : Kept) (t : ℕ) → IsStrictlySort
     → has_mark (get_or ks i d).0 t ks ≡ list_any (eq_by_cmp nat_cmp t) (get_or ks i d).1
 unfolding IsStrictlySortedBy
 own_sources [] i d t h lt = absurd (omega arith)
-own_sources (k ∷ ks) zero d t h lt = (λ i. (is_eq (tied_itself nat_list_cmp_total k.0 i) && list_any (eq_by_cmp nat_cmp t) k.1) || not_above k.0 t ks h.0 i) ∙ or_none (list_any (eq_by_cmp nat_cmp t) k.1)
+own_sources (k ∷ ks) zero d t h lt = (λ i. (is_eq (tied_itself nat_list_cmp_total k.0 i) && list_any (eq_by_cmp nat_cmp t) k.1) || not_above k.0 t ks h.0 i) ∙ or_false (list_any (eq_by_cmp nat_cmp t) k.1)
 own_sources (k ∷ ks) (suc i) d t h lt =
     let less : S k.0 (get_or ks i d).0 ≡ Less = each_line (λ y. S k.0 y ≡ Less) ks i d h.0 (omega arith) in
     let apart : eq_by_cmp S (get_or ks i d).0 k.0 ≡ false = (eq_by_cmp_equiv nat_list_cmp_total).symm (get_or ks i d).0 k.0 ∙ ap is_eq less in

@@ -10,13 +10,9 @@ use Rattle.std.proofs.lemmas.Cmp.{tied_itself, eq_by_cmp_equiv, nat_cmp_total}
 use Rattle.std.proofs.lemmas.List.Folds.{list_any-append}
 use Rattle.std.proofs.lemmas.Map.Lookups.{CmpEqualImpliesEq, exact_unsigned}
 use Rattle.jls_values.specs.OrderedSet as set
-use Rattle.jls_values.specs.OrderedSetLaws.{contains-items, contains-insert_all, contains-union, items-from_list, same_set}
+use Rattle.jls_values.specs.OrderedSetLaws.{contains-items, contains-insert_all, contains-union, items-from_list, same_set, or_false}
 use Rattle.jls_partial.specs.Marks.{mark_cmp, marks_of, sources_of}
 use Rattle.jls_partial.specs.MarkLaws.{eq_mark, contains-sources_of}
-
-or_none : (b : Bool) → (b || false) ≡ b
-or_none true = refl
-or_none false = refl
 
 module _ {K : Type 0} where
   pub marks_of-append : (xs ys : List (K × List ℕ)) → marks_of (xs ++ ys) ≡ marks_of xs ++ marks_of ys
@@ -91,7 +87,7 @@ module _ {K : Type 0} (R : K → K → Ordering) where
     unfolding IsStrictlySortedBy
     each_has_own [] h = tt
     each_has_own (k ∷ ks) h = (
-      λ s. (λ i. (is_eq (tied_itself o k.0 i) && list_any (eq_by_cmp nat_cmp s) k.1) || not_above k.0 (list_any (eq_by_cmp nat_cmp s)) ks h.0 i) ∙ or_none (list_any (eq_by_cmp nat_cmp s) k.1),
+      λ s. (λ i. (is_eq (tied_itself o k.0 i) && list_any (eq_by_cmp nat_cmp s) k.1) || not_above k.0 (list_any (eq_by_cmp nat_cmp s)) ks h.0 i) ∙ or_false (list_any (eq_by_cmp nat_cmp s) k.1),
       following k ks ks h.0 (each_has_own ks h.1),
     )
 

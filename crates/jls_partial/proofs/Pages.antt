@@ -16,6 +16,7 @@ use Rattle.std.proofs.lemmas.Cmp.{tied_itself, ranked, nat_cmp_total, on_total, 
 use Rattle.std.proofs.lemmas.Map.Lookups.{exact_unsigned, exact_pairs}
 use Rattle.std.proofs.lemmas.List.{map-append}
 use Rattle.jls_values.specs.OrderedSetLaws.{sorted-append}
+use Rattle.jls_values.proofs.Lists.{all_append}
 use Rattle.jls_partial.specs.declared.packed_lines.PackedLines.{PackedLines}
 use Rattle.jls_partial.specs.declared.line_place.LinePlace.{LinePlace}
 use Rattle.jls_partial.specs.declared.line_place.PageNumber.{PageNumber}
@@ -145,16 +146,12 @@ rows_above : (x : LinePlace) (page : PageNumber) (rows : List Row) → page_cmp 
 rows_above x page [] h own = tt
 rows_above x page (r ∷ rows) h own = (pages_apart x r.0 (ap (page_cmp (page_of x)) own.0 ∙ h), rows_above x page rows h own.1)
 
-all-append : {X : Type 0} (P : X → Type 0) (xs ys : List X) → AllByRecursion P xs → AllByRecursion P ys → AllByRecursion P (xs ++ ys)
-all-append P [] ys h k = k
-all-append P (x ∷ xs) ys h k = (h.0, all-append P xs ys h.1 k)
-
 pages_above : (x : LinePlace) (ps : Pages) → AllByRecursion (λ k. page_cmp (page_of x) k ≡ Less) (map (λ p. p.0) ps)
     → AllByRecursion (λ p. IsPage p.0 p.1.items) ps → AllByRecursion (λ y. place_cmp x y ≡ Less) (map (λ r. r.0) (rows_of ps))
 pages_above x [] above each = tt
 pages_above x (p ∷ ps) above each =
     subst (AllByRecursion (λ y. place_cmp x y ≡ Less)) (sym (map-append (λ (r : Row). r.0) p.1.items (rows_of ps)))
-    (all-append (λ y. place_cmp x y ≡ Less) (map (λ r. r.0) p.1.items) (map (λ r. r.0) (rows_of ps)) (rows_above x p.0 p.1.items above.0 each.0.own) (pages_above x ps above.1 each.1))
+    (all_append (λ y. place_cmp x y ≡ Less) (map (λ r. r.0) p.1.items) (map (λ r. r.0) (rows_of ps)) (rows_above x p.0 p.1.items above.0 each.0.own) (pages_above x ps above.1 each.1))
 
 each_above : (page : PageNumber) (rows : List Row) (ps : Pages) → AllByRecursion (λ r. page_of r.0 ≡ page) rows
     → AllByRecursion (λ k. page_cmp page k ≡ Less) (map (λ p. p.0) ps) → AllByRecursion (λ p. IsPage p.0 p.1.items) ps

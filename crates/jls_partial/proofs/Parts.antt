@@ -89,7 +89,7 @@ marks_of_join first (q ∷ qs) = marks_of_join (union first q) qs ∙ union-asso
 -- ---- the parts of one picture
 
 -- a join has the shape of the first
-shape_of_join : (first : PartialPicture) (others : List PartialPicture) → (join_all union first others).shape ≡ first.shape
+pub shape_of_join : (first : PartialPicture) (others : List PartialPicture) → (join_all union first others).shape ≡ first.shape
 shape_of_join first [] = refl
 shape_of_join first (q ∷ qs) = shape_of_join (union first q) qs
 

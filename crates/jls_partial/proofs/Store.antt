@@ -17,6 +17,7 @@ use Rattle.std.proofs.lemmas.Map.Lookups.{exact_unsigned}
 use Rattle.jls_values.specs.OrderedSet as set
 use Rattle.jls_values.specs.OrderedSetLaws.{same_set, contains-items, contains-insert, contains-insert_all, contains-empty, items-from_list}
 use Rattle.jls_values.specs.Shape.{PictureShape}
+use Rattle.jls_values.specs.OrderedSetLaws.{or_false}
 use Rattle.jls_partial.specs.declared.line_place.LinePlace.{LinePlace}
 use Rattle.jls_partial.specs.Entries.{Entry, BareEntry, bare, at_place, readings_of_entries, partial_of}
 use Rattle.jls_partial.specs.Held.{IsEntry, AreEntries, kept_entry, bare_entry, IsLineEntry, IsStore}
@@ -40,10 +41,6 @@ use Rattle.jls_partial.proofs.KeyedLists.{lookup-map}
 use Rattle.jls_partial.proofs.KeptEntries.{SourcesRise, kept_at, readings_are, holds_reading, holds_mark, has-entries, entries_again}
 use Rattle.jls_partial.proofs.MarkSets.{has_item, has_mark, any_items, any_marks, has_given}
 use Rattle.jls_partial.proofs.ReadBack.{readings_kept}
-
-or_none : (b : Bool) → (b || false) ≡ b
-or_none true = refl
-or_none false = refl
 
 -- what follows from each of two tests follows from either
 pub either : (P : Type 0) (b c : Bool) → (b ≡ true → P) → (c ≡ true → P) → (b || c) ≡ true → P
@@ -315,7 +312,7 @@ module _ (shape : PictureShape) (at : LinePlace) (L0 L : PictureLines) (x ss : L
     small = λ y s h.
         either (s < 2 ^ 32) (set.contains L0.marks (y, s)) (has_mark S y s ((x, ss) ∷ []))
         (old.small y s)
-        (λ e. small_of ss s small (and_parts (eq_by_cmp S y x) (list_any (eq_by_cmp nat_cmp s) ss) (sym (or_none (eq_by_cmp S y x && list_any (eq_by_cmp nat_cmp s) ss)) ∙ e)).1)
+        (λ e. small_of ss s small (and_parts (eq_by_cmp S y x) (list_any (eq_by_cmp nat_cmp s) ss) (sym (or_false (eq_by_cmp S y x && list_any (eq_by_cmp nat_cmp s) ss)) ∙ e)).1)
         (sym (marks_hold y s) ∙ h);
   }
 
@@ -362,7 +359,7 @@ module _ (shape : PictureShape) (at : LinePlace) (L0 L : PictureLines) (x ss : L
           ∙ elim (is_at (place_cmp at) (place_of r)) as (λ b. is_at (place_cmp at) (place_of r) ≡ b →
           set.contains (unwrap_or (cond b (Some L) (lookup (is_at (place_cmp (place_of r))) es)) (no_lines p w)).marks (r.samples, s) ≡ (set.contains (lines_or (no_lines p w) es (place_of r)).marks (r.samples, s) || has_mark reading_cmp r s ((at_place at x, ss) ∷ []))) [
             | true ↦ λ e. marks_hold r.samples s ∙ (λ i. set.contains (was_there e i).marks (r.samples, s) || ((sym (eq_at r true e) i && list_any (eq_by_cmp nat_cmp s) ss) || false))
-            | false ↦ λ e. sym (ap (λ b. set.contains (lines_or (no_lines p w) es (place_of r)).marks (r.samples, s) || ((b && list_any (eq_by_cmp nat_cmp s) ss) || false)) (eq_at r false e) ∙ or_none _)
+            | false ↦ λ e. sym (ap (λ b. set.contains (lines_or (no_lines p w) es (place_of r)).marks (r.samples, s) || ((b && list_any (eq_by_cmp nat_cmp s) ss) || false)) (eq_at r false e) ∙ or_false _)
           ] refl
         where
           was_there : is_at (place_cmp at) (place_of r) ≡ true → L0 ≡ lines_or (no_lines p w) es (place_of r)

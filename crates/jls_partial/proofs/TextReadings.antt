@@ -14,6 +14,7 @@ use Rattle.std.proofs.lemmas.Cmp.{nat_cmp_total, nat_list_cmp_total, ranked}
 use Rattle.std.proofs.lemmas.List.Concat.{flat_map-cons}
 use Rattle.jls_values.specs.Shape.{PictureShape}
 use Rattle.jls_values.specs.SourceList.{IsSourceList}
+use Rattle.jls_values.proofs.SourceLists.{sources-none}
 use Rattle.jls_partial.specs.declared.version.Version.{Version}
 use Rattle.jls_partial.specs.declared.version.Version.TheVariants.{One, Two}
 use Rattle.jls_partial.specs.Packed.{Kept}
@@ -218,10 +219,6 @@ unfolding IsStrictlySortedBy
 sources_rise [] s = tt
 sources_rise (n ∷ ns) s = (refl, sources_rise_above n ns s.0 s.1)
 
-sources_none : IsSourceList []
-unfolding IsStrictlySortedBy
-sources_none = record { sorted = tt; small = tt }
-
 -- numbers that rise below a limit are few
 few_above : (low limit : ℕ) (ns : List ℕ) → low ≤ limit → IsStrictlySortedBy nat_cmp ns → AllByRecursion (λ n. low ≤ n) ns
     → AllByRecursion (λ n. n < limit) ns → length ns + low ≤ limit
@@ -295,7 +292,7 @@ own_take : (size : ℕ) (version : Version) (bytes : List ℕ) (x : List ℕ × 
     → own_sources_fields size version bytes ≡ Ok x → Takes bytes (sources_text version x.0) x.1 × IsSourceList x.0 × SaysSources version x.0
 unfolding own_sources_fields
 own_take size One bytes x fits e =
-    subst (λ (y : List ℕ × List ℕ). Takes bytes [] y.1 × IsSourceList y.0 × (y.0 ≡ [])) (ok_is ([], bytes) x e) (record { parts = refl; rest_fits = fits }, sources_none, refl)
+    subst (λ (y : List ℕ × List ℕ). Takes bytes [] y.1 × IsSourceList y.0 × (y.0 ≡ [])) (ok_is ([], bytes) x e) (record { parts = refl; rest_fits = fits }, sources-none, refl)
 own_take size Two bytes x fits e =
     let c = bind_ok (number_field size w64 bytes) (λ count. sources_fields size None count.0 count.1) x e in
     let t = number_takes size w64 (2 ^ 64) wide64 bytes c.0.0 c.0.1 fits c.1 in

@@ -3,7 +3,7 @@ use Rattle.std.proofs.Common.{◌≡◌, ℕ, zero, suc, ◌+◌, ◌-◌, ◌<�
 use Rattle.std.proofs.Common.{ap, sym, ◌∙◌, arith, inl, inr, add-zero, zero-add}
 use Rattle.std.specs.Prelude.{◌==◌, nat_le, not}
 use Rattle.std.specs.List.{range_with_len, flat_map, sum_by, count_by}
-use Rattle.std.proofs.lemmas.Bool.{false≢true, and_parts, eqb-true, ne_eqb, leb-true, le-leb, cases_lt}
+use Rattle.std.proofs.lemmas.Bool.{false≢true, and_parts, eqb-true, ne_eqb, leb-true, le-leb, cases_lt, and_from}
 use Rattle.std.proofs.lemmas.List.Sums.{sum_by-append, sum_by-cons}
 use Rattle.jls_partial.specs.Partial.{PartialPicture}
 use Rattle.jls_partial.specs.PartialLaws.{eqb_itself}
@@ -75,10 +75,6 @@ all_true : (b c d : Bool) → b ≡ true → c ≡ true → d ≡ true → (b &&
 all_true true true d x y z = z
 all_true true false d x y z = absurd cc
 all_true false c d x y z = absurd cc
-
-two_true : (b c : Bool) → b ≡ true → c ≡ true → (b && c) ≡ true
-two_true true c x y = y
-two_true false c x y = absurd cc
 
 -- a range that covers a line, and of the same component
 covers : (component line c first last : ℕ) → speaks_of component line (Missing c first last) ≡ true
@@ -226,7 +222,7 @@ module _ (p : PartialPicture) (component line : ℕ) (component_in : component <
       ∙ spoken_is component line
       ∙ second_counted (begins_range p component line) (is_disputed p component line) (speaks_of component line (range_at component line)) (speaks_of component line (dispute_at component line))
       (no_range p component line (omega arith)) (le-leb 2 (reading_count p component line) several)
-      (two_true (component == component) (line == line) (eqb_itself component) (eqb_itself line))
+      (and_from (component == component) (line == line) (eqb_itself component) (eqb_itself line))
 
   -- a range that begins at or before the line, all of which up to it is missing, reaches it
   reaches : (first last : ℕ) → IsLongestRange p component first last → BeginsAt (is_missing p component) line first
@@ -270,7 +266,7 @@ module _ (p : PartialPicture) (component line : ℕ) (component_in : component <
       begins_there : (first : ℕ) → BeginsAt (is_missing p component) line first → is_missing p component line ≡ true
           → begins_range p component first ≡ true
       begins_there first at missing =
-          two_true (is_missing p component first) (first == 0 || not (is_missing p component (first - 1))) (here (cases_lt first line)) (first_or first (is_missing p component) at.above)
+          and_from (is_missing p component first) (first == 0 || not (is_missing p component (first - 1))) (here (cases_lt first line)) (first_or first (is_missing p component) at.above)
         where
           here : (first < line) ⊎ (line ≤ first) → is_missing p component first ≡ true
           here (inl before) = at.each first (omega arith) before

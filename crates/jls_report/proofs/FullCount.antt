@@ -1,5 +1,5 @@
 -- All lines are counted as settled exactly where each line is settled.
-use Rattle.std.proofs.Common.{◌≡◌, ℕ, zero, suc, ◌+◌, ◌*◌, ◌<◌, ◌≤◌, cond, List, [], ◌∷◌, length, sym, subst, refl, arith, add-zero}
+use Rattle.std.proofs.Common.{◌≡◌, ℕ, zero, suc, ◌+◌, ◌*◌, ◌<◌, ◌≤◌, cond, length, sym, subst, refl, arith, add-zero}
 use Rattle.std.specs.Prelude.{◌==◌}
 use Rattle.std.specs.List.{range_with_len, sum_by, count_by}
 use Rattle.std.proofs.lemmas.Bool.Decides.{nat_tests}
@@ -8,6 +8,7 @@ use Rattle.std.proofs.lemmas.List.Sums.{sum_by-cons, count_by-le-length}
 use Rattle.jls_partial.specs.Partial.{PartialPicture, readings_at}
 use Rattle.jls_partial.specs.Status.{status_of}
 use Rattle.jls_partial.specs.declared.status.Status.TheVariants.{Settled}
+use Rattle.jls_partial.proofs.Statuses.{settled_by, one_reading}
 use Rattle.jls_report.specs.Lines.{lines, is_settled_line}
 use Rattle.jls_report.specs.Ranges.{FullCountIsSettled}
 
@@ -63,16 +64,6 @@ at_most_one n = grind (arith, nat_tests)
 is_one : (n : ℕ) → counted n ≡ 1 → n ≡ 1
 is_one n e = grind (arith, nat_tests, e)
 
-has_status : (xs : List (List ℕ)) → length xs ≡ 1 → status_of xs ≡ Settled
-has_status [] e = absurd (omega (arith, e))
-has_status (x ∷ []) e = refl
-has_status (x ∷ y ∷ zs) e = absurd (omega (arith, e))
-
-has_one : (xs : List (List ℕ)) → status_of xs ≡ Settled → length xs ≡ 1
-has_one [] e = absurd cc
-has_one (x ∷ []) e = refl
-has_one (x ∷ y ∷ zs) e = absurd cc
-
 module _ (p : PartialPicture) where
   abbrev settled_lines : ℕ → ℕ
   settled_lines component = count_by (is_settled_line p component) (lines p.shape)
@@ -86,7 +77,7 @@ module _ (p : PartialPicture) where
       let f : ℕ → ℕ = λ l. cond (is_settled_line p component l) 1 0 in
       let sum : sum_by f (range_with_len 0 p.shape.height) ≡ p.shape.height = e in
       let all : sum_by f (range_with_len 0 p.shape.height) ≡ p.shape.height * 1 = omega (arith, sum) in
-      has_status (readings_at p component line)
+      settled_by (readings_at p component line)
       (is_one (length (readings_at p component line)) (from_zero f 1 (λ l. at_most_one (length (readings_at p component l))) p.shape.height all line lt))
 
   to_component : (component : ℕ) → ((line : ℕ) → line < p.shape.height → status_of (readings_at p component line) ≡ Settled)
@@ -94,7 +85,7 @@ module _ (p : PartialPicture) where
   to_component component each =
       let f : ℕ → ℕ = λ l. cond (is_settled_line p component l) 1 0 in
       let all : sum_by f (range_with_len 0 p.shape.height) ≡ p.shape.height * 1 =
-      to_zero f 1 p.shape.height (λ l lt. subst (λ (n : ℕ). counted n ≡ 1) (sym (has_one (readings_at p component l) (each l lt))) refl) in
+      to_zero f 1 p.shape.height (λ l lt. subst (λ (n : ℕ). counted n ≡ 1) (sym (one_reading (readings_at p component l) (each l lt))) refl) in
       let sum : sum_by f (range_with_len 0 p.shape.height) ≡ p.shape.height = omega (arith, all) in
       sum
 

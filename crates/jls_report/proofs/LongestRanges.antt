@@ -3,7 +3,7 @@ use Rattle.std.proofs.Common.{◌≡◌, ℕ, zero, suc, ◌+◌, ◌-◌, ◌<�
 use Rattle.std.proofs.Common.{arith, inl, inr}
 use Rattle.std.specs.Prelude.{◌==◌, not, Contains}
 use Rattle.std.specs.List.{range_with_len, prefix_len}
-use Rattle.std.proofs.lemmas.Bool.{and_parts, ne_eqb, leb-true, le-leb, not-true}
+use Rattle.std.proofs.lemmas.Bool.{and_parts, ne_eqb, leb-true, le-leb, not-true, and_from}
 use Rattle.std.proofs.Math.Bool.{or-true}
 use Rattle.std.proofs.lemmas.List.FromFn.{get_or-range_with_len, length-range_with_len}
 use Rattle.std.proofs.lemmas.List.Sums.{prefix_len_passes, prefix_len_stops, prefix_len-le-length}
@@ -48,10 +48,6 @@ or_second : (b d : Bool) → (b || d) ≡ true → b ≡ false → d ≡ true
 or_second true d is first = absurd cc
 or_second false d is first = is
 
-both_true : (b d : Bool) → b ≡ true → d ≡ true → (b && d) ≡ true
-both_true true d is also = also
-both_true false d is also = absurd cc
-
 pub first_or : (n : ℕ) (missing : ℕ → Bool) → ((line : ℕ) → line + 1 ≡ n → missing line ≡ false) → (n == 0 || not (missing (n - 1))) ≡ true
 first_or zero missing above = refl
 first_or (suc n) missing above =
@@ -89,7 +85,7 @@ range_is_longest p component line component_in line_in begins =
 pub longest_begins : (p : PartialPicture) (component first last : ℕ) → IsLongestRange p component first last
     → begins_range p component first ≡ true
 longest_begins p component first last range =
-    both_true (is_missing p component first) (first == 0 || not (is_missing p component (first - 1))) (range.each first (omega arith) range.rising)
+    and_from (is_missing p component first) (first == 0 || not (is_missing p component (first - 1))) (range.each first (omega arith) range.rising)
     (first_or first (is_missing p component) range.above)
 
 longest_ends : (p : PartialPicture) (component first last : ℕ) → IsLongestRange p component first last

@@ -1,21 +1,18 @@
 -- Each entry of a report is of a component of the shape.
-use Rattle.std.proofs.Common.{ℕ, zero, suc, ◌+◌, ◌-◌, ◌<◌, Bool, true, false, cond, List, [], ◌∷◌, ◌++◌, length, arith}
+use Rattle.std.proofs.Common.{ℕ, zero, suc, ◌+◌, ◌-◌, ◌<◌, Bool, true, false, cond, List, [], ◌∷◌, length, arith}
 use Rattle.std.specs.List.{range_with_len, flat_map, AllByRecursion}
+use Rattle.jls_values.proofs.Lists.{all_append}
 use Rattle.jls_partial.specs.Partial.{PartialPicture}
 use Rattle.jls_report.specs.declared.entry.ReportEntry.{ReportEntry}
 use Rattle.jls_report.specs.declared.entry.ReportEntry.TheVariants.{Missing, Disputed}
 use Rattle.jls_report.specs.Lines.{reading_count, is_disputed}
 use Rattle.jls_report.specs.Report.{begins_range, missing_from, entries_at, component_entries, report_entries, component_of, AreOfShape}
 
-all-append : {X : Type 0} (P : X → Type 0) (xs ys : List X) → AllByRecursion P xs → AllByRecursion P ys → AllByRecursion P (xs ++ ys)
-all-append P [] ys p q = q
-all-append P (x ∷ xs) ys p q = (p.0, all-append P xs ys p.1 q)
-
 all-over : {X : Type 0} (P : X → Type 0) (f : ℕ → List X) (a n : ℕ) → ((k : ℕ) → k < a + n → AllByRecursion P (f k))
     → AllByRecursion P (flat_map f (range_with_len a n))
 all-over P f a zero each = tt
 all-over P f a (suc n) each =
-    all-append P (f a) (flat_map f (range_with_len (a + 1) n)) (each a (omega arith)) (all-over P f (a + 1) n (λ k below. each k (omega arith)))
+    all_append P (f a) (flat_map f (range_with_len (a + 1) n)) (each a (omega arith)) (all-over P f (a + 1) n (λ k below. each k (omega arith)))
 
 abbrev IsOf : ℕ → ReportEntry → Type 0
 IsOf n e = component_of e < n

@@ -94,7 +94,7 @@ fn push_component(
 }
 
 /// The entries of all components.
-#[tactic(auto, using(crate::proofs::OneMore::flat_map_more))]
+#[tactic(auto, using(jls_values::proofs::Lists::flat_map_more))]
 pub(crate) fn find_entries(alloc: Global, partial: &Partial) -> Result<Vec<ReportEntry>, AllocError>
     ensures { IfOk result (λ found. found.items ≡ report_entries partial.now) }
 {

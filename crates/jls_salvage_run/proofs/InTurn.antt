@@ -6,11 +6,12 @@ use Rattle.std.specs.Prelude.{◌↔◌, ◌&&◌, IsTrue, All}
 use Rattle.std.proofs.Math.Seq.{get_or-append_seam}
 use Rattle.std.proofs.lemmas.List.{append-nil, drop_more, get_or_append_left, length-append, map-append, take_more, take-append-drop}
 use Rattle.std.proofs.lemmas.List.Elements.{All-append, All-cons, All-nil}
-use Rattle.std.proofs.lemmas.Bool.{and_parts}
+use Rattle.std.proofs.lemmas.Bool.{and_parts, and_from}
 use Rattle.jls_values.specs.Join.{join_all, AllOfShape}
 use Rattle.jls_values.specs.Shape.{PictureShape}
 use Rattle.jls_values.specs.SameShape.{same_shape}
 use Rattle.jls_partial.specs.Partial.{PartialPicture, has_same_shape, union}
+use Rattle.jls_partial.proofs.Parts.{shape_of_join}
 use Rattle.jls_io.specs.Event.{Event, History, GrewBy, opened, not_opened}
 use Rattle.jls_io.proofs.Growing.{grew_twice}
 use Rattle.jls_cli.proofs.OutputSteps.{grew_after}
@@ -51,11 +52,6 @@ join_one_more : (p : PartialPicture) (ps : List PartialPicture) (q : PartialPict
 join_one_more p [] q = refl
 join_one_more p (x ∷ xs) q = join_one_more (union p x) xs q
 
--- a union has the shape of the first
-pub shape_of_join : (p : PartialPicture) (ps : List PartialPicture) → (join_all union p ps).shape ≡ p.shape
-shape_of_join p [] = refl
-shape_of_join p (x ∷ xs) = shape_of_join (union p x) xs
-
 union_of_more : (ps : List PartialPicture) (joined q : PartialPicture) → IsUnionOf ps joined → IsUnionOf (ps ++ q ∷ []) (union joined q)
 union_of_more [] joined q h = absurd h
 union_of_more (p ∷ ps) joined q h = ap (λ (x : PartialPicture). union x q) h ∙ sym (join_one_more p ps q)
@@ -87,10 +83,6 @@ same_shape_as_union (p ∷ ps) joined q u same other = same (shape_of_union p ps
 
 -- ---- read whole
 
-and_both : (a b : Bool) → a ≡ true → b ≡ true → (a && b) ≡ true
-and_both true b h k = k
-and_both false b h k = h
-
 module _ {X : Type 0} (P : X → Type 0) where
   All-left : (xs ys : List X) → All P (xs ++ ys) → All P xs
   All-left xs ys h k d lt =
@@ -117,7 +109,7 @@ whole_one_more givens g whole also both h k is = (
   λ t. let parts = and_parts whole also (sym is ∙ t) in
       All-append (λ (x : Given). x.stop ≡ Whole) givens (g ∷ []) (h.0 parts.0)
       (All-cons (λ (x : Given). x.stop ≡ Whole) g [] (k.0 parts.1) (All-nil (λ (x : Given). x.stop ≡ Whole))),
-  λ all. is ∙ and_both whole also (h.1 (All-left (λ (x : Given). x.stop ≡ Whole) givens (g ∷ []) all)) (k.1 (All-last (λ (x : Given). x.stop ≡ Whole) givens g all)),
+  λ all. is ∙ and_from whole also (h.1 (All-left (λ (x : Given). x.stop ≡ Whole) givens (g ∷ []) all)) (k.1 (All-last (λ (x : Given). x.stop ≡ Whole) givens g all)),
 )
 
 module _ (source : Option ℕ) (names : List (List ℕ)) (name : List ℕ) (g : Given) (also : Bool) (also_is : IsTrue also ↔ (g.stop ≡ Whole)) where

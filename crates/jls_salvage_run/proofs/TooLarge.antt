@@ -3,7 +3,7 @@ use Rattle.std.proofs.Common.{inl, inr, ℕ, zero, suc, ◌-◌, ◌*◌, ◌^�
 use Rattle.std.specs.Prelude.{All}
 use Rattle.std.specs.List.{AllByRecursion}
 use Rattle.std.proofs.lemmas.Bool.Decides.{leb_tells}
-use Rattle.std.proofs.lemmas.List.Elements.{All-nil, All-cons}
+use Rattle.jls_values.proofs.Lists.{all_at_most}
 use Rattle.jls_write.specs.Picture.{WholePicture, line_of}
 use Rattle.jls_write.specs.Options.{OptionsFit, components_of_scan, rows_of_interval}
 use Rattle.jls_write.specs.WholePictures.{IsLineIn, IsComponentIn, IsPicture}
@@ -13,10 +13,6 @@ item_at : {X : Type 0} (P : X → Type 0) (xs : List X) → AllByRecursion P xs 
 item_at P [] h i d l = absurd (omega (arith, l))
 item_at P (x ∷ xs) h zero d l = h.0
 item_at P (x ∷ xs) h (suc i) d l = item_at P xs h.1 i d (omega (arith, l))
-
-all_at_most : (m : ℕ) (xs : List ℕ) → AllByRecursion (λ x. x < m) xs → All (λ x. x ≤ m - 1) xs
-all_at_most m [] h = All-nil (λ (x : ℕ). x ≤ m - 1)
-all_at_most m (x ∷ xs) h = All-cons (λ (y : ℕ). y ≤ m - 1) x xs (let l : x < m = h.0 in omega (arith, l)) (all_at_most m xs h.1)
 
 module _ (picture : WholePicture) (is : IsPicture picture) (line : Bool) (ri : ℕ) where
   samples_at_most : (c : ℕ) → c < length picture.shape.ids → (y : ℕ) → y < picture.shape.height

@@ -19,8 +19,7 @@ use Rattle.jls_search.specs.Faultless.{IsDead, IsFaultless}
 use Rattle.jls_search.specs.ReadsBetween.{IsBetween, Reaches, ReadsBetween}
 use Rattle.jls_search.specs.Search.{IsFedPast, IsFedUntil}
 use Rattle.jls_copy.specs.Prefixes.{offset_of_end}
-use Rattle.jls_diff.proofs.Members.{in_rest, is_first}
-use Rattle.jls_search.proofs.Members.{all_at}
+use Rattle.jls_values.proofs.Lists.{in_rest, is_first, all_at}
 use Rattle.jls_search.proofs.KeptReaders.{one_fed_on, prefix_and_rest}
 use Rattle.jls_search.proofs.Prefixes.{after_then, prefix_more}
 

@@ -1,9 +1,9 @@
 -- What a reader tells of files without a fault.
-use Rattle.std.proofs.Common.{◌≡◌, ℕ, ◌<◌, Bool, true, false, List, [], ◌∷◌, ◌++◌, length, Option, Some, None, Result, Ok, Err, refl, sym}
-use Rattle.std.proofs.Common.{ap, ◌∙◌, subst, arith, zero, suc}
+use Rattle.std.proofs.Common.{◌≡◌, ℕ, ◌<◌, Bool, true, false, List, ◌++◌, length, Option, Some, None, Result, Ok, Err, refl, sym}
+use Rattle.std.proofs.Common.{ap, ◌∙◌, subst, arith}
 use Rattle.std.specs.Prelude.{IfSome, IfOk}
 use Rattle.std.specs.declared.alloc.AllocError.{AllocError}
-use Rattle.std.specs.List.{AllByRecursion, Contains}
+use Rattle.std.specs.List.{AllByRecursion}
 use Rattle.jls_copy.specs.Course.{Course, IsCourse}
 use Rattle.jls_copy.specs.Pieces.{FoundPiece, Lines, Fault, IsOutcome, pieces}
 use Rattle.jls_copy.specs.ReadCopy.{ReadCopy}
@@ -20,20 +20,10 @@ use Rattle.jls_copy.proofs.OneCourse.{one_course}
 use Rattle.jls_copy.proofs.BytesDecide.{one_outcome}
 use Rattle.jls_copy.proofs.ScansOfCourse.{HasScan, course_has}
 use Rattle.jls_values.specs.Shape.{PictureShape}
+use Rattle.jls_values.proofs.Lists.{all_at, all_prefix}
 use Rattle.jls_search.specs.Faultless.{GivesEachLine, EndsWell, IsFaultless, IsSought, IsDead, IsEachLineRead, IsAnswerWithoutFrame}
 use Rattle.jls_search.proofs.LinesRead.{lines_given, lines_read}
-
--- Lists ------------------------------------------------------------------------------------------------------------
-
-module _ {X : Type 0} where
-  pub all_at : (P : X → Type 0) (xs : List X) (x : X) → AllByRecursion P xs → Contains xs x → P x
-  all_at P [] x h (k, l, e) = absurd (omega (arith, l))
-  all_at P (y ∷ ys) x h (zero, l, e) = subst P e h.0
-  all_at P (y ∷ ys) x h (suc k, l, e) = all_at P ys x h.1 (k, omega (arith, l), e)
-
-  pub all_prefix : (P : X → Type 0) (xs ys : List X) → AllByRecursion P (xs ++ ys) → AllByRecursion P xs
-  all_prefix P [] ys h = tt
-  all_prefix P (x ∷ xs) ys h = (h.0, all_prefix P xs ys h.1)
+use Rattle.jls_station.proofs.KnownCopies.{some_then}
 
 -- Pieces -----------------------------------------------------------------------------------------------------------
 
@@ -81,11 +71,6 @@ module _ (law : RecordsAreOfFaultyPieces) (bytes : List ℕ) (read : ReadCopy) (
         subst EndsWell (sym h.ended_is) (subst (λ (c : Course). EndsWell c.end) e f.ends),
         lines_read bytes read h low (subst (λ (s : PictureShape). GivesEachLine s h.course) (same_shape f e) (subst (GivesEachLine f.shape) e f.whole)),
       )
-
--- what holds of the file that was fed, if there is one
-pub of_file : (fed : Option (List ℕ)) (P Q : List ℕ → Type 0) → ((file : List ℕ) → P file → Q file) → IfSome fed P → IfSome fed Q
-of_file None P Q f h = tt
-of_file (Some file) P Q f h = f file h
 
 pub faulty_without_frame : (fed : Option (List ℕ)) (f : MarkerFault) (n : ℕ) → IfSome fed (λ bytes. CopyGivesNone bytes (NoPicture f n))
     → IfSome fed (λ bytes. AllByRecursion (λ b. b < 256) bytes → IsFaultless bytes → ⊥)
@@ -146,7 +131,7 @@ pub ever_unsought : (ceiling : Option ℕ) (fed : Option (List ℕ)) (fault : Co
     → IfOk r (λ answer. IsAnswerWithoutFrame fault answer) → IfSome fed (λ bytes. CopyGivesNone bytes fault)
     → IfOk r (λ answer. answer ≡ false → IfSome fed (λ bytes. AllByRecursion (λ b. b < 256) bytes → IsSought ceiling bytes → ⊥))
 ever_unsought ceiling fed (NoPicture f n) (Ok answer) h none = λ _.
-    of_file fed (λ bytes. AllByRecursion (λ b. b < 256) bytes → IsFaultless bytes → ⊥)
+    some_then fed (λ bytes. AllByRecursion (λ b. b < 256) bytes → IsFaultless bytes → ⊥)
     (λ bytes. AllByRecursion (λ b. b < 256) bytes → IsSought ceiling bytes → ⊥) (λ bytes faulty low sought. faulty low sought.0)
     (faulty_without_frame fed f n none)
 ever_unsought ceiling fed OutOfMemory (Ok answer) h none = absurd h

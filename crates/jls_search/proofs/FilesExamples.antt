@@ -3,6 +3,7 @@
 use Rattle.std.proofs.Common.{ℕ, List, [], ◌∷◌, None, refl}
 use Rattle.std.specs.List.{AllByRecursion}
 use Rattle.jls_values.specs.Shape.{PictureShape}
+use Rattle.jls_values.proofs.Lists.{all_at}
 use Rattle.jls_partial.specs.Partial.{nothing_known}
 use Rattle.jls_marker.specs.HeaderState.{no_headers}
 use Rattle.jls_marker.specs.declared.fault.MarkerFault.TheVariants.{Ended}
@@ -11,7 +12,6 @@ use Rattle.jls_copy.specs.declared.end.End.TheVariants.{Input, Header}
 use Rattle.jls_search.specs.Shapes.{HasNoFrame, NoneIsFaultless, IsShapeFound}
 use Rattle.jls_search.specs.Stations.{no_file, gives_nothing, TakesFiles}
 use Rattle.jls_search.specs.declared.shape_found.ShapeFound.TheVariants.{NoFrame}
-use Rattle.jls_search.proofs.Members.{all_at}
 use Rattle.jls_search.proofs.OneFile.{no_shape, faultless_shape}
 
 abbrev soi : List ℕ

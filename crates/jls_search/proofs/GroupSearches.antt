@@ -20,16 +20,12 @@ use Rattle.jls_search.specs.OfGroups.{AddsOne, AreOfGroups, IsOfGroup, IsOnce, I
 use Rattle.jls_search.specs.declared.setting.Setting.{Setting}
 use Rattle.jls_search.specs.declared.whole_search.Searched.{Searched}
 use Rattle.jls_search.specs.Search.{lists_of}
-use Rattle.jls_search.proofs.Lists.{all_more}
-use Rattle.jls_diff.proofs.Members.{is_first, in_rest, none_in}
+use Rattle.jls_values.proofs.Lists.{is_first, in_rest, none_in, all_more}
+use Rattle.jls_values.specs.OrderedSetLaws.{or_false, or_comm}
 use Rattle.jls_search.proofs.Paths.{length-map, order}
 
 pub count_of : (vs : List (Vec ℕ Global)) → length (lists_of vs) ≡ length vs
 count_of vs = length-map (λ (v : Vec ℕ Global). v.items) vs
-
-or_none : (a : Bool) → (a || false) ≡ a
-or_none true = refl
-or_none false = refl
 
 or_after : (a b c : Bool) → (a || (b || c)) ≡ ((b || a) || c)
 or_after true true c = refl
@@ -37,15 +33,9 @@ or_after true false c = refl
 or_after false true c = refl
 or_after false false c = refl
 
-or_swap : (a b : Bool) → (a || b) ≡ (b || a)
-or_swap true true = refl
-or_swap true false = refl
-or_swap false true = refl
-or_swap false false = refl
-
 module _ {X : Type 0} where
   any_push : (p : X → Bool) (xs : List X) (x : X) → list_any p (xs ++ x ∷ []) ≡ (list_any p xs || p x)
-  any_push p xs x = list_any-append p xs (x ∷ []) ∙ ap (λ (b : Bool). list_any p xs || b) (or_none (p x))
+  any_push p xs x = list_any-append p xs (x ∷ []) ∙ ap (λ (b : Bool). list_any p xs || b) (or_false (p x))
 
   flat_push : (f : X → List (List ℕ)) (xs : List X) (x : X) → flat_map f (xs ++ x ∷ []) ≡ flat_map f xs ++ f x
   flat_push f xs x = flat_map-append f xs (x ∷ []) ∙ ap (λ z. flat_map f xs ++ z) (append-nil (f x))
@@ -280,6 +270,6 @@ one_more_group limit copies ps groups i d tries sum begun more within h g sum_is
       few = g.few;
       used_up =
           g.used_up ∙ ap (λ (b : Bool). is_cut_in g.settings || b) h.used_up
-          ∙ or_swap (is_cut_in g.settings) (list_any (λ (x : GroupSearched). is_cut_in x.settings) gs)
+          ∙ or_comm (is_cut_in g.settings) (list_any (λ (x : GroupSearched). is_cut_in x.settings) gs)
           ∙ sym (any_push (λ (x : GroupSearched). is_cut_in x.settings) gs one);
     }

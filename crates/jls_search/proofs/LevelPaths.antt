@@ -5,13 +5,13 @@ use Rattle.std.specs.Prelude.{get_or}
 use Rattle.std.specs.List.{AllByRecursion, Contains}
 use Rattle.std.proofs.lemmas.List.Elements.{Contains-append_left, Contains-append_right}
 use Rattle.std.proofs.lemmas.List.{take_at, take_more}
+use Rattle.jls_values.proofs.Lists.{all_more}
 use Rattle.jls_diff.specs.Parts.{Part, Same, Differ}
 use Rattle.jls_search.specs.Choices.{IsFirstWay, IsPrefix, IsPath, prefix_of}
 use Rattle.jls_diff.specs.Parts.{Differs}
 use Rattle.jls_search.specs.Faultless.{IsDead}
 use Rattle.jls_search.specs.Levels.{AreJudged, AreSame, IsNext, IsTaken}
 use Rattle.jls_search.proofs.KeptReaders.{prefix_and_rest}
-use Rattle.jls_search.proofs.Members.{all_and_one}
 use Rattle.jls_search.proofs.Paths.{order, path_at, path_len}
 
 -- Parts that all copies have alike ---------------------------------------------------------------------------------
@@ -117,7 +117,7 @@ module _ (Sought : List ℕ → Type 0) (ps : List Part) where
     pub each_taken : AllByRecursion (IsNext ps (length begin)) old → AllByRecursion (IsNext ps (length begin)) new
     each_taken each =
         elim t.added [
-          | inl e ↦ subst (AllByRecursion (IsNext ps (length begin))) (sym e) (all_and_one (IsNext ps (length begin)) old t.path each t.is_next)
+          | inl e ↦ subst (AllByRecursion (IsNext ps (length begin))) (sym e) (all_more (IsNext ps (length begin)) old t.path each t.is_next)
           | inr r ↦ subst (AllByRecursion (IsNext ps (length begin))) (sym r.0) each
         ]
 

@@ -4,7 +4,7 @@ pub mod Prefixes
 mod LinesRead
 mod Ceilings
 mod FaultlessFiles
-mod Searching
+pub mod Searching
 pub mod Walks
 mod Lengths
 mod KeptReaders

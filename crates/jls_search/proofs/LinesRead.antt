@@ -1,48 +1,31 @@
 -- The readings that were read of a file are those that its course gives.
-use Rattle.std.proofs.Common.{◌≡◌, ℕ, ◌<◌, ◌≤◌, Bool, true, false, ◌||◌, List, [], ◌∷◌, ◌++◌, length, map, refl, sym, ap, ◌∙◌, subst, arith}
+use Rattle.std.proofs.Common.{◌≡◌, ℕ, ◌<◌, ◌≤◌, true, ◌||◌, List, [], ◌∷◌, ◌++◌, length, map, refl, sym, ap, ◌∙◌, subst, arith}
 use Rattle.std.proofs.Common.{inl, inr}
-use Rattle.std.specs.Prelude.{slice_get, if◌then◌else◌}
+use Rattle.std.specs.Prelude.{slice_get}
 use Rattle.std.specs.List.{list_any, AllByRecursion, Contains}
-use Rattle.std.specs.Ordering.{eq_by_cmp, is_eq}
-use Rattle.std.proofs.lemmas.Bool.{or_left, or_right}
-use Rattle.std.proofs.lemmas.Cmp.{tied_itself}
+use Rattle.std.specs.Ordering.{eq_by_cmp}
 use Rattle.std.proofs.lemmas.List.Elements.{Contains-append_left, Contains-append_right, Contains-append_cases}
 use Rattle.jls_values.specs.OrderedSet as set
 use Rattle.jls_values.specs.OrderedSetLaws.{contains-insert_all, contains-empty}
 use Rattle.jls_partial.specs.Partial.{PartialPicture, readings_at}
 use Rattle.jls_partial.specs.Reading.{Reading, reading_of, reading_cmp}
-use Rattle.jls_partial.specs.ReadingOrder.{reading_total, same_reading}
+use Rattle.jls_partial.specs.ReadingOrder.{reading_total}
 use Rattle.jls_partial.proofs.Marked.{got_held}
-use Rattle.jls_partial.proofs.Unions.{either, in_its_line}
-use Rattle.jls_marker.specs.Scan.{Scan}
-use Rattle.jls_copy.specs.Numbers.{PieceNumber, Interval, BeyondLast}
-use Rattle.jls_copy.specs.Course.{Course}
+use Rattle.jls_partial.proofs.Unions.{in_its_line}
+use Rattle.jls_partial.proofs.HeldItems.{any_of_member, member_of_any}
 use Rattle.jls_copy.specs.CopyReads.{CopyReads}
-use Rattle.jls_copy.specs.CutPieces.{closed_by_input, last_piece, cut_pieces, IsHeadAt, IsHeadOfCut, head_readings}
-use Rattle.jls_copy.specs.Pieces.{FoundPiece, PieceOutcome, Lines, Fault, IsOutcome, outcome_readings, readings_of, AreOutcomes, readings}
+use Rattle.jls_copy.specs.CutPieces.{cut_pieces, IsHeadAt, IsHeadOfCut, head_readings}
+use Rattle.jls_copy.specs.Pieces.{FoundPiece, PieceOutcome, Lines, IsOutcome, readings_of, AreOutcomes, readings}
 use Rattle.jls_copy.specs.Pieces.{pieces}
 use Rattle.jls_copy.specs.ReadCopy.{ReadCopy}
 use Rattle.jls_copy.proofs.BytesDecide.{one_outcome, one_head_of_cut, cut_has}
 use Rattle.jls_copy.proofs.ScansOfCourse.{HasScan, course_has}
-use Rattle.jls_diff.proofs.Members.{is_first, in_rest, none_in, first_or_rest}
+use Rattle.jls_values.proofs.Lists.{is_first, in_rest, none_in, first_or_rest}
 use Rattle.jls_copy.specs.Prefixes.{Gives}
+use Rattle.jls_copy.proofs.CutPieces.{cut_short, lines_give}
 use Rattle.jls_search.specs.Faultless.{GivesEachLine, IsEachLineRead}
 
 -- Sets of readings -------------------------------------------------------------------------------------------------
-
-any_of_member : (rs : List Reading) (r : Reading) → Contains rs r → list_any (eq_by_cmp reading_cmp r) rs ≡ true
-any_of_member [] r m = absurd (none_in r m)
-any_of_member (q ∷ qs) r m =
-    elim (first_or_rest r q qs m) [
-      | inl e ↦ or_left _ _ (subst (λ x. eq_by_cmp reading_cmp r x ≡ true) (sym e) (ap is_eq (tied_itself reading_total r)))
-      | inr later ↦ or_right (eq_by_cmp reading_cmp r q) _ (any_of_member qs r later)
-    ]
-
-member_of_any : (rs : List Reading) (r : Reading) → list_any (eq_by_cmp reading_cmp r) rs ≡ true → Contains rs r
-member_of_any [] r e = absurd cc
-member_of_any (q ∷ qs) r e =
-    either (Contains (q ∷ qs) r) (eq_by_cmp reading_cmp r q) (list_any (eq_by_cmp reading_cmp r) qs)
-    (λ here. subst (λ x. Contains (q ∷ qs) x) (sym (same_reading r q here)) (is_first q qs)) (λ later. in_rest r q qs (member_of_any qs r later)) e
 
 made_tells : (rs : List Reading) (r : Reading) → set.contains (set.insert_all {R = reading_cmp} set.empty rs) r ≡ list_any (eq_by_cmp reading_cmp r) rs
 made_tells rs r = contains-insert_all reading_total set.empty rs r ∙ ap (λ b. b || list_any (eq_by_cmp reading_cmp r) rs) (contains-empty reading_cmp r)
@@ -68,13 +51,6 @@ has_some p r h = by (readings_at p r.component r.line) (in_its_line p r h)
 -- a piece gives the reading, under what it reads as
 abbrev PieceGives : FoundPiece → Reading → Type 0
 PieceGives p r = (lines : List (List ℕ)) × IsOutcome p (Lines lines) × Contains (readings_of p (Lines lines)) r
-
--- what gives a reading are lines
-lines_give : (s : Scan) (n : PieceNumber) (r : Reading) (o : PieceOutcome) → Contains (outcome_readings s n o) r
-    → (lines : List (List ℕ)) × (o ≡ Lines lines)
-lines_give s n r (Lines lines) m = (lines, refl)
-lines_give s (Interval k) r (Fault f) m = absurd (none_in r m)
-lines_give s (BeyondLast k) r (Fault f) m = absurd (none_in r m)
 
 listed : (ps : List FoundPiece) (os : List PieceOutcome) (r : Reading) → AreOutcomes ps os → Contains (readings ps os) r
     → (p : FoundPiece) × Contains ps p × PieceGives p r
@@ -124,18 +100,6 @@ head_given (q ∷ []) head p r short scans is m g =
       | inr later ↦ absurd (none_in p later)
     ]
 head_given (q ∷ x ∷ ps) head p r short scans is m g = absurd (omega (arith, short))
-
-last_short : (ps : List FoundPiece) → length (last_piece ps) ≤ 1
-last_short [] = omega arith
-last_short (p ∷ []) = omega arith
-last_short (p ∷ q ∷ ps) = last_short (q ∷ ps)
-
-cut_short : (c : Course) → length (cut_pieces c) ≤ 1
-cut_short c = by (closed_by_input c.units)
-  where
-    by : (b : Bool) → length (if b then last_piece (pieces c) else []) ≤ 1
-    by true = last_short (pieces c)
-    by false = omega arith
 
 -- What was read ----------------------------------------------------------------------------------------------------
 

@@ -1,15 +1,11 @@
 -- Lists, each of whose elements meets something, and of one more element.
-use Rattle.std.proofs.Common.{ℕ, zero, suc, ◌<◌, List, [], ◌∷◌, ◌++◌, length, sym, subst, arith}
+use Rattle.std.proofs.Common.{ℕ, zero, suc, ◌<◌, List, [], ◌∷◌, length, sym, subst, arith}
 use Rattle.std.specs.Prelude.{get_or}
 use Rattle.std.specs.List.{AllByRecursion}
 use Rattle.jls_diff.specs.Parts.{Part, Same, Differ, HasWays}
 use Rattle.jls_search.specs.OfGroups.{HasCopy}
 
 module _ {X : Type 0} (P : X → Type 0) where
-  pub all_more : (xs : List X) (x : X) → AllByRecursion P xs → P x → AllByRecursion P (xs ++ x ∷ [])
-  all_more [] x h p = (p, tt)
-  all_more (y ∷ ys) x h p = (h.0, all_more ys x h.1 p)
-
   pub all_at : (xs : List X) (d : X) (i : ℕ) → i < length xs → AllByRecursion P xs → P (get_or xs i d)
   all_at [] d i l h = absurd (omega (arith, l))
   all_at (x ∷ xs) d zero l h = h.0

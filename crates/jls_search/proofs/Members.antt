@@ -3,7 +3,7 @@ use Rattle.std.proofs.Common.{◌≡◌, ℕ, zero, suc, ◌+◌, ◌<◌, List,
 use Rattle.std.proofs.Common.{Vec, Global, sym}
 use Rattle.std.specs.List.{AllByRecursion, Contains}
 use Rattle.std.proofs.lemmas.List.{map-append, take_more}
-use Rattle.jls_diff.proofs.Members.{in_rest, none_in}
+use Rattle.jls_values.proofs.Lists.{in_rest, all_more}
 use Rattle.jls_diff.specs.Parts.{Part}
 use Rattle.jls_search.specs.Choices.{IsWhole, prefix_of}
 use Rattle.jls_search.specs.Search.{files_of, lists_of}
@@ -15,21 +15,10 @@ module _ {X : Type 0} where
   is_member (y ∷ ys) zero x d l e = (0, omega arith, e)
   is_member (y ∷ ys) (suc i) x d l e = in_rest x y ys (is_member ys i x d (omega (arith, l)) e)
 
-  -- what holds of all holds of each
-  pub all_at : (P : X → Type 0) (xs : List X) (x : X) → AllByRecursion P xs → Contains xs x → P x
-  all_at P [] x h c = absurd (none_in x c)
-  all_at P (y ∷ ys) x h (zero, l, e) = subst P e h.0
-  all_at P (y ∷ ys) x h (suc k, l, e) = all_at P ys x h.1 (k, omega (arith, l), e)
-
-  -- and of one more
-  pub all_and_one : (P : X → Type 0) (xs : List X) (x : X) → AllByRecursion P xs → P x → AllByRecursion P (xs ++ x ∷ [])
-  all_and_one P [] x h p = (p, tt)
-  all_and_one P (y ∷ ys) x h p = (h.0, all_and_one P ys x h.1 p)
-
   -- of the items up to a place and of that one, up to the next
   pub all_one_more : (P : X → Type 0) (xs : List X) (i : ℕ) (d : X) → AllByRecursion P (take i xs) → i < length xs → P (get_or xs i d)
       → AllByRecursion P (take (i + 1) xs)
-  all_one_more P xs i d h l p = rw (take_more xs i d l) (all_and_one P (take i xs) (get_or xs i d) h p)
+  all_one_more P xs i d h l p = rw (take_more xs i d l) (all_more P (take i xs) (get_or xs i d) h p)
 
   -- the images of the items up to the next place
   pub map_one_more : {Y : Type 0} (f : X → Y) (xs : List X) (i : ℕ) (d : X) → i < length xs

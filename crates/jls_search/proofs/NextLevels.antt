@@ -10,14 +10,9 @@ use Rattle.jls_search.specs.Levels.{AreJudged, IsFirstDead, IsLevel, IsLone, IsN
 use Rattle.jls_search.specs.Search.{lists_of}
 use Rattle.jls_search.proofs.LevelPaths.{also_next, dead_on, each_taken, first_choices, judged_more, judged_taken, one_length, still_lives}
 use Rattle.jls_search.proofs.Lists.{all_at as all_from}
-use Rattle.jls_diff.proofs.Members.{first_or_rest, none_in}
-use Rattle.jls_search.proofs.Members.{all_at, all_one_more}
+use Rattle.jls_values.proofs.Lists.{first_or_rest, none_in, all_at, all_weaker}
+use Rattle.jls_search.proofs.Members.{all_one_more}
 use Rattle.jls_search.proofs.Paths.{order}
-
-module _ {X : Type 0} where
-  pub all_weaker : (P Q : X → Type 0) (xs : List X) → ((x : X) → P x → Q x) → AllByRecursion P xs → AllByRecursion Q xs
-  all_weaker P Q [] f h = tt
-  all_weaker P Q (x ∷ xs) f h = (f x h.0, all_weaker P Q xs f h.1)
 
 -- where nothing is there, what follows
 pub none_then : {X : Type 0} {P Q : Type 0} (o : Option X) → IfNone o P → (P → Q) → IfNone o Q

@@ -2,6 +2,7 @@
 use Rattle.std.proofs.Common.{◌≡◌, ℕ, List, [], ◌∷◌, ◌++◌, Option, Some, None, refl, sym, subst}
 use Rattle.std.specs.List.{AllByRecursion}
 use Rattle.jls_values.specs.Shape.{PictureShape}
+use Rattle.jls_values.proofs.Lists.{all_more}
 use Rattle.jls_partial.specs.Partial.{PartialPicture, nothing_known}
 use Rattle.jls_search.specs.Reading.{HasTaken, ReadsMore}
 use Rattle.jls_search.specs.Seen.{AreSeen, IsSeen}
@@ -9,7 +10,6 @@ use Rattle.jls_search.specs.Shapes.{HasNoFrame}
 use Rattle.jls_search.specs.Stations.{Give, no_file, gives_nothing, TakesFiles}
 use Rattle.jls_search.specs.declared.reading_files.FilesRead.{FilesRead}
 use Rattle.jls_search.specs.declared.seen.Seen.{Seen}
-use Rattle.jls_search.proofs.Members.{all_and_one}
 use Rattle.jls_search.proofs.OneFile.{no_shape}
 use Rattle.jls_search.proofs.SeenFiles.{seen_more}
 use Rattle.jls_search.proofs.TakenFiles.{passed_over, shape_kept, takes_more}
@@ -33,7 +33,7 @@ module _ (source : Option ℕ) where
   -- a file without a frame changes nothing
   passes_over : (files : List (List ℕ)) (file : List ℕ) (station : Option PartialPicture) → HasNoFrame file
       → HasTaken source files station → HasTaken source (files ++ file ∷ []) station
-  passes_over files file None none taken = all_and_one HasNoFrame files file taken none
+  passes_over files file None none taken = all_more HasNoFrame files file taken none
   passes_over files file (Some station) none taken =
       takes_more source files (file ∷ []) (nothing_known station.shape) station station taken
       (passed_over source station file (no_shape station.shape file none))

@@ -19,8 +19,7 @@ use Rattle.jls_copy.specs.Prefixes.{HasLines}
 use Rattle.jls_search.specs.OfGroups.{HasManyFaults}
 use Rattle.jls_search.specs.ReadsBetween.{IsBetween, Reaches, ReadsBetween}
 use Rattle.jls_search.proofs.FaultlessFiles.{lines_or_fault}
-use Rattle.jls_diff.proofs.Members.{in_rest, is_first}
-use Rattle.jls_search.proofs.Members.{all_at}
+use Rattle.jls_values.proofs.Lists.{in_rest, is_first, all_at}
 use Rattle.jls_search.proofs.Paths.{order}
 
 -- none of the records is of a piece that begins there

@@ -1,11 +1,12 @@
 -- What a search comes to.
-use Rattle.std.proofs.Common.{◌≡◌, ℕ, zero, suc, ◌<◌, Bool, true, false, List, [], ◌∷◌, ◌++◌, map, length, Result, Ok, Err, refl, sym, ap}
+use Rattle.std.proofs.Common.{◌≡◌, ℕ, zero, suc, ◌<◌, Bool, true, false, List, [], ◌∷◌, ◌++◌, length, Result, Ok, Err, refl, sym, ap}
 use Rattle.std.proofs.Common.{◌∙◌, subst, append_assoc, arith, ◌⊎◌, inl, inr, nat_eq}
 use Rattle.std.specs.Prelude.{get_or, IfOk, MatchBool}
 use Rattle.std.specs.List.{AllByRecursion, Contains}
 use Rattle.std.specs.declared.alloc.AllocError.{AllocError}
 use Rattle.std.proofs.lemmas.List.Elements.{Contains-append_left, Contains-append_right}
 use Rattle.std.specs.Cmp.Lexicographic.{pointwise, told_text}
+use Rattle.jls_values.proofs.Lists.{in_map, all_more}
 use Rattle.jls_diff.specs.Parts.{Part, Same, Differ, way, HasWays, IsSplice}
 use Rattle.jls_search.specs.Choices.{IsFirstWay, IsPrefix, IsPath, IsWhole, prefix_of}
 use Rattle.jls_search.specs.Order.{IsToCome, IsLater}
@@ -22,7 +23,7 @@ reported : {P Q : Type 0} (r : Bool) → MatchBool r P Q → P ⊎ Q
 reported true h = inl h
 reported false h = inr h
 
-same : (a b : List ℕ) → (a ≡ b) ⊎ (a ≡ b → ⊥)
+pub same : (a b : List ℕ) → (a ≡ b) ⊎ (a ≡ b → ⊥)
 same a b = reported (pointwise nat_eq a b) (told_text a b (pointwise nat_eq a b) refl)
 
 none_more : (ways : List (List ℕ)) (x : List ℕ) (n : ℕ) → ((i : ℕ) → i < n → get_or ways i [] ≡ x → ⊥) → (get_or ways n [] ≡ x → ⊥)
@@ -59,11 +60,6 @@ chosen count (Differ ways ∷ parts) bytes h (j, l, rest, e, more) =
     let r = chosen count parts rest h.1 more in
     let f = first_way ways j (subst (λ n. j < n) (sym h.0) l) in
     (f.0 ∷ r.0, (f.1, r.1), ap suc r.2, e ∙ ap (λ w. w ++ rest) (sym f.2) ∙ ap (λ z. get_or ways f.0 [] ++ z) r.3)
-
-in_map : {X Y : Type 0} (f : X → Y) (xs : List X) (x : X) → Contains xs x → Contains (map f xs) (f x)
-in_map f [] x (k, l, e) = absurd (omega (arith, l))
-in_map f (y ∷ ys) x (zero, l, e) = (0, omega arith, ap f e)
-in_map f (y ∷ ys) x (suc k, l, e) = (let r = in_map f ys x (k, omega (arith, l), e) in (suc r.0, omega (arith, r.1), r.2))
 
 -- a search that is over has come to each splice without a fault
 pub has_each_splice : (Sought : List ℕ → Type 0) (parts : List Part) (found : List (List ℕ)) → IsOver Sought parts found
@@ -166,10 +162,6 @@ module _ (Sought : List ℕ → Type 0) (ps : List Part) (path next : List ℕ) 
           | inr b ↦ inr b
         ]
       ]
-
-all_more : (P : List ℕ → Type 0) (xs : List (List ℕ)) (x : List ℕ) → AllByRecursion P xs → P x → AllByRecursion P (xs ++ x ∷ [])
-all_more P [] x h p = (p, tt)
-all_more P (y ∷ ys) x h p = (h.0, all_more P ys x h.1 p)
 
 pub files_more : (Sought : List ℕ → Type 0) (ps : List Part) (path : List ℕ) (found : List (List ℕ)) → MakeFiles Sought ps found → IsPath ps path → length path ≡ length ps
     → Sought (prefix_of ps path) → MakeFiles Sought ps (found ++ path ∷ [])

@@ -15,8 +15,7 @@ use Rattle.jls_search.specs.declared.seen.Seen.{Seen}
 use Rattle.jls_search.specs.declared.seen.Seen.TheVariants.{Faultless, Faulty, NoFrame}
 use Rattle.jls_search.specs.declared.shape_found.ShapeFound.{ShapeFound}
 use Rattle.jls_search.specs.declared.shape_found.ShapeFound.TheVariants as answer
-use Rattle.jls_diff.proofs.Members.{is_first, in_rest, none_in, first_or_rest}
-use Rattle.jls_search.proofs.Members.{all_at}
+use Rattle.jls_values.proofs.Lists.{is_first, in_rest, none_in, first_or_rest, all_at}
 use Rattle.jls_search.proofs.OneFile.{one_shape_of, no_shape, faultless_shape}
 
 -- One file ---------------------------------------------------------------------------------------------------------

@@ -11,9 +11,8 @@ use Rattle.jls_search.specs.Choices.{prefix_of}
 use Rattle.jls_search.specs.OfGroups.{AddsOne, GoesOnWith, IsGivenUp, IsSet, IsSetWhole, IsSettled, IsSoughtWith, StandsWith}
 use Rattle.jls_search.specs.Order.{IsToCome, IsLater}
 use Rattle.jls_search.specs.declared.setting.Setting.{Setting}
-use Rattle.jls_search.proofs.FaultlessFiles.{all_prefix}
 use Rattle.jls_search.proofs.KeptReaders.{prefix_and_rest}
-use Rattle.jls_diff.proofs.Members.{first_or_rest, in_rest, is_first, none_in}
+use Rattle.jls_values.proofs.Lists.{first_or_rest, in_rest, is_first, none_in, all_prefix}
 use Rattle.jls_search.specs.Search.{lists_of}
 use Rattle.jls_search.proofs.Searching.{equal_or_after}
 

@@ -13,6 +13,7 @@ use Rattle.jls_copy.specs.declared.reader.CopyFault.TheVariants.{NoPicture}
 use Rattle.jls_marker.specs.declared.fault.MarkerFault.{MarkerFault}
 use Rattle.jls_station.specs.Given.{marked}
 use Rattle.jls_station.specs.Reading.{AreBytes}
+use Rattle.jls_station.proofs.Marked.{marked_shape}
 use Rattle.jls_search.specs.Shapes.{HasShape}
 use Rattle.jls_search.specs.Stations.{Give, no_file, gives, gives_nothing, TakesFiles}
 use Rattle.jls_diff.specs.Parts.{Part}
@@ -71,10 +72,6 @@ module _ (source : Option ℕ) (old between new : PartialPicture) where
       (takes_more source (files_of ps (lists_of (take i vs))) (prefix_of ps v.items ∷ []) old between new h k)
 
 -- One file ---------------------------------------------------------------------------------------------------------
-
-marked_shape : (source : Option ℕ) (p : PartialPicture) → (marked source p).shape ≡ p.shape
-marked_shape None p = refl
-marked_shape (Some source) p = refl
 
 module _ (source : Option ℕ) (old : PartialPicture) where
   -- a file that gives nothing

@@ -103,8 +103,8 @@ fn has_fault(reader: CopyReader) -> Result<bool, AllocError>
     Ok(true)
 }
 
-/// Whether it is known that no file without a fault begins with the bytes fed, whatever comes: a piece that a marker closed is faulty, or the
-/// piece in hand is broken. `false` says nothing.
+/// Whether it is known that no file without a fault begins with the bytes fed, whatever comes: a piece that a marker closed is faulty, or
+/// the piece in hand is broken. `false` says nothing.
 pub(crate) fn is_broken(reader: &CopyReader) -> bool
     ensures { result ≡ true → IfSome reader.now (λ prefix. IsDead IsFaultless prefix) }
 {

@@ -32,7 +32,8 @@
 //! - `settling`: the station of the shape that is taken, or why there is none
 //! - `cut`: where all those files have a fault, a station of the cut file's shape takes it after them
 //!
-//! Each file is decoded once at most. If the shape that is taken is not the first frame's, as after a damaged header, each is decoded once more.
+//! Each file is decoded once at most. If the shape that is taken is not the first frame's, as after a damaged header, each is decoded once
+//! more.
 //!
 //! Definitions: `Choices`, `Faultless`, `Search`, `Order`, `Levels`; `Places`, `ReadsBetween`, `OfGroups`, `GroupTries`, `Found`; `Files`,
 //! `Shapes`, `Stations`, `Settling`, `Cuts`. Inside the crate: `Seen`, `Reading`, `Tried`.

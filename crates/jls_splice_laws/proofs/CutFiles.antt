@@ -1,10 +1,9 @@
 -- Each file that is sought begins with the cut file, and what the cut file gives are lines of its picture.
-use Rattle.std.proofs.Common.{◌≡◌, ℕ, zero, suc, ◌<◌, ◌≤◌, Bool, true, false, List, [], ◌∷◌, ◌++◌, length, map, take, refl, sym, ap, ◌∙◌}
-use Rattle.std.proofs.Common.{subst, arith, ◌⊎◌, inl, inr, nat_eq}
-use Rattle.std.specs.Prelude.{get_or, MatchBool}
+use Rattle.std.proofs.Common.{◌≡◌, ℕ, zero, suc, ◌<◌, ◌≤◌, true, List, [], ◌∷◌, ◌++◌, length, map, take, refl, sym, ap, ◌∙◌}
+use Rattle.std.proofs.Common.{subst, arith, inl, inr}
+use Rattle.std.specs.Prelude.{get_or}
 use Rattle.std.specs.List.{list_any, AllByRecursion, Contains}
 use Rattle.std.specs.Ordering.{eq_by_cmp}
-use Rattle.std.specs.Cmp.Lexicographic.{pointwise, told_text}
 use Rattle.std.proofs.lemmas.List.Elements.{Contains-append_right}
 use Rattle.jls_values.specs.OrderedSet as set
 use Rattle.jls_partial.specs.Partial.{readings_at}
@@ -26,6 +25,7 @@ use Rattle.jls_diff.specs.Parts.{Part, Same, Differ, HasWays, IsSplice}
 use Rattle.jls_search.specs.Choices.{IsPath, prefix_of}
 use Rattle.jls_search.specs.Faultless.{IsSought}
 use Rattle.jls_search.proofs.Paths.{path_len}
+use Rattle.jls_search.proofs.Searching.{same as same_or_other}
 use Rattle.jls_splice_laws.specs.CutLaws.{SoughtFilesBeginWithTheCut, WholeFilesBeginWithTheirLines, CutsAreHeld, CutLinesAreThePicture}
 use Rattle.jls_splice_laws.specs.WholeFiles.{IsWholeFile, WholeFilesAreFaultless}
 use Rattle.jls_splice_laws.proofs.HeldFiles.{files_alone, files_are_held}
@@ -33,13 +33,6 @@ use Rattle.jls_splice_laws.proofs.TakenFiles.{kept_of_shape}
 use Rattle.jls_splice_laws.proofs.WholeFiles.{gives_of_course}
 
 -- Paths of splices -------------------------------------------------------------------------------------------------
-
-reported : {P Q : Type 0} (r : Bool) → MatchBool r P Q → P ⊎ Q
-reported true h = inl h
-reported false h = inr h
-
-same_or_other : (a b : List ℕ) → (a ≡ b) ⊎ (a ≡ b → ⊥)
-same_or_other a b = reported (pointwise nat_eq a b) (told_text a b (pointwise nat_eq a b) refl)
 
 -- the first way with these bytes
 record FirstWith (ways : List (List ℕ)) (bytes : List ℕ) : Type 0 where

@@ -7,11 +7,11 @@ use Rattle.jls_values.specs.Shape.{PictureShape}
 use Rattle.jls_partial.specs.Partial.{PartialPicture, nothing_known, has_same_shape, union}
 use Rattle.jls_partial.specs.PartialLaws.{shape_itself}
 use Rattle.jls_station.specs.Given.{marked}
+use Rattle.jls_station.proofs.Marked.{marked_shape}
 use Rattle.jls_headline.specs.Collected.{Collected, new_station, reader_finished, partial_taken, CollectedUnder}
 use Rattle.jls_headline.specs.CollectedLaws.{CollectedHoldsExactlyUnder}
 use Rattle.jls_headline.specs.Sources.{SourcedCopy, sourced_copy, copies_of}
 use Rattle.jls_copy_laws.proofs.Members.{none_in}
-use Rattle.jls_headline.proofs.SourcedStations.{marked_shape}
 use Rattle.jls_splice_laws.specs.Taken.{AreOfShape, none_left, taken, passed_over}
 use Rattle.jls_search.specs.Stations.{Give, no_file, gives, gives_nothing}
 use Rattle.jls_search.specs.Shapes.{HasShape}

@@ -8,8 +8,8 @@ use Rattle.jls_copy.specs.CopyLaws.{FinalEndsStay}
 use Rattle.jls_copy.specs.Prefixes.{PrefixesStayBroken}
 use Rattle.jls_copy.specs.Pieces.{pieces}
 use Rattle.jls_copy.proofs.OneCourse.{one_course}
-use Rattle.jls_copy_laws.proofs.Members.{is_first, none_in, first_or_rest, all_at, all_append, all_map}
-use Rattle.jls_diff.proofs.Members.{in_map, of_map, in_flat_map, of_flat_map}
+use Rattle.jls_copy_laws.proofs.Members.{is_first, none_in, first_or_rest, all_at, all_append, all_weaker}
+use Rattle.jls_values.proofs.Lists.{in_map, of_map, in_flat_map, of_flat_map}
 use Rattle.jls_diff.specs.Parts.{Part, Same, Differ, HasWays, IsSplice, splices}
 use Rattle.jls_diff.specs.SpliceLaws.{SplicesAreListed}
 use Rattle.jls_copy.specs.Prefixes.{HasLines}
@@ -39,7 +39,7 @@ by_more : (prefix here : List ℕ) (ways : List (List ℕ)) (parts : List Part) 
     → AllByRecursion (GoesOn prefix (Differ ways ∷ parts)) files
     → AllByRecursion (GoesOn prefix (Differ (ways ++ here ∷ []) ∷ parts)) files
 by_more prefix here ways parts files h =
-    all_map (GoesOn prefix (Differ ways ∷ parts)) (GoesOn prefix (Differ (ways ++ here ∷ []) ∷ parts)) files
+    all_weaker (GoesOn prefix (Differ ways ∷ parts)) (GoesOn prefix (Differ (ways ++ here ∷ []) ∷ parts)) files
     (λ file g. (g.0, g.1, by_more_ways parts ways here g.0 g.2, g.3)) h
 
 all_go_on : (prefix : List ℕ) (parts : List Part) (files : List (List ℕ)) → Searched prefix parts files
@@ -47,14 +47,14 @@ all_go_on : (prefix : List ℕ) (parts : List Part) (files : List (List ℕ)) �
 all_go_on _ _ _ (found file is) = (([], sym (append-nil file), is_first [] [], is), tt)
 all_go_on _ _ _ (has_fault file not) = tt
 all_go_on _ _ _ (along prefix bytes parts files s) =
-    all_map (GoesOn (prefix ++ bytes) parts) (GoesOn prefix (Same bytes ∷ parts)) files
+    all_weaker (GoesOn (prefix ++ bytes) parts) (GoesOn prefix (Same bytes ∷ parts)) files
     (λ file g. (bytes ++ g.0, g.1 ∙ append_assoc prefix bytes g.0, in_map (λ rest. bytes ++ rest) (splices parts) g.0 g.2, g.3))
     (all_go_on (prefix ++ bytes) parts files s)
 all_go_on _ _ _ (no_way prefix parts) = tt
 all_go_on _ _ _ (last_way prefix here ways parts files more s t) =
     all_append (GoesOn prefix (Differ (ways ++ here ∷ []) ∷ parts)) files more
     (by_more prefix here ways parts files (all_go_on prefix (Differ ways ∷ parts) files s))
-    (all_map (GoesOn (prefix ++ here) parts) (GoesOn prefix (Differ (ways ++ here ∷ []) ∷ parts)) more
+    (all_weaker (GoesOn (prefix ++ here) parts) (GoesOn prefix (Differ (ways ++ here ∷ []) ∷ parts)) more
     (λ file g. (
       here ++ g.0,
       g.1 ∙ append_assoc prefix here g.0,
@@ -68,7 +68,7 @@ all_go_on _ _ _ (given_up prefix parts dead) = tt
 
 pub searches_find_splices : SplicesAreListed → SearchesFindSplices
 searches_find_splices listed copies parts are some files s =
-    all_map (GoesOn [] parts) (λ file. IsSplice (length copies) parts file × IsFaultless file) files
+    all_weaker (GoesOn [] parts) (λ file. IsSplice (length copies) parts file × IsFaultless file) files
     (λ file g. ((listed copies parts are some file).1 (subst (Contains (splices parts)) (sym g.1) g.2), g.3)) (all_go_on [] parts files s)
 
 -- What is lost -----------------------------------------------------------------------------------------------------

@@ -8,7 +8,7 @@ use Rattle.jls_headline.specs.Headline.{SameCopiesHoldTheSame}
 use Rattle.jls_headline.specs.LineLaws.{NeverAnotherPicture}
 use Rattle.jls_headline.specs.Sources.{copies_of}
 use Rattle.jls_headline.specs.Stations.{HoldsExactly, SameCopies}
-use Rattle.jls_copy_laws.proofs.Members.{is_first, in_rest, none_in, first_or_rest, all_map}
+use Rattle.jls_copy_laws.proofs.Members.{is_first, in_rest, none_in, first_or_rest, all_weaker}
 use Rattle.jls_diff.specs.Parts.{Part, HasWays, IsSplice}
 use Rattle.jls_search.specs.Faultless.{IsSought}
 use Rattle.jls_search.specs.Search.{HasEachSplice, files_of}
@@ -79,7 +79,7 @@ files_taken ceiling copies parts found is_used_up shape files law t = (
   record {
     are_parts = t.are_parts;
     found = files_of parts found;
-    are_splices = all_map (λ file. IsSplice (length copies) parts file × IsSought ceiling file) (IsSplice (length copies) parts)
+    are_splices = all_weaker (λ file. IsSplice (length copies) parts file × IsSought ceiling file) (IsSplice (length copies) parts)
         (files_of parts found)
         (λ file h. h.0) (law ceiling copies parts t.are_parts t.some_copy found is_used_up t.came_to).0;
     shape_is = t.shape_is;

@@ -23,12 +23,10 @@ use Rattle.jls_headline.specs.Damaged.{AreNumbers, picture_reading}
 use Rattle.jls_headline.proofs.LostIntervals.{given_by_scan}
 use Rattle.jls_headline.proofs.ScanNumbers.{numbered_pieces_give}
 use Rattle.jls_copy.specs.Prefixes.{HasLines, Gives}
+use Rattle.jls_copy.proofs.NumbersGiven.{number_above}
 use Rattle.jls_splice_laws.specs.WholeFiles.{WholeFilesAreFaultless, WholeFilesSurvive}
 
 -- Numbers ----------------------------------------------------------------------------------------------------------
-
-next_above : (k m : ℕ) → k < next_number k m
-next_above k m = omega arith
 
 next_near : (k m : ℕ) → next_number k m ≤ k + 8
 next_near k m = omega arith
@@ -69,7 +67,7 @@ numbers_of index s k at (c ∷ closed) last are h =
           (subst (λ n. AllByRecursion HasLines (following index s k at c closed last n)) e h.1) in
           record {
             numbers = next_number k c.mark ∷ more.numbers;
-            rise = (next_above k c.mark, next_near k c.mark, low, more.rise);
+            rise = (number_above k c.mark, next_near k c.mark, low, more.rise);
             marks_are = ap (λ m. m ∷ map (λ d. d.mark) closed) (mark_is k c.mark are.0.1)
                 ∙ ap (λ ms. mark_before (next_number k c.mark) ∷ ms) more.marks_are;
           })

@@ -4,9 +4,10 @@ use Rattle.std.proofs.Common.{◌∙◌, arith}
 use Rattle.std.proofs.lemmas.List.{take-append-drop, length-append}
 use Rattle.std.proofs.lemmas.Grind.{flat_map-append}
 use Rattle.std.specs.Prelude.{Bool, IsTrue, ◌↔◌}
+use Rattle.jls_values.proofs.Lists.{flat_map_more}
 use Rattle.jls_diff.specs.Parts.{Part, Same, Differ, Differs, made, way}
 use Rattle.std.specs.List.{flat_map, range_with_len}
-use Rattle.jls_report.proofs.OneMore.{flat_map_more, flat_map_take_more}
+use Rattle.jls_report.proofs.OneMore.{flat_map_take_more}
 use Rattle.jls_splice_run.specs.Differences.{difference_at, is_differ, offset_at}
 use Rattle.jls_splice_run.specs.declared.differences.Difference.{Difference}
 

@@ -2,7 +2,7 @@
 use Rattle.std.proofs.Common.{◌≡◌, ℕ, List, [], ◌∷◌, ◌++◌, ◌⊎◌, inl, inr, sym, ◌∙◌, subst}
 use Rattle.std.specs.List.{Contains}
 use Rattle.std.proofs.lemmas.List.Elements.{Contains-append_left, Contains-append_right, Contains-append_cases}
-use Rattle.jls_diff.proofs.Members.{is_first, none_in, first_or_rest}
+use Rattle.jls_values.proofs.Lists.{is_first, none_in, first_or_rest}
 use Rattle.jls_search.specs.Faultless.{IsFaultless}
 use Rattle.jls_splice_run.specs.Single.{AreSeenSo, IsOnly, NoneIsFaultless, TwoDiffer}
 use Rattle.jls_splice_run.specs.declared.single.Faultless.{Faultless}

@@ -1,11 +1,10 @@
 -- Reads of a copy, as its bytes stand in the room that they are put into.
-use Rattle.std.proofs.Common.{◌≡◌, ℕ, false, List, [], Option, sym, subst, ◌∙◌}
-use Rattle.std.proofs.lemmas.Bool.{false≢true}
+use Rattle.std.proofs.Common.{◌≡◌, ℕ, List, [], Option, sym, subst}
 use Rattle.std.specs.Io.KnownBytes.{Consumes}
 use Rattle.jls_io.specs.Event.{History, GrewBy}
 use Rattle.jls_station.specs.Reading.{ReadSoFar}
 use Rattle.jls_station.proofs.OneInput.{nothing_read, consumes_nothing}
-use Rattle.jls_station.specs.CopyFiles.{begins_as_text, IsTextPrefix}
+use Rattle.jls_station.specs.CopyFiles.{IsTextPrefix}
 
 -- no read was made
 pub none_yet : (now : History) (items : List ℕ) → items ≡ [] → GrewBy (ReadSoFar IsTextPrefix 0 items) now now
@@ -13,7 +12,3 @@ none_yet now items is = subst (λ (t : List ℕ). GrewBy (ReadSoFar IsTextPrefix
 
 pub none_known_yet : (left : Option (List ℕ)) (items : List ℕ) → items ≡ [] → Consumes left left items
 none_known_yet left items is = subst (Consumes left left) (sym is) (consumes_nothing left)
-
--- bytes that do not begin as a text
-pub no_prefix : (bytes : List ℕ) → begins_as_text bytes ≡ false → IsTextPrefix bytes → ⊥
-no_prefix bytes none prefix = false≢true (sym none ∙ prefix)

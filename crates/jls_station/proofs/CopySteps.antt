@@ -6,13 +6,13 @@ use Rattle.std.specs.Io.KnownBytes.{Consumes, IsAtEnd}
 use Rattle.std.proofs.lemmas.Bool.{false≢true}
 use Rattle.std.proofs.lemmas.List.{append-nil, append_assoc, length-append}
 use Rattle.jls_io.specs.Event.{History, GrewBy, gave}
-use Rattle.jls_station.specs.Inputs.{IsCopyDone, IsEnough}
+use Rattle.jls_station.specs.Inputs.{IsCopyDone}
 use Rattle.jls_station.specs.KnownCopies.{IsPrefixOf}
 use Rattle.jls_station.specs.Reading.{AreBytes, ReadSoFar}
 use Rattle.jls_station.specs.Texts.{is_text}
 use Rattle.jls_station.specs.declared.input.ReadStop.{ReadStop}
 use Rattle.jls_station.specs.declared.input.ReadStop.TheVariants.{Whole}
-use Rattle.jls_station.proofs.OneInput.{one_read_more, never_enough, still_text, consumes_on}
+use Rattle.jls_station.proofs.OneInput.{one_read_more, consumes_on}
 
 -- What an intake, which was fed as `first` says and is fed as `held` says now, got by so many reads. `left` is what its source had left
 -- before them and has left now, where that is known
@@ -93,25 +93,5 @@ one_more E first held held' made count old mid new room more left mid_left left'
 abbrev pub text_in : List ℕ → Option (List ℕ)
 text_in bytes = if is_text bytes then Some bytes else None
 
--- no bytes of a text are enough, and it stays a text
-pub none_enough : (bytes : List ℕ) → IfSome (text_in bytes) (λ b. IsTrue false ↔ IsEnough b)
-none_enough bytes = by (is_text bytes) refl
-  where
-    by : (b : Bool) → is_text bytes ≡ b → IfSome (if b then Some bytes else None) (λ b. IsTrue false ↔ IsEnough b)
-    by true text = (λ no. absurd (false≢true no), λ e. absurd (never_enough bytes text e))
-    by false text = tt
-
 pub text_held : (bytes : List ℕ) → is_text bytes ≡ true → text_in bytes ≡ Some bytes
 text_held bytes text = ap (λ (b : Bool). if b then Some bytes else None) text
-
-pub held_text : (bytes before : List ℕ) → text_in bytes ≡ Some before → (is_text bytes ≡ true) × (bytes ≡ before)
-held_text bytes before = by (is_text bytes) refl
-  where
-    by : (b : Bool) → is_text bytes ≡ b → (if b then Some bytes else None) ≡ Some before → (is_text bytes ≡ true) × (bytes ≡ before)
-    by true text e = (text, (let same : bytes ≡ before = cc in same))
-    by false text e = absurd cc
-
-pub text_put : (bytes before more : List ℕ) → text_in bytes ≡ Some before → text_in (bytes ++ more) ≡ Some (before ++ more)
-text_put bytes before more e =
-    let h = held_text bytes before e in
-    text_held (bytes ++ more) (still_text bytes more h.0) ∙ ap (λ (t : List ℕ). Some (t ++ more)) h.1

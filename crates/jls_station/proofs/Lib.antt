@@ -4,6 +4,7 @@ pub mod CopySteps
 pub mod KnownCopies
 pub mod KnownInputs
 pub mod Mapped
+pub mod Marked
 pub mod OneInput
 pub mod CopiesInTurn
 pub mod CopyReads

@@ -154,10 +154,6 @@ module _ (E : List ℕ → Type 0) where
 pub never_enough : (bytes : List ℕ) → is_text bytes ≡ true → IsEnough bytes → ⊥
 never_enough bytes h e = false≢true (sym e.0 ∙ h)
 
-pub still_text : (bytes more : List ℕ) → is_text bytes ≡ true → is_text (bytes ++ more) ≡ true
-still_text [] more h = absurd (false≢true h)
-still_text (b ∷ bytes) more h = h
-
 pub same_first : (bytes more : List ℕ) → 0 < length bytes → is_text (bytes ++ more) ≡ is_text bytes
 same_first [] more h = absurd (omega (arith, h))
 same_first (b ∷ bytes) more h = refl

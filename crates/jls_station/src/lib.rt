@@ -1,8 +1,8 @@
 //! Stations, the copies that they take, the reading of one input, and copies of one file read whole into memory.
 //!
-//! - `input`, `reading`, `intakes`, `copy_end`: read one input. `read_form` gives the bytes of a text, not judged yet, or what a copy gives.
-//!   `read_input` gives what either gives. `reading` has the loop, and the trait that says when bytes are enough. `intakes` has what a text
-//!   and a copy are read into, `copy_end` what a copy gives where the loop stops
+//! - `input`, `reading`, `intakes`, `copy_end`: read one input. `read_form` gives the bytes of a text, not judged yet, or what a copy
+//!   gives. `read_input` gives what either gives. `reading` has the loop, and the trait that says when bytes are enough. `intakes` has
+//!   what a text and a copy are read into, `copy_end` what a copy gives where the loop stops
 //! - `take_report`: what is said of a copy that was taken
 //! - `station`, `take_copy`: take partial pictures of one shape, texts of them, and copies
 //! - `whole_reading`: reads a copy to its end by that loop, also after its EOI. It stops if the bytes begin like a partial picture

@@ -6,12 +6,13 @@ use Rattle.std.proofs.lemmas.Grind.{flat_map-append}
 use Rattle.std.proofs.lemmas.List.{append-nil, take_more, get_or-map, length-map, map-append}
 use Rattle.std.proofs.lemmas.List.Folds.{flat_map-map}
 use Rattle.std.proofs.lemmas.List.FromFn.{get_or-map-range_with_len, length-map-range_with_len}
+use Rattle.jls_values.proofs.Lists.{appended}
 use Rattle.jls_write.specs.Picture.{WholePicture, line_of}
 use Rattle.jls_write.specs.Pnm.{is_wide, sample_bytes, pixel_bytes, largest_sample}
 use Rattle.jls_write.specs.Waiting.{column_bytes, AreLinesTo}
 use Rattle.jls_write.specs.WholePictures.{IsLineIn}
 use Rattle.jls_write.proofs.Lending.{above}
-use Rattle.jls_write.proofs.OneMore.{range-append, appended}
+use Rattle.jls_write.proofs.OneMore.{range-append}
 
 -- a sample more
 pub column_more : (wide : Bool) (lines : List (List ℕ)) (column k : ℕ) → k < length lines

@@ -29,10 +29,6 @@ pub all_by : (P : ℕ → Type 0) (xs : List ℕ) → All P xs → AllByRecursio
 all_by P [] h = tt
 all_by P (x ∷ xs) h = (h 0 x (omega arith), all_by P xs (λ k d lt. h (suc k) d (omega arith)))
 
-pub all_more : (P : List ℕ → Type 0) (xs : List (List ℕ)) (x : List ℕ) → AllByRecursion P xs → P x → AllByRecursion P (xs ++ x ∷ [])
-all_more P [] x h here = (here, tt)
-all_more P (y ∷ ys) x h here = (h.0, all_more P ys x h.1 here)
-
 map_length : (f : ℕ → List ℕ) (xs : List ℕ) → length (map f xs) ≡ length xs
 map_length f [] = refl
 map_length f (x ∷ xs) = let e = map_length f xs in omega (arith, e)

@@ -2,20 +2,13 @@
 use Rattle.std.proofs.Common.{◌≡◌, ℕ, ◌+◌, List, [], ◌++◌, ap, sym, ◌∙◌}
 use Rattle.std.specs.List.{flat_map, range_with_len}
 use Rattle.std.proofs.lemmas.List.{append-nil, append_assoc}
-use Rattle.jls_write.proofs.OneMore.{appended, flat_map_more}
+use Rattle.jls_values.proofs.Lists.{flat_map_more, appended}
 
 -- a part more
 pub joined_more : (f : ℕ → List ℕ) (k : ℕ) (start now new : List ℕ) → now ≡ start ++ flat_map f (range_with_len 0 k) → new ≡ now ++ f k
     → new ≡ start ++ flat_map f (range_with_len 0 (k + 1))
 joined_more f k start now new so_far more =
     appended start (flat_map f (range_with_len 0 k)) (f k) now new so_far more ∙ ap (λ t. start ++ t) (sym (flat_map_more f k))
-
--- an interval more: what stood before it, and its code
-pub interval_joined : (front back before mark start a b : List ℕ) → before ≡ start → front ≡ before ++ mark → mark ≡ a → back ≡ b
-    → front ++ back ≡ start ++ (a ++ b)
-interval_joined front back before mark start a b before_is front_is mark_is back_is =
-    ap (λ t. t ++ back) (front_is ∙ (ap (λ t. t ++ mark) before_is ∙ ap (λ t. start ++ t) mark_is))
-    ∙ (ap (λ t. (start ++ a) ++ t) back_is ∙ append_assoc start a b)
 
 -- the end after the back
 pub end_joined : (front back ended none header first scans end : List ℕ) → front ++ back ≡ (header ++ none) ++ scans → none ≡ [] → header ≡ first

@@ -1,29 +1,18 @@
 -- The lines that a picture lends are the readings of its partial picture.
-use Rattle.std.proofs.Common.{◌≡◌, inl, inr, ℕ, ◌<◌, ◌^◌, Bool, true, false, cond, ◌||◌, eqb, List, [], ◌∷◌, length, map, get_or, Option}
-use Rattle.std.proofs.Common.{Some, None, refl, ap, sym, ◌∙◌, arith, zero-add}
+use Rattle.std.proofs.Common.{◌≡◌, inl, inr, ℕ, ◌<◌, ◌^◌, Bool, true, false, ◌||◌, eqb, List, [], ◌∷◌, length, map, get_or}
+use Rattle.std.proofs.Common.{None, refl, ap, sym, ◌∙◌, zero-add}
 use Rattle.std.specs.Prelude.{not, nat_le}
 use Rattle.std.specs.List.{range_with_len, list_any, AllByRecursion}
 use Rattle.std.proofs.lemmas.Bool.{eqb-true}
 use Rattle.std.proofs.lemmas.Bool.Decides.{leb_tells}
 use Rattle.std.proofs.lemmas.List.FromFn.{get_or-map-range_with_len}
 use Rattle.jls_values.specs.Shape.{PictureShape}
-use Rattle.jls_partial.specs.declared.status.Status.TheVariants.{Settled}
 use Rattle.jls_partial.specs.InsertFaults.{reading_fault}
 use Rattle.jls_partial.specs.Partial.{PartialPicture}
-use Rattle.jls_partial.specs.Status.{status_of}
+use Rattle.jls_partial.proofs.BareEntries.{first_none}
 use Rattle.jls_write.specs.Picture.{line_of, settled_line, picture_of}
 
 -- ---- settled lines
-
-pub one_reading : (xs : List (List ℕ)) → status_of xs ≡ Settled → length xs ≡ 1
-one_reading [] e = absurd cc
-one_reading (x ∷ []) e = refl
-one_reading (x ∷ y ∷ xs) e = absurd cc
-
-pub settled_by : (xs : List (List ℕ)) → length xs ≡ 1 → status_of xs ≡ Settled
-settled_by [] e = absurd (omega arith)
-settled_by (x ∷ []) e = refl
-settled_by (x ∷ y ∷ xs) e = absurd (omega arith)
 
 pub line_is : (p : PartialPicture) (component line : ℕ) → component < length p.shape.ids → line < p.shape.height
     → line_of (picture_of p) component line ≡ settled_line p component line
@@ -32,10 +21,6 @@ line_is p component line component_in line_in =
     ∙ get_or-map-range_with_len (settled_line p component) 0 p.shape.height line line [] line_in (zero-add line)
 
 -- ---- readings without a fault
-
-none_first : {X : Type 0} (b : Bool) (x : X) (rest : Option X) → cond b (Some x) rest ≡ None → (b ≡ false) × (rest ≡ None)
-none_first true x rest e = absurd cc
-none_first false x rest e = (refl, e)
 
 not_false : (b : Bool) → not b ≡ false → b ≡ true
 not_false true e = refl
@@ -55,8 +40,8 @@ all_below n (x ∷ xs) e = let both = or_false (nat_le n x) (list_any (λ y. nat
 pub fits_shape : (shape : PictureShape) (component line : ℕ) (samples : List ℕ) → reading_fault shape component line samples ≡ None
     → (length samples ≡ shape.width) × AllByRecursion (λ sample. sample < 2 ^ shape.precision) samples
 fits_shape shape component line samples e =
-    let in_components = none_first (nat_le (length shape.ids) component) _ _ e in
-    let in_lines = none_first (nat_le shape.height line) _ _ in_components.1 in
-    let in_width = none_first (not (eqb (length samples) shape.width)) _ _ in_lines.1 in
-    let in_range = none_first (list_any (λ x. nat_le (2 ^ shape.precision) x) samples) _ _ in_width.1 in
+    let in_components = first_none (nat_le (length shape.ids) component) _ _ e in
+    let in_lines = first_none (nat_le shape.height line) _ _ in_components.1 in
+    let in_width = first_none (not (eqb (length samples) shape.width)) _ _ in_lines.1 in
+    let in_range = first_none (list_any (λ x. nat_le (2 ^ shape.precision) x) samples) _ _ in_width.1 in
     (eqb-true (length samples) shape.width (not_false (eqb (length samples) shape.width) in_width.0), all_below (2 ^ shape.precision) samples in_range.0)

@@ -7,7 +7,7 @@ pub mod OneMore
 pub mod Sampled
 pub mod Sizes
 pub mod WholePictures
-mod IntervalLines
+pub mod IntervalLines
 pub mod Defaults
 pub mod FileLength
 mod FileHanding

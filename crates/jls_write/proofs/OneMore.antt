@@ -2,7 +2,8 @@
 use Rattle.std.proofs.Common.{◌≡◌, ℕ, zero, suc, ◌+◌, ◌-◌, ◌*◌, ◌≤◌, List, ◌∷◌, ◌++◌, length, ap, sym, ◌∙◌, arith, add-zero, zero-add}
 use Rattle.std.specs.List.{range_with_len, flat_map}
 use Rattle.std.proofs.lemmas.Grind.{flat_map-append}
-use Rattle.std.proofs.lemmas.List.{append-nil, append_assoc, length-append}
+use Rattle.std.proofs.lemmas.List.{append-nil, length-append}
+use Rattle.jls_values.proofs.Lists.{appended}
 
 pub range-append : (a m n : ℕ) → range_with_len a (m + n) ≡ range_with_len a m ++ range_with_len (a + m) n
 range-append a zero n = ap (range_with_len a) (zero-add n) ∙ ap (λ k. range_with_len k n) (sym (add-zero a))
@@ -36,12 +37,6 @@ pub flat_map_from_more : {X : Type 0} (f : ℕ → List X) (a k : ℕ) → a ≤
     → flat_map f (range_with_len a (k + 1 - a)) ≡ flat_map f (range_with_len a (k - a)) ++ f k
 flat_map_from_more f a k low = flat_map_on f a k (k + 1) low (omega arith) ∙ ap (λ t. flat_map f (range_with_len a (k - a)) ++ t) (flat_map_one f k)
 
-pub flat_map_more : {X : Type 0} (f : ℕ → List X) (k : ℕ) → flat_map f (range_with_len 0 (k + 1)) ≡ flat_map f (range_with_len 0 k) ++ f k
-flat_map_more f k =
-    let more : k + 1 ≡ k + 1 - 0 = omega arith in
-    let same : k - 0 ≡ k = omega arith in
-    ap (λ n. flat_map f (range_with_len 0 n)) more ∙ flat_map_from_more f 0 k (omega arith) ∙ ap (λ n. flat_map f (range_with_len 0 n) ++ f k) same
-
 -- a list over the numbers below `all`, in three parts: those below `start`, those below `end`, and the rest
 pub three_parts : {X : Type 0} (f : ℕ → List X) (start end all : ℕ) (part : List X) → start ≤ end → end ≤ all
     → part ≡ flat_map f (range_with_len start (end - start))
@@ -58,10 +53,6 @@ length-flat_map-le f most each a (suc n) =
     let both = length-append (f a) (flat_map f (range_with_len (a + 1) n)) in
     let here = each a in
     omega (arith, rest, both, here)
-
--- two pieces appended, one after the other
-pub appended : (out a b x y : List ℕ) → x ≡ out ++ a → y ≡ x ++ b → y ≡ out ++ (a ++ b)
-appended out a b x y first second = second ∙ ap (λ t. t ++ b) first ∙ append_assoc out a b
 
 -- the part of one number more, put after
 pub put_from_more : (f : ℕ → List ℕ) (a k : ℕ) (out now new : List ℕ) → a ≤ k

@@ -7,10 +7,11 @@ use Rattle.jls_values.specs.Shape.{PictureShape, IsShape}
 use Rattle.jls_partial.specs.Partial.{PartialPicture, readings_at, IsFitting}
 use Rattle.jls_partial.specs.Status.{IsSettled}
 use Rattle.jls_partial.proofs.Marked.{got_held}
+use Rattle.jls_partial.proofs.Statuses.{one_reading}
 use Rattle.jls_write.specs.Picture.{WholePicture, line_of, settled_line, picture_of}
 use Rattle.jls_write.specs.Samples.{line_in, picture_in, AreSamplesOf}
 use Rattle.jls_write.specs.WholePictures.{IsLineIn, IsComponentIn, IsPicture, IsWholePicture}
-use Rattle.jls_write.proofs.Lending.{one_reading, fits_shape}
+use Rattle.jls_write.proofs.Lending.{fits_shape}
 use Rattle.jls_write.proofs.Sampled.{line_fits}
 
 all_of_range : {X : Type 0} (P : X → Type 0) (f : ℕ → X) (from n : ℕ) → ((i : ℕ) → i < from + n → P (f i))

@@ -1,11 +1,11 @@
 use Rattle.std.proofs.Common.{◌≡◌, ℕ, List, Option, Some, sym, ap, ◌∙◌, subst, arith}
 use Rattle.std.specs.Prelude.{IfSome}
+use Rattle.jls_values.proofs.Lists.{all_bytes}
 use Rattle.jls_partial.specs.Partial.{PartialPicture, with_source}
 use Rattle.jls_copy.specs.CopyReads.{CopyReads}
 use Rattle.jls_copy.specs.ReadCopy.{after}
 use Rattle.jls_station.specs.Given.{marked}
 use Rattle.jls_headline.specs.Collected.{reader_finished}
-use Rattle.jls_callers.proofs.Answered.{all_bytes}
 use Rattle.jls_callers.proofs.reading.read_in_memory.Goals as goal
 
 pub returns-in-None : goal.returns-in-None

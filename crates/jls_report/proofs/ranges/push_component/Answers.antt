@@ -1,7 +1,7 @@
 use Rattle.std.proofs.Common.{◌++◌, ◌∙◌, ap, sym, append_assoc}
 use Rattle.std.specs.List.{flat_map, range_with_len}
+use Rattle.jls_values.proofs.Lists.{flat_map_more}
 use Rattle.jls_report.specs.Report.{entries_at}
-use Rattle.jls_report.proofs.OneMore.{flat_map_more}
 use Rattle.jls_report.proofs.ranges.push_component.Goals as goal
 
 pub loop-line-preserved : goal.loop-line-preserved

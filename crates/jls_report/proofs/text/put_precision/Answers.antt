@@ -1,6 +1,6 @@
 use Rattle.std.proofs.Common.{◌≡◌, ◌++◌, ◌∙◌, ap}
 use Rattle.std.specs.Prelude.{codes, decimal}
-use Rattle.jls_report.proofs.OneMore.{appended}
+use Rattle.jls_values.proofs.Lists.{appended}
 use Rattle.jls_report.proofs.text.put_precision.Goals as goal
 
 pub returns : goal.returns

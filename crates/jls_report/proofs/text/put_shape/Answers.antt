@@ -1,8 +1,8 @@
 use Rattle.std.proofs.Common.{◌≡◌, ◌++◌, ◌∙◌, ap}
 use Rattle.std.specs.Prelude.{codes, decimal}
 use Rattle.std.specs.List.{join_by}
+use Rattle.jls_values.proofs.Lists.{appended}
 use Rattle.jls_report.specs.ReportText.{size_text, precision_text}
-use Rattle.jls_report.proofs.OneMore.{appended}
 use Rattle.jls_report.proofs.text.put_shape.Goals as goal
 
 pub returns : goal.returns

@@ -2,15 +2,16 @@ use Rattle.std.proofs.Common.{◌<◌}
 use Rattle.std.specs.List.{AllByRecursion}
 use Rattle.jls_copy.specs.CopyReads.{CopyReads}
 use Rattle.jls_search.specs.Faultless.{IsFaultless}
-use Rattle.jls_search.proofs.FaultlessFiles.{of_file, never_faultless, ever_faulty}
+use Rattle.jls_search.proofs.FaultlessFiles.{never_faultless, ever_faulty}
+use Rattle.jls_station.proofs.KnownCopies.{some_then}
 use Rattle.jls_search.proofs.faultless.is_faultless.Goals as goal
 
 pub returns-in-Ok-clause-faultless : goal.returns-in-Ok-clause-faultless
-returns-in-Ok-clause-faultless c = λ t. of_file c.args.reader (λ file. CopyReads file c.in-Ok.read) (λ file. IsFaultless file)
+returns-in-Ok-clause-faultless c = λ t. some_then c.args.reader (λ file. CopyReads file c.in-Ok.read) (λ file. IsFaultless file)
     (c.is_read_faultless.ensures.faultless t) c.in-Ok.ensures.read
 
 pub returns-in-Ok-clause-faulty : goal.returns-in-Ok-clause-faulty
-returns-in-Ok-clause-faulty c = λ f. of_file c.args.reader (λ file. CopyReads file c.in-Ok.read)
+returns-in-Ok-clause-faulty c = λ f. some_then c.args.reader (λ file. CopyReads file c.in-Ok.read)
     (λ file. AllByRecursion (λ b. b < 256) file → IsFaultless file → ⊥) (c.is_read_faultless.ensures.faulty f) c.in-Ok.ensures.read
 
 pub returns-in-Err-clause-faultless : goal.returns-in-Err-clause-faultless

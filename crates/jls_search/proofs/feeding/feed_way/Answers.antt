@@ -1,6 +1,7 @@
 use Rattle.std.proofs.Common.{◌<◌, arith}
 use Rattle.std.specs.List.{AllByRecursion}
-use Rattle.jls_search.proofs.Prefixes.{all_bytes, on_ok}
+use Rattle.jls_values.proofs.Lists.{all_bytes}
+use Rattle.jls_search.proofs.Prefixes.{on_ok}
 use Rattle.jls_search.proofs.feeding.feed_way.Goals as goal
 
 pub returns-clause-bytes : goal.returns-clause-bytes

@@ -1,7 +1,7 @@
 use Rattle.std.proofs.Common.{None, subst, sym}
 use Rattle.std.specs.Prelude.{IfSome}
+use Rattle.jls_values.proofs.Lists.{all_more}
 use Rattle.jls_search.specs.Search.{AreEachKept, IsKept}
-use Rattle.jls_search.proofs.Lists.{all_more}
 use Rattle.jls_search.proofs.group_search.no_readers.Goals as goal
 
 pub loop-init : goal.loop-init

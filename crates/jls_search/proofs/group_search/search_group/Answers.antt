@@ -1,7 +1,8 @@
 use Rattle.std.proofs.Common.{subst, sym}
 use Rattle.std.specs.Prelude.{IfSome}
+use Rattle.jls_values.proofs.Lists.{all_more}
 use Rattle.jls_search.specs.Search.{AreEachKept, IsKept}
-use Rattle.jls_search.proofs.Lists.{all_more, has_copy}
+use Rattle.jls_search.proofs.Lists.{has_copy}
 use Rattle.jls_search.proofs.GroupSearches.{goes_first, goes_more}
 use Rattle.jls_search.proofs.group_search.search_group.Goals as goal
 

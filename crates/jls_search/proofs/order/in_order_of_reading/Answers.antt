@@ -1,9 +1,10 @@
 use Rattle.std.proofs.Common.{ℕ, ◌+◌, List, ◌++◌, take, sym, ap, ◌∙◌, subst, Vec, Global}
 use Rattle.std.specs.List.{AllByRecursion}
 use Rattle.std.specs.List.Sorted.{IsPermutation}
+use Rattle.jls_values.proofs.Lists.{all_more}
 use Rattle.jls_diff.specs.Groups.{IsGroup}
 use Rattle.jls_diff.specs.declared.group.Group.{Group}
-use Rattle.jls_search.proofs.Lists.{all_at, all_more}
+use Rattle.jls_search.proofs.Lists.{all_at}
 use Rattle.jls_search.proofs.Orders.{one_first, one_other}
 use Rattle.jls_search.proofs.order.in_order_of_reading.Goals as goal
 use Rattle.jls_search.proofs.order.in_order_of_reading.Goals.{then-is_noted+in_ok-push, else-is_noted+in_ok-push-2}

@@ -1,8 +1,8 @@
 use Rattle.std.proofs.Common.{List, ℕ, Some, sym, ap, ◌∙◌, subst}
 use Rattle.std.specs.List.{AllByRecursion}
+use Rattle.jls_values.proofs.Lists.{all_more}
 use Rattle.jls_search.specs.Choices.{prefix_of}
 use Rattle.jls_search.specs.Search.{IsKept}
-use Rattle.jls_search.proofs.Lists.{all_more}
 use Rattle.jls_search.proofs.reading_splices.keep_more.Goals as goal
 
 pub returns : goal.returns

@@ -1,9 +1,9 @@
 use Rattle.std.proofs.Common.{◌≡◌, ◌≤◌, List, ℕ, Some, length, take, sym, ap, ◌∙◌, subst, rules}
 use Rattle.std.specs.Prelude.{IfSome}
 use Rattle.std.specs.List.{AllByRecursion}
+use Rattle.jls_values.proofs.Lists.{all_more}
 use Rattle.jls_search.specs.Choices.{prefix_of}
 use Rattle.jls_search.specs.Search.{IsKept}
-use Rattle.jls_search.proofs.Lists.{all_more}
 use Rattle.jls_search.proofs.reading_splices.take_begun.Goals as goal
 use Rattle.jls_search.proofs.reading_splices.take_begun.Goals.{else-loop-test, then-loop-test+in_default}
 

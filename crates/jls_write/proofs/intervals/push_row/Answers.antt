@@ -1,9 +1,10 @@
 use Rattle.std.proofs.Common.{◌≡◌, ℕ, List, [], ◌∷◌, ◌++◌, ◌-◌, ◌≤◌, length, map, sym, ap, subst, ◌∙◌, arith, append_assoc}
 use Rattle.std.specs.List.{AllByRecursion, range_with_len}
 use Rattle.std.proofs.lemmas.List.{map-append}
+use Rattle.jls_values.proofs.Lists.{all_more}
 use Rattle.jls_interval.specs.Lines.{IsLine}
 use Rattle.jls_write.specs.Picture.{line_of}
-use Rattle.jls_write.proofs.IntervalLines.{map_more, all_by, all_more}
+use Rattle.jls_write.proofs.IntervalLines.{map_more, all_by}
 use Rattle.jls_write.proofs.intervals.push_row.Goals as goal
 
 pub loop-component-preserved : goal.loop-component-preserved

@@ -1,7 +1,8 @@
 use Rattle.std.proofs.Common.{[], sym, ◌∙◌, arith}
 use Rattle.std.proofs.lemmas.Option.{get_or_from_slice_get}
 use Rattle.jls_partial.specs.Partial.{readings_at}
-use Rattle.jls_write.proofs.Lending.{one_reading, line_is, fits_shape}
+use Rattle.jls_partial.proofs.Statuses.{one_reading}
+use Rattle.jls_write.proofs.Lending.{line_is, fits_shape}
 use Rattle.jls_write.proofs.lender.settled_line.Goals as goal
 
 pub reading-requires-clause-i_in : goal.reading-requires-clause-i_in

@@ -1,6 +1,6 @@
 use Rattle.std.proofs.Common.{◌≡◌, ◌∙◌, ap, arith}
 use Rattle.jls_partial.specs.Partial.{readings_at}
-use Rattle.jls_write.proofs.Lending.{one_reading, settled_by}
+use Rattle.jls_partial.proofs.Statuses.{one_reading, settled_by}
 use Rattle.jls_write.proofs.picture.unsettled_line.Goals as goal
 
 pub returns-then-count-ne1 : goal.returns-then-count-ne1

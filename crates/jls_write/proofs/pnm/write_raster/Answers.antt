@@ -2,10 +2,11 @@ use Rattle.std.proofs.Common.{◌≡◌, ◌≤◌, ◌<◌, ◌+◌, ◌-◌, �
 use Rattle.std.specs.List.{flat_map, range_with_len}
 use Rattle.std.proofs.lemmas.Result.{err_from_is_err_and}
 use Rattle.jls_values.specs.Shape.{PictureShape}
+use Rattle.jls_values.proofs.Lists.{flat_map_more}
 use Rattle.jls_write.specs.Pnm.{row_bytes, raster}
 use Rattle.jls_write.specs.Waiting.{PutAfter}
 use Rattle.jls_write.proofs.Handing.{put_on, stopped_after, gone_at_most}
-use Rattle.jls_write.proofs.OneMore.{flat_map_more, flat_map_one, three_parts, length-flat_map-le}
+use Rattle.jls_write.proofs.OneMore.{flat_map_one, three_parts, length-flat_map-le}
 use Rattle.jls_write.proofs.Sizes.{row_at_most}
 use Rattle.jls_write.proofs.pnm.write_raster.Goals as goal
 

@@ -1,10 +1,11 @@
 use Rattle.std.proofs.Common.{◌≡◌, ℕ, ◌+◌, ◌-◌, ◌≤◌, ◌++◌, List, length, sym, ap, subst, ◌∙◌, arith, length-append}
 use Rattle.std.specs.List.{flat_map, range_with_len}
 use Rattle.std.proofs.lemmas.Result.{err_from_is_err_and}
+use Rattle.jls_values.proofs.Lists.{flat_map_more}
 use Rattle.jls_write.specs.Outcomes.{HandedOut}
 use Rattle.jls_write.specs.Options.{components_of_scan}
 use Rattle.jls_write.proofs.Handing.{handed_on}
-use Rattle.jls_write.proofs.OneMore.{flat_map_more, flat_map_one, three_parts}
+use Rattle.jls_write.proofs.OneMore.{flat_map_one, three_parts}
 use Rattle.jls_write.specs.Parts.{scan_from, scan_count, IsScanFrom}
 use Rattle.jls_write.specs.Stops.{StopsIn}
 use Rattle.jls_write.specs.WrittenFile.{scan_bytes, scans_bytes}
