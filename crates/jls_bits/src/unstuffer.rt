@@ -63,7 +63,14 @@ impl Unstuffer {
         ensures none { IfNone result (is_whole self.new ≡ false) }
     {
         self.pushed.note(byte);
-        if self.ended || ends_data(self.last, byte) {
+        if self.ended {
+            return None;
+        }
+        if self.last != 0xFF {
+            self.last = byte;
+            return Some((byte, 8));
+        }
+        if ends_data(self.last, byte) {
             self.ended = true;
             return None;
         }
