@@ -1,6 +1,8 @@
 -- The prediction that finds edges is a median.
 use Rattle.std.proofs.Common.{◌≡◌, ℕ, ◌+◌, ◌-◌, inl, inr, arith}
-use Rattle.std.specs.Prelude.{min, max}
+use Rattle.std.specs.Prelude.{min, max, ℤ, pos, ◌+ℤ◌, ◌-ℤ◌, nat_abs}
+use Rattle.std.specs.Int.{int_max, int_min}
+use Rattle.std.proofs.lemmas.Int.{ints, clamps}
 use Rattle.std.proofs.lemmas.Bool.{cases_lt, le-leb, lt-leb}
 use Rattle.jls_context.specs.Prediction.{edge_detecting_predictor}
 
@@ -14,3 +16,8 @@ median_is a b c =
         | inl g ↦ (let u = lt-leb c (min a b) g in rw (t, u) (omega arith))
       ])
     ]
+
+-- the same computed on integers
+pub median_of : (a b c : ℕ) (m r : ℤ) → m ≡ int_max (pos a +ℤ pos b -ℤ pos c) (pos (min a b)) → r ≡ int_min m (pos (max a b))
+    → nat_abs r ≡ edge_detecting_predictor a b c
+median_of a b c m r raised clamped = let is = median_is a b c in omega (arith, ints, clamps)

@@ -10,10 +10,10 @@ use jls_values::Params;
 pub(crate) fn edge_detecting_predictor(ra: u16, rb: u16, rc: u16) -> u16
     ensures { result ≡ Rattle.jls_context.specs.Prediction.edge_detecting_predictor ra rb rc }
 {
-    let sum = u32::from(ra) + u32::from(rb);
-    let least = u32::from(rc) + u32::from(ra.min(rb));
-    let most = u32::from(rc) + u32::from(ra.max(rb));
-    (sum.max(least).min(most) - u32::from(rc)) as u16
+    let plane = i32::from(ra) + i32::from(rb) - i32::from(rc);
+    let least = i32::from(ra.min(rb));
+    let most = i32::from(ra.max(rb));
+    plane.max(least).min(most) as u16
 }
 
 /// The sample from 0 to MAXVAL that is nearest to a number.

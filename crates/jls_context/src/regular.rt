@@ -1,6 +1,7 @@
 //! Cells of regular mode.
 
-ghost use Rattle.std.specs.Prelude.{◌≡◌, ℕ, ◌+◌, ◌*◌, ◌^◌, ◌<◌, ◌≤◌, pos, negsuc, neg_ℤ, ◌≤ℤ◌, ◌<ℤ◌};
+ghost use Rattle.std.specs.Prelude.{◌≡◌, ℕ, ◌+◌, ◌*◌, ◌^◌, ◌<◌, ◌≤◌, pos, negsuc, neg_ℤ, ◌+ℤ◌, ◌-ℤ◌, ◌≤ℤ◌, ◌<ℤ◌};
+ghost use Rattle.std.specs.Int.{int_max, int_min};
 ghost use Rattle.jls_values.specs.Params.{AreCodingParameters};
 ghost use Rattle.jls_context.specs.BiasSteps;
 ghost use Rattle.jls_context.specs.Regular.{initial_cell, regular_k, code_of, updated, IsGolombK};
@@ -55,6 +56,23 @@ fn computed_bias(occurrences: u32, bias: i32) -> i32
     moved.max(1 - count).min(0)
 }
 
+/// C after a step, or as it was where the step leads out of its range.
+fn bounded(correction: i32, moved: i32) -> i32
+    requires correction_at_least { negsuc 127 ≤ℤ correction }
+    requires correction_at_most { correction ≤ℤ pos 127 }
+    requires moved_at_least { (correction -ℤ pos 1) ≤ℤ moved }
+    requires moved_at_most { moved ≤ℤ (correction +ℤ pos 1) }
+    ensures { result ≡ int_min (int_max moved (negsuc 127)) (pos 127) }
+{
+    if moved < -128 {
+        return correction;
+    }
+    if moved > 127 {
+        return correction;
+    }
+    moved
+}
+
 /// C after a bias.
 fn computed_correction(occurrences: u32, bias: i32, correction: i32) -> i32
     requires few { occurrences ≤ 2 ^ 16 }
@@ -71,7 +89,7 @@ fn computed_correction(occurrences: u32, bias: i32, correction: i32) -> i32
         correction
     };
     let moved = if bias > 0 { lowered + 1 } else { lowered };
-    moved.max(-128).min(127)
+    bounded(correction, moved)
 }
 
 impl Cell {
@@ -104,7 +122,7 @@ impl Cell {
         requires cell { (reset : ℕ) × (reset < 2 ^ 16) × IsCell reset self }
         ensures { result ≡ Rattle.jls_context.specs.Regular.uses_special_mapping self }
     {
-        is_zero_k(self.occurrences, self.magnitudes) && 2 * self.bias <= -(self.occurrences as i32)
+        is_zero_k(self.occurrences, self.magnitudes) && 2 * self.bias + self.occurrences as i32 <= 0
     }
 
     /// Its k, and whether its errors are mapped by the special mapping.

@@ -7,7 +7,7 @@ use Rattle.jls_context.proofs.regular.computed_correction.Goals.{then-bias-count
 
 pub returns-clause-value : goal.returns-clause-value
 returns-clause-value c =
-    let n : ℕ = c.args.occurrences in let b : ℤ = c.args.bias in let d : ℤ = c.args.correction in let max = c.max.ensures.value in let min = c.min.ensures.value in
+    let n : ℕ = c.args.occurrences in let b : ℤ = c.args.bias in let d : ℤ = c.args.correction in let bounded = c.bounded.ensures in
     elim c.if-bias-count.branch [
       | then-bias-count w ↦ elim c.if-bias-gt0.branch [
         | then-bias-gt0 v ↦ absurd (omega (arith, ints))
@@ -20,4 +20,7 @@ returns-clause-value c =
     ]
 
 pub returns-clause-at_least : goal.returns-clause-at_least
-returns-clause-at_least c = let max = c.max.ensures.value in let min = c.min.ensures.value in omega (arith, ints, clamps)
+returns-clause-at_least c = let bounded = c.bounded.ensures in omega (arith, ints, clamps)
+
+pub returns-clause-at_most : goal.returns-clause-at_most
+returns-clause-at_most c = let bounded = c.bounded.ensures in omega (arith, ints, clamps)
