@@ -58,8 +58,8 @@ fn take_sample(
             };
             let k = coder.cells.regular_k(cell);
             let CodeLengths { qbpp, limit } = coder.lengths;
-            let mut ahead = chunk.fork();
-            match ahead.take_code(k, limit, qbpp) {
+            let before = chunk.fork();
+            match chunk.take_code(k, limit, qbpp) {
                 None => match CodeState::of_short(k, limit, qbpp, chunk) {
                     None => Prefix::Other,
                     Some(code) => {
@@ -68,9 +68,11 @@ fn take_sample(
                     }
                 },
                 Some(mapped) => match sample_of(coder, neighbours, mode, mapped) {
-                    None => Prefix::Other,
+                    None => {
+                        *chunk = before;
+                        Prefix::Other
+                    }
                     Some(sample) => {
-                        *chunk = ahead;
                         coder.cells.update_regular(cell, sample.error);
                         Prefix::Taken(sample.value)
                     }

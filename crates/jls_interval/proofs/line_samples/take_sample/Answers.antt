@@ -39,12 +39,12 @@ returns-in-Some-sample_of-clause-prefix c =
     let m = c.in-Regular.ensures near (record { first = a ∙ c.requires.first; second = b ∙ c.requires.second; third = d ∙ c.gradient-third.ensures.value }) in let q : ℕ = c.in-Regular.cell in let q_is : q ≡ context p near = m.context_is in
     let v : ℕ = c.in-Some-sample_of.sample.value in let e : ℤ = c.in-Some-sample_of.sample.error in let s = c.in-Some-sample_of.ensures in let u = c.update_regular.ensures in
     let unread : List Bool = c.take_code.new.self in let same : to_z w32 (of_z w32 e) ≡ e = omega (arith, ints) in let mapped : ℕ = c.in-Some.mapped in
-    let code : c.fork-ahead.result ≡ golomb (regular_k (cell_at cells q)) (limit p) (qbpp p) mapped ++ unread = along (λ k g b. c.fork-ahead.result ≡ golomb k g b mapped ++ unread) _ _ _ _ _ _ c.regular_k-k.ensures.value old.lengths_are.limit_is old.lengths_are.qbpp_is c.in-Some.ensures.some.1 in
+    let code : c.args.chunk.now ≡ golomb (regular_k (cell_at cells q)) (limit p) (qbpp p) mapped ++ unread = along (λ k g b. c.args.chunk.now ≡ golomb k g b mapped ++ unread) _ _ _ _ _ _ c.regular_k-k.ensures.value old.lengths_are.limit_is old.lengths_are.qbpp_is c.in-Some.ensures.some.1 in
     record {
       not_run = m.not_run;
       at_most = s.sample;
       is_after = λ earlier t. after_regular p cells old.run_indices earlier t near q q_is v e c.update_regular.new.self u.parameters s.error (u.updated ∙ ap (λ z. updated p.reset (cell_at cells q) z) same) u.others u.run_cells;
-      bits_are = λ earlier t. sym c.fork-ahead.ensures ∙ code ∙ ap (λ z. z ++ unread) (sym s.bits ∙ ap (λ z. regular_bits p (cell_at cells z) near v) q_is ∙ sym (sample_bits p cells old.run_indices earlier t near v));
+      bits_are = λ earlier t. code ∙ ap (λ z. z ++ unread) (sym s.bits ∙ ap (λ z. regular_bits p (cell_at cells z) near v) q_is ∙ sym (sample_bits p cells old.run_indices earlier t near v));
     }
 
 pub returns-in-Some-of_short-clause-prefix : goal.returns-in-Some-of_short-clause-prefix
@@ -53,9 +53,9 @@ returns-in-Some-of_short-clause-prefix c =
     let a : to_z w32 (of_z w32 c.args.first) ≡ c.args.first = omega (arith, ints) in let b : to_z w32 (of_z w32 c.args.second) ≡ c.args.second = omega (arith, ints) in
     let d : to_z w32 (of_z w32 c.gradient-third.result) ≡ c.gradient-third.result = omega (arith, ints) in
     let m = c.in-Regular.ensures near (record { first = a ∙ c.requires.first; second = b ∙ c.requires.second; third = d ∙ c.gradient-third.ensures.value }) in
-    let code : CodeState = c.in-Some-of_short.code in let s = c.in-Some-of_short.ensures in
+    let code : CodeState = c.in-Some-of_short.code in let s = c.in-Some-of_short.ensures in let same : c.take_code.new.self ≡ c.args.chunk.now = c.in-None.ensures.none in
     let opened : IsOpen (regular_k (cell_at cells c.in-Regular.cell)) (limit p) (qbpp p) code = along (λ k g b. IsOpen k g b code) _ _ _ _ _ _ c.regular_k-k.ensures.value old.lengths_are.limit_is old.lengths_are.qbpp_is s.opened in
-    let fed : bits_fed (limit p) (qbpp p) code ≡ c.args.chunk.now = subst (λ g. bits_fed g (qbpp p) code ≡ c.args.chunk.now) old.lengths_are.limit_is (subst (λ b. bits_fed old.lengths.limit b code ≡ c.args.chunk.now) old.lengths_are.qbpp_is s.fed) in (
+    let fed : bits_fed (limit p) (qbpp p) code ≡ c.args.chunk.now = subst (λ g. bits_fed g (qbpp p) code ≡ c.args.chunk.now) old.lengths_are.limit_is (subst (λ b. bits_fed old.lengths.limit b code ≡ c.args.chunk.now) old.lengths_are.qbpp_is (s.fed ∙ same)) in (
       record {
         not_run = m.not_run;
         opened = subst (λ q. IsOpen (regular_k (cell_at cells q)) (limit p) (qbpp p) code) m.context_is opened;
