@@ -27,5 +27,6 @@ pub mod OneFile
 pub mod ReadFiles
 pub mod FilesOfSearch
 pub mod SeenFiles
+pub mod Verdicts
 pub mod TakenFiles
 mod CutFiles

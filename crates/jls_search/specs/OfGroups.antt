@@ -89,7 +89,7 @@ IsSetWhole parts setting choices = IsSet parts setting choices × (length choice
 abbrev pub IsSeenIn : List Part → Group → List ℕ → Sight → Type 0
 IsSeenIn parts group path Dead = AllByRecursion (λ b. b < 256) (prefix_of parts path) → IsGivenUp parts group path
 IsSeenIn parts group path (Open reader) = IfSome reader (λ fed. fed ≡ Some (prefix_of parts path))
-IsSeenIn parts group path Found = ⊥
+IsSeenIn parts group path (Found reader) = ⊥
 
 -- the choices are found, or passed by
 abbrev pub IsSettled : List Part → Group → List (List ℕ) → List ℕ → Type 0

@@ -134,7 +134,8 @@ pub record GoesFrom (parts : List Part) (old new : WholeSearch) (limit : ℕ) : 
 abbrev pub IsSeen : (List ℕ → Type 0) → List Part → List ℕ → Sight → Type 0
 IsSeen Sought parts path Dead = (choices : List ℕ) → MakesFile Sought parts choices → IsToCome path choices → IsLater path choices
 IsSeen Sought parts path (Open reader) = (length path < length parts) × IfSome reader (λ fed. fed ≡ Some (prefix_of parts path))
-IsSeen Sought parts path Found = (length path ≡ length parts) × Sought (prefix_of parts path)
+IsSeen Sought parts path (Found reader) =
+    (length path ≡ length parts) × Sought (prefix_of parts path) × IfSome reader (λ fed. fed ≡ Some (prefix_of parts path))
 
 -- so were those that a search of a group keeps
 abbrev pub AreKept : List Part → GroupReaders → Type 0

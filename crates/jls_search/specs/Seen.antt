@@ -1,5 +1,5 @@
 -- Inside the crate: what is seen of files before a shape is taken. It concerns no caller.
-use Rattle.std.specs.Prelude.{◌≡◌, ℕ, List, [], ◌∷◌, slice_get, take, IsSomeAnd, ◌⊎◌}
+use Rattle.std.specs.Prelude.{◌≡◌, ℕ, Bool, true, false, List, [], ◌∷◌, slice_get, take, IsSomeAnd, ◌⊎◌}
 use Rattle.std.specs.List.{AllByRecursion, Contains}
 use Rattle.jls_values.specs.Shape.{PictureShape}
 use Rattle.jls_copy.specs.CopyReads.{CopyGivesNone}
@@ -22,6 +22,12 @@ abbrev pub AreSeen : List (List ℕ) → List Seen → Type 0
 AreSeen [] [] = Unit {0}
 AreSeen (file ∷ files) (seen ∷ more) = IsSeen file seen × AreSeen files more
 AreSeen _ _ = ⊥
+
+-- whether it has no fault
+abbrev pub verdict_of : Seen → Bool
+verdict_of (Faultless shape) = true
+verdict_of (Faulty shape) = false
+verdict_of (NoFrame fault offset) = false
 
 -- the file isn't without a fault
 abbrev pub IsNotFaultless : Seen → Type 0

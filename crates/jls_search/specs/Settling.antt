@@ -1,6 +1,7 @@
 -- What comes of the files taken.
 use Rattle.std.specs.Prelude.{ℕ, List, ◌++◌, Option}
 use Rattle.jls_partial.specs.Partial.{nothing_known}
+use Rattle.jls_search.specs.Files.{AreVerdicts}
 use Rattle.jls_search.specs.Shapes.{IsShapeFound}
 use Rattle.jls_search.specs.Stations.{TakesFiles}
 use Rattle.jls_search.specs.declared.settling.Settled.{Settled}
@@ -10,7 +11,14 @@ use Rattle.jls_search.specs.declared.shape_found.ShapeFound.TheVariants as found
 -- what comes of copies and of the splices found: a station of the shape that is found for them, which took them all, each under the source
 -- if there is one; or why no shape is found
 abbrev pub SettlesFiles : Option ℕ → List (List ℕ) → List (List ℕ) → Settled → Type 0
-SettlesFiles source copies splices (Held station) =
-    IsShapeFound copies splices (found.Taken station.shape) × TakesFiles source (copies ++ splices) (nothing_known station.shape) station
+SettlesFiles source copies splices (Held taken) =
+    IsShapeFound copies splices (found.Taken taken.station.shape)
+    × TakesFiles source (copies ++ splices) (nothing_known taken.station.shape) taken.station
 SettlesFiles source copies splices (Differ copy) = IsShapeFound copies splices (found.Differ copy)
 SettlesFiles source copies splices (NoFrame fault offset) = IsShapeFound copies splices (found.NoFrame fault offset)
+
+-- the verdict on each of these files comes with their station, if there is one
+abbrev pub HasVerdicts : List (List ℕ) → Settled → Type 0
+HasVerdicts files (Held taken) = AreVerdicts files taken.faultless.items
+HasVerdicts files (Differ copy) = Unit {0}
+HasVerdicts files (NoFrame fault offset) = Unit {0}

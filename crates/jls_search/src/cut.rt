@@ -6,8 +6,8 @@ ghost use Rattle.jls_partial.specs.Partial.{nothing_known};
 ghost use Rattle.jls_copy.specs.CopyReads.{CopyReads};
 ghost use Rattle.jls_diff.specs.PartsOf.{bytes_of, parts_of};
 ghost use Rattle.jls_search.specs.Choices.{IsPath, IsWhole, prefix_of};
-ghost use Rattle.jls_search.specs.Search.{IsShort, lists_of};
-ghost use Rattle.jls_search.specs.Files.{files_taken, splices_found};
+ghost use Rattle.jls_search.specs.Search.{IsKept, IsShort, lists_of};
+ghost use Rattle.jls_search.specs.Files.{AreVerdicts, files_taken, splices_found};
 ghost use Rattle.jls_search.specs.Reading.{HasTaken};
 ghost use Rattle.jls_search.specs.Shapes.{HasNoFrame, HasShape};
 ghost use Rattle.jls_search.specs.Stations.{TakesFiles};
@@ -18,7 +18,8 @@ use crate::feeding::feed_prefix;
 use crate::file::take_read;
 use crate::files::Files;
 use crate::reading_files::{FilesRead, read_files};
-use crate::settling::station_of;
+use crate::seen::verdicts_of;
+use crate::settling::{HeldFiles, station_of};
 use crate::shape_rule::first_faultless;
 use jls_copy::{CopyFault, CopyRead, CopyReader};
 use jls_diff::Parts;
@@ -70,6 +71,7 @@ fn take_cut(
 }
 
 /// A station that took the copies, the splices and then the cut file, each under the source if there is one. Its shape is the cut file's.
+/// With it comes the verdict on each copy and splice.
 ///
 /// The cut file is what the choices make of the first parts. It is read as a file that ends there.
 ///
@@ -79,19 +81,26 @@ pub fn settle_with_cut(
     source: Option<u32>,
     files: &Files<'_, '_>,
     cut: &[usize],
-) -> Result<Option<Station>, AllocError>
+) -> Result<Option<HeldFiles>, AllocError>
     requires some_copy { 0 < length files.now.copies.now }
     requires whole { AllByRecursion (IsWhole files.now.parts.now) (lists_of files.now.splices.now) }
     requires short { IsShort files.now.parts.now }
+    requires reader { IfSome files.now.reader.now (IsKept files.now.parts.now) }
     requires cut { IsPath files.now.parts.now cut.now }
-    ensures taken { IfOk result (λ found. IfSome found (λ station. TakesCut source (bytes_of files.now.copies.now)
-        (splices_found files.now) (prefix_of files.now.parts.now cut.now) station)) }
+    ensures taken { IfOk result (λ found. IfSome found (λ taken. TakesCut source (bytes_of files.now.copies.now)
+        (splices_found files.now) (prefix_of files.now.parts.now cut.now) taken.station)) }
+    ensures verdicts { IfOk result (λ found. IfSome found (λ taken. AreVerdicts (files_taken files.now) taken.faultless.items)) }
     ensures nothing { IfOk result (λ found. IfNone found (TakesNoCut (bytes_of files.now.copies.now)
         (splices_found files.now) (prefix_of files.now.parts.now cut.now))) }
 {
     let FilesRead { seen, station } = read_files(alloc, source, files)?;
     match first_faultless(&seen) {
-        Some(_) => Ok(None),
-        None => take_cut(alloc, source, files, station, cut),
+        Some(_) => return Ok(None),
+        None => {}
     }
+    let Some(station) = take_cut(alloc, source, files, station, cut)? else {
+        return Ok(None);
+    };
+    let faultless = verdicts_of(alloc, &seen)?;
+    Ok(Some(HeldFiles { station, faultless }))
 }

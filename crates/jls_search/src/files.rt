@@ -1,5 +1,6 @@
 //! The files that are taken.
 
+use crate::kept::KeptReader;
 use jls_diff::Parts;
 
 /// The copies of a picture, and the splices of them that a search found. The files taken are the copies, in their order, and then the
@@ -12,4 +13,6 @@ pub struct Files<'f, 'a> {
     pub parts: &'f Parts<'a>,
     /// Each splice as its choices, one for each part.
     pub splices: &'f [Vec<usize>],
+    /// A reader that was fed what its choices make, if one is kept. A splice that begins so is read on from there.
+    pub reader: &'f Option<KeptReader>,
 }

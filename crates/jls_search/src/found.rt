@@ -12,6 +12,7 @@ ghost use Rattle.jls_search.specs.Found.{IsFound, IsGroupSearch, found_of, splic
 
 use crate::copies::SearchedCopies;
 use crate::group_search::{SearchedGroups, search_groups};
+use crate::kept::KeptReader;
 use crate::whole_search::Searched;
 use jls_diff::Parts;
 use std::alloc::{AllocError, Global};
@@ -34,6 +35,8 @@ pub struct FoundSplices<'a> {
     pub parts: Parts<'a>,
     /// The splices, each as its choices, one for each part: those of the search of all, and after them those that groups gave.
     pub splices: Vec<Vec<usize>>,
+    /// The reader of the first of them, if it is kept. It was fed all of it.
+    pub reader: Option<KeptReader>,
     /// How many of them the search of all came to.
     pub whole: usize,
     /// The greatest sample that the files may have that the search of all sought, if there was a limit.
@@ -91,6 +94,7 @@ pub fn complete_by_groups<'a>(
         found.searched.is_used_up }
     ensures found { IfOk result (λ more. IsFound found.entry.ceiling (bytes_of copies.now) (found_of more)) }
     ensures ceiling { IfOk result (λ more. more.ceiling ≡ found.entry.ceiling) }
+    ensures reader { IfOk result (λ more. more.reader ≡ found.entry.searched.reader) }
     ensures parts_kept { IfOk result (λ more. more.parts ≡ found.entry.parts) }
     ensures tries { IfOk result (λ more. more.tries ≡ found.entry.searched.tries) }
     ensures used_up { IfOk result (λ more. more.is_used_up ≡ found.entry.searched.is_used_up) }
@@ -109,6 +113,7 @@ pub fn complete_by_groups<'a>(
     } = found;
     let Searched {
         mut splices,
+        reader,
         tries,
         is_used_up,
     } = searched;
@@ -118,6 +123,7 @@ pub fn complete_by_groups<'a>(
         return Ok(FoundSplices {
             parts,
             splices,
+            reader,
             whole,
             ceiling,
             tries,
@@ -132,6 +138,7 @@ pub fn complete_by_groups<'a>(
     Ok(FoundSplices {
         parts,
         splices,
+        reader,
         whole,
         ceiling,
         tries,

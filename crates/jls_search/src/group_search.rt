@@ -83,6 +83,7 @@ fn search_setting(
         splices,
         mut tries,
         is_used_up,
+        ..
     } = searched;
     let most = most_after(splices.len());
     let mut path = Vec::new(alloc);
@@ -107,7 +108,8 @@ fn search_setting(
 
 /// What a search of a group came to.
 fn went(walk: GroupWalk, tries: u32, is_used_up: bool) -> Gone
-    ensures searched { result.searched ≡ record { splices = walk.found; tries = tries; is_used_up = is_used_up } }
+    ensures searched { result.searched
+        ≡ record { splices = walk.found; reader = None; tries = tries; is_used_up = is_used_up } }
     ensures kept { result.kept ≡ walk.kept.begin }
 {
     let GroupWalk { found, kept, .. } = walk;
@@ -115,6 +117,7 @@ fn went(walk: GroupWalk, tries: u32, is_used_up: bool) -> Gone
     Gone {
         searched: Searched {
             splices: found,
+            reader: None,
             tries,
             is_used_up,
         },
@@ -204,6 +207,7 @@ fn search_in_turn(
     let mut kept = no_readers(alloc, extent.copies)?;
     let mut searched = Searched {
         splices: Vec::new(alloc),
+        reader: None,
         tries: 0,
         is_used_up: false,
     };

@@ -1,4 +1,4 @@
-//! The reader that a search keeps, and readers that go on from it.
+//! The readers that a search keeps, and readers that go on from them.
 
 ghost use Rattle.std.specs.Prelude.{◌≡◌, List, ◌-◌, ◌^◌, ◌≤◌, length, Some, IfOk, IfSome, OnOk};
 ghost use Rattle.jls_diff.specs.Parts.{Part};
@@ -27,6 +27,8 @@ pub struct Judge {
     pub ceiling: Option<u16>,
     /// The reader of the last path that was left open. Paths that begin so are read from there on, and not from their first byte.
     pub kept: Option<KeptReader>,
+    /// The reader of the first file that was found. It was fed all of it.
+    pub found: Option<KeptReader>,
 }
 
 /// A reader that was fed what the first choices of a path make.

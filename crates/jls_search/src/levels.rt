@@ -251,6 +251,7 @@ pub fn lone_path(
     let mut judge = Judge {
         ceiling,
         kept: None,
+        found: None,
     };
     let mut left = limit - 1;
     let Some(mut level) = first_level(alloc, parts, &judge)? else {

@@ -7,7 +7,7 @@
 //! - `faultless`: judges it: a file without a fault, or a prefix that none begins with
 //! - `lines`: whether each line of a picture was read
 //! - `ceiling`: whether samples are at most the greatest that a file may have that is sought
-//! - `kept`: the reader that a search keeps, and readers that go on from it
+//! - `kept`: the readers that a search keeps, and readers that go on from them
 //! - `living`: readers that are fed as long as a file without a fault may begin so
 //! - `looking`: what is seen of a path
 //! - `whole_search`: the search of whole files, as a value that goes on as far as its caller wants
@@ -24,16 +24,17 @@
 //! The station of the files taken, which are the copies and the splices that a search found, or why there is none.
 //!
 //! - `files`: the copies and the splices that a search found, as one value
-//! - `seen`: what is seen of each file: its shape, and whether it has a fault
+//! - `seen`: what is seen of each file: its shape, and whether it has a fault; the verdict on each
 //! - `reading_files`: each file is read once: what is seen of it is kept, and a station of the first frame's shape takes it
-//! - `reading_splices`: the splices among them; what several begin with alike is read once, as long as its reader is kept
+//! - `reading_splices`: the splices among them; what several begin with alike is read once, as long as its reader is kept, and what the
+//!   search fed to the reader that comes with them is not read again
 //! - `shape_rule`: the shape that is taken, or the copy that is named
 //! - `file`, `taking`: a station takes one file; all files
 //! - `settling`: the station of the shape that is taken, or why there is none
 //! - `cut`: where all those files have a fault, a station of the cut file's shape takes it after them
 //!
-//! Each file is decoded once at most. If the shape that is taken is not the first frame's, as after a damaged header, each is decoded once
-//! more.
+//! Here each file is decoded once at most. The first that a search of all splices finds is decoded in the search alone, since its reader
+//! comes with the files. If the shape that is taken is not the first frame's, as after a damaged header, each is decoded once more.
 //!
 //! Definitions: `Choices`, `Faultless`, `Search`, `Order`, `Levels`; `Places`, `ReadsBetween`, `OfGroups`, `GroupTries`, `Found`; `Files`,
 //! `Shapes`, `Stations`, `Settling`, `Cuts`. Inside the crate: `Seen`, `Reading`, `Tried`.
@@ -91,7 +92,7 @@ pub use kept::{Judge, KeptReader};
 pub use laws::{parts_can_be_searched, searches_come_to_each_splice};
 pub use levels::lone_path;
 pub use reading_between::reads_between;
-pub use settling::{Settled, settle_files};
+pub use settling::{HeldFiles, Settled, settle_files};
 pub use shape_found::ShapeFound;
 pub use short::are_short;
 pub use whole_search::{MOST_FOUND, Searched, WholeSearch, search};

@@ -21,8 +21,19 @@ pub(crate) enum Sight {
     Dead,
     /// Such choices may come. The reader was fed what the path makes. There is none where its copy has ended.
     Open(Option<CopyReader>),
-    /// The path has a choice for each part, and makes a file that is sought.
-    Found,
+    /// The path has a choice for each part, and makes a file that is sought. If it is the first, there is a reader that was fed this file.
+    Found(Option<CopyReader>),
+}
+
+/// A clone of the reader, if no reader is kept of a file that was found before.
+fn clone_first(judge: &Judge, reader: &CopyReader) -> Result<Option<CopyReader>, AllocError>
+    ensures { IfOk result (λ found. IfSome found (λ clone. clone ≡ reader.now)) }
+{
+    if judge.found.is_some() {
+        return Ok(None);
+    }
+    let clone = reader.try_clone()?;
+    Ok(Some(clone))
 }
 
 /// What is seen of a path that has a choice for each part.
@@ -41,9 +52,10 @@ fn look_at_file(
     let Some(reader) = living_on(alloc, parts, &judge.kept, path)? else {
         return Ok(Sight::Dead);
     };
+    let found = clone_first(judge, &reader)?;
     let sought = is_sought(judge.ceiling, reader)?;
     if sought {
-        return Ok(Sight::Found);
+        return Ok(Sight::Found(found));
     }
     Ok(Sight::Dead)
 }

@@ -4,7 +4,7 @@ ghost use Rattle.std.specs.Prelude.{◌-◌, ◌^◌, ◌≤◌, ◌∷◌, [], 
 ghost use Rattle.std.specs.List.{AllByRecursion};
 ghost use Rattle.jls_diff.specs.PartsOf.{bytes_of, parts_of};
 ghost use Rattle.jls_search.specs.Choices.{IsPath, IsWhole, prefix_of};
-ghost use Rattle.jls_search.specs.Search.{IsShort, files_of, lists_of};
+ghost use Rattle.jls_search.specs.Search.{IsKept, IsShort, files_of, lists_of};
 ghost use Rattle.jls_station.specs.Reading.{AreBytes};
 ghost use Rattle.jls_search.specs.Files.{files_taken};
 ghost use Rattle.jls_search.specs.Reading.{AreRead, HasTaken, ReadsMore};
@@ -104,8 +104,9 @@ pub(crate) fn read_files(
 ) -> Result<FilesRead, AllocError>
     requires whole { AllByRecursion (IsWhole files.now.parts.now) (lists_of files.now.splices.now) }
     requires short { IsShort files.now.parts.now }
+    requires reader { IfSome files.now.reader.now (IsKept files.now.parts.now) }
     ensures { IfOk result (λ read. AreRead source (files_taken files.now) read) }
 {
     let copies = read_copies(alloc, source, files.copies)?;
-    read_splices(alloc, source, copies, files.parts, files.splices)
+    read_splices(alloc, source, copies, files)
 }

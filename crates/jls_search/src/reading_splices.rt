@@ -5,9 +5,11 @@ ghost use Rattle.std.specs.List.{AllByRecursion};
 ghost use Rattle.jls_diff.specs.Parts.{Part};
 ghost use Rattle.jls_diff.specs.PartsOf.{parts_of};
 ghost use Rattle.jls_search.specs.Choices.{IsPath, IsWhole, prefix_of};
-ghost use Rattle.jls_search.specs.Search.{IsBegunOn, IsKept, IsShort, files_of, lists_of};
+ghost use Rattle.jls_search.specs.Files.{splices_found};
+ghost use Rattle.jls_search.specs.Search.{IsBegunOn, IsKept, IsShort, lists_of};
 ghost use Rattle.jls_search.specs.Reading.{ReadsMore};
 
+use crate::files::Files;
 use crate::kept::{BegunReader, KeptReader, fed_on, kept_reader};
 use crate::reading_files::{FilesRead, read_file};
 use crate::reading_group::makes_bytes;
@@ -144,26 +146,41 @@ fn read_on(
     Ok(reader)
 }
 
+/// The readers that are kept at first: a clone of this one, if there is one.
+fn begin_kept(alloc: Global, reader: &Option<KeptReader>) -> Result<Vec<KeptReader>, AllocError>
+    ensures { (parts : List Part) → IfSome reader.now (IsKept parts)
+        → IfOk result (λ kept. AllByRecursion (IsKept parts) kept.items) }
+{
+    let mut kept = Vec::new(alloc);
+    let Some(first) = reader else {
+        return Ok(kept);
+    };
+    let clone = first.reader.try_clone()?;
+    let one = kept_reader(alloc, clone, &first.choices)?;
+    kept.push(one)?;
+    Ok(kept)
+}
+
 /// Adds the splices, in turn.
 pub(crate) fn read_splices(
     alloc: Global,
     source: Option<u32>,
     before: FilesRead,
-    parts: &Parts<'_>,
-    splices: &[Vec<usize>],
+    files: &Files<'_, '_>,
 ) -> Result<FilesRead, AllocError>
-    requires whole { AllByRecursion (IsWhole parts.now) (lists_of splices.now) }
-    requires short { IsShort parts.now }
-    ensures { IfOk result (λ read. ReadsMore source (files_of parts.now (lists_of splices.now)) before read) }
+    requires whole { AllByRecursion (IsWhole files.now.parts.now) (lists_of files.now.splices.now) }
+    requires short { IsShort files.now.parts.now }
+    requires reader { IfSome files.now.reader.now (IsKept files.now.parts.now) }
+    ensures { IfOk result (λ read. ReadsMore source (splices_found files.now) before read) }
 {
     let mut read = before;
-    let mut kept = Vec::new(alloc);
-    for number in 0..splices.len() {
-        let path: &[usize] = &splices[number];
-        let (_, later) = splices.split_at(number + 1);
+    let mut kept = begin_kept(alloc, files.reader)?;
+    for number in 0..files.splices.len() {
+        let path: &[usize] = &files.splices[number];
+        let (_, later) = files.splices.split_at(number + 1);
         let shared = most_shared(path, later);
-        let reader = read_on(alloc, parts, path, shared, &mut kept)?;
-        makes_bytes(parts, path);
+        let reader = read_on(alloc, files.parts, path, shared, &mut kept)?;
+        makes_bytes(files.parts, path);
         read = read_file(alloc, source, read, reader)?;
     }
     Ok(read)

@@ -1,14 +1,15 @@
-//! What is seen of a file before a shape is taken.
+//! What is seen of a file before a shape is taken, and the verdict on each file.
 
-ghost use Rattle.std.specs.Prelude.{List, ℕ};
+ghost use Rattle.std.specs.Prelude.{◌≡◌, List, ℕ, map, IfOk};
 ghost use Rattle.jls_copy.specs.CopyReads.{CopyReads};
 ghost use Rattle.jls_station.specs.Reading.{AreBytes};
-ghost use Rattle.jls_search.specs.Seen.{IsSeen};
+ghost use Rattle.jls_search.specs.Seen.{IsSeen, verdict_of};
 
 use crate::faultless::is_read_faultless;
 use jls_copy::CopyRead;
 use jls_marker::MarkerFault;
 use jls_values::Shape;
+use std::alloc::{AllocError, Global};
 
 /// What is seen of a file.
 #[derive(Drop)]
@@ -31,4 +32,26 @@ pub(crate) fn see(read: &CopyRead) -> Seen
     } else {
         Seen::Faulty(shape)
     }
+}
+
+/// Whether a file has no fault, by what is seen of it.
+fn has_no_fault(seen: &Seen) -> bool
+    ensures { result ≡ verdict_of seen.now }
+{
+    match seen {
+        Seen::Faultless(_) => true,
+        Seen::Faulty(_) => false,
+        Seen::NoFrame(_, _) => false,
+    }
+}
+
+/// Whether each file has no fault, by what is seen of them.
+pub(crate) fn verdicts_of(alloc: Global, seen: &[Seen]) -> Result<Vec<bool>, AllocError>
+    ensures { IfOk result (λ verdicts. verdicts.items ≡ map verdict_of seen.now) }
+{
+    let mut verdicts = Vec::new(alloc);
+    for file in seen {
+        verdicts.push(has_no_fault(file))?;
+    }
+    Ok(verdicts)
 }

@@ -1,18 +1,19 @@
 //! What comes of the files taken.
 
-ghost use Rattle.std.specs.Prelude.{◌≡◌, ◌<◌, length, IfOk};
+ghost use Rattle.std.specs.Prelude.{◌≡◌, ◌<◌, length, IfOk, IfSome};
 ghost use Rattle.std.specs.List.{AllByRecursion};
 ghost use Rattle.jls_partial.specs.Partial.{nothing_known};
 ghost use Rattle.jls_diff.specs.PartsOf.{bytes_of, parts_of};
 ghost use Rattle.jls_search.specs.Choices.{IsWhole};
-ghost use Rattle.jls_search.specs.Search.{IsShort, lists_of};
+ghost use Rattle.jls_search.specs.Search.{IsKept, IsShort, lists_of};
 ghost use Rattle.jls_search.specs.Files.{files_taken, splices_found};
 ghost use Rattle.jls_search.specs.Reading.{HasTaken};
-ghost use Rattle.jls_search.specs.Settling.{SettlesFiles};
+ghost use Rattle.jls_search.specs.Settling.{HasVerdicts, SettlesFiles};
 ghost use Rattle.jls_search.specs.Stations.{TakesFiles};
 
 use crate::files::Files;
 use crate::reading_files::{FilesRead, read_files};
+use crate::seen::verdicts_of;
 use crate::shape_found::ShapeFound;
 use crate::shape_rule::find_shape;
 use crate::taking::take_files;
@@ -21,11 +22,20 @@ use jls_station::Station;
 use jls_values::Shape;
 use std::alloc::{AllocError, Global};
 
+/// A station that took files, and the verdict on each of these.
+#[derive(Drop)]
+pub struct HeldFiles {
+    /// The station.
+    pub station: Station,
+    /// Whether each file has no fault: the copies, in their order, and then the splices.
+    pub faultless: Vec<bool>,
+}
+
 /// What comes of the files taken: their station, or why there is none.
 #[derive(Drop)]
 pub enum Settled {
-    /// A station of the shape that is taken. It took the files.
-    Held(Station),
+    /// A station of the shape that is taken, which took the files, and the verdict on each.
+    Held(HeldFiles),
     /// Two files without a fault differ in shape: the copy to name, by its number. The first copy's is 0.
     Differ(usize),
     /// No file is without a fault, and no copy has a frame: the fault of the first copy, and its offset.
@@ -57,7 +67,8 @@ pub(crate) fn station_of(
 
 /// What comes of the files taken, which are the copies and then the splices. Each file that has no fault has the shape that is taken. Where
 /// there is no such file it is that of the first copy with a frame. A station of it takes all files, under the source if there is one. Each
-/// file is decoded once, unless the first frame has another shape: then each is decoded twice. `Err` comes where memory is refused.
+/// file is decoded once, unless the first frame has another shape: then each is decoded twice. What the reader that comes with the files
+/// was fed is not decoded the first time. `Err` comes where memory is refused.
 pub fn settle_files(
     alloc: Global,
     source: Option<u32>,
@@ -66,14 +77,17 @@ pub fn settle_files(
     requires some_copy { 0 < length files.now.copies.now }
     requires whole { AllByRecursion (IsWhole files.now.parts.now) (lists_of files.now.splices.now) }
     requires short { IsShort files.now.parts.now }
-    ensures { IfOk result (λ settled.
+    requires reader { IfSome files.now.reader.now (IsKept files.now.parts.now) }
+    ensures settled { IfOk result (λ settled.
         SettlesFiles source (bytes_of files.now.copies.now) (splices_found files.now) settled) }
+    ensures verdicts { IfOk result (λ settled. HasVerdicts (files_taken files.now) settled) }
 {
     let FilesRead { seen, station } = read_files(alloc, source, files)?;
     match find_shape(&seen, files) {
         ShapeFound::Taken(shape) => {
             let station = station_of(alloc, source, files, station, shape)?;
-            Ok(Settled::Held(station))
+            let faultless = verdicts_of(alloc, &seen)?;
+            Ok(Settled::Held(HeldFiles { station, faultless }))
         }
         ShapeFound::Differ(copy) => Ok(Settled::Differ(copy)),
         ShapeFound::NoFrame(fault, offset) => Ok(Settled::NoFrame(fault, offset)),

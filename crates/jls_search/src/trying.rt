@@ -161,7 +161,7 @@ fn try_prefix(
             Ok(true)
         }
         Sight::Dead => turn(parts, Goal::Group(setting), &mut walk.path),
-        Sight::Found => turn(parts, Goal::Group(setting), &mut walk.path),
+        Sight::Found(_) => turn(parts, Goal::Group(setting), &mut walk.path),
     }
 }
 

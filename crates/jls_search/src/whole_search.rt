@@ -1,7 +1,7 @@
 //! The whole search.
 
 ghost use Rattle.std.specs.Prelude.{◌≡◌, ◌↔◌, ℕ, List, Option, ◌+◌, ◌≤◌, ◌⊎◌, ◌∷◌, ◌++◌, [], true, false, length, IsTrue, IfOk, IfSome};
-ghost use Rattle.std.specs.Prelude.{OnOk};
+ghost use Rattle.std.specs.Prelude.{None, OnOk};
 ghost use Rattle.std.specs.List.{AllByRecursion};
 ghost use Rattle.jls_diff.specs.Parts.{Part as SpecPart};
 ghost use Rattle.jls_diff.specs.PartsOf.{parts_of};
@@ -10,7 +10,7 @@ ghost use Rattle.jls_search.specs.Faultless.{IsSought};
 ghost use Rattle.jls_search.specs.Search.{IsShort, IsBegun, IsKept, IsSearch, IsStep, CanGoOn, GoesFrom, GoesOn, WereTried, StandsAt};
 ghost use Rattle.jls_search.specs.Search.{CameTo, HasEachSplice, MakeFiles, files_of, lists_of};
 
-use crate::kept::{Judge, keep};
+use crate::kept::{Judge, KeptReader, keep};
 use crate::looking::{Sight, look};
 use crate::path::{descend, follow, turn};
 use crate::setting::Goal;
@@ -25,6 +25,8 @@ pub const MOST_FOUND: usize = 64;
 pub struct Searched {
     /// The splices that were sought and found, each as its choices, one for each part.
     pub splices: Vec<Vec<usize>>,
+    /// The reader of the first of them, if it is kept. It was fed all of it.
+    pub reader: Option<KeptReader>,
     /// How many prefixes and files were tried.
     pub tries: u32,
     /// Whether the search ended before it had come to all splices.
@@ -79,6 +81,7 @@ fn try_next(
         × (length (lists_of found.new.items) ≤ length (lists_of found.old.items) + 1)) }
     ensures step { IfOk result (λ more. IsStep path.old.items (lists_of found.old.items) path.new.items (lists_of found.new.items) more) }
     ensures kept { OnOk result (IfSome judge.new.kept (IsKept parts.now)) }
+    ensures found { IfSome judge.old.found (IsKept parts.now) → OnOk result (IfSome judge.new.found (IsKept parts.now)) }
     ensures ceiling { judge.new.ceiling ≡ judge.old.ceiling }
 {
     let sight = look(alloc, parts, judge, path)?;
@@ -88,7 +91,10 @@ fn try_next(
             descend(parts, Goal::Whole, path)?;
             Ok(true)
         }
-        Sight::Found => pass_found(alloc, parts, path, found),
+        Sight::Found(reader) => {
+            keep(alloc, &mut judge.found, reader, path)?;
+            pass_found(alloc, parts, path, found)
+        }
         Sight::Dead => turn(parts, Goal::Whole, path),
     }
 }
@@ -120,6 +126,7 @@ impl WholeSearch {
         ensures stands { IfOk result (λ begun. IsSearch parts.now begun) }
         ensures ceiling { IfOk result (λ begun. begun.judge.ceiling ≡ ceiling) }
         ensures untried { IfOk result (λ begun. IsBegun begun) }
+        ensures found { IfOk result (λ begun. begun.judge.found ≡ None) }
     {
         let mut path = Vec::new(alloc);
         follow(parts, Goal::Whole, &mut path)?;
@@ -131,6 +138,7 @@ impl WholeSearch {
             judge: Judge {
                 ceiling,
                 kept: None,
+                found: None,
             },
         })
     }
@@ -150,6 +158,7 @@ impl WholeSearch {
         ensures stands { OnOk result (IsSearch parts.now self.new) }
         ensures stops { OnOk result (CanGoOn self.new limit → ⊥) }
         ensures went { OnOk result (GoesFrom parts.now self.old self.new limit) }
+        ensures found { IfSome self.old.judge.found (IsKept parts.now) → OnOk result (IfSome self.new.judge.found (IsKept parts.now)) }
     {
         while self.can_go_on(limit) {
             self.tries += 1;
@@ -171,11 +180,21 @@ impl WholeSearch {
         ensures tries { result.tries ≡ self.tries }
         ensures splices { result.splices ≡ self.splices }
         ensures used_up { result.is_used_up ≡ self.goes_on }
+        ensures reader { result.reader ≡ self.judge.found }
     {
+        let WholeSearch {
+            splices,
+            tries,
+            goes_on,
+            judge,
+            ..
+        } = self;
+        let Judge { found, .. } = judge;
         Searched {
-            splices: self.splices,
-            tries: self.tries,
-            is_used_up: self.goes_on,
+            splices,
+            reader: found,
+            tries,
+            is_used_up: goes_on,
         }
     }
 }
@@ -201,6 +220,7 @@ pub fn search(
         (λ searched. searched.is_used_up ≡ true → (searched.tries ≡ limit) ⊎ (length searched.splices.items ≡ 64)) }
     ensures few { IfOk result (λ searched. (searched.tries ≤ limit) × (length searched.splices.items ≤ 64)) }
     ensures tried { IfOk result (λ searched. WereTried ceiling parts.now searched.tries (lists_of searched.splices.items)) }
+    ensures reader { IfOk result (λ searched. IfSome searched.reader (IsKept parts.now)) }
 {
     let mut begun = WholeSearch::begin(alloc, parts, ceiling)?;
     begun.go_on(alloc, parts, limit)?;

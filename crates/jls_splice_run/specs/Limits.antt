@@ -5,7 +5,7 @@ use Rattle.std.specs.Prelude.{if◌then◌else◌}
 use Rattle.jls_diff.specs.Parts.{Part}
 use Rattle.jls_search.specs.Faultless.{IsSought}
 use Rattle.jls_search.specs.Levels.{IsLone}
-use Rattle.jls_search.specs.Search.{CameTo, WereTried, lists_of}
+use Rattle.jls_search.specs.Search.{CameTo, IsKept, WereTried, lists_of}
 use Rattle.jls_search.specs.declared.whole_search.Searched.{Searched}
 use Rattle.jls_splice_run.specs.declared.limits.Limited.{Limited}
 
@@ -109,6 +109,10 @@ made_under ceiling s = record {
 abbrev pub last_or : SearchMade → Option Limited → SearchMade
 last_or first None = first
 last_or first (Some last) = made_under (Some last.limit) last.searched
+
+-- the reader that it kept, if it kept one, was fed what its choices make
+abbrev pub HasReader : List Part → Limited → Type 0
+HasReader parts last = IfSome last.searched.reader (IsKept parts)
 
 -- the limit that counts where this is the last one, if there is one
 abbrev pub limit_or : Option ℕ → Option ℕ → Option ℕ

@@ -1,16 +1,16 @@
 //! All searches of a run: the one that is asked for, and where it has no limit of samples and is cut off, others under limits in turn.
 
-ghost use Rattle.std.specs.Prelude.{◌≡◌, ◌*◌, ◌<◌, ℕ, Option, None, Some, false, length, map, max, min, IfOk, IfSome, OnErr};
+ghost use Rattle.std.specs.Prelude.{◌≡◌, ◌*◌, ◌<◌, ℕ, List, Option, None, Some, false, length, map, max, min, IfOk, IfSome, OnErr};
 ghost use Rattle.std.specs.List.{AllByRecursion};
 ghost use Rattle.jls_io.specs.Event.{GrewBy};
-ghost use Rattle.jls_diff.specs.Parts.{AreParts};
+ghost use Rattle.jls_diff.specs.Parts.{AreParts, Part};
 ghost use Rattle.jls_diff.specs.PartsOf.{bytes_of, parts_of};
 ghost use Rattle.jls_search.specs.Choices.{HasSomeWay};
 ghost use Rattle.jls_search.specs.Faultless.{IsSought};
 ghost use Rattle.jls_search.specs.Levels.{IsLone};
-ghost use Rattle.jls_search.specs.Search.{IsShort, lists_of};
+ghost use Rattle.jls_search.specs.Search.{IsKept, IsShort, lists_of};
 ghost use Rattle.jls_search.specs.SearchLaws.{AreShort};
-ghost use Rattle.jls_splice_run.specs.Limits.{IsCutLimit, IsSearchMade, SearchMade, counting_of, last_or, made_under, next_tries};
+ghost use Rattle.jls_splice_run.specs.Limits.{HasReader, IsCutLimit, IsSearchMade, SearchMade, counting_of, last_or, made_under, next_tries};
 ghost use Rattle.jls_splice_run.specs.Limits as spec;
 ghost use Rattle.jls_splice_run.specs.Telling.{HasChosenLimit, HasSearched, ReportedUpTo, TookTurns};
 
@@ -88,6 +88,8 @@ fn with_one_more(turned: Turned, limit: u16, searched: Searched, most: u32) -> T
     ensures whole { result.whole ≡ Some limit }
     ensures found { (first : SearchMade)
         → last_or first result.found ≡ counting_of (last_or first turned.found) (made_under (Some limit) searched) }
+    ensures reader { (parts : List Part) → IfSome turned.found (HasReader parts) → IfSome searched.reader (IsKept parts)
+        → IfSome result.found (HasReader parts) }
 {
     if searched.splices.is_empty() {
         return Turned {
@@ -115,6 +117,7 @@ fn search_in_turn<E: Sink>(
     requires short { IsShort parts.now }
     ensures turned { IfOk result (λ turned. GrewBy (TookTurns parts.now options limits.now turned)
         (E.history faults.old) (E.history faults.new)) }
+    ensures reader { IfOk result (λ turned. IfSome turned.found (HasReader parts.now)) }
     ensures reported_some { OnErr result (GrewBy (ReportedUpTo options.tries options.tells) (E.history faults.old) (E.history faults.new)) }
 {
     let mut turned = Turned {
@@ -152,6 +155,8 @@ struct CountingSearch {
 fn chosen(first: Searched, turned: Turned) -> CountingSearch
     ensures counts { made_under result.ceiling result.searched ≡ last_or (made_under None first) turned.found }
     ensures cut { result.cut_limit ≡ turned.whole }
+    ensures reader { (parts : List Part) → IfSome turned.found (HasReader parts) → IfSome first.reader (IsKept parts)
+        → IfSome result.searched.reader (IsKept parts) }
 {
     let Turned {
         tries: _,
@@ -184,6 +189,7 @@ fn search_all<E: Sink>(
     ensures searched { IfOk result (λ all. GrewBy
         (HasSearched options parts.now (made_under all.ceiling all.searched) all.cut_limit)
         (E.history faults.old) (E.history faults.new)) }
+    ensures reader { IfOk result (λ all. IfSome all.searched.reader (IsKept parts.now)) }
     ensures reported_some { OnErr result (GrewBy (ReportedUpTo options.tries options.tells) (E.history faults.old) (E.history faults.new)) }
 {
     let first = search_once(alloc, parts, options, faults)?;
@@ -239,6 +245,7 @@ pub fn search_and_tell<'a, E: Sink>(
     ensures searched { IfOk result (λ found. GrewBy (HasChosenLimit options found.copies.parts
         (made_under found.copies.ceiling found.copies.searched) found.cut_limit)
         (E.history faults.old) (E.history faults.new)) }
+    ensures reader { IfOk result (λ found. IfSome found.copies.searched.reader (IsKept found.copies.parts)) }
     ensures lone { IfOk result (λ found.
         IfSome found.unlimited (λ path. IsLone (IsSought None) found.copies.parts path.items)) }
     ensures reported_some { OnErr result (GrewBy (ReportedUpTo options.tries options.tells) (E.history faults.old) (E.history faults.new)) }

@@ -6,12 +6,11 @@ ghost use Rattle.std.specs.String.{string_bytes};
 ghost use Rattle.jls_diff.specs.PartsOf.{bytes_of, parts_of};
 ghost use Rattle.jls_search.specs.Choices.{IsWhole};
 ghost use Rattle.jls_search.specs.Search.{files_of, lists_of};
-ghost use Rattle.jls_search.specs.Files.{files_taken};
+ghost use Rattle.jls_search.specs.Faultless.{IsFaultless};
+ghost use Rattle.jls_search.specs.Files.{AreVerdicts, files_taken, splices_found};
 ghost use Rattle.jls_splice_run.specs.Listing.{AreNamed, IsNumbered, is_named, named_files, numbered};
 
 use crate::files::file_of;
-use crate::single::is_copy_faultless;
-use jls_diff::Parts;
 use jls_search::Files;
 use std::alloc::{AllocError, Global};
 
@@ -57,20 +56,21 @@ fn has_name(named: &[NumberedFile], file: &[u8]) -> bool
     false
 }
 
-/// One file more. It gets a name if it has no fault, and has none yet, and fewer than 64 have one.
+/// One file more, with the verdict on it. It gets a name if it has no fault, and has none yet, and fewer than 64 have one.
 fn name_file(
     alloc: Global,
     prefix: &str,
     named: &mut Vec<NumberedFile>,
     file: &[u8],
+    faultless: bool,
 ) -> Result<(), AllocError>
+    requires { IsTrue faultless ↔ IsFaultless file.now }
     ensures { OnOk result ((files : List (List ℕ)) → AreNamed prefix.now files (named_files named.old.items)
         → AreNamed prefix.now (files ++ file.now ∷ []) (named_files named.new.items)) }
 {
     if named.len() >= MOST_NAMED || has_name(named, file) {
         return Ok(());
     }
-    let faultless = is_copy_faultless(alloc, file)?;
     if faultless {
         let name = numbered_name(alloc, prefix, named.len() as u64 + 1)?;
         let bytes = Vec::from_slice(alloc, file)?;
@@ -79,17 +79,19 @@ fn name_file(
     Ok(())
 }
 
-/// The copies without a fault.
+/// The copies without a fault, by the verdict on each.
 fn name_copies(
     alloc: Global,
     prefix: &str,
     copies: &[&[u8]],
+    verdicts: &[bool],
 ) -> Result<Vec<NumberedFile>, AllocError>
+    requires { AreVerdicts (bytes_of copies.now) verdicts.now }
     ensures { IfOk result (λ named. AreNamed prefix.now (bytes_of copies.now) (named_files named.items)) }
 {
     let mut named = Vec::new(alloc);
-    for copy in copies {
-        name_file(alloc, prefix, &mut named, copy)?;
+    for place in 0..copies.len() {
+        name_file(alloc, prefix, &mut named, copies[place], verdicts[place])?;
     }
     Ok(named)
 }
@@ -99,30 +101,34 @@ fn name_splices(
     alloc: Global,
     prefix: &str,
     named: &mut Vec<NumberedFile>,
-    parts: &Parts<'_>,
-    splices: &[Vec<usize>],
+    files: &Files<'_, '_>,
+    verdicts: &[bool],
 ) -> Result<(), AllocError>
-    requires { AllByRecursion (IsWhole parts.now) (lists_of splices.now) }
-    ensures { OnOk result ((files : List (List ℕ)) → AreNamed prefix.now files (named_files named.old.items)
-        → AreNamed prefix.now (files ++ files_of parts.now (lists_of splices.now)) (named_files named.new.items)) }
+    requires whole { AllByRecursion (IsWhole files.now.parts.now) (lists_of files.now.splices.now) }
+    requires verdicts { AreVerdicts (splices_found files.now) verdicts.now }
+    ensures { OnOk result ((before : List (List ℕ)) → AreNamed prefix.now before (named_files named.old.items)
+        → AreNamed prefix.now (before ++ splices_found files.now) (named_files named.new.items)) }
 {
-    for choices in splices {
-        let file = file_of(alloc, parts, choices)?;
-        name_file(alloc, prefix, named, &file)?;
+    for place in 0..files.splices.len() {
+        let file = file_of(alloc, files.parts, &files.splices[place])?;
+        name_file(alloc, prefix, named, &file, verdicts[place])?;
     }
     Ok(())
 }
 
-/// Of the files taken those without a fault, each once, until 64 have a name.
+/// Of the files taken those without a fault, by the verdict on each: each once, until 64 have a name.
 pub(crate) fn name_files(
     alloc: Global,
     prefix: &str,
     files: &Files<'_, '_>,
+    verdicts: &[bool],
 ) -> Result<Vec<NumberedFile>, AllocError>
-    requires { AllByRecursion (IsWhole files.now.parts.now) (lists_of files.now.splices.now) }
+    requires whole { AllByRecursion (IsWhole files.now.parts.now) (lists_of files.now.splices.now) }
+    requires verdicts { AreVerdicts (files_taken files.now) verdicts.now }
     ensures { IfOk result (λ named. AreNamed prefix.now (files_taken files.now) (named_files named.items)) }
 {
-    let mut named = name_copies(alloc, prefix, files.copies)?;
-    name_splices(alloc, prefix, &mut named, files.parts, files.splices)?;
+    let (of_copies, of_splices) = verdicts.split_at(files.copies.len());
+    let mut named = name_copies(alloc, prefix, files.copies, of_copies)?;
+    name_splices(alloc, prefix, &mut named, files, of_splices)?;
     Ok(named)
 }

@@ -1,7 +1,7 @@
 //! What is made of the copies, in memory.
 
 ghost use Rattle.std.specs.Prelude.{◌≡◌, ◌<◌, ◌≤◌, ◌^◌, ◌↔◌, ℕ, List, None, Option, length, IfOk, IfErr, IfSome, IfNone, IsTrue, OnErr};
-ghost use Rattle.std.specs.Prelude.{option_map};
+ghost use Rattle.std.specs.Prelude.{◌++◌, option_map};
 ghost use Rattle.std.specs.List.{AllByRecursion};
 ghost use Rattle.std.specs.declared.vec.Vec.{Vec};
 ghost use Rattle.std.specs.declared.alloc.Global.{Global};
@@ -13,8 +13,9 @@ ghost use Rattle.jls_partial.specs.Status.{IsSettled};
 ghost use Rattle.jls_search.specs.Choices.{HasSomeWay, IsPath, IsWhole};
 ghost use Rattle.jls_search.specs.Faultless.{IsSought};
 ghost use Rattle.jls_search.specs.Levels.{IsLone};
-ghost use Rattle.jls_search.specs.Search.{IsShort, files_of, lists_of};
+ghost use Rattle.jls_search.specs.Search.{IsKept, IsShort, files_of, lists_of};
 ghost use Rattle.jls_search.specs.Found.{IsFound, IsGroupSearch, by_groups_of, found_of, splices_in};
+ghost use Rattle.jls_search.specs.Files.{AreVerdicts};
 ghost use Rattle.jls_search.specs.Files as given;
 ghost use Rattle.jls_splice_run.specs.Limits.{Searches};
 ghost use Rattle.jls_splice_run.specs.Telling.{HasChosenLimit, ReportedUpTo};
@@ -98,6 +99,7 @@ fn search<'c, E: Sink>(
         (E.history faults.old) (E.history faults.new)) }
     ensures lone { IfOk result (λ found.
         IfSome found.unlimited (λ path. IsLone (IsSought None) found.splices.parts path.items)) }
+    ensures reader { IfOk result (λ found. IfSome found.splices.reader (IsKept found.splices.parts)) }
     ensures reported_some { OnErr result (GrewBy (ReportedUpTo options.tries options.tells) (E.history faults.old) (E.history faults.new)) }
 {
     parts_can_be_searched();
@@ -143,12 +145,14 @@ fn file_asked(
     alloc: Global,
     name: Option<&str>,
     files: &Files<'_, '_>,
+    verdicts: &[bool],
 ) -> Result<Option<Vec<u8>>, AllocError>
-    requires { AllByRecursion (IsWhole files.now.parts.now) (lists_of files.now.splices.now) }
+    requires whole { AllByRecursion (IsWhole files.now.parts.now) (lists_of files.now.splices.now) }
+    requires verdicts { AreVerdicts (given.files_taken files.now) verdicts.now }
     ensures { IfOk result (λ file. IsSingleAsked name.entry (given.files_taken files.now) (option_map (λ f. f.items) file)) }
 {
     match name {
-        Some(_) => single_file(alloc, files),
+        Some(_) => single_file(alloc, files, verdicts),
         None => Ok(None),
     }
 }
@@ -168,13 +172,15 @@ fn files_asked(
     alloc: Global,
     prefix: Option<&str>,
     files: &Files<'_, '_>,
+    verdicts: &[bool],
 ) -> Result<Vec<NumberedFile>, AllocError>
-    requires { AllByRecursion (IsWhole files.now.parts.now) (lists_of files.now.splices.now) }
+    requires whole { AllByRecursion (IsWhole files.now.parts.now) (lists_of files.now.splices.now) }
+    requires verdicts { AreVerdicts (given.files_taken files.now) verdicts.now }
     ensures { IfOk result (λ named.
         AreNamedAsked (option_map (λ s. s.now) prefix.entry) (given.files_taken files.now) (named_files named.items)) }
 {
     match prefix {
-        Some(prefix) => name_files(alloc, prefix, files),
+        Some(prefix) => name_files(alloc, prefix, files, verdicts),
         None => Ok(Vec::new(alloc)),
     }
 }
@@ -254,6 +260,8 @@ fn texts_of(
     requires whole { all.now.splices.whole ≤ length all.now.splices.splices.items }
     requires small { length (made 0 all.now.splices.parts) < 2 ^ 64 }
     requires path { IfSome taken.now.cut (λ path. IsPath all.now.splices.parts path.items) }
+    requires verdicts { AreVerdicts (bytes_of copies.now ++ files_of all.now.splices.parts (lists_of all.now.splices.splices.items))
+        taken.now.faultless.items }
     ensures texts { IfOk result (λ made. (searches : Searches) → (lone : Option (Vec ℕ Global))
         → AreTextsOf (task_of task.now) (bytes_of copies.now)
         (made_of searches all.now lone taken.now.cut taken.now.station made) made) }
@@ -268,11 +276,13 @@ fn texts_of(
         copies,
         parts: &found.parts,
         splices: &found.splices,
+        reader: &found.reader,
     };
     let partial = taken.station.partial();
     let settled = partial.is_settled();
-    let file = file_asked(alloc, task.options.file, &files)?;
-    let numbered = files_asked(alloc, task.options.files, &files)?;
+    let verdicts = taken.faultless.as_slice();
+    let file = file_asked(alloc, task.options.file, &files, verdicts)?;
+    let numbered = files_asked(alloc, task.options.files, &files, verdicts)?;
     let splices = count_new(alloc, copies, &found.parts, &found.splices)?;
     let report = SearchReport {
         splices,
@@ -332,6 +342,7 @@ pub(crate) fn make<'a, E: Sink>(
         copies: &slices,
         parts: &found.splices.parts,
         splices: &found.splices.splices,
+        reader: &found.splices.reader,
     };
     let taken = match settle(alloc, task, copies, &files, cut) {
         Ok(taken) => taken,

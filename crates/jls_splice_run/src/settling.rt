@@ -6,8 +6,8 @@ ghost use Rattle.jls_station.specs.CopyFiles.{copies_of};
 ghost use Rattle.jls_diff.specs.PartsOf.{bytes_of, parts_of};
 ghost use Rattle.jls_search.specs.Cuts.{TakesNoCut};
 ghost use Rattle.jls_search.specs.Choices.{IsPath, IsWhole, prefix_of};
-ghost use Rattle.jls_search.specs.Search.{IsShort, lists_of};
-ghost use Rattle.jls_search.specs.Files.{splices_found};
+ghost use Rattle.jls_search.specs.Search.{IsKept, IsShort, lists_of};
+ghost use Rattle.jls_search.specs.Files.{AreVerdicts, files_taken, splices_found};
 ghost use Rattle.jls_splice_run.specs.Copies.{bytes_read};
 ghost use Rattle.jls_splice_run.specs.Making.{IsPictureOf, IsPictureOfFiles, IsUnsettled};
 ghost use Rattle.jls_splice_run.specs.Making as spec;
@@ -16,7 +16,7 @@ ghost use Rattle.jls_splice_run.specs.Tasks.{task_of};
 use crate::task::{Task, want_of_memory};
 use jls_cli::{Cause, Refusal};
 use jls_marker::MarkerFault;
-use jls_search::{Files, Settled, settle_files, settle_with_cut};
+use jls_search::{Files, HeldFiles, Settled, settle_files, settle_with_cut};
 use jls_station::{CopyFile, ReadStop, Station};
 use std::alloc::Global;
 
@@ -35,24 +35,28 @@ fn no_picture_cause(stop: ReadStop, fault: MarkerFault, offset: u64) -> Cause
 pub(crate) struct Taken {
     /// The station that took them.
     pub station: Station,
+    /// Whether each of them has no fault: the copies, in their order, and then the splices.
+    pub faultless: Vec<bool>,
     /// The choices of the cut file, if it took that too.
     pub cut: Option<Vec<usize>>,
 }
 
-/// The station that takes the files of a task, without a cut file; or why there is none.
+/// The station that takes the files of a task, without a cut file, with the verdict on each of them; or why there is none.
 fn settle_whole<'a>(
     alloc: Global,
     task: &Task<'_, 'a>,
     copies: &[CopyFile],
     files: &Files<'_, '_>,
-) -> Result<Station, Refusal<'a>>
+) -> Result<HeldFiles, Refusal<'a>>
     requires some_copy { 0 < length copies.now }
     requires names { length task.now.names.now ≡ length copies.now }
     requires copies { bytes_of files.now.copies.now ≡ bytes_read (copies_of copies.now) }
     requires whole { AllByRecursion (IsWhole files.now.parts.now) (lists_of files.now.splices.now) }
     requires short { IsShort files.now.parts.now }
-    ensures settled { IfOk result (λ station.
-        IsPictureOfFiles (task_of task.now).options.source (bytes_read (copies_of copies.now)) (splices_found files.now) station) }
+    requires reader { IfSome files.now.reader.now (IsKept files.now.parts.now) }
+    ensures settled { IfOk result (λ taken. IsPictureOfFiles (task_of task.now).options.source
+        (bytes_read (copies_of copies.now)) (splices_found files.now) taken.station) }
+    ensures verdicts { IfOk result (λ taken. AreVerdicts (files_taken files.now) taken.faultless.items) }
     ensures stopped { IfErr result (λ refusal.
         IsUnsettled (task_of task.now) (copies_of copies.now) (splices_found files.now) refusal) }
 {
@@ -61,7 +65,7 @@ fn settle_whole<'a>(
         Err(_) => return Err(want_of_memory(task)),
     };
     match settled {
-        Settled::Held(station) => Ok(station),
+        Settled::Held(taken) => Ok(taken),
         Settled::Differ(copy) => Err(Refusal {
             name: task.names[copy],
             cause: Cause::ShapeDiffers,
@@ -73,8 +77,8 @@ fn settle_whole<'a>(
     }
 }
 
-/// The station that takes the files of a task, or why there is none. The cut file of these choices is taken too if it has a frame, and if
-/// no other file is without a fault.
+/// The station that takes the files of a task, with the verdict on each of them; or why there is none. The cut file of these choices is
+/// taken too if it has a frame, and if no other file is without a fault.
 pub(crate) fn settle<'a>(
     alloc: Global,
     task: &Task<'_, 'a>,
@@ -87,10 +91,12 @@ pub(crate) fn settle<'a>(
     requires copies { bytes_of files.now.copies.now ≡ bytes_read (copies_of copies.now) }
     requires whole { AllByRecursion (IsWhole files.now.parts.now) (lists_of files.now.splices.now) }
     requires short { IsShort files.now.parts.now }
+    requires reader { IfSome files.now.reader.now (IsKept files.now.parts.now) }
     requires cut { IfSome cut (λ path. IsPath files.now.parts.now path.items) }
     ensures settled { IfOk result (λ taken.
         IsPictureOf (task_of task.now).options.source (bytes_read (copies_of copies.now)) (splices_found files.now)
         (option_map (λ path. prefix_of files.now.parts.now path.items) taken.cut) taken.station) }
+    ensures verdicts { IfOk result (λ taken. AreVerdicts (files_taken files.now) taken.faultless.items) }
     ensures cut { IfOk result (λ taken. (taken.cut ≡ cut) ⊎ ((taken.cut ≡ None) × IfSome cut (λ path.
         TakesNoCut (bytes_read (copies_of copies.now)) (splices_found files.now) (prefix_of files.now.parts.now path.items)))) }
     ensures stopped { IfErr result (λ refusal.
@@ -98,9 +104,10 @@ pub(crate) fn settle<'a>(
 {
     if let Some(path) = cut {
         match settle_with_cut(alloc, task.options.source, files, &path) {
-            Ok(Some(station)) => {
+            Ok(Some(taken)) => {
                 return Ok(Taken {
-                    station,
+                    station: taken.station,
+                    faultless: taken.faultless,
                     cut: Some(path),
                 });
             }
@@ -109,7 +116,11 @@ pub(crate) fn settle<'a>(
         }
     }
     match settle_whole(alloc, task, copies, files) {
-        Ok(station) => Ok(Taken { station, cut: None }),
+        Ok(taken) => Ok(Taken {
+            station: taken.station,
+            faultless: taken.faultless,
+            cut: None,
+        }),
         Err(refusal) => Err(refusal),
     }
 }

@@ -6,13 +6,12 @@ ghost use Rattle.jls_diff.specs.PartsOf.{bytes_of, parts_of};
 ghost use Rattle.jls_search.specs.Faultless.{IsFaultless};
 ghost use Rattle.jls_search.specs.Choices.{IsWhole};
 ghost use Rattle.jls_search.specs.Search.{files_of, lists_of};
-ghost use Rattle.jls_search.specs.Files.{files_taken};
+ghost use Rattle.jls_search.specs.Files.{AreVerdicts, files_taken};
 ghost use Rattle.jls_splice_run.specs.Single.{AreSeenSo, IsSingle};
 
 use crate::files::file_of;
-use jls_copy::CopyReader;
 use jls_diff::Parts;
-use jls_search::{Files, is_faultless};
+use jls_search::Files;
 use std::alloc::{AllocError, Global};
 
 /// The files without a fault among some files.
@@ -43,20 +42,16 @@ fn one_more(faultless: Faultless, file: Vec<u8>) -> Faultless
     }
 }
 
-/// Whether a file has no fault.
-pub(crate) fn is_copy_faultless(alloc: Global, copy: &[u8]) -> Result<bool, AllocError>
-    ensures { IfOk result (λ faultless. IsTrue faultless ↔ IsFaultless copy.now) }
-{
-    let mut reader = CopyReader::new(alloc);
-    reader.feed(copy)?;
-    is_faultless(reader)
-}
-
-/// One file more.
-fn with_copy(alloc: Global, faultless: Faultless, copy: &[u8]) -> Result<Faultless, AllocError>
+/// One file more, with the verdict on it.
+fn with_copy(
+    alloc: Global,
+    faultless: Faultless,
+    copy: &[u8],
+    has_none: bool,
+) -> Result<Faultless, AllocError>
+    requires { IsTrue has_none ↔ IsFaultless copy.now }
     ensures { IfOk result (λ more. (files : List (List ℕ)) → AreSeenSo files faultless → AreSeenSo (files ++ copy.now ∷ []) more) }
 {
-    let has_none = is_copy_faultless(alloc, copy)?;
     if has_none {
         let bytes = Vec::from_slice(alloc, copy)?;
         return Ok(one_more(faultless, bytes));
@@ -64,13 +59,14 @@ fn with_copy(alloc: Global, faultless: Faultless, copy: &[u8]) -> Result<Faultle
     Ok(faultless)
 }
 
-/// The copies without a fault.
-fn among_copies(alloc: Global, copies: &[&[u8]]) -> Result<Faultless, AllocError>
+/// The copies without a fault, by the verdict on each.
+fn among_copies(alloc: Global, copies: &[&[u8]], verdicts: &[bool]) -> Result<Faultless, AllocError>
+    requires { AreVerdicts (bytes_of copies.now) verdicts.now }
     ensures { IfOk result (λ faultless. AreSeenSo (bytes_of copies.now) faultless) }
 {
     let mut faultless = Faultless::Nothing;
-    for copy in copies {
-        faultless = with_copy(alloc, faultless, copy)?;
+    for place in 0..copies.len() {
+        faultless = with_copy(alloc, faultless, copies[place], verdicts[place])?;
     }
     Ok(faultless)
 }
@@ -81,15 +77,17 @@ fn with_splices(
     copies: Faultless,
     parts: &Parts<'_>,
     splices: &[Vec<usize>],
+    verdicts: &[bool],
 ) -> Result<Faultless, AllocError>
-    requires { AllByRecursion (IsWhole parts.now) (lists_of splices.now) }
+    requires whole { AllByRecursion (IsWhole parts.now) (lists_of splices.now) }
+    requires verdicts { AreVerdicts (files_of parts.now (lists_of splices.now)) verdicts.now }
     ensures { IfOk result (λ faultless. (files : List (List ℕ)) → AreSeenSo files copies
         → AreSeenSo (files ++ files_of parts.now (lists_of splices.now)) faultless) }
 {
     let mut faultless = copies;
-    for choices in splices {
-        let file = file_of(alloc, parts, choices)?;
-        faultless = with_copy(alloc, faultless, &file)?;
+    for place in 0..splices.len() {
+        let file = file_of(alloc, parts, &splices[place])?;
+        faultless = with_copy(alloc, faultless, &file, verdicts[place])?;
     }
     Ok(faultless)
 }
@@ -105,15 +103,19 @@ fn single_of(faultless: Faultless) -> Option<Vec<u8>>
     }
 }
 
-/// The bytes of the file without a fault, where exactly one of the files taken has none. Files of the same bytes are one.
+/// The bytes of the file without a fault, where exactly one of the files taken has none, by the verdict on each. Files of the same bytes
+/// are one.
 pub(crate) fn single_file(
     alloc: Global,
     files: &Files<'_, '_>,
+    verdicts: &[bool],
 ) -> Result<Option<Vec<u8>>, AllocError>
-    requires { AllByRecursion (IsWhole files.now.parts.now) (lists_of files.now.splices.now) }
+    requires whole { AllByRecursion (IsWhole files.now.parts.now) (lists_of files.now.splices.now) }
+    requires verdicts { AreVerdicts (files_taken files.now) verdicts.now }
     ensures { IfOk result (λ single. IsSingle (files_taken files.now) (option_map (λ file. file.items) single)) }
 {
-    let copies = among_copies(alloc, files.copies)?;
-    let faultless = with_splices(alloc, copies, files.parts, files.splices)?;
+    let (of_copies, of_splices) = verdicts.split_at(files.copies.len());
+    let copies = among_copies(alloc, files.copies, of_copies)?;
+    let faultless = with_splices(alloc, copies, files.parts, files.splices, of_splices)?;
     Ok(single_of(faultless))
 }

@@ -1,10 +1,10 @@
 //! The search of all splices of some copies.
 
-ghost use Rattle.std.specs.Prelude.{◌≡◌, ◌<◌, length, IfOk};
+ghost use Rattle.std.specs.Prelude.{◌≡◌, ◌<◌, length, IfOk, IfSome};
 ghost use Rattle.jls_diff.specs.Parts.{AreParts};
 ghost use Rattle.jls_diff.specs.PartsOf.{bytes_of};
 ghost use Rattle.jls_search.specs.Faultless.{IsSought};
-ghost use Rattle.jls_search.specs.Search.{CameTo, lists_of};
+ghost use Rattle.jls_search.specs.Search.{CameTo, IsKept, lists_of};
 ghost use Rattle.jls_search.specs.SearchLaws.{AreShort};
 
 use jls_diff::find_parts;
@@ -24,6 +24,7 @@ pub(crate) fn searched<'a>(
     ensures ceiling { IfOk result (λ found. found.ceiling ≡ ceiling) }
     ensures searched { IfOk result (λ found.
         CameTo (IsSought ceiling) found.parts (lists_of found.searched.splices.items) found.searched.is_used_up) }
+    ensures reader { IfOk result (λ found. IfSome found.searched.reader (IsKept found.parts)) }
 {
     parts_can_be_searched();
     let parts = find_parts(alloc, copies)?;

@@ -41,6 +41,7 @@ fn outcome_of(alloc: Global, copies: &[&[u8]]) -> Result<Settled, Fail> {
         copies,
         parts: &found.parts,
         splices: &found.searched.splices,
+        reader: &found.searched.reader,
     };
     Ok(settle_files(alloc, Some(7), &files)?)
 }
@@ -89,8 +90,8 @@ fn pairs_of_copies(rt: HostRuntime) -> Result<(), Fail> {
         let second = with_byte(rt.alloc(), places[1], bytes[1])?;
         let wanted = lines_held(rt.alloc(), count)?;
         match outcome_of(rt.alloc(), &[first.as_slice(), second.as_slice()])? {
-            Settled::Held(station) => assert!(rt;
-                *station.partial() == wanted,
+            Settled::Held(taken) => assert!(rt;
+                *taken.station.partial() == wanted,
                 "damage at {}",
                 places[0]
             ),

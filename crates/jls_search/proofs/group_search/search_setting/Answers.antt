@@ -1,4 +1,4 @@
-use Rattle.std.proofs.Common.{◌≡◌, ◌+◌, ◌≤◌, ◌⊎◌, min, true, false, length, rules, refl, sym, subst, ◌∙◌, arith, inl, inr, Option}
+use Rattle.std.proofs.Common.{◌≡◌, ◌+◌, ◌≤◌, ◌⊎◌, min, true, false, length, rules, refl, sym, subst, ◌∙◌, arith, inl, inr, Option, None}
 use Rattle.std.specs.Prelude.{IfSome}
 use Rattle.jls_search.specs.GroupTries.{GoesThrough}
 use Rattle.jls_search.specs.OfGroups.{AreOfGroups}
@@ -93,7 +93,7 @@ returns-then-not-more-clause-goes c =
     let at = c.len-in-loop-tries.ensures ∙ c.loop-tries.walk.found.ok.0 in
     let n = c.len.ensures ∙ c.args.gone.searched.splices.ok.0 in
     let most = c.most_after-most.ensures in
-    let now : Searched = record { splices = c.try_next.new.walk.found; tries = c.loop-tries.tries + 1; is_used_up = c.args.gone.searched.is_used_up } in
+    let now : Searched = record { splices = c.try_next.new.walk.found; reader = None; tries = c.loop-tries.tries + 1; is_used_up = c.args.gone.searched.is_used_up } in
     subst (GoesThrough c.args.limit ps s c.args.gone.searched) (sym c.went.ensures.searched)
     (went c.args.limit ps s c.args.gone.searched now false (omega (arith, inv.more_tries)) (omega (arith, c.loop-tries-test.true))
     (added_more ps s old new (lists_of c.args.gone.searched.splices.items) inv.added c.in_ok-more.ensures.found)
@@ -112,7 +112,7 @@ returns-clause-goes c =
           )
       | else-loop-tries-test w ↦ inl (omega (arith, inv.within, w.loop-tries-test.false))
     ] in
-    let now : Searched = record { splices = c.loop-tries.walk.found; tries = c.loop-tries.tries; is_used_up = true } in
+    let now : Searched = record { splices = c.loop-tries.walk.found; reader = None; tries = c.loop-tries.tries; is_used_up = true } in
     subst (GoesThrough c.args.limit c.args.parts.now c.args.setting c.args.gone.searched) (sym c.went-2.ensures.searched)
     (went c.args.limit c.args.parts.now c.args.setting c.args.gone.searched now true inv.more_tries inv.within inv.added
     (omega (arith, inv.few, n, most)) (λ e. absurd cc) (λ e. full) refl (λ e. absurd cc))

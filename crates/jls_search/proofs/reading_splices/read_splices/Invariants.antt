@@ -6,6 +6,6 @@ use Rattle.jls_search.proofs.reading_splices.read_splices.Given as goal
 
 abbrev pub invariant-loop-number : goal.invariant-loop-number
 invariant-loop-number l = record {
-  read : ReadsMore l.source (files_of l.parts (lists_of (take l.number l.splices))) l.fn.before l.read;
-  kept : AllByRecursion (IsKept l.parts) l.kept.items;
+  read : ReadsMore l.source (files_of l.files.parts.now (lists_of (take l.number l.files.splices.now))) l.fn.before l.read;
+  kept : AllByRecursion (IsKept l.files.parts.now) l.kept.items;
 }

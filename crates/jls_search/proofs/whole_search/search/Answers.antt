@@ -1,6 +1,8 @@
-use Rattle.std.proofs.Common.{ℕ, length, Vec, Global, sym, subst, ap, ◌∙◌, arith, inl, inr}
+use Rattle.std.proofs.Common.{ℕ, length, Vec, Global, Option, sym, subst, ap, ◌∙◌, arith, inl, inr}
+use Rattle.std.specs.Prelude.{IfSome}
 use Rattle.jls_search.specs.Faultless.{IsSought}
-use Rattle.jls_search.specs.Search.{HasEachSplice, MakeFiles, files_of, lists_of}
+use Rattle.jls_search.specs.Search.{HasEachSplice, IsKept, MakeFiles, files_of, lists_of}
+use Rattle.jls_search.specs.declared.kept.KeptReader.{KeptReader}
 use Rattle.jls_search.proofs.Paths.{length-map}
 use Rattle.jls_search.proofs.Walks.{used_up}
 use Rattle.jls_search.proofs.whole_search.search.Goals as goal
@@ -55,3 +57,9 @@ returns-clause-tried c =
       tries_are = sym same.tries;
       found_are = ap (λ (v : Vec (Vec ℕ Global) Global). lists_of v.items) (sym same.splices);
     }
+
+pub returns-clause-reader : goal.returns-clause-reader
+returns-clause-reader c =
+    let parts = c.args.parts.now in
+    subst (λ (k : Option KeptReader). IfSome k (IsKept parts)) (sym c.into_searched.ensures.reader)
+    (c.in_ok-go_on.ensures.found (subst (λ (k : Option KeptReader). IfSome k (IsKept parts)) (sym c.in_ok-begun.ensures.found) tt))

@@ -41,13 +41,28 @@ returns-in_ok-descend-in-Open-clause-next c =
 
 pub pass_found-requires : goal.pass_found-requires
 pass_found-requires c =
-    let r = seen (IsSought c.args.judge.now.ceiling) c.args.parts.now c.args.path.now.items c.deref.result.now c.in_ok-sight.sight Found c.deref.ensures.value c.in-Found.is c.in_ok-sight.ensures in
+    let reader = c.in-Found.reader in
+    let r = seen (IsSought c.args.judge.now.ceiling) c.args.parts.now c.args.path.now.items c.deref.result.now c.in_ok-sight.sight (Found reader) c.deref.ensures.value c.in-Found.is c.in_ok-sight.ensures in
     record { is_path = c.requires.stands.is_path; whole = r.0 }
 
-pub returns-in-Found-clause-next : goal.returns-in-Found-clause-next
-returns-in-Found-clause-next c =
-    let r = seen (IsSought c.args.judge.now.ceiling) c.args.parts.now c.args.path.now.items c.deref.result.now c.in_ok-sight.sight Found c.deref.ensures.value c.in-Found.is c.in_ok-sight.ensures in
+pub returns-in_ok-keep-in-Found-clause-next : goal.returns-in_ok-keep-in-Found-clause-next
+returns-in_ok-keep-in-Found-clause-next c =
+    let reader = c.in-Found.reader in
+    let r = seen (IsSought c.args.judge.now.ceiling) c.args.parts.now c.args.path.now.items c.deref.result.now c.in_ok-sight.sight (Found reader) c.deref.ensures.value c.in-Found.is c.in_ok-sight.ensures in
     c.pass_found.ensures.next c.args.judge.now.ceiling c.requires.stands r.1
+
+pub returns-in_ok-keep-in-Found-clause-found : goal.returns-in_ok-keep-in-Found-clause-found
+returns-in_ok-keep-in-Found-clause-found c = λ h.
+    let ps : List Part = c.args.parts.now in
+    let path : List ℕ = c.args.path.now.items in
+    let reader = c.in-Found.reader in
+    let r = seen (IsSought c.args.judge.now.ceiling) ps path c.deref.result.now c.in_ok-sight.sight (Found reader) c.deref.ensures.value c.in-Found.is c.in_ok-sight.ensures in
+    anyway c.pass_found.result (IfSome c.keep-in-Found.new.kept (IsKept ps))
+    (still_kept ps c.args.judge.now.found c.keep-in-Found.new.kept reader path h r.2
+    (subst (λ p. Keeps c.args.judge.now.found reader p c.keep-in-Found.new.kept) c.deref-in-Found.ensures.value c.in_ok-keep-in-Found.ensures))
+
+pub returns-in_ok-keep-in-Found-clause-kept : goal.returns-in_ok-keep-in-Found-clause-kept
+returns-in_ok-keep-in-Found-clause-kept c = anyway c.pass_found.result (IfSome c.args.judge.now.kept (IsKept c.args.parts.now)) c.requires.kept
 
 pub turn-requires : goal.turn-requires
 turn-requires c = record { copy = tt; path = set_of_all c.args.parts.now c.args.path.now.items c.requires.stands.is_path }
@@ -82,8 +97,8 @@ returns-in_ok-descend-in-Open-clause-kept c =
     still_kept ps c.args.judge.now.kept c.keep.new.kept reader path c.requires.kept fed
     (subst (λ p. Keeps c.args.judge.now.kept reader p c.keep.new.kept) c.deref-in-Open.ensures.value c.in_ok-keep-in-Open.ensures)
 
-pub returns-in-Found-clause-kept : goal.returns-in-Found-clause-kept
-returns-in-Found-clause-kept c = anyway c.pass_found.result (IfSome c.args.judge.now.kept (IsKept c.args.parts.now)) c.requires.kept
-
 pub returns-in-Dead-clause-kept : goal.returns-in-Dead-clause-kept
 returns-in-Dead-clause-kept c = anyway c.turn.result (IfSome c.args.judge.now.kept (IsKept c.args.parts.now)) c.requires.kept
+
+pub returns-in-Dead-clause-found : goal.returns-in-Dead-clause-found
+returns-in-Dead-clause-found c = λ h. anyway c.turn.result (IfSome c.args.judge.now.found (IsKept c.args.parts.now)) h

@@ -3,5 +3,5 @@ use Rattle.jls_diff.specs.PartsOf.{bytes_of}
 use Rattle.jls_splice_run.specs.Listing.{AreNamed, named_files}
 use Rattle.jls_splice_run.proofs.listing.name_copies.Given as goal
 
-abbrev pub invariant-loop-copy : goal.invariant-loop-copy
-invariant-loop-copy l = AreNamed l.prefix (bytes_of (take l.copy-index l.copies)) (named_files l.named.items)
+abbrev pub invariant-loop-place : goal.invariant-loop-place
+invariant-loop-place l = AreNamed l.prefix (bytes_of (take l.place l.copies)) (named_files l.named.items)

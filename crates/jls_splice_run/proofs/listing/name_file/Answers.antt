@@ -29,7 +29,7 @@ pub returns-in_ok-push : goal.returns-in_ok-push
 returns-in_ok-push c = λ files are.
     let named = c.args.named.now.items in
     let count = counted named in
-    let faultless : IsFaultless c.args.file.now = c.in_ok-faultless.ensures.0 c.if-faultless.true in
+    let faultless : IsFaultless c.args.file.now = c.requires.0 c.if-faultless.true in
     let new : is_named (named_files named) c.args.file.now ≡ false =
     ap (λ (xs : List NumberedFile). is_named (named_files xs) c.args.file.now) (sym c.deref.ensures.value) ∙ sym c.has_name.ensures ∙ c.if-has_name.false in
     let few : length (named_files named) < 64 = omega (arith, count, c.len.ensures, c.if-len-ge-MOST_NAMED.false) in
@@ -44,4 +44,4 @@ returns-in_ok-push c = λ files are.
 pub returns-else-faultless : goal.returns-else-faultless
 returns-else-faultless c = λ files are.
     left_out files (named_files c.args.named.now.items) c.args.file.now are
-    (λ f. let y : IsTrue c.in_ok-faultless.faultless = c.in_ok-faultless.ensures.1 f in let n = c.if-faultless.false in absurd cc)
+    (λ f. let y : IsTrue c.args.faultless = c.requires.1 f in let n = c.if-faultless.false in absurd cc)

@@ -1,4 +1,4 @@
-use Rattle.std.proofs.Common.{◌≡◌, ℕ, Vec, Global, Option, Some, None, List, length, inl, inr, ap, sym, ◌∙◌, subst}
+use Rattle.std.proofs.Common.{◌≡◌, ℕ, Vec, Global, Bor, Option, Some, None, List, ◌++◌, length, inl, inr, ap, sym, ◌∙◌, subst}
 use Rattle.std.specs.Prelude.{◌⊎◌, IfSome, option_map}
 use Rattle.jls_station.specs.CopyFiles.{CopyBytes, copies_of}
 use Rattle.jls_io.specs.Event.{Event}
@@ -6,6 +6,7 @@ use Rattle.jls_io.proofs.Growing.{grew_as, grew_not}
 use Rattle.jls_cli.specs.SpliceAsking.{Asked}
 use Rattle.jls_search.specs.Choices.{IsPath, prefix_of}
 use Rattle.jls_search.specs.Cuts.{TakesNoCut}
+use Rattle.jls_search.specs.Files.{AreVerdicts}
 use Rattle.jls_diff.proofs.Slices.{count_of_slices}
 use Rattle.jls_diff.specs.PartsOf.{bytes_of}
 use Rattle.jls_search.specs.Search.{files_of, lists_of}
@@ -159,3 +160,12 @@ returns-in-Ok-texts_of-clause-made g c =
       h.1.reported,
     ))
     c.in-Ok-search.ensures.searched
+
+pub texts_of-requires-clause-verdicts : goal.texts_of-requires-clause-verdicts
+texts_of-requires-clause-verdicts g c =
+    let found = c.in-Ok-search.found.splices in
+    let taken = c.in-Ok-settle.taken in
+    let copies : c.deref-2.result.now ≡ c.deref-4.result.now = c.deref-2.ensures.value ∙ sym c.deref-4.ensures.value in
+    subst (λ (xs : List (Bor (List ℕ))). AreVerdicts (bytes_of xs ++ files_of found.parts (lists_of found.splices.items)) taken.faultless.items) copies
+    (subst (λ (vs : List (Vec ℕ Global)). AreVerdicts (bytes_of c.deref-2.result.now ++ files_of found.parts (lists_of vs)) taken.faultless.items)
+    c.deref-3.ensures.value c.in-Ok-settle.ensures.verdicts)

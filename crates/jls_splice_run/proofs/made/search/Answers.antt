@@ -1,4 +1,4 @@
-use Rattle.std.proofs.Common.{◌≡◌, ℕ, ◌<◌, List, None, length, sym, subst}
+use Rattle.std.proofs.Common.{◌≡◌, ℕ, ◌<◌, List, Option, None, length, sym, subst}
 use Rattle.std.specs.Prelude.{IfSome}
 use Rattle.jls_io.specs.Event.{GrewBy}
 use Rattle.jls_io.proofs.Growing.{grew_as, grew_not}
@@ -8,6 +8,8 @@ use Rattle.jls_search.specs.SearchLaws.{AreShort}
 use Rattle.jls_search.specs.Found.{found_of}
 use Rattle.jls_search.specs.Faultless.{IsSought}
 use Rattle.jls_search.specs.Levels.{IsLone}
+use Rattle.jls_search.specs.Search.{IsKept}
+use Rattle.jls_search.specs.declared.kept.KeptReader.{KeptReader}
 use Rattle.jls_splice_run.specs.Limits.{SearchMade, made_under}
 use Rattle.jls_splice_run.specs.Making.{search_of}
 use Rattle.jls_splice_run.specs.Telling.{HasChosenLimit, ReportedUpTo}
@@ -83,3 +85,9 @@ returns-clause-lone g c =
     let found = c.in_ok-found.found in
     subst (λ ps. IfSome found.unlimited (λ path. IsLone (IsSought None) ps path.items)) (sym c.in_ok-more.ensures.parts_kept)
     c.in_ok-found.ensures.lone
+
+pub returns-clause-reader : goal.returns-clause-reader
+returns-clause-reader g c =
+    let found = c.in_ok-found.found in
+    subst (λ (k : Option KeptReader). IfSome k (IsKept c.in_ok-more.more.parts)) (sym c.in_ok-more.ensures.reader)
+    (subst (λ ps. IfSome found.copies.searched.reader (IsKept ps)) (sym c.in_ok-more.ensures.parts_kept) c.in_ok-found.ensures.reader)

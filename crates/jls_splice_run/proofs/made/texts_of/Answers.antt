@@ -1,9 +1,11 @@
-use Rattle.std.proofs.Common.{◌≡◌, ℕ, List, [], ◌++◌, drop, Vec, Global, Bor, ap, refl, sym, ◌∙◌, subst}
+use Rattle.std.proofs.Common.{◌≡◌, ℕ, Bool, List, [], ◌++◌, drop, Vec, Global, Bor, ap, refl, sym, ◌∙◌, subst}
 use Rattle.std.specs.Prelude.{◌↔◌, IsTrue, codes, option_map, if◌then◌else◌}
 use Rattle.std.specs.Str.{bytes_eq}
 use Rattle.jls_diff.specs.PartsOf.{bytes_of}
 use Rattle.jls_report.specs.Report.{report_of}
 use Rattle.jls_report.specs.ReportText.{report_text}
+use Rattle.jls_diff.specs.Parts.{Part}
+use Rattle.jls_search.specs.Files.{AreVerdicts}
 use Rattle.jls_search.specs.Search.{files_of, lists_of}
 use Rattle.jls_search.specs.Found.{found_of, splices_in}
 use Rattle.jls_splice_run.specs.Files.{count_new}
@@ -108,3 +110,23 @@ returns-clause-named c =
     let splices : files_of found.parts (lists_of c.deref.result.now) ≡ splices_in (found_of found) =
     (λ i. files_of found.parts (lists_of (c.deref.ensures.value i))) ∙ c.requires.splices in
     subst (λ (xs : List (List ℕ)). AreNamedAsked (option_map (λ (s : Bor (List ℕ)). s.now) options.files) (copies ++ xs) named) splices c.in_ok-numbered.ensures
+
+-- the verdicts that were given, on the files as they are handed on
+verdicts_on : (copies : List (List ℕ)) (parts : List Part) (splices others : List (Vec ℕ Global)) (verdicts them : List Bool) → others ≡ splices
+    → them ≡ verdicts → AreVerdicts (copies ++ files_of parts (lists_of splices)) verdicts
+    → AreVerdicts (copies ++ files_of parts (lists_of others)) them
+verdicts_on copies parts splices others verdicts them e f are =
+    subst (AreVerdicts (copies ++ files_of parts (lists_of others))) (sym f)
+    (subst (λ (vs : List (Vec ℕ Global)). AreVerdicts (copies ++ files_of parts (lists_of vs)) verdicts) (sym e) are)
+
+pub file_asked-requires-clause-verdicts : goal.file_asked-requires-clause-verdicts
+file_asked-requires-clause-verdicts c =
+    let found = c.args.all.now.splices in
+    verdicts_on (bytes_of c.args.copies.now) found.parts found.splices.items c.deref.result.now c.args.taken.now.faultless.items
+    c.as_slice-verdicts.result.now c.deref.ensures.value c.as_slice-verdicts.ensures.value c.requires.verdicts
+
+pub files_asked-requires-clause-verdicts : goal.files_asked-requires-clause-verdicts
+files_asked-requires-clause-verdicts c =
+    let found = c.args.all.now.splices in
+    verdicts_on (bytes_of c.args.copies.now) found.parts found.splices.items c.deref.result.now c.args.taken.now.faultless.items
+    c.as_slice-verdicts.result.now c.deref.ensures.value c.as_slice-verdicts.ensures.value c.requires.verdicts

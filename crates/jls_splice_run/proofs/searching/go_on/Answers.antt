@@ -1,7 +1,8 @@
 use Rattle.std.proofs.Common.{◌≡◌, ◌<◌, length, arith}
+use Rattle.std.specs.Prelude.{IfSome}
 use Rattle.jls_io.specs.Event.{GrewBy}
 use Rattle.jls_io.proofs.Growing.{grew_as}
-use Rattle.jls_search.specs.Search.{IsSearch, Tried, lists_of}
+use Rattle.jls_search.specs.Search.{IsKept, IsSearch, Tried, lists_of}
 use Rattle.jls_splice_run.specs.Telling.{GoesOn, TellsLine}
 use Rattle.jls_search.proofs.Prefixes.{on_ok as on_ok_anyway}
 use Rattle.jls_splice_run.proofs.Rounds.{on_ok, went_on}
@@ -39,3 +40,7 @@ returns-clause-ceiling g c =
 pub returns-clause-tried : goal.returns-clause-tried
 returns-clause-tried g c =
     on_ok_anyway c.tell.result (Tried c.args.parts.now c.args.walk.now c.go_on.new.self) c.in_ok-go_on.ensures.went.tried
+
+pub returns-clause-found : goal.returns-clause-found
+returns-clause-found g c = λ h.
+    on_ok_anyway c.tell.result (IfSome c.go_on.new.self.judge.found (IsKept c.args.parts.now)) (c.in_ok-go_on.ensures.found h)

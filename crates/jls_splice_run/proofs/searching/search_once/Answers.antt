@@ -1,7 +1,9 @@
-use Rattle.std.proofs.Common.{ℕ, length, Vec, Global, sym, ap, ◌∙◌, subst, arith, inl, inr}
+use Rattle.std.proofs.Common.{ℕ, length, Vec, Global, Option, sym, ap, ◌∙◌, subst, arith, inl, inr}
+use Rattle.std.specs.Prelude.{IfSome}
 use Rattle.jls_io.proofs.Growing.{grew_as}
 use Rattle.jls_search.specs.Faultless.{IsSought}
-use Rattle.jls_search.specs.Search.{CameTo, lists_of}
+use Rattle.jls_search.specs.Search.{CameTo, IsKept, lists_of}
+use Rattle.jls_search.specs.declared.kept.KeptReader.{KeptReader}
 use Rattle.jls_search.proofs.Walks.{used_up}
 use Rattle.jls_splice_run.specs.Telling.{HasReported, IsReported}
 use Rattle.jls_splice_run.proofs.searching.search_once.Goals as goal
@@ -44,3 +46,7 @@ returns-clause-reported g c =
     (g.E.Device.history c.args.faults.now) (g.E.Device.history c.search_parts.new.faults)
     (λ events h. subst (λ n. IsReported options.tells n (length (lists_of searched.splices.items)) events) (sym same.tries)
     (subst (λ (v : Vec (Vec ℕ Global) Global). IsReported options.tells walk.tries (length (lists_of v.items)) events) (sym same.splices) h.reported)) c.in_ok-walk.ensures.reported
+
+pub returns-clause-reader : goal.returns-clause-reader
+returns-clause-reader g c =
+    subst (λ (k : Option KeptReader). IfSome k (IsKept c.args.parts.now)) (sym c.into_searched.ensures.reader) c.in_ok-walk.ensures.found

@@ -1,7 +1,9 @@
-use Rattle.std.proofs.Common.{◌≡◌, List, [], length, sym, ap, ◌∙◌, subst, arith}
+use Rattle.std.proofs.Common.{◌≡◌, List, [], Option, length, sym, ap, ◌∙◌, subst, arith}
+use Rattle.std.specs.Prelude.{IfSome}
 use Rattle.jls_io.specs.Event.{Event, GrewBy}
 use Rattle.jls_io.proofs.Growing.{grew_as, grew_not, grew_on}
-use Rattle.jls_search.specs.Search.{lists_of, nothing}
+use Rattle.jls_search.specs.Search.{IsKept, lists_of, nothing}
+use Rattle.jls_search.specs.declared.kept.KeptReader.{KeptReader}
 use Rattle.jls_search.specs.declared.whole_search.WholeSearch.{WholeSearch}
 use Rattle.jls_splice_run.specs.Telling.{GoesOn, HasReported, IsReported, ReportedSome}
 use Rattle.jls_splice_run.specs.declared.options.SearchOptions.{SearchOptions}
@@ -31,6 +33,7 @@ loop-alloc-init g c =
     record {
       stands = c.in_ok-walk.ensures.stands;
       ceiling = c.in_ok-walk.ensures.ceiling;
+      found = subst (λ (k : Option KeptReader). IfSome k (IsKept c.args.parts.now)) (sym c.in_ok-walk.ensures.found) tt;
       tried = (walk, none, c.in_ok-walk.ensures.stands, nothing walk, c.in_ok-walk.ensures.ceiling);
       reported = grew_not (HasReported c.args.options walk) (g.E.Device.history c.args.faults.now)
           (begun_reported c.args.options walk none.0 (ap (λ xs. length (lists_of xs)) none.1));
@@ -44,6 +47,7 @@ loop-alloc-preserved g c =
     record {
       stands = c.in_ok-go_on.ensures.stands;
       ceiling = c.in_ok-go_on.ensures.ceiling ∙ c.loop-alloc.invariant.ceiling;
+      found = c.in_ok-go_on.ensures.found c.loop-alloc.invariant.found;
       tried = (
         so_far.0,
         so_far.1,

@@ -1,11 +1,11 @@
 use Rattle.std.proofs.Common.{List, ℕ, Vec, Global, Option, inl, inr, refl, sym, subst}
 use Rattle.std.specs.Prelude.{IfNone, IfSome}
 use Rattle.jls_station.specs.CopyFiles.{copies_of}
-use Rattle.jls_station.specs.declared.station.Station.{Station}
 use Rattle.jls_diff.specs.PartsOf.{bytes_of}
 use Rattle.jls_search.specs.Choices.{prefix_of}
 use Rattle.jls_search.specs.Cuts.{TakesNoCut}
 use Rattle.jls_search.specs.Files.{splices_found}
+use Rattle.jls_search.specs.declared.settling.HeldFiles.{HeldFiles}
 use Rattle.jls_splice_run.specs.Copies.{bytes_read}
 use Rattle.jls_splice_run.proofs.settling.settle.Goals.{in-Some+in-Ok-None, in_default}
 use Rattle.jls_splice_run.proofs.settling.settle.Goals as goal
@@ -19,7 +19,7 @@ returns-in-Ok-clause-cut c =
       | in_default w ↦ inl (sym w.in_default.is)
       | in-Some+in-Ok-None w ↦
           (let nothing : TakesNoCut (bytes_of files.copies.now) splices (prefix_of files.parts.now w.deref.result.now) =
-          subst (λ (o : Option Station). IfNone o (TakesNoCut (bytes_of files.copies.now) splices (prefix_of files.parts.now w.deref.result.now)))
+          subst (λ (o : Option HeldFiles). IfNone o (TakesNoCut (bytes_of files.copies.now) splices (prefix_of files.parts.now w.deref.result.now)))
           w.in-Ok-None.field-0-is w.in-Ok-None.ensures.nothing in
           let same = subst (λ (xs : List (List ℕ)). TakesNoCut xs splices (prefix_of files.parts.now w.deref.result.now)) c.requires.copies nothing in
           let path = subst (λ (p : List ℕ). TakesNoCut copies splices (prefix_of files.parts.now p)) w.deref.ensures.value same in

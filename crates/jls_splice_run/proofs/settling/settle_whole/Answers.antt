@@ -15,7 +15,7 @@ returns-in-Differ-clause-stopped c =
     let answer = found.Differ copy in
     let copies = bytes_of c.args.files.now.copies.now in
     let splices = splices_found c.args.files.now in
-    let seen = subst (SettlesFiles c.args.task.now.options.source copies splices) c.in-Differ.is c.in-Ok.ensures in
+    let seen = subst (SettlesFiles c.args.task.now.options.source copies splices) c.in-Differ.is c.in-Ok.ensures.settled in
     let within = named_within c.args.copies.now copies copy c.requires.copies c.requires.some_copy seen.1 in
     let named : copy < length c.args.task.now.names.now = omega (arith, within, c.requires.names) in
     inr (
@@ -29,7 +29,7 @@ returns-in-NoFrame-clause-stopped c =
     let answer = found.NoFrame c.in-NoFrame.fault c.in-NoFrame.offset in
     let copies = bytes_of c.args.files.now.copies.now in
     let splices = splices_found c.args.files.now in
-    let seen = subst (SettlesFiles c.args.task.now.options.source copies splices) c.in-NoFrame.is c.in-Ok.ensures in
+    let seen = subst (SettlesFiles c.args.task.now.options.source copies splices) c.in-NoFrame.is c.in-Ok.ensures.settled in
     let some : 0 < length c.args.task.now.names.now = omega (arith, c.requires.names, c.requires.some_copy) in
     inr (
       answer,

@@ -3,7 +3,7 @@ use Rattle.jls_search.specs.Search.{files_of, lists_of}
 use Rattle.jls_splice_run.specs.Single.{AreSeenSo}
 use Rattle.jls_splice_run.proofs.single.with_splices.Given as goal
 
-abbrev pub invariant-loop-choices : goal.invariant-loop-choices
-invariant-loop-choices l =
+abbrev pub invariant-loop-place : goal.invariant-loop-place
+invariant-loop-place l =
     (files : List (List ℕ)) → AreSeenSo files l.fn.copies
-    → AreSeenSo (files ++ files_of l.parts (lists_of (take l.choices-index l.splices))) l.faultless
+    → AreSeenSo (files ++ files_of l.parts (lists_of (take l.place l.splices))) l.faultless

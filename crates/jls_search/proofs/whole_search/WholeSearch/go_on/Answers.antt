@@ -48,6 +48,7 @@ loop-alloc-preserved c =
       within = omega (arith, below);
       ceiling = same ∙ so_far.ceiling;
       some = inl (omega (arith, tries));
+      found = λ h. c.in_ok-self.ensures.found (so_far.found h);
     }
 
 pub loop-alloc-smaller : goal.loop-alloc-smaller
@@ -83,4 +84,8 @@ loop-alloc-init c = record {
   within = omega arith;
   ceiling = refl;
   some = inr refl;
+  found = λ h. h;
 }
+
+pub returns-clause-found : goal.returns-clause-found
+returns-clause-found c = λ h. c.loop-alloc.invariant.found h

@@ -1,6 +1,6 @@
 use Rattle.std.proofs.Common.{◌≡◌, ◌-◌, ◌<◌, ◌≤◌, ◌⊎◌, length}
-use Rattle.std.specs.Prelude.{max}
-use Rattle.jls_search.specs.Search.{IsSearch, Tried, lists_of}
+use Rattle.std.specs.Prelude.{max, IfSome}
+use Rattle.jls_search.specs.Search.{IsKept, IsSearch, Tried, lists_of}
 use Rattle.jls_search.proofs.whole_search.WholeSearch.go_on.Given as goal
 
 abbrev pub invariant-loop-alloc : goal.invariant-loop-alloc
@@ -12,6 +12,7 @@ invariant-loop-alloc l = record {
   ceiling : l.self.judge.ceiling ≡ l.fn.self.judge.ceiling;
   within : l.self.tries ≤ max l.fn.self.tries l.limit;
   some : (l.fn.self.tries < l.self.tries) ⊎ (l.self ≡ l.fn.self);
+  found : IfSome l.fn.self.judge.found (IsKept l.parts) → IfSome l.self.judge.found (IsKept l.parts);
 }
 
 abbrev pub decreases-loop-alloc : goal.decreases-loop-alloc
