@@ -1,6 +1,7 @@
 //! A few data bits at once.
 
-ghost use Rattle.std.specs.Prelude.{◌≡◌, ◌↔◌, ◌+◌, ◌≤◌, ◌<◌, ◌^◌, true, false, [], ◌∷◌, ◌++◌, length, replicate, IsTrue, IfSome, IfNone};
+ghost use Rattle.std.specs.Prelude.{◌≡◌, ◌↔◌, ◌+◌, ◌-◌, ◌*◌, ◌≤◌, ◌<◌, ◌^◌, IsTrue, IfSome, IfNone};
+ghost use Rattle.std.specs.Prelude.{true, false, [], ◌∷◌, ◌++◌, length, replicate};
 ghost use Rattle.jls_bits.specs.Bits.{bits};
 ghost use Rattle.jls_bits.specs.Golomb.{golomb, has_golomb, NoShortCodeBegins};
 ghost use Rattle.jls_bits.specs.Chunk.{NoShortPrefix};
@@ -119,11 +120,12 @@ impl Chunk {
     }
 
     /// Takes fewer than `limit` zeros, a one, and the k bits after it, where they stand at the start: how many zeros,
-    /// and the number of the k bits. Else it takes nothing.
+    /// and the number of the one and the k bits. Else it takes nothing.
     pub(crate) fn take_short(&mut self, limit: u8, k: u8) -> Option<(u8, u32)>
         requires k { k ≤ 16 }
-        ensures some { IfSome result (λ x. self.old ≡ replicate x.0 false ++ true ∷ (bits k x.1 ++ self.new)) }
-        ensures small { IfSome result (λ x. (x.0 < limit) × (x.1 < 2 ^ k)) }
+        ensures some { IfSome result (λ x. self.old ≡ replicate x.0 false ++ true ∷ (bits k (x.1 - 2 ^ k) ++ self.new)) }
+        ensures zeros { IfSome result (λ x. x.0 < limit) }
+        ensures number { IfSome result (λ x. (2 ^ k ≤ x.1) × (x.1 < 2 * 2 ^ k)) }
         ensures none { IfNone result (self.new ≡ self.old) }
         ensures none_stands { IfNone result (NoShortPrefix limit k self.old) }
     {
@@ -136,7 +138,7 @@ impl Chunk {
             return None;
         }
         let count = first - k;
-        let number = (self.value >> count) % (1 << k);
+        let number = self.value >> count;
         self.value %= 1 << count;
         self.count = count;
         Some((zeros, number as u32))
@@ -153,7 +155,11 @@ impl Chunk {
     {
         match self.take_short(g - qbpp - 1, k) {
             None => None,
-            Some((zeros, low)) => Some(((zeros as u32) << k) + low),
+            Some((zeros, number)) => {
+                // With its one the number is 2^k too large, which is one zero less.
+                let above = (zeros as u32).wrapping_sub(1) << k;
+                Some(number.wrapping_add(above))
+            }
         }
     }
 }

@@ -146,6 +146,7 @@ impl IntervalReader {
 
     /// Takes bits from the start of a chunk, an event after another, as long as there are at least `waiting`: all of
     /// them where that is 0.
+    #[inline(always)]
     pub(crate) fn push_chunk(&mut self, waiting: u8, chunk: &mut Chunk) -> Result<(), AllocError>
         requires { (p : CodingParameters) × (given : List Bool) × IsReading p given self.old }
         ensures shape { HasShape self.old self.new }

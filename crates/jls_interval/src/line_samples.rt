@@ -8,6 +8,7 @@ ghost use Rattle.jls_context.specs.Regular.{regular_k};
 ghost use Rattle.jls_context.specs.Variables.{cell_at};
 ghost use Rattle.jls_bits.specs.CodeState.{IsOpen, bits_fed};
 ghost use Rattle.jls_interval.specs.Cells.{regular_error};
+ghost use Rattle.jls_interval.specs.CodeLengths.{AreLengths};
 ghost use Rattle.jls_interval.specs.Code.{regular_bits};
 ghost use Rattle.jls_interval.specs.Place.{above_of};
 ghost use Rattle.jls_interval.specs.LineSamples.{PrefixIs, TakesInLine};
@@ -32,24 +33,35 @@ pub(crate) enum Prefix {
     Other,
 }
 
+/// The quantized gradients of a sample from Rb to Rd and from Rc to Rb.
+#[derive(Clone, Copy)]
+struct GradientsAbove {
+    first: i32,
+    second: i32,
+}
+
 /// Takes a sample of regular mode whose code is short, where it stands whole at the start, or the first bits of one, where these are all
-/// bits. The quantized gradients from Rb to Rd and from Rc to Rb are given.
+/// bits. Its gradients in the line above are given, and the lengths of the scan's codes.
 #[inline(always)]
 fn take_sample(
     coder: &mut Coder,
+    lengths: CodeLengths,
     neighbours: Neighbours,
-    first: i32,
-    second: i32,
+    gradients: GradientsAbove,
     chunk: &mut Chunk,
 ) -> Prefix
-    requires first { first ≡ quantized_gradient coder.old.cells.parameters (pos neighbours.rd -ℤ pos neighbours.rb) }
-    requires second { second ≡ quantized_gradient coder.old.cells.parameters (pos neighbours.rb -ℤ pos neighbours.rc) }
-    requires steps { IsStep first × IsStep second }
+    requires lengths { AreLengths coder.old.cells.parameters lengths }
+    requires first { gradients.first ≡ quantized_gradient coder.old.cells.parameters (pos neighbours.rd -ℤ pos neighbours.rb) }
+    requires second { gradients.second ≡ quantized_gradient coder.old.cells.parameters (pos neighbours.rb -ℤ pos neighbours.rc) }
+    requires steps { IsStep gradients.first × IsStep gradients.second }
     ensures prefix { PrefixIs coder.old.cells.parameters neighbours coder.old coder.new chunk.old chunk.new result }
     ensures parameters { coder.new.cells.parameters ≡ coder.old.cells.parameters }
 {
     let third = coder.cells.gradient(neighbours.rc, neighbours.ra);
-    match coder.cells.mode_of(first, second, third) {
+    match coder
+        .cells
+        .mode_of(gradients.first, gradients.second, third)
+    {
         Mode::Run => Prefix::Other,
         Mode::Regular { cell, negative } => {
             let mode = RegularMode {
@@ -57,7 +69,7 @@ fn take_sample(
                 negative,
             };
             let k = coder.cells.regular_k(cell);
-            let CodeLengths { qbpp, limit } = coder.lengths;
+            let CodeLengths { qbpp, limit } = lengths;
             let before = chunk.fork();
             match chunk.take_code(k, limit, qbpp) {
                 None => match CodeState::of_short(k, limit, qbpp, chunk) {
@@ -85,6 +97,7 @@ fn take_sample(
 /// Takes samples of regular mode as long as there are at least `looked_for` bits and their codes are short and stand whole at the
 /// prefix: none, where an event has begun. Where one bit is enough, it takes the first bits of a code after them too. The last two
 /// columns of the line are not taken.
+#[inline(always)]
 pub(crate) fn take_samples(
     reader: &mut LineReader,
     place: &Place<'_>,
@@ -119,13 +132,15 @@ fn take_samples_of(
     let OpenEvent::NotBegun = reader.open_event else {
         return Ok(());
     };
-    let mut column = reader.line.len();
-    let mut near = place.neighbours(reader.width, &reader.line, column);
+    // A copy of its own, which the updates of the cells can't change.
+    let lengths = reader.coder.lengths;
+    let mut near = place.neighbours(reader.width, &reader.line, reader.line.len());
     let mut second = reader.coder.cells.gradient(near.rb, near.rc);
-    'columns: while column + 2 < reader.width && chunk.len() >= looked_for {
+    'columns: while reader.line.len() + 2 < reader.width && chunk.len() >= looked_for {
         let first = reader.coder.cells.gradient(near.rd, near.rb);
         let before = chunk.fork();
-        match take_sample(&mut reader.coder, near, first, second, chunk) {
+        let gradients = GradientsAbove { first, second };
+        match take_sample(&mut reader.coder, lengths, near, gradients, chunk) {
             Prefix::Other => return Ok(()),
             Prefix::Begun(code) => {
                 if looked_for > 1 {
@@ -138,9 +153,8 @@ fn take_samples_of(
             }
             Prefix::Taken(value) => {
                 reader.line.push(value)?;
-                near = place.neighbours_after(near, value, column);
+                near = place.neighbours_after(near, value, reader.line.len() - 1);
                 second = first;
-                column += 1;
             }
         }
     }

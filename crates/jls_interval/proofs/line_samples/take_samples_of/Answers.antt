@@ -1,10 +1,11 @@
-use Rattle.std.proofs.Common.{◌≡◌, ℕ, ◌+◌, ◌<◌, List, [], ◌∷◌, ◌++◌, length, length-append, w32, to_z, of_z, refl, ap, sym, ◌∙◌, subst}
+use Rattle.std.proofs.Common.{◌≡◌, ℕ, ◌+◌, ◌-◌, ◌<◌, List, [], ◌∷◌, ◌++◌, length, length-append, w32, to_z, of_z, refl, ap, sym, ◌∙◌, subst}
 use Rattle.std.proofs.Common.{arith}
 use Rattle.std.proofs.lemmas.Int.{ints}
 use Rattle.std.specs.Prelude.{pos, ◌-ℤ◌}
 use Rattle.jls_values.specs.Params.{CodingParameters}
 use Rattle.jls_context.specs.Mode.{IsStep, quantized_gradient}
 use Rattle.jls_interval.specs.Events.{Above, neighbours}
+use Rattle.jls_interval.specs.CodeLengths.{AreLengths}
 use Rattle.jls_interval.specs.Place.{above_of}
 use Rattle.jls_interval.proofs.LineSamples.{taken_more, taken_none, taken_same, begun_same}
 use Rattle.jls_interval.proofs.line_samples.take_samples_of.Goals as goal
@@ -31,16 +32,16 @@ returns-in-Other-clause-taken c =
 pub columns-preserved : goal.columns-preserved
 columns-preserved c =
     let i = c.columns.invariant in let now = c.columns.reader in let w : ℕ = now.width in let line : List ℕ = now.line.items in let line' : List ℕ = c.push.new.self.items in
-    let up : Above = above_of c.args.place.now in let x : ℕ = c.columns.column in let v : ℕ = c.in-Taken.value in
+    let up : Above = above_of c.args.place.now in let x : ℕ = c.len-in-Taken.result - 1 in let v : ℕ = c.in-Taken.value in
     let grown : line' ≡ line ++ v ∷ [] = c.in_ok-push-in-Taken.ensures.items in let a = length-append line (v ∷ []) in let b = ap length grown in
-    let room : x + 2 < w = c.columns-test.true in let at : x ≡ length line = i.column in
+    let test : length line + 2 < w = omega (arith, c.columns-test.true, c.len-in-columns.ensures) in let len : c.len-in-Taken.result ≡ length line' = omega (arith, c.len-in-Taken.ensures) in let at : x ≡ length line = omega arith in let room : x + 2 < w = omega arith in
     let at' : x + 1 ≡ length line' = omega arith in
     let next = c.neighbours_after-near.ensures.following w line at (i.near ∙ ap (neighbours w up line) (sym at)) room in
     let near = c.columns.near in let near' = c.neighbours_after-near.result in let same : to_z w32 (of_z w32 c.gradient-first.result) ≡ c.gradient-first.result = omega (arith, ints) in
     let rolled = c.neighbours_after-near.ensures.rolled in
     record {
-      column = at';
       columns = omega arith;
+      lengths = subst (λ (q : CodingParameters). AreLengths q c.args.reader.now.coder.lengths) (sym c.take_sample.ensures.parameters) i.lengths;
       width = i.width;
       parameters = c.take_sample.ensures.parameters ∙ i.parameters;
       open_event = i.open_event;

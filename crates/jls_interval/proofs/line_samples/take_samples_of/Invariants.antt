@@ -1,6 +1,7 @@
 use Rattle.std.proofs.Common.{◌≡◌, ◌-◌, ◌<◌, length}
 use Rattle.std.specs.Prelude.{pos, ◌-ℤ◌}
 use Rattle.jls_context.specs.Mode.{IsStep, quantized_gradient}
+use Rattle.jls_interval.specs.CodeLengths.{AreLengths}
 use Rattle.jls_interval.specs.Place.{above_of}
 use Rattle.jls_interval.specs.OpenEvents.{now_at}
 use Rattle.jls_interval.specs.LineSamples.{TakesInLine}
@@ -9,8 +10,8 @@ use Rattle.jls_interval.proofs.line_samples.take_samples_of.Given as goal
 
 abbrev pub invariant-columns : goal.invariant-columns
 invariant-columns l = record {
-  column : l.column ≡ length l.reader.line.items;
   columns : length l.reader.line.items < l.reader.width;
+  lengths : AreLengths l.reader.coder.cells.parameters l.lengths;
   width : l.reader.width ≡ l.initial.reader.width;
   parameters : l.reader.coder.cells.parameters ≡ l.initial.reader.coder.cells.parameters;
   open_event : l.reader.open_event ≡ NotBegun;
@@ -21,4 +22,4 @@ invariant-columns l = record {
 }
 
 abbrev pub decreases-columns : goal.decreases-columns
-decreases-columns l = l.reader.width - l.column
+decreases-columns l = l.reader.width - length l.reader.line.items
