@@ -24,7 +24,8 @@ power_of_rest c n h = let e : n ≡ c + (n - c) = omega arith in ap (λ z. 2 ^ z
 
 -- a number by its quotient
 at_most : (d m w : ℕ) → 0 < d → 1 ≤ m → (m - 1) / d ≡ w → m ≤ (w + 1) * d
-at_most d m w p l e = let split = div-add-mod' (m - 1) d in let low = mod_below (m - 1) d p in let f : (m - 1) / d * d ≡ w * d = ap (λ x. x * d) e in omega arith
+at_most d m w p l e = let split = div-add-mod' (m - 1) d in let low = mod_below (m - 1) d p in
+    let f : (m - 1) / d * d ≡ w * d = ap (λ x. x * d) e in omega arith
 
 -- what the code shifts stays below 2^32
 pub escape_shifted : (k g q : ℕ) → k ≤ 16 → g ≤ 64 → (g - q - 1) * 2 ^ k % 4294967296 ≡ (g - q - 1) * 2 ^ k
@@ -36,7 +37,8 @@ one_shifted q h = shl_whole 1 1 q 32 (omega arith) (omega arith) ∙ omega arith
 pub largest_shifted : (q n w : ℕ) → q ≤ 16 → n ≤ q → w < 2 ^ n → (w + 1) * 2 ^ (q - n) % 4294967296 ≡ (w + 1) * 2 ^ (q - n)
 largest_shifted q n w h l b =
     let p = power_of_rest n q l in let m : 2 ^ q ≤ 2 ^ 16 = pow_mono {i = q} {j = 16} h in
-    let high : (w + 1) * 2 ^ (q - n) ≤ 2 ^ n * 2 ^ (q - n) = mul-le (w + 1) (2 ^ (q - n)) (2 ^ n) (2 ^ (q - n)) (omega arith) (omega arith) in
+    let high : (w + 1) * 2 ^ (q - n) ≤ 2 ^ n * 2 ^ (q - n) =
+    mul-le (w + 1) (2 ^ (q - n)) (2 ^ n) (2 ^ (q - n)) (omega arith) (omega arith) in
     mod-eq_of_lt (omega arith)
 
 module _ (k g q : ℕ) (room : q + 2 ≤ g) where
@@ -44,10 +46,12 @@ module _ (k g q : ℕ) (room : q + 2 ≤ g) where
   esc = g - q - 1
 
   pub code_of_short : (m : ℕ) → is_short k g q m ≡ true → golomb k g q m ≡ replicate (m / 2 ^ k) false ++ true ∷ bits k m
-  code_of_short m h = sym (append-nil (golomb k g q m)) ∙ golomb_short k g q m [] h ∙ ap (λ x. replicate (m / 2 ^ k) false ++ true ∷ x) (append-nil (bits k m))
+  code_of_short m h = sym (append-nil (golomb k g q m)) ∙ golomb_short k g q m [] h
+      ∙ ap (λ x. replicate (m / 2 ^ k) false ++ true ∷ x) (append-nil (bits k m))
 
   pub code_of_long : (m : ℕ) → is_short k g q m ≡ false → golomb k g q m ≡ replicate esc false ++ true ∷ bits q (m - 1)
-  code_of_long m h = sym (append-nil (golomb k g q m)) ∙ golomb_long k g q m [] h ∙ ap (λ x. replicate esc false ++ true ∷ x) (append-nil (bits q (m - 1)))
+  code_of_long m h = sym (append-nil (golomb k g q m)) ∙ golomb_long k g q m [] h
+      ∙ ap (λ x. replicate esc false ++ true ∷ x) (append-nil (bits q (m - 1)))
 
   has_long : (m : ℕ) → is_short k g q m ≡ false → 1 ≤ m → m ≤ 2 ^ q → has_golomb k g q m ≡ true
   has_long m h l j = rw h (and_from (leb 1 m) (leb m (2 ^ q)) (le-leb 1 m l) (le-leb m (2 ^ q) j))
@@ -57,14 +61,28 @@ module _ (k g q : ℕ) (room : q + 2 ≤ g) where
   zeros_begin z l =
       let m = z * 2 ^ k + 0 in let d : m / 2 ^ k ≡ z = shr_high z k 0 (pow_pos k) in
       let h : is_short k g q m ≡ true = lt-ltb (m / 2 ^ k) esc (omega arith) in
-      record { number = m; next = true; more = bits k m; has = rw h refl; code = code_of_short m h ∙ ap (λ x. replicate x false ++ true ∷ bits k m) d }
+      record {
+        number = m;
+        next = true;
+        more = bits k m;
+        has = rw h refl;
+        code = code_of_short m h
+            ∙ ap (λ x. replicate x false ++ true ∷ bits k m) d;
+      }
 
   -- an escape's zeros begin the code of 2^qbpp, where it has no short one
   escape_begins : (z : ℕ) → z ≡ esc → esc * 2 ^ k ≤ 2 ^ q → BeginsCode k g q (replicate z false)
   escape_begins z e l =
       let m = 2 ^ q in let d : esc ≤ m / 2 ^ k = le-div esc m (2 ^ k) (pow_pos k) l in
       let h : is_short k g q m ≡ false = le-ltb (m / 2 ^ k) esc d in let p = pow_pos q in
-      record { number = m; next = true; more = bits q (m - 1); has = has_long m h (omega arith) (omega arith); code = code_of_long m h ∙ ap (λ x. replicate x false ++ true ∷ bits q (m - 1)) (sym e) }
+      record {
+        number = m;
+        next = true;
+        more = bits q (m - 1);
+        has = has_long m h (omega arith) (omega arith);
+        code = code_of_long m h
+            ∙ ap (λ x. replicate x false ++ true ∷ bits q (m - 1)) (sym e);
+      }
 
   zeros_open : (z : ℕ) → z ≤ esc → (z ≡ esc → esc * 2 ^ k ≤ 2 ^ q) → BeginsCode k g q (replicate z false)
   zeros_open z l h = elim (cases_lt z esc) [ inl s ↦ zeros_begin z s | inr s ↦ (let e : z ≡ esc = omega arith in escape_begins z e (h e)) ]
@@ -73,8 +91,12 @@ module _ (k g q : ℕ) (room : q + 2 ≤ g) where
   prefix_bits : (n c x v : ℕ) → c < n → (x / 2 ^ (n - c)) % 2 ^ c ≡ v % 2 ^ c
       → (b : Bool) × (more : List Bool) × (bits n x ≡ bits c v ++ b ∷ more)
   prefix_bits n c x v l e =
-      let d = n - c in let s : n ≡ c + d = omega arith in
-      (eqb (x / 2 ^ (d - 1) % 2) 1, bits (d - 1) x, ap (λ z. bits z x) s ∙ bits_split c d x ∙ ap (λ z. z ++ bits d x) (bits_cong c (x / 2 ^ d) v e) ∙ ap (λ z. bits c v ++ z) (bits_more d x (omega arith)))
+      let d = n - c in let s : n ≡ c + d = omega arith in (
+        eqb (x / 2 ^ (d - 1) % 2) 1,
+        bits (d - 1) x,
+        ap (λ z. bits z x) s ∙ bits_split c d x
+            ∙ ap (λ z. z ++ bits d x) (bits_cong c (x / 2 ^ d) v e) ∙ ap (λ z. bits c v ++ z) (bits_more d x (omega arith)),
+      )
 
   pub joined : (s t u : List Bool) (given : List Bool) → t ≡ given ++ u → s ++ true ∷ t ≡ (s ++ true ∷ given) ++ u
   joined s t u given e = ap (λ z. s ++ true ∷ z) e ∙ sym (append_assoc s (true ∷ given) u)
@@ -88,7 +110,14 @@ module _ (k g q : ℕ) (room : q + 2 ≤ g) where
       let e : m ≡ (z * 2 ^ c + v) * 2 ^ d = rw p (omega arith) in
       let f : m / 2 ^ d ≡ z * 2 ^ c + v = ap (λ x. x / 2 ^ d) e ∙ shl-shr (z * 2 ^ c + v) d in
       let r = prefix_bits k c m v s (ap (λ x. x % 2 ^ c) f ∙ mod_low z c v b ∙ sym (mod-eq_of_lt b)) in
-      record { number = m; next = r.0; more = r.1; has = rw short refl; code = code_of_short m short ∙ ap (λ x. replicate x false ++ true ∷ bits k m) h ∙ joined (replicate z false) (bits k m) (r.0 ∷ r.1) (bits c v) r.2 }
+      record {
+        number = m;
+        next = r.0;
+        more = r.1;
+        has = rw short refl;
+        code = code_of_short m short
+            ∙ ap (λ x. replicate x false ++ true ∷ bits k m) h ∙ joined (replicate z false) (bits k m) (r.0 ∷ r.1) (bits c v) r.2;
+      }
 
   escape_open : (c v : ℕ) → c < q → v < 2 ^ c → esc * 2 ^ k ≤ (v + 1) * 2 ^ (q - c)
       → BeginsCode k g q (replicate esc false ++ true ∷ bits c v)
@@ -100,7 +129,14 @@ module _ (k g q : ℕ) (room : q + 2 ≤ g) where
       let high : m ≤ 2 ^ q = rw p (mul-le (v + 1) (2 ^ d) (2 ^ c) (2 ^ d) (omega arith) (omega arith)) in
       let long : is_short k g q m ≡ false = le-ltb (m / 2 ^ k) esc (le-div esc m (2 ^ k) (pow_pos k) l) in
       let r = prefix_bits q c (m - 1) v s (ap (λ x. x % 2 ^ c) f) in
-      record { number = m; next = r.0; more = r.1; has = has_long m long (omega arith) high; code = code_of_long m long ∙ joined (replicate esc false) (bits q (m - 1)) (r.0 ∷ r.1) (bits c v) r.2 }
+      record {
+        number = m;
+        next = r.0;
+        more = r.1;
+        has = has_long m long (omega arith) high;
+        code = code_of_long m long
+            ∙ joined (replicate esc false) (bits q (m - 1)) (r.0 ∷ r.1) (bits c v) r.2;
+      }
 
   -- from an open state some code goes on
   pub begins : (s : CodeState) → IsOpen k g q s → BeginsCode k g q (bits_fed g q s)
@@ -116,7 +152,9 @@ module _ (k g q : ℕ) (room : q + 2 ≤ g) where
   pub none_whole : (given : List Bool) → BeginsCode k g q given → (m : ℕ) (rest : List Bool) → has_golomb k g q m ≡ true
       → given ≡ golomb k g q m ++ rest → ⊥
   none_whole given b m rest h e =
-      let r = golomb_same k g q b.number m [] (rest ++ b.next ∷ b.more) b.has h (append-nil (golomb k g q b.number) ∙ b.code ∙ ap (λ x. x ++ b.next ∷ b.more) e ∙ append_assoc (golomb k g q m) rest (b.next ∷ b.more)) in
+      let r = golomb_same k g q b.number m [] (rest ++ b.next ∷ b.more) b.has h
+      (append-nil (golomb k g q b.number) ∙ b.code ∙ ap (λ x. x ++ b.next ∷ b.more) e
+      ∙ append_assoc (golomb k g q m) rest (b.next ∷ b.more)) in
       nothing rest b.next b.more (sym r.1)
     where
       nothing : (xs : List Bool) (y : Bool) (ys : List Bool) → xs ++ y ∷ ys ≡ [] → ⊥
@@ -125,12 +163,14 @@ module _ (k g q : ℕ) (room : q + 2 ≤ g) where
 
   one_more_zero : (z : ℕ) (bit : Bool) (more : List Bool) → bit ≡ false
       → (replicate z false ++ bit ∷ []) ++ more ≡ replicate (z + 1) false ++ more
-  one_more_zero z bit more e = append_assoc (replicate z false) (bit ∷ []) more ∙ ap (λ x. replicate z false ++ x ∷ more) e ∙ zeros_push z more
+  one_more_zero z bit more e = append_assoc (replicate z false) (bit ∷ []) more ∙ ap (λ x. replicate z false ++ x ∷ more) e
+      ∙ zeros_push z more
 
   -- a zero after zeros
   pub zero_more : (z : ℕ) (bit : Bool) → bit ≡ false → z + 1 ≤ esc → (z + 1 ≡ esc → esc * 2 ^ k ≤ 2 ^ q)
       → StepIs k g q (replicate z false ++ bit ∷ []) (More (Zeros (z + 1)))
-  zero_more z bit e l h = fed (Zeros (z + 1)) (replicate z false ++ bit ∷ []) (l, h) (sym (sym (append-nil (replicate z false ++ bit ∷ [])) ∙ one_more_zero z bit [] e ∙ append-nil (replicate (z + 1) false)))
+  zero_more z bit e l h = fed (Zeros (z + 1)) (replicate z false ++ bit ∷ []) (l, h)
+      (sym (sym (append-nil (replicate z false ++ bit ∷ [])) ∙ one_more_zero z bit [] e ∙ append-nil (replicate (z + 1) false)))
 
   pub zero_too_many : (z : ℕ) (bit : Bool) → bit ≡ false → z ≡ esc → RefusesCode k g q (replicate z false ++ bit ∷ [])
   zero_too_many z bit e h m more rest has c = many_zeros k g q (z + 1) more m rest (omega arith) (sym (one_more_zero z bit more e) ∙ c)
@@ -138,7 +178,8 @@ module _ (k g q : ℕ) (room : q + 2 ≤ g) where
   pub zero_without_escape : (z : ℕ) (bit : Bool) → bit ≡ false → z + 1 ≡ esc → 2 ^ q < esc * 2 ^ k
       → RefusesCode k g q (replicate z false ++ bit ∷ [])
   zero_without_escape z bit e h l m more rest has c =
-      let s : replicate esc false ++ more ≡ golomb k g q m ++ rest = ap (λ x. replicate x false ++ more) (sym h) ∙ sym (one_more_zero z bit more e) ∙ c in
+      let s : replicate esc false ++ more ≡ golomb k g q m ++ rest = ap (λ x. replicate x false ++ more) (sym h)
+      ∙ sym (one_more_zero z bit more e) ∙ c in
       let long = escape_after_zeros k g q more m rest s in let r = escape_range k g q m has long in
       let d : esc ≤ m / 2 ^ k = ltb-false (m / 2 ^ k) esc long in
       let f : m / 2 ^ k < esc = div_below m (2 ^ k) esc (pow_pos k) (omega arith) in omega arith
@@ -151,7 +192,8 @@ module _ (k g q : ℕ) (room : q + 2 ≤ g) where
       → StepIs k g q (replicate z false ++ bit ∷ []) (More (Escape 0 0))
   one_of_escape z bit e l h j =
       let p : q - 0 ≡ q = omega arith in let s : esc * 2 ^ k ≤ 1 * 2 ^ (q - 0) = rw p (omega arith) in
-      fed (Escape 0 0) (replicate z false ++ bit ∷ []) (l, omega arith, s) (ap (λ x. replicate x false ++ true ∷ bits 0 0) (sym h) ∙ one_bits z bit e)
+      fed (Escape 0 0) (replicate z false ++ bit ∷ []) (l, omega arith, s)
+      (ap (λ x. replicate x false ++ true ∷ bits 0 0) (sym h) ∙ one_bits z bit e)
 
   pub one_of_short : (z : ℕ) (bit : Bool) → bit ≡ true → z < esc → 0 < k
       → StepIs k g q (replicate z false ++ bit ∷ []) (More (Remainder z 0 0))
@@ -160,7 +202,8 @@ module _ (k g q : ℕ) (room : q + 2 ≤ g) where
   pub one_alone : (z : ℕ) (bit : Bool) → bit ≡ true → z < esc → k ≡ 0 → StepIs k g q (replicate z false ++ bit ∷ []) (Done z)
   one_alone z bit e l h =
       let n : z * 2 ^ k + 0 ≡ z = ap (λ x. z * 2 ^ x + 0) h ∙ omega arith in
-      let a : replicate z false ++ bit ∷ [] ≡ replicate z false ++ true ∷ bits k 0 = sym (one_bits z bit e) ∙ ap (λ x. replicate z false ++ true ∷ bits x 0) (sym h) in
+      let a : replicate z false ++ bit ∷ [] ≡ replicate z false ++ true ∷ bits k 0 = sym (one_bits z bit e)
+      ∙ ap (λ x. replicate z false ++ true ∷ bits x 0) (sym h) in
       let r = short_code k g q z 0 (replicate z false ++ bit ∷ []) l (pow_pos k) a in
       subst (λ m. (has_golomb k g q m ≡ true) × (golomb k g q m ≡ replicate z false ++ bit ∷ [])) n r
 
@@ -172,7 +215,8 @@ module _ (k g q : ℕ) (room : q + 2 ≤ g) where
   pub remainder_more : (z c v : ℕ) (bit : Bool) → z < esc → v < 2 ^ c → c + 1 < k
       → StepIs k g q ((replicate z false ++ true ∷ bits c v) ++ bit ∷ []) (More (Remainder z (c + 1) (2 * v + bool_byte bit)))
   remainder_more z c v bit l b s =
-      fed (Remainder z (c + 1) (2 * v + bool_byte bit)) ((replicate z false ++ true ∷ bits c v) ++ bit ∷ []) (l, s, (bits_push_bool bit c v b).1) (more_bits (replicate z false) bit c v b)
+      fed (Remainder z (c + 1) (2 * v + bool_byte bit)) ((replicate z false ++ true ∷ bits c v) ++ bit ∷ [])
+      (l, s, (bits_push_bool bit c v b).1) (more_bits (replicate z false) bit c v b)
 
   pub remainder_whole : (z c v m : ℕ) (bit : Bool) → z < esc → v < 2 ^ c → c + 1 ≡ k → m ≡ z * 2 ^ k + (2 * v + bool_byte bit)
       → StepIs k g q ((replicate z false ++ true ∷ bits c v) ++ bit ∷ []) (Done m)
@@ -180,32 +224,39 @@ module _ (k g q : ℕ) (room : q + 2 ≤ g) where
       let w = 2 * v + bool_byte bit in let p = bits_push_bool bit c v b in
       let given = (replicate z false ++ true ∷ bits c v) ++ bit ∷ [] in
       let small : w < 2 ^ k = subst (λ x. w < 2 ^ x) s p.1 in
-      let r = short_code k g q z w given l small (sym (more_bits (replicate z false) bit c v b) ∙ ap (λ x. replicate z false ++ true ∷ bits x w) s) in
+      let r = short_code k g q z w given l small
+      (sym (more_bits (replicate z false) bit c v b) ∙ ap (λ x. replicate z false ++ true ∷ bits x w) s) in
       subst (λ m. (has_golomb k g q m ≡ true) × (golomb k g q m ≡ given)) (sym e) r
 
   -- a bit of an escape's number
   pub escape_more : (c v : ℕ) (bit : Bool) → v < 2 ^ c → c + 1 < q → esc * 2 ^ k ≤ (2 * v + bool_byte bit + 1) * 2 ^ (q - (c + 1))
       → StepIs k g q ((replicate esc false ++ true ∷ bits c v) ++ bit ∷ []) (More (Escape (c + 1) (2 * v + bool_byte bit)))
   escape_more c v bit b s l =
-      fed (Escape (c + 1) (2 * v + bool_byte bit)) ((replicate esc false ++ true ∷ bits c v) ++ bit ∷ []) (s, (bits_push_bool bit c v b).1, l) (more_bits (replicate esc false) bit c v b)
+      fed (Escape (c + 1) (2 * v + bool_byte bit)) ((replicate esc false ++ true ∷ bits c v) ++ bit ∷ [])
+      (s, (bits_push_bool bit c v b).1, l) (more_bits (replicate esc false) bit c v b)
 
   pub escape_whole : (c v : ℕ) (bit : Bool) → v < 2 ^ c → c + 1 ≡ q → esc * 2 ^ k ≤ 2 * v + bool_byte bit + 1
       → StepIs k g q ((replicate esc false ++ true ∷ bits c v) ++ bit ∷ []) (Done (2 * v + bool_byte bit + 1))
   escape_whole c v bit b s l =
       let w = 2 * v + bool_byte bit in let p = bits_push_bool bit c v b in
       let small : w < 2 ^ q = subst (λ x. w < 2 ^ x) s p.1 in
-      escape_code k g q w ((replicate esc false ++ true ∷ bits c v) ++ bit ∷ []) small (le-div esc (w + 1) (2 ^ k) (pow_pos k) l) (sym (more_bits (replicate esc false) bit c v b) ∙ ap (λ x. replicate esc false ++ true ∷ bits x w) s)
+      escape_code k g q w ((replicate esc false ++ true ∷ bits c v) ++ bit ∷ []) small (le-div esc (w + 1) (2 ^ k) (pow_pos k) l)
+      (sym (more_bits (replicate esc false) bit c v b) ∙ ap (λ x. replicate esc false ++ true ∷ bits x w) s)
 
   -- the first bits of an escape's number bound it
   pub escape_too_small : (c v : ℕ) (bit : Bool) → v < 2 ^ c → c + 1 ≤ q → (2 * v + bool_byte bit + 1) * 2 ^ (q - (c + 1)) < esc * 2 ^ k
       → RefusesCode k g q ((replicate esc false ++ true ∷ bits c v) ++ bit ∷ [])
   escape_too_small c v bit b s l m more rest has e =
       let n = c + 1 in let d = q - n in let w = 2 * v + bool_byte bit in let p = bits_push_bool bit c v b in
-      let a : replicate esc false ++ true ∷ (bits n w ++ more) ≡ golomb k g q m ++ rest = sym (append_assoc (replicate esc false) (true ∷ bits n w) more) ∙ ap (λ x. x ++ more) (more_bits (replicate esc false) bit c v b) ∙ e in
+      let a : replicate esc false ++ true ∷ (bits n w ++ more) ≡ golomb k g q m ++ rest =
+      sym (append_assoc (replicate esc false) (true ∷ bits n w) more) ∙ ap (λ x. x ++ more) (more_bits (replicate esc false) bit c v b)
+      ∙ e in
       let long = escape_after_zeros k g q (true ∷ (bits n w ++ more)) m rest a in let r = escape_range k g q m has long in
       let t = zeros_then_one esc esc (bits n w ++ more) (bits q (m - 1) ++ rest) (a ∙ golomb_long k g q m rest long) in
       let u : q ≡ n + d = omega arith in
-      let f = bits_same n w ((m - 1) / 2 ^ d) more (bits d (m - 1) ++ rest) (t.1 ∙ ap (λ x. bits x (m - 1) ++ rest) u ∙ ap (λ x. x ++ rest) (bits_split n d (m - 1)) ∙ append_assoc (bits n ((m - 1) / 2 ^ d)) (bits d (m - 1)) rest) in
+      let f = bits_same n w ((m - 1) / 2 ^ d) more (bits d (m - 1) ++ rest)
+      (t.1 ∙ ap (λ x. bits x (m - 1) ++ rest) u ∙ ap (λ x. x ++ rest) (bits_split n d (m - 1))
+      ∙ append_assoc (bits n ((m - 1) / 2 ^ d)) (bits d (m - 1)) rest) in
       let small : w % 2 ^ n ≡ w = mod-eq_of_lt p.1 in
       let high : m - 1 < 2 ^ (n + d) = subst (λ x. m - 1 < 2 ^ x) u (omega arith) in
       let top : (m - 1) / 2 ^ d % 2 ^ n ≡ (m - 1) / 2 ^ d = mod-eq_of_lt (shr_below (m - 1) n d high) in

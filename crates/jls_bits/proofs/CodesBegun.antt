@@ -18,7 +18,8 @@ use Rattle.jls_bits.proofs.CodeSteps.{code_of_short, code_of_long, joined, none_
 zeros_parted : (n z : ℕ) (s : List Bool) → z ≤ n → replicate n false ++ s ≡ replicate z false ++ (replicate (n - z) false ++ s)
 zeros_parted n z s l =
     let e : z + (n - z) ≡ n = omega arith in
-    ap (λ x. replicate x false ++ s) (sym e) ∙ ap (λ x. x ++ s) (sym (replicate-append-replicate z (n - z) false)) ∙ append_assoc (replicate z false) (replicate (n - z) false) s
+    ap (λ x. replicate x false ++ s) (sym e) ∙ ap (λ x. x ++ s) (sym (replicate-append-replicate z (n - z) false))
+    ∙ append_assoc (replicate z false) (replicate (n - z) false) s
 
 -- the first bits of a number, where they are known
 prefix_known : (n c x v : ℕ) → c ≤ n → (x / 2 ^ (n - c)) % 2 ^ c ≡ v % 2 ^ c → bits n x ≡ bits c v ++ bits (n - c) x
@@ -39,8 +40,16 @@ module _ (k g q : ℕ) (room : q + 2 ≤ g) where
     pub zeros_begin_code : z ≤ m / 2 ^ k → BeginsCodeOf k g q (replicate z false) m
     zeros_begin_code l =
         elim (cases_Bool (is_short k g q m)) [
-          | inl s ↦ record { rest = replicate (m / 2 ^ k - z) false ++ true ∷ bits k m; code = code_of_short k g q room m s ∙ zeros_parted (m / 2 ^ k) z (true ∷ bits k m) l }
-          | inr s ↦ record { rest = replicate (esc - z) false ++ true ∷ bits q (m - 1); code = code_of_long k g q room m s ∙ zeros_parted esc z (true ∷ bits q (m - 1)) few }
+          | inl s ↦ record {
+            rest = replicate (m / 2 ^ k - z) false ++ true ∷ bits k m;
+            code = code_of_short k g q room m s
+                ∙ zeros_parted (m / 2 ^ k) z (true ∷ bits k m) l;
+          }
+          | inr s ↦ record {
+            rest = replicate (esc - z) false ++ true ∷ bits q (m - 1);
+            code = code_of_long k g q room m s
+                ∙ zeros_parted esc z (true ∷ bits q (m - 1)) few;
+          }
         ]
 
     pub zeros_counted : BeginsCodeOf k g q (replicate z false) m → z ≤ m / 2 ^ k
@@ -63,14 +72,19 @@ module _ (k g q : ℕ) (room : q + 2 ≤ g) where
     remainder_begins_code e =
         let d = quotient_is e in let s : is_short k g q m ≡ true = lt-ltb (m / 2 ^ k) esc (omega arith) in
         let low : (m / 2 ^ (k - c)) % 2 ^ c ≡ v % 2 ^ c = ap (λ x. x % 2 ^ c) e ∙ mod_low z c v small ∙ sym (mod-eq_of_lt small) in
-        record { rest = bits (k - c) m; code = code_of_short k g q room m s ∙ ap (λ x. replicate x false ++ true ∷ bits k m) d ∙ joined k g q room (replicate z false) (bits k m) (bits (k - c) m) (bits c v) (prefix_known k c m v (omega arith) low) }
+        record {
+          rest = bits (k - c) m;
+          code = code_of_short k g q room m s ∙ ap (λ x. replicate x false ++ true ∷ bits k m) d
+              ∙ joined k g q room (replicate z false) (bits k m) (bits (k - c) m) (bits c v) (prefix_known k c m v (omega arith) low);
+        }
 
     pub remainder_counted : BeginsCodeOf k g q (replicate z false ++ true ∷ bits c v) m → m / 2 ^ (k - c) ≡ z * 2 ^ c + v
     remainder_counted b =
         let prefix = sym (append_assoc (replicate z false) (true ∷ bits c v) b.rest) in
         elim (cases_Bool (is_short k g q m)) [
           | inl s ↦ (
-              let p = zeros_then_one (m / 2 ^ k) z (bits k m) (bits c v ++ b.rest) (sym (code_of_short k g q room m s) ∙ b.code ∙ append_assoc (replicate z false) (true ∷ bits c v) b.rest) in
+              let p = zeros_then_one (m / 2 ^ k) z (bits k m) (bits c v ++ b.rest)
+              (sym (code_of_short k g q room m s) ∙ b.code ∙ append_assoc (replicate z false) (true ∷ bits c v) b.rest) in
               let low = prefix_same k c m v b.rest (omega arith) p.1 in
               let t : k - c + c ≡ k = omega arith in
               let high : m / 2 ^ (k - c) / 2 ^ c ≡ z = shr-shr m (k - c) c ∙ ap (λ x. m / 2 ^ x) t ∙ p.0 in
@@ -79,7 +93,8 @@ module _ (k g q : ℕ) (room : q + 2 ≤ g) where
               let top : m / 2 ^ (k - c) / 2 ^ c * 2 ^ c ≡ z * 2 ^ c = ap (λ x. x * 2 ^ c) high in
               omega (arith, split, top, low, v_is))
           | inr s ↦ (
-              let p = zeros_then_one esc z (bits q (m - 1)) (bits c v ++ b.rest) (sym (code_of_long k g q room m s) ∙ b.code ∙ append_assoc (replicate z false) (true ∷ bits c v) b.rest) in
+              let p = zeros_then_one esc z (bits q (m - 1)) (bits c v ++ b.rest)
+              (sym (code_of_long k g q room m s) ∙ b.code ∙ append_assoc (replicate z false) (true ∷ bits c v) b.rest) in
               absurd (omega (arith, p.0)))
         ]
 
@@ -87,7 +102,12 @@ module _ (k g q : ℕ) (room : q + 2 ≤ g) where
     pub escape_begins_code : esc ≤ m / 2 ^ k → (m - 1) / 2 ^ (q - c) ≡ v → BeginsCodeOf k g q (replicate esc false ++ true ∷ bits c v) m
     escape_begins_code l e =
         let s : is_short k g q m ≡ false = le-ltb (m / 2 ^ k) esc l in
-        record { rest = bits (q - c) (m - 1); code = code_of_long k g q room m s ∙ joined k g q room (replicate esc false) (bits q (m - 1)) (bits (q - c) (m - 1)) (bits c v) (prefix_known q c (m - 1) v (omega arith) (ap (λ x. x % 2 ^ c) e)) }
+        record {
+          rest = bits (q - c) (m - 1);
+          code = code_of_long k g q room m s
+              ∙ joined k g q room (replicate esc false) (bits q (m - 1)) (bits (q - c) (m - 1)) (bits c v)
+              (prefix_known q c (m - 1) v (omega arith) (ap (λ x. x % 2 ^ c) e));
+        }
 
     pub escape_counted : m ≤ 2 ^ q → BeginsCodeOf k g q (replicate esc false ++ true ∷ bits c v) m
         → (esc ≤ m / 2 ^ k) × ((m - 1) / 2 ^ (q - c) ≡ v)
@@ -95,10 +115,12 @@ module _ (k g q : ℕ) (room : q + 2 ≤ g) where
         elim (cases_Bool (is_short k g q m)) [
           | inl s ↦ (
               let n = ltb-true (m / 2 ^ k) esc s in
-              let p = zeros_then_one (m / 2 ^ k) esc (bits k m) (bits c v ++ b.rest) (sym (code_of_short k g q room m s) ∙ b.code ∙ append_assoc (replicate esc false) (true ∷ bits c v) b.rest) in
+              let p = zeros_then_one (m / 2 ^ k) esc (bits k m) (bits c v ++ b.rest)
+              (sym (code_of_short k g q room m s) ∙ b.code ∙ append_assoc (replicate esc false) (true ∷ bits c v) b.rest) in
               absurd (omega (arith, n, p.0)))
           | inr s ↦ (
-              let p = zeros_then_one esc esc (bits q (m - 1)) (bits c v ++ b.rest) (sym (code_of_long k g q room m s) ∙ b.code ∙ append_assoc (replicate esc false) (true ∷ bits c v) b.rest) in
+              let p = zeros_then_one esc esc (bits q (m - 1)) (bits c v ++ b.rest)
+              (sym (code_of_long k g q room m s) ∙ b.code ∙ append_assoc (replicate esc false) (true ∷ bits c v) b.rest) in
               let low = prefix_same q c (m - 1) v b.rest (omega arith) p.1 in
               let t : c + (q - c) ≡ q = omega arith in
               let some_code = pow_pos q in
@@ -137,9 +159,11 @@ module _ (k g q : ℕ) (room : q + 2 ≤ g) where
   -- bits that are a whole code, or begin none
   pub whole_decided : (n m : ℕ) → has_golomb k g q n ≡ true → m ≤ 2 ^ q → Decides (eqb n m) (BeginsCodeOf k g q (golomb k g q n) m)
   whole_decided n m has few =
-      let same : n ≡ m → BeginsCodeOf k g q (golomb k g q n) m = λ e. record { rest = []; code = ap (golomb k g q) (sym e) ∙ sym (append-nil (golomb k g q n)) } in (
+      let same : n ≡ m → BeginsCodeOf k g q (golomb k g q n) m =
+      λ e. record { rest = []; code = ap (golomb k g q) (sym e) ∙ sym (append-nil (golomb k g q n)) } in (
         λ t. same (eqb-true n m t),
-        λ b. eq-eqb n m (sym (golomb_same k g q m n [] b.rest (small_has_code k g q m room few) has (append-nil (golomb k g q m) ∙ b.code)).0),
+        λ b. eq-eqb n m (sym (golomb_same k g q m n [] b.rest (small_has_code k g q m room few) has
+            (append-nil (golomb k g q m) ∙ b.code)).0),
       )
 
   pub refused_decided : (given : List Bool) (m : ℕ) → RefusesCode k g q given → m ≤ 2 ^ q → Decides false (BeginsCodeOf k g q given m)

@@ -8,7 +8,8 @@ use Rattle.jls_bits.proofs.NumberBits.{bits_none, first_bit, length-bits}
 
 pub width_bounds : (before : ℕ) → (7 ≤ width_after before) × (width_after before ≤ 8)
 unfolding width_after
-width_bounds before = elim (cases_Bool (eqb before 255)) [ inl h ↦ rw h (omega arith, omega arith) | inr h ↦ rw h (omega arith, omega arith) ]
+width_bounds before = elim (cases_Bool (eqb before 255))
+    [ inl h ↦ rw h (omega arith, omega arith) | inr h ↦ rw h (omega arith, omega arith) ]
 
 pub data_end : (before : ℕ) → bits_read_after before [] ≡ []
 unfolding bits_read_after
@@ -52,7 +53,8 @@ module _ (before : ℕ) (xs : List ℕ) (i : ℕ) where
 
   pub length_at_more : i < length xs → ends_data before (get_or xs i 0) ≡ false
       → length (bits_read_after before (drop i xs)) ≡ width_after before + length (bits_read_after (get_or xs i 0) (drop (i + 1) xs))
-  length_at_more h e = ap (λ z. length (bits_read_after before z)) (drop_more xs i 0 h) ∙ length_more before (get_or xs i 0) (drop (i + 1) xs) e
+  length_at_more h e = ap (λ z. length (bits_read_after before z)) (drop_more xs i 0 h)
+      ∙ length_more before (get_or xs i 0) (drop (i + 1) xs) e
 
   pub whole_at_end : length xs ≤ i → is_whole_after before (drop i xs) ≡ true
   whole_at_end h = ap (is_whole_after before) (drop_all i xs h) ∙ whole_end before
@@ -64,4 +66,16 @@ module _ (before : ℕ) (xs : List ℕ) (i : ℕ) where
       → is_whole_after before (drop i xs) ≡ is_whole_after (get_or xs i 0) (drop (i + 1) xs)
   whole_at_more h e = ap (is_whole_after before) (drop_more xs i 0 h) ∙ whole_more before (get_or xs i 0) (drop (i + 1) xs) e
 
-pub ruleset data_laws = (bits_none, first_bit, length-bits, width_bounds, data_end, data_more, data_stop, whole_end, whole_more, whole_stop, length_more)
+pub ruleset data_laws = (
+  bits_none,
+  first_bit,
+  length-bits,
+  width_bounds,
+  data_end,
+  data_more,
+  data_stop,
+  whole_end,
+  whole_more,
+  whole_stop,
+  length_more,
+)

@@ -19,10 +19,12 @@ module _ (k g q : ℕ) (room : q + 2 ≤ g) where
   pub done_allows : (p : Progress) (n m : ℕ) → p ≡ Done n → IsProgress k g q p → m ≤ 2 ^ q
       → Decides (eqb n m) (BeginsCodeOf k g q (bits_of k g q p) m)
   done_allows p n m e i few =
-      subst (λ x. Decides (eqb n m) (BeginsCodeOf k g q (bits_of k g q x) m)) (sym e) (whole_decided k g q room n m (subst (IsProgress k g q) e i) few)
+      subst (λ x. Decides (eqb n m) (BeginsCodeOf k g q (bits_of k g q x) m)) (sym e)
+      (whole_decided k g q room n m (subst (IsProgress k g q) e i) few)
 
   pub refused_allows : (p : Progress) (s : CodeState) (x : Bool) (m : ℕ) → p ≡ Refused s x → IsProgress k g q p → m ≤ 2 ^ q
       → Decides false (BeginsCodeOf k g q (bits_of k g q p) m)
   refused_allows p s bit m e i few =
       let given = bits_fed g q s ++ bit ∷ [] in
-      subst (λ x. Decides false (BeginsCodeOf k g q (bits_of k g q x) m)) (sym e) (refused_decided k g q room given m (subst (IsProgress k g q) e i) few)
+      subst (λ x. Decides false (BeginsCodeOf k g q (bits_of k g q x) m)) (sym e)
+      (refused_decided k g q room given m (subst (IsProgress k g q) e i) few)

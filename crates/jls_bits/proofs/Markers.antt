@@ -20,7 +20,8 @@ ends_after_ff x h = le-leb 128 x h
 goes_on_below : (before x : ℕ) → (before ≡ 255 → x < 128) → ends_data before x ≡ false
 unfolding ends_data
 goes_on_below before x h =
-    elim (cases_Bool (eqb before 255)) [ inl e ↦ (let f : leb 128 x ≡ false = lt-leb 128 x (h (eqb-true before 255 e)) in rw (e, f) refl) | inr e ↦ rw e refl ]
+    elim (cases_Bool (eqb before 255))
+    [ inl e ↦ (let f : leb 128 x ≡ false = lt-leb 128 x (h (eqb-true before 255 e)) in rw (e, f) refl) | inr e ↦ rw e refl ]
 
 pub below_markers : (bytes : List ℕ) → is_whole bytes ≡ true → BelowMarkers bytes
 below_markers bytes h prefix back x e =
@@ -48,4 +49,6 @@ pub read_before : (prefix back : List ℕ) (x : ℕ) → is_whole (prefix ++ 255
     → bits_read (prefix ++ 255 ∷ (x ∷ back)) ≡ bits_read (prefix ++ 255 ∷ [])
 read_before prefix back x h l =
     let all = prefix ++ 255 ∷ [] in let e = last_append 0 prefix 255 in
-    ap (bits_read_after 0) (sym (append_assoc prefix (255 ∷ []) (x ∷ back))) ∙ data_append 0 all (x ∷ back) h ∙ ap (λ z. bits_read_after 0 all ++ z) (ap (λ z. bits_read_after z (x ∷ back)) e ∙ data_stop 255 x back (ends_after_ff x l)) ∙ append-nil (bits_read_after 0 all)
+    ap (bits_read_after 0) (sym (append_assoc prefix (255 ∷ []) (x ∷ back))) ∙ data_append 0 all (x ∷ back) h
+    ∙ ap (λ z. bits_read_after 0 all ++ z) (ap (λ z. bits_read_after z (x ∷ back)) e ∙ data_stop 255 x back (ends_after_ff x l))
+    ∙ append-nil (bits_read_after 0 all)

@@ -48,7 +48,8 @@ half_shift n x y h =
 -- a bit more at the end
 pub bits_push : (n x y : ℕ) → y < 2 → bits (n + 1) (2 * x + y) ≡ bits n x ++ eqb y 1 ∷ []
 unfolding bits
-bits_push zero x y h = let a : (2 * x + y) / 2 ^ 0 % 2 ≡ y = omega arith in let b : eqb ((2 * x + y) / 2 ^ 0 % 2) 1 ≡ eqb y 1 = ap (λ z. eqb z 1) a in ap (λ z. z ∷ []) b
+bits_push zero x y h = let a : (2 * x + y) / 2 ^ 0 % 2 ≡ y = omega arith in
+    let b : eqb ((2 * x + y) / 2 ^ 0 % 2) 1 ≡ eqb y 1 = ap (λ z. eqb z 1) a in ap (λ z. z ∷ []) b
 bits_push (suc n) x y h =
     let e : suc n + 1 ≡ suc (suc n) = omega arith in let f : suc n ≡ n + 1 = omega arith in
     let d : (2 * x + y) / 2 ^ suc n ≡ x / 2 ^ n = half_shift n x y h in
@@ -87,5 +88,6 @@ bits_cong (suc n) x y h =
     let a : x % 2 ^ suc n ≡ (x / 2 ^ n % 2) * 2 ^ n + x % 2 ^ n = ap (λ z. x % 2 ^ z) (sym e) ∙ mod-pow-add x 1 n in
     let b : y % 2 ^ suc n ≡ (y / 2 ^ n % 2) * 2 ^ n + y % 2 ^ n = ap (λ z. y % 2 ^ z) (sym e) ∙ mod-pow-add y 1 n in
     let c : (x / 2 ^ n % 2) * 2 ^ n + x % 2 ^ n ≡ (y / 2 ^ n % 2) * 2 ^ n + y % 2 ^ n = sym a ∙ h ∙ b in
-    let s = same_from_place (x / 2 ^ n % 2) (x % 2 ^ n) (y / 2 ^ n % 2) (y % 2 ^ n) (2 ^ n) (mod_below x (2 ^ n) q) (mod_below y (2 ^ n) q) c in
+    let s = same_from_place (x / 2 ^ n % 2) (x % 2 ^ n) (y / 2 ^ n % 2) (y % 2 ^ n) (2 ^ n) (mod_below x (2 ^ n) q) (mod_below y (2 ^ n) q)
+    c in
     cons_same (ap (λ z. eqb z 1) s.0) (bits_cong n x y s.1)

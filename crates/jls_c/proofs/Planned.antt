@@ -1,5 +1,6 @@
 -- The options of a plan fit the picture of samples that are not too large.
-use Rattle.std.proofs.Common.{◌≡◌, ℕ, ◌*◌, ◌^◌, ◌-◌, ◌<◌, ◌≤◌, Bool, true, false, cond, List, ◌++◌, length, Option, Some, None, Ok, Err, ap, sym, subst, ◌∙◌, arith}
+use Rattle.std.proofs.Common.{◌≡◌, ℕ, ◌*◌, ◌^◌, ◌-◌, ◌<◌, ◌≤◌, Bool, true, false, cond, List, ◌++◌, length, Option, Some, None, Ok, Err}
+use Rattle.std.proofs.Common.{ap, sym, subst, ◌∙◌, arith}
 use Rattle.std.specs.Prelude.{All, ◌↔◌, IsTrue, nat_le}
 use Rattle.std.specs.List.{AllByRecursion, list_any}
 use Rattle.jls_values.specs.Params.{CodingParameters}
@@ -26,7 +27,8 @@ params_are : (p q : CodingParameters) (fault : Option ParamFault) → params_in_
 params_are p q (Some fault) e = absurd cc
 params_are p q None e = cc
 
-shape_is : (fault : Option ShapeFault) (repeats : Bool) (p q : PictureShape) → unless_fault fault (cond repeats (Err RepeatedId) (Ok p)) ≡ Ok q → p ≡ q
+shape_is : (fault : Option ShapeFault) (repeats : Bool) (p q : PictureShape) → unless_fault fault (cond repeats (Err RepeatedId) (Ok p))
+    ≡ Ok q → p ≡ q
 shape_is (Some fault) repeats p q e = absurd cc
 shape_is None true p q e = absurd cc
 shape_is None false p q e = cc
@@ -35,7 +37,8 @@ shape_is None false p q e = cc
 defaults_are : (precision : ℕ) (p : CodingParameters) → params_of precision no_presets ≡ Ok p → in_force precision no_presets ≡ p
 defaults_are precision p e = params_are (in_force precision no_presets) p (param_fault (in_force precision no_presets)) e
 
-precision_is : (f : JlsFrame) (shape : PictureShape) → shape_of f.precision f.width f.height (ids_of f.components) ≡ Ok shape → f.precision ≡ shape.precision
+precision_is : (f : JlsFrame) (shape : PictureShape) → shape_of f.precision f.width f.height (ids_of f.components) ≡ Ok shape → f.precision
+    ≡ shape.precision
 precision_is f shape e =
     let made : PictureShape = record { precision = f.precision; width = f.width; height = f.height; ids = ids_of f.components } in
     ap (λ (s : PictureShape). s.precision)
@@ -43,7 +46,8 @@ precision_is f shape e =
 
 -- ---- what fits
 
-pub plan_fits : (f : JlsFrame) (count : ℕ) (shape : PictureShape) (options : WriteOptions) (samples : List ℕ) → IsPlanOf f count shape options
+pub plan_fits : (f : JlsFrame) (count : ℕ) (shape : PictureShape) (options : WriteOptions) (samples : List ℕ)
+    → IsPlanOf f count shape options
     → AreSamplesOf shape samples → shape.width * components_of_scan shape options * rows_of_interval shape options ≤ 2 ^ 28
     → OptionsFit (picture_in shape samples) options
 plan_fits f count shape options samples plan are few =
@@ -54,8 +58,10 @@ plan_fits f count shape options samples plan are few =
     record {
       precision = sym (ap (λ (p : CodingParameters). p.precision) params) ∙ precision;
       samples = λ component inside line below.
-          let within = all_at_most (2 ^ shape.precision) (line_in shape samples component line) (line_fits shape samples are component line inside below).1 in
-          subst (λ (xs : List ℕ). All (λ sample. sample ≤ options.params.maxval) xs) (sym (lent_line shape samples component line inside below))
+          let within = all_at_most (2 ^ shape.precision) (line_in shape samples component line)
+          (line_fits shape samples are component line inside below).1 in
+          subst (λ (xs : List ℕ). All (λ sample. sample ≤ options.params.maxval) xs)
+          (sym (lent_line shape samples component line inside below))
           (subst (λ (n : ℕ). All (λ sample. sample ≤ n) (line_in shape samples component line)) most within);
       interval = few;
     }
@@ -82,7 +88,8 @@ tested_fits f shape options samples pic large plan in_range test none pic_is =
 
 -- ---- the file
 
-pub tested_file : (f : JlsFrame) (shape : PictureShape) (options : WriteOptions) (samples front back : List ℕ) (pic : WholePicture) (large : Bool)
+pub tested_file : (f : JlsFrame) (shape : PictureShape) (options : WriteOptions) (samples front back : List ℕ) (pic : WholePicture)
+    (large : Bool)
     → IsPlanOf f (length samples) shape options → AllByRecursion (λ sample. sample < 2 ^ shape.precision) samples
     → (IsTrue large ↔ (2 ^ 28 < shape.width * components_of_scan shape options * rows_of_interval shape options)) → large ≡ false
     → pic ≡ picture_in shape samples → front ++ back ≡ written_file pic options → IsFileOf f samples (front ++ back)
@@ -90,6 +97,7 @@ tested_file f shape options samples front back pic large plan in_range test none
   shape = shape;
   options = options;
   plan = plan;
-  fit = subst (λ (p : WholePicture). OptionsFit p options) pic_is (tested_fits f shape options samples pic large plan in_range test none pic_is);
+  fit = subst (λ (p : WholePicture). OptionsFit p options) pic_is
+      (tested_fits f shape options samples pic large plan in_range test none pic_is);
   file_is = bytes ∙ ap (λ (p : WholePicture). written_file p options) pic_is;
 }

@@ -5,19 +5,22 @@ use Rattle.clap.specs.declared.error.kind.ErrorKind.TheVariants as kind
 use Rattle.jls_io.specs.Event.{Event}
 use Rattle.jls_cli.specs.Answers.{Answer, ran_out, usage, help, cut}
 
-no_words : (program : List ℕ) (status : ℕ) (report faults : List Event) → Answer program kind.MissingRequiredArgument status report faults → (status ≡ 2) ⊎ (status ≡ 5)
+no_words : (program : List ℕ) (status : ℕ) (report faults : List Event) → Answer program kind.MissingRequiredArgument status report faults
+    → (status ≡ 2) ⊎ (status ≡ 5)
 no_words program status report faults (ran_out _ _ _) = inr refl
 no_words program status report faults (usage _ _ _ _ _ _) = inl refl
 no_words program status report faults (help _ _ _ is _) = absurd cc
 no_words program status report faults (cut _ _ _ _ _ is _ _) = absurd cc
 
-asks_for_help : (program : List ℕ) (status : ℕ) (report faults : List Event) → Answer program kind.DisplayHelp status report faults → (status ≡ 0) ⊎ ((status ≡ 4) ⊎ (status ≡ 5))
+asks_for_help : (program : List ℕ) (status : ℕ) (report faults : List Event) → Answer program kind.DisplayHelp status report faults
+    → (status ≡ 0) ⊎ ((status ≡ 4) ⊎ (status ≡ 5))
 asks_for_help program status report faults (ran_out _ _ _) = inr (inr refl)
 asks_for_help program status report faults (usage _ _ _ _ is_not _) = absurd cc
 asks_for_help program status report faults (help _ _ _ _ _) = inl refl
 asks_for_help program status report faults (cut _ _ _ _ _ _ _ _) = inr (inl refl)
 
-asks_for_version : (program : List ℕ) (status : ℕ) (report faults : List Event) → Answer program kind.DisplayVersion status report faults → (status ≡ 0) ⊎ ((status ≡ 4) ⊎ (status ≡ 5))
+asks_for_version : (program : List ℕ) (status : ℕ) (report faults : List Event) → Answer program kind.DisplayVersion status report faults
+    → (status ≡ 0) ⊎ ((status ≡ 4) ⊎ (status ≡ 5))
 asks_for_version program status report faults (ran_out _ _ _) = inr (inr refl)
 asks_for_version program status report faults (usage _ _ _ _ is_not _) = absurd cc
 asks_for_version program status report faults (help _ _ _ _ _) = inl refl

@@ -35,10 +35,12 @@ module _ (of : App) (simple : is_simple_and_free of ≡ true) {T : Type 0} (app 
       by_case : Takes of words → kind_of e ≡ kind.OutOfMemory
       by_case (inl t) = passes (ap (λ (a : App). takes a words) is_app ∙ t)
       by_case (inr none) =
-          only_memory e (subst (λ (kinds : Kinds). HasKind kinds e) (ap (λ (a : App). fault_of a words) is_app ∙ none) (h (ap is_simple_and_free is_app ∙ simple)))
+          only_memory e (subst (λ (kinds : Kinds). HasKind kinds e) (ap (λ (a : App). fault_of a words) is_app ∙ none)
+          (h (ap is_simple_and_free is_app ∙ simple)))
 
   -- words that are refused have a fault of this kind, unless memory ran out
-  pub refused_for_a_kind : (Refused : ErrorKind → Type 0) → ((k : ErrorKind) → (Takes of words → ⊥) → IsAmong k (fault_of of words) → Refused k)
+  pub refused_for_a_kind : (Refused : ErrorKind → Type 0)
+      → ((k : ErrorKind) → (Takes of words → ⊥) → IsAmong k (fault_of of words) → Refused k)
       → (r : Result T Error) → IfErr r (λ e. takes app words ≡ true → kind_of e ≡ kind.OutOfMemory)
       → (is_simple_and_free app ≡ true → FailsBy (fault_of app words) r)
       → IfErr r (λ e. (kind_of e ≡ kind.OutOfMemory) ⊎ Refused (kind_of e))
@@ -53,4 +55,5 @@ module _ (of : App) (simple : is_simple_and_free of ≡ true) {T : Type 0} (app 
           → (kind_of e ≡ kind.OutOfMemory) ⊎ Refused (kind_of e)
       by_kind (inl is) = inl is
       by_kind (inr other) =
-          inr (refuse (kind_of e) (λ taken. other (refused_for_memory (Err e) passes h taken)) (among (h (ap is_simple_and_free is_app ∙ simple)) other))
+          inr (refuse (kind_of e) (λ taken. other (refused_for_memory (Err e) passes h taken))
+          (among (h (ap is_simple_and_free is_app ∙ simple)) other))

@@ -27,5 +27,6 @@ not_created_at_all old new name bytes r is grew =
 pub created_and_cut : (old mid new : History) (name : Bor (List ℕ)) (bytes : List ℕ) (count : ℕ) → mid ≡ old ++ created name.now ∷ []
     → GrewBy (WrotePrefix bytes count) mid new → GrewBy (StopsAtOutput name.now bytes (refusal_at name (cause.NotWritten count))) old new
 created_and_cut old mid new name bytes count =
-    grew_after (WrotePrefix bytes count) (StopsAtOutput name.now bytes (refusal_at name (cause.NotWritten count))) old mid new (created name.now)
+    grew_after (WrotePrefix bytes count) (StopsAtOutput name.now bytes (refusal_at name (cause.NotWritten count))) old mid new
+    (created name.now)
     (λ writes h. cut count writes refl refl h)

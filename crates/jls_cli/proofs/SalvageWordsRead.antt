@@ -15,7 +15,8 @@ use Rattle.jls_cli.proofs.SalvageSimpleCommand.{is_simple_program}
 
 -- the name and the rows, from both
 both_parts : {X : Type 0} (name_of : X → Text) (rows_in : X → List Row) (o : Option X) (name : Text) (rows : List Row)
-    → option_map name_of o ≡ Some name → option_map (λ (p : Text × List Row). p.1) (option_map {U = Text × List Row} (λ x. (name_of x, rows_in x)) o) ≡ Some rows
+    → option_map name_of o ≡ Some name
+    → option_map (λ (p : Text × List Row). p.1) (option_map {U = Text × List Row} (λ x. (name_of x, rows_in x)) o) ≡ Some rows
     → option_map {U = Text × List Row} (λ x. (name_of x, rows_in x)) o ≡ Some (name, rows)
 both_parts name_of rows_in None name rows e h = absurd cc
 both_parts name_of rows_in (Some x) name rows e h =
@@ -43,7 +44,9 @@ module _ (name : Text) (rows : List Row) where
       asks_show e = rw (not_check, not_join, e) refl
 
       pub asks_write : bytes_eq name (codes "show") ≡ false → bytes_eq name (codes "write") ≡ true
-          → asked_by name rows ≡ asked_write (first_of (codes "as") rows) (options_of (first_of (codes "ilv") rows) (first_of (codes "ri") rows)) (first_of (codes "OUT") rows) (first_of (codes "FILE") rows)
+          → asked_by name rows ≡ asked_write (first_of (codes "as") rows)
+          (options_of (first_of (codes "ilv") rows) (first_of (codes "ri") rows)) (first_of (codes "OUT") rows)
+          (first_of (codes "FILE") rows)
       asks_write d e = rw (not_check, not_join, d, e) refl
 
       pub asks_nothing : bytes_eq name (codes "show") ≡ false → bytes_eq name (codes "write") ≡ false → asked_by name rows ≡ None

@@ -59,7 +59,8 @@ as_jls-write = record { taken = inl refl; asks = refl }
 -- `jls-salvage write --as jls --ilv line --ri 12 OUT A`
 abbrev pub with_options : List Text
 with_options =
-    codes "jls-salvage" ∷ codes "write" ∷ codes "--as" ∷ codes "jls" ∷ codes "--ilv" ∷ codes "line" ∷ codes "--ri" ∷ codes "12" ∷ codes "OUT" ∷ codes "A" ∷ []
+    codes "jls-salvage" ∷ codes "write" ∷ codes "--as" ∷ codes "jls" ∷ codes "--ilv" ∷ codes "line" ∷ codes "--ri" ∷ codes "12"
+    ∷ codes "OUT" ∷ codes "A" ∷ []
 
 pub with_options-write : AskFor with_options (write_jls true 12 (codes "OUT") (codes "A"))
 unfolding clap_on_literals

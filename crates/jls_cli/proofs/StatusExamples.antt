@@ -9,7 +9,8 @@ use Rattle.jls_cli.specs.declared.outcome.Cause.TheVariants as cause
 use Rattle.jls_cli.specs.declared.outcome.Refusal.{Refusal}
 
 -- 0 and 1 where every input was read whole
-done : map (λ o. exit_status o) (finished true true ∷ finished false true ∷ finished true false ∷ finished false false ∷ []) ≡ 0 ∷ 1 ∷ 4 ∷ 4 ∷ []
+done : map (λ o. exit_status o) (finished true true ∷ finished false true ∷ finished true false ∷ finished false false ∷ []) ≡ 0 ∷ 1 ∷ 4 ∷ 4
+    ∷ []
 done = refl
 
 -- 2 is for words; 3 for what an input is; 4 for a device that fails; 5 for want of memory
@@ -20,7 +21,8 @@ module _ (text_fault : TextFault) (marker_fault : MarkerFault) (stop : ReadStop)
   unsettled : status_of_cause (cause.Unsettled id line disputed) ≡ 1
   unsettled = refl
 
-  unfit_inputs : map status_of_cause (cause.Input (fault.Text text_fault) ∷ cause.Input (fault.NoPicture marker_fault offset) ∷ cause.ShapeDiffers ∷ [])
+  unfit_inputs : map status_of_cause
+      (cause.Input (fault.Text text_fault) ∷ cause.Input (fault.NoPicture marker_fault offset) ∷ cause.ShapeDiffers ∷ [])
       ≡ 3 ∷ 3 ∷ 3 ∷ []
   unfit_inputs = refl
 

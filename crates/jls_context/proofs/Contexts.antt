@@ -9,7 +9,8 @@ use Rattle.jls_context.specs.Mode.{ContextsAreApart, IsStep}
 use Rattle.jls_context.proofs.Gradients.{gradient_range, sign_is, size_is}
 
 signed_step : (negative : Bool) (q : ℤ) → IsStep q → IsStep (with_sign negative q)
-signed_step true q s = let low = s.at_least in let high = s.at_most in record { at_least = omega (arith, ints); at_most = omega (arith, ints) }
+signed_step true q s = let low = s.at_least in let high = s.at_most in
+    record { at_least = omega (arith, ints); at_most = omega (arith, ints) }
 signed_step false q s = s
 
 -- the number of a context is the weighed sum itself
@@ -34,6 +35,10 @@ apart p near other same =
     let m = is_negative p near in let n = is_negative p other in
     let sums = sym (number_is p near) ∙ (ap (λ (k : ℕ). pos k) same ∙ number_is p other) in
     let e = steps_apart (with_sign m q.q1) (with_sign m q.q2) (with_sign m q.q3) (with_sign n r.q1) (with_sign n r.q2) (with_sign n r.q3)
-    (signed_step m q.q1 (gradient_range p (pos near.rd -ℤ pos near.rb))) (signed_step m q.q2 (gradient_range p (pos near.rb -ℤ pos near.rc))) (signed_step m q.q3 (gradient_range p (pos near.rc -ℤ pos near.ra)))
-    (signed_step n r.q1 (gradient_range p (pos other.rd -ℤ pos other.rb))) (signed_step n r.q2 (gradient_range p (pos other.rb -ℤ pos other.rc))) (signed_step n r.q3 (gradient_range p (pos other.rc -ℤ pos other.ra))) sums in
+    (signed_step m q.q1 (gradient_range p (pos near.rd -ℤ pos near.rb)))
+    (signed_step m q.q2 (gradient_range p (pos near.rb -ℤ pos near.rc)))
+    (signed_step m q.q3 (gradient_range p (pos near.rc -ℤ pos near.ra)))
+    (signed_step n r.q1 (gradient_range p (pos other.rd -ℤ pos other.rb)))
+    (signed_step n r.q2 (gradient_range p (pos other.rb -ℤ pos other.rc)))
+    (signed_step n r.q3 (gradient_range p (pos other.rc -ℤ pos other.ra))) sums in
     λ i. record { q1 = e.0 i; q2 = e.1 i; q3 = e.2 i }

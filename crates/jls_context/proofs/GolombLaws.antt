@@ -37,7 +37,8 @@ least_from-at_least : (passes : ℕ → Bool) (count from : ℕ) → from ≤ le
 unfolding least_from
 least_from-at_least passes zero from = omega arith
 least_from-at_least passes (suc count) from =
-    elim (cases_Bool (passes from)) [ inl e ↦ rw e (omega arith) | inr e ↦ (let later = least_from-at_least passes count (suc from) in rw e (omega arith)) ]
+    elim (cases_Bool (passes from))
+    [ inl e ↦ rw e (omega arith) | inr e ↦ (let later = least_from-at_least passes count (suc from) in rw e (omega arith)) ]
 
 -- no number before the one that is found passes
 least_from-before : (passes : ℕ → Bool) (count from j : ℕ) → from ≤ j → j < least_from passes count from → passes j ≡ false
@@ -90,7 +91,11 @@ module _ (n a m e f : ℕ) (larger : m ≡ max a n) (low : 2 ^ f ≤ n) (high : 
   pub order_within : f ≤ e
   order_within =
       let within = n_within in
-      elim (cases_lt e f) [ inl h ↦ (let p : 2 ^ (e + 1) ≤ 2 ^ f = pow_mono {i = e + 1} {j = f} (omega arith) in let q = pow_more 2 e in absurd (omega arith)) | inr h ↦ h ]
+      elim (cases_lt e f) [
+        | inl h ↦ (let p : 2 ^ (e + 1) ≤ 2 ^ f = pow_mono {i = e + 1} {j = f} (omega arith) in let q = pow_more 2 e in
+            absurd (omega arith))
+        | inr h ↦ h
+      ]
 
   -- N brought to the power of 2 in M
   raised_within : (2 ^ e ≤ n * 2 ^ (e - f)) × (n * 2 ^ (e - f) < 2 * 2 ^ e)
@@ -111,7 +116,8 @@ module _ (n a m e f : ℕ) (larger : m ≡ max a n) (low : 2 ^ f ≤ n) (high : 
   raised_before j below =
       let within = raised_within in
       let once : 2 ^ (f + 1) ≤ 2 ^ e = pow_mono {i = f + 1} {j = e} (omega arith) in let twice = pow_more 2 f in
-      let is_a : m ≡ a = elim (cases_lt a n) [ inl h ↦ (let e : max a n ≡ n = max-eq_right (omega arith) in absurd (omega arith)) | inr h ↦ larger ∙ max-eq_left h ] in
+      let is_a : m ≡ a = elim (cases_lt a n)
+      [ inl h ↦ (let e : max a n ≡ n = max-eq_right (omega arith) in absurd (omega arith)) | inr h ↦ larger ∙ max-eq_left h ] in
       let next : 2 ^ (j + 1) ≤ 2 ^ (e - f) = pow_mono {i = j + 1} {j = e - f} (omega arith) in let double = pow_more 2 j in
       let grown : n * 2 ^ (j + 1) ≤ n * 2 ^ (e - f) = mul-le n (2 ^ (j + 1)) n (2 ^ (e - f)) (omega arith) next in
       let as_double : n * 2 ^ (j + 1) ≡ n * 2 ^ j * 2 = rw double (omega arith) in
@@ -125,7 +131,12 @@ module _ (n a m e f : ℕ) (larger : m ≡ max a n) (low : 2 ^ f ≤ n) (high : 
             let test : ltb (n * 2 ^ (e - f)) a ≡ true = lt-ltb (n * 2 ^ (e - f)) a short in
             let within = raised_within in let at_most = a_within in let double = pow_more 2 (e - f) in
             let as_double : n * 2 ^ (e - f + 1) ≡ n * 2 ^ (e - f) * 2 = rw double (omega arith) in
-            rw test (record { enough = omega arith; least = λ j below. elim (cases_lt j (e - f)) [ inl h ↦ raised_before j h | inr h ↦ (let same : j ≡ e - f = omega arith in rw same short) ] })
+            rw test (record {
+              enough = omega arith;
+              least =
+                  λ j below. elim (cases_lt j (e - f))
+                  [ inl h ↦ raised_before j h | inr h ↦ (let same : j ≡ e - f = omega arith in rw same short) ];
+            })
         | inr enough ↦
             let test : ltb (n * 2 ^ (e - f)) a ≡ false = le-ltb (n * 2 ^ (e - f)) a enough in
             let plain : e - f + 0 ≡ e - f = omega arith in

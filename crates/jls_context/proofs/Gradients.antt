@@ -43,11 +43,14 @@ steps_reached : (p : CodingParameters) (n : ℕ) → AreCodingParameters p
     → bool_byte (leb 1 n) + bool_byte (leb p.t1 n) + bool_byte (leb p.t2 n) + bool_byte (leb p.t3 n) ≡ quantized_size p n
 steps_reached p n are =
     elim (cases_lt 0 n) [
-      | inr z ↦ (let e = eq-eqb n 0 (omega arith) in let a = lt-leb 1 n (omega arith) in let b = lt-leb p.t1 n (omega arith) in let c = lt-leb p.t2 n (omega arith) in let d = lt-leb p.t3 n (omega arith) in rw (e, a, b, c, d) refl)
+      | inr z ↦ (let e = eq-eqb n 0 (omega arith) in let a = lt-leb 1 n (omega arith) in let b = lt-leb p.t1 n (omega arith) in
+          let c = lt-leb p.t2 n (omega arith) in let d = lt-leb p.t3 n (omega arith) in rw (e, a, b, c, d) refl)
       | inl s ↦ (let e = ne_eqb n 0 (λ h. omega arith) in let a = le-leb 1 n (omega arith) in elim (cases_lt n p.t1) [
-        | inl f ↦ (let b = lt-leb p.t1 n f in let c = lt-leb p.t2 n (omega arith) in let d = lt-leb p.t3 n (omega arith) in let x = lt-ltb n p.t1 f in rw (e, a, b, c, d, x) refl)
+        | inl f ↦ (let b = lt-leb p.t1 n f in let c = lt-leb p.t2 n (omega arith) in let d = lt-leb p.t3 n (omega arith) in
+            let x = lt-ltb n p.t1 f in rw (e, a, b, c, d, x) refl)
         | inr f ↦ (let b = le-leb p.t1 n f in let x = le-ltb n p.t1 f in elim (cases_lt n p.t2) [
-          | inl g ↦ (let c = lt-leb p.t2 n g in let d = lt-leb p.t3 n (omega arith) in let y = lt-ltb n p.t2 g in rw (e, a, b, c, d, x, y) refl)
+          | inl g ↦ (let c = lt-leb p.t2 n g in let d = lt-leb p.t3 n (omega arith) in let y = lt-ltb n p.t2 g in
+              rw (e, a, b, c, d, x, y) refl)
           | inr g ↦ (let c = le-leb p.t2 n g in let y = le-ltb n p.t2 g in elim (cases_lt n p.t3) [
             | inl h ↦ (let d = lt-leb p.t3 n h in let z = lt-ltb n p.t3 h in rw (e, a, b, c, d, x, y, z) refl)
             | inr h ↦ (let d = le-leb p.t3 n h in let z = le-ltb n p.t3 h in rw (e, a, b, c, d, x, y, z) refl)
@@ -77,13 +80,19 @@ pub gradient_range : (p : CodingParameters) (z : ℤ) → IsStep (quantized_grad
 unfolding quantized_gradient
 gradient_range p z =
     let small = size_range p (unsigned_abs z) in
-    elim (cases_Bool (int_lt z (pos 0))) [ inl e ↦ rw e (record { at_least = omega (arith, ints); at_most = omega (arith, ints) }) | inr e ↦ rw e (record { at_least = omega (arith, ints); at_most = omega (arith, ints) }) ]
+    elim (cases_Bool (int_lt z (pos 0))) [
+      | inl e ↦ rw e (record { at_least = omega (arith, ints); at_most = omega (arith, ints) })
+      | inr e ↦
+          rw e (record { at_least = omega (arith, ints); at_most = omega (arith, ints) })
+    ]
 
 -- only the gradient 0 is quantized to 0
 pub gradient_zero : (p : CodingParameters) (z : ℤ) → quantized_gradient p z ≡ pos 0 → z ≡ pos 0
 unfolding quantized_gradient
 gradient_zero p z h =
-    let size : quantized_size p (unsigned_abs z) ≡ 0 = elim (cases_Bool (int_lt z (pos 0))) [ inl e ↦ (let k = rw e at h in omega (arith, ints)) | inr e ↦ (let k = rw e at h in omega (arith, ints)) ] in
+    let size : quantized_size p (unsigned_abs z) ≡ 0 =
+    elim (cases_Bool (int_lt z (pos 0)))
+    [ inl e ↦ (let k = rw e at h in omega (arith, ints)) | inr e ↦ (let k = rw e at h in omega (arith, ints)) ] in
     elim (cases_lt 0 (unsigned_abs z)) [ inl some ↦ absurd (size_zero p (unsigned_abs z) some size) | inr none ↦ omega (arith, ints) ]
 
 -- the first other than 0 decides the sum's sign, since 9 * 4 + 4 is less than 81
@@ -92,8 +101,10 @@ sign_is (negsuc n) q2 q3 a b c = let e : int_lt (weighed (negsuc n) q2 q3) (pos 
 sign_is (pos (suc n)) q2 q3 a b c = let e : int_lt (weighed (pos (suc n)) q2 q3) (pos 0) ≡ false = grind (arith, ints) in sym e
 sign_is (pos zero) (negsuc n) q3 a b c = let e : int_lt (weighed (pos 0) (negsuc n) q3) (pos 0) ≡ true = grind (arith, ints) in sym e
 sign_is (pos zero) (pos (suc n)) q3 a b c = let e : int_lt (weighed (pos 0) (pos (suc n)) q3) (pos 0) ≡ false = grind (arith, ints) in sym e
-sign_is (pos zero) (pos zero) (negsuc n) a b c = let e : int_lt (weighed (pos 0) (pos 0) (negsuc n)) (pos 0) ≡ true = grind (arith, ints) in sym e
-sign_is (pos zero) (pos zero) (pos (suc n)) a b c = let e : int_lt (weighed (pos 0) (pos 0) (pos (suc n))) (pos 0) ≡ false = grind (arith, ints) in sym e
+sign_is (pos zero) (pos zero) (negsuc n) a b c = let e : int_lt (weighed (pos 0) (pos 0) (negsuc n)) (pos 0) ≡ true = grind (arith, ints) in
+    sym e
+sign_is (pos zero) (pos zero) (pos (suc n)) a b c = let e : int_lt (weighed (pos 0) (pos 0) (pos (suc n))) (pos 0) ≡ false =
+    grind (arith, ints) in sym e
 sign_is (pos zero) (pos zero) (pos zero) a b c = refl
 
 below_zero : (z : ℤ) → true ≡ int_lt z (pos 0) → z <ℤ pos 0
@@ -121,7 +132,8 @@ unfolding quantized_gradient
 zero_step p x y e = let i = eqb-true x y e in let d : (pos x -ℤ pos y) ≡ pos 0 = omega (arith, ints) in rw d refl
 
 -- run mode is where the sum is 0
-module _ (p : CodingParameters) (near : Neighbours) (number : ℤ) (is : number ≡ (let q = quantized_gradients p near in weighed q.q1 q.q2 q.q3)) where
+module _ (p : CodingParameters) (near : Neighbours) (number : ℤ)
+    (is : number ≡ (let q = quantized_gradients p near in weighed q.q1 q.q2 q.q3)) where
   abbrev d1 : ℤ
   d1 = pos near.rd -ℤ pos near.rb
 
@@ -133,8 +145,10 @@ module _ (p : CodingParameters) (near : Neighbours) (number : ℤ) (is : number 
 
   pub run_mode : number ≡ pos 0 → is_run_mode near ≡ true
   run_mode e =
-      let zeros = none (quantized_gradient p d1) (quantized_gradient p d2) (quantized_gradient p d3) (gradient_range p d1) (gradient_range p d2) (gradient_range p d3) (ap unsigned_abs (sym is ∙ e)) in
-      let e1 = same near.rd near.rb (gradient_zero p d1 zeros.0) in let e2 = same near.rb near.rc (gradient_zero p d2 zeros.1) in let e3 = same near.rc near.ra (gradient_zero p d3 zeros.2) in
+      let zeros = none (quantized_gradient p d1) (quantized_gradient p d2) (quantized_gradient p d3) (gradient_range p d1)
+      (gradient_range p d2) (gradient_range p d3) (ap unsigned_abs (sym is ∙ e)) in
+      let e1 = same near.rd near.rb (gradient_zero p d1 zeros.0) in let e2 = same near.rb near.rc (gradient_zero p d2 zeros.1) in
+      let e3 = same near.rc near.ra (gradient_zero p d3 zeros.2) in
       rw (e1, e2, e3) refl
 
   pub no_run_mode : (number ≡ pos 0 → ⊥) → is_run_mode near ≡ false
@@ -145,7 +159,8 @@ module _ (p : CodingParameters) (near : Neighbours) (number : ℤ) (is : number 
           | inr f ↦ rw (e1, f) refl
           | inl e2 ↦ elim (cases_Bool (eqb near.rc near.ra)) [
             | inr f ↦ rw (e1, e2, f) refl
-            | inl e3 ↦ (let a = zero_step p near.rd near.rb e1 in let b = zero_step p near.rb near.rc e2 in let c = zero_step p near.rc near.ra e3 in absurd (some (is ∙ rw (a, b, c) refl)))
+            | inl e3 ↦ (let a = zero_step p near.rd near.rb e1 in let b = zero_step p near.rb near.rc e2 in
+                let c = zero_step p near.rc near.ra e3 in absurd (some (is ∙ rw (a, b, c) refl)))
           ]
         ]
       ]
@@ -160,8 +175,13 @@ regular_mode p near regular number is =
     let a = gradient_range p d1 in let b = gradient_range p d2 in let c = gradient_range p d3 in
     let q1 : ℤ = quantized_gradient p d1 in let q2 : ℤ = quantized_gradient p d2 in let q3 : ℤ = quantized_gradient p d3 in
     let sign : is_negative p near ≡ int_lt number (pos 0) = sign_is q1 q2 q3 a b c ∙ ap (λ z. int_lt z (pos 0)) (sym is) in
-    let size : pos (unsigned_abs number) ≡ weighed (with_sign (is_negative p near) q1) (with_sign (is_negative p near) q2) (with_sign (is_negative p near) q3) = ap (λ z. pos (unsigned_abs z)) is ∙ size_is (is_negative p near) q1 q2 q3 (sign_is q1 q2 q3 a b c) in
-    let some : unsigned_abs number ≡ 0 → ⊥ = λ e. (let zeros = none q1 q2 q3 a b c (ap unsigned_abs (sym is) ∙ e) in let e1 = same near.rd near.rb (gradient_zero p d1 zeros.0) in let e2 = same near.rb near.rc (gradient_zero p d2 zeros.1) in let e3 = same near.rc near.ra (gradient_zero p d3 zeros.2) in false≢true (sym regular ∙ rw (e1, e2, e3) refl)) in
+    let size : pos (unsigned_abs number)
+    ≡ weighed (with_sign (is_negative p near) q1) (with_sign (is_negative p near) q2) (with_sign (is_negative p near) q3) =
+    ap (λ z. pos (unsigned_abs z)) is ∙ size_is (is_negative p near) q1 q2 q3 (sign_is q1 q2 q3 a b c) in
+    let some : unsigned_abs number ≡ 0 → ⊥ =
+    λ e. (let zeros = none q1 q2 q3 a b c (ap unsigned_abs (sym is) ∙ e) in let e1 = same near.rd near.rb (gradient_zero p d1 zeros.0) in
+    let e2 = same near.rb near.rc (gradient_zero p d2 zeros.1) in let e3 = same near.rc near.ra (gradient_zero p d3 zeros.2) in
+    false≢true (sym regular ∙ rw (e1, e2, e3) refl)) in
     record {
       not_run = regular;
       context_is = omega (arith, ints);
@@ -175,4 +195,6 @@ regular_mode p near regular number is =
 pub weighed_is : (p : CodingParameters) (near : Neighbours) (q1 q2 q3 number : ℤ) → AreGradients p near q1 q2 q3 → number ≡ weighed q1 q2 q3
     → number ≡ (let q = quantized_gradients p near in weighed q.q1 q.q2 q.q3)
 weighed_is p near q1 q2 q3 number are is =
-    is ∙ ap (λ z. weighed z q2 q3) are.first ∙ ap (λ z. weighed (quantized_gradient p (pos near.rd -ℤ pos near.rb)) z q3) are.second ∙ ap (λ z. weighed (quantized_gradient p (pos near.rd -ℤ pos near.rb)) (quantized_gradient p (pos near.rb -ℤ pos near.rc)) z) are.third
+    is ∙ ap (λ z. weighed z q2 q3) are.first ∙ ap (λ z. weighed (quantized_gradient p (pos near.rd -ℤ pos near.rb)) z q3) are.second
+    ∙ ap (λ z. weighed (quantized_gradient p (pos near.rd -ℤ pos near.rb)) (quantized_gradient p (pos near.rb -ℤ pos near.rc)) z)
+    are.third

@@ -60,7 +60,8 @@ unfolding updated
 halved_below_zero = refl
 
 -- k is 0, N is 2 and B is -1
-special_mapping : regular_mapped (after 3 (negsuc 6 ∷ negsuc 8 ∷ pos 3 ∷ negsuc 4 ∷ pos 2 ∷ negsuc 0 ∷ pos 0 ∷ pos 0 ∷ pos 0 ∷ [])) (negsuc 1)
+special_mapping : regular_mapped (after 3 (negsuc 6 ∷ negsuc 8 ∷ pos 3 ∷ negsuc 4 ∷ pos 2 ∷ negsuc 0 ∷ pos 0 ∷ pos 0 ∷ pos 0 ∷ []))
+    (negsuc 1)
     ≡ 2
 unfolding updated golomb_k least_from
 special_mapping = refl

@@ -54,8 +54,18 @@ pub modulo_reduced_is : (p : CodingParameters) (z : ℤ) → IsModuloReduced p z
 modulo_reduced_is p z =
     let r : ℤ = int_rem_euclid z (pos (range p)) in let within = remainder_range (range p) (omega arith) z in
     by_lt_z r (pos ((range p + 1) / 2))
-    (λ low. rw (reduced_low p z low) (record { is_error = record { at_least = omega (arith, ints); below = low }; congruent = sym (remainder_within (range p) r within.0 within.1) }))
-    (λ high. rw (reduced_high p z high) (record { is_error = record { at_least = omega (arith, ints); below = omega (arith, ints) }; congruent = sym (remainder_below (range p) (r -ℤ pos (range p)) (omega (arith, ints)) (omega (arith, ints)) ∙ omega (arith, ints)) }))
+    (λ low. rw (reduced_low p z low)
+    (record {
+      is_error = record { at_least = omega (arith, ints); below = low };
+      congruent =
+          sym (remainder_within (range p) r within.0 within.1);
+    }))
+    (λ high. rw (reduced_high p z high)
+    (record {
+      is_error = record { at_least = omega (arith, ints); below = omega (arith, ints) };
+      congruent =
+          sym (remainder_below (range p) (r -ℤ pos (range p)) (omega (arith, ints)) (omega (arith, ints)) ∙ omega (arith, ints));
+    }))
 
 -- what it adds to a difference of samples
 pub modulo_reduced_near : (p : CodingParameters) (z : ℤ) → neg_ℤ (pos (range p)) <ℤ z → z <ℤ pos (range p)
@@ -63,5 +73,9 @@ pub modulo_reduced_near : (p : CodingParameters) (z : ℤ) → neg_ℤ (pos (ran
 modulo_reduced_near p z a b =
     let r : ℤ = int_rem_euclid z (pos (range p)) in
     by_lt_z z (pos 0)
-    (λ negative. let is : r ≡ z +ℤ pos (range p) = remainder_below (range p) z (omega (arith, ints)) negative in by_lt_z r (pos ((range p + 1) / 2)) (λ low. inr (inl (reduced_low p z low ∙ is))) (λ high. let e = reduced_high p z high in inl (omega (arith, ints))))
-    (λ positive. let is : r ≡ z = remainder_within (range p) z positive b in by_lt_z r (pos ((range p + 1) / 2)) (λ low. inl (reduced_low p z low ∙ is)) (λ high. let e = reduced_high p z high in inr (inr (omega (arith, ints)))))
+    (λ negative. let is : r ≡ z +ℤ pos (range p) = remainder_below (range p) z (omega (arith, ints)) negative in
+    by_lt_z r (pos ((range p + 1) / 2)) (λ low. inr (inl (reduced_low p z low ∙ is)))
+    (λ high. let e = reduced_high p z high in inl (omega (arith, ints))))
+    (λ positive. let is : r ≡ z = remainder_within (range p) z positive b in
+    by_lt_z r (pos ((range p + 1) / 2)) (λ low. inl (reduced_low p z low ∙ is))
+    (λ high. let e = reduced_high p z high in inr (inr (omega (arith, ints)))))

@@ -25,7 +25,8 @@ sample_same p false s s' x a b c e =
 -- the sample that an error leads to, brought back into the range, has this error
 pub restored : (p : CodingParameters) (negative : Bool) (s x : ℕ) (e f : ℤ) → s ≤ p.maxval → x ≤ p.maxval → IsError p e
     → f ≡ with_sign negative e
-    → (pos s ≡ pos x +ℤ f) ⊎ ((pos s ≡ (pos x +ℤ f) +ℤ pos (range p)) ⊎ (pos s ≡ (pos x +ℤ f) -ℤ pos (range p))) → prediction_error p negative s x ≡ e
+    → (pos s ≡ pos x +ℤ f) ⊎ ((pos s ≡ (pos x +ℤ f) +ℤ pos (range p)) ⊎ (pos s ≡ (pos x +ℤ f) -ℤ pos (range p)))
+    → prediction_error p negative s x ≡ e
 restored p true s x e f a b i g h =
     let r = modulo_reduced_near p (neg_ℤ (pos s -ℤ pos x)) (omega (arith, ints)) (omega (arith, ints)) in
     let v = error_range p true s x in omega (arith, ints)
@@ -39,7 +40,11 @@ pub restored_remainder : (p : CodingParameters) (negative : Bool) (s x : ℕ) (e
 restored_remainder p negative s x e f z a b i sign sum is =
     let size : unsigned_abs f ≤ p.maxval = size_of negative f sign in
     restored p negative s x e f a b i sign
-    (elim (remainder_cases (range p) z (omega (arith, ints)) (omega (arith, ints))) [ inl h ↦ inl (omega (arith, ints)) | inr h ↦ elim h [ inl k ↦ inr (inl (omega (arith, ints))) | inr k ↦ inr (inr (omega (arith, ints))) ] ])
+    (elim (remainder_cases (range p) z (omega (arith, ints)) (omega (arith, ints))) [
+      | inl h ↦ inl (omega (arith, ints))
+      | inr h ↦
+          elim h [ inl k ↦ inr (inl (omega (arith, ints))) | inr k ↦ inr (inr (omega (arith, ints))) ]
+    ])
   where
     size_of : (negative : Bool) (f : ℤ) → f ≡ with_sign negative e → unsigned_abs f ≤ p.maxval
     size_of true f sign = omega (arith, ints)

@@ -15,7 +15,12 @@ pub least_from-passes : (passes : ℕ → Bool) (count from : ℕ) → passes (f
 unfolding least_from
 least_from-passes passes zero from last = subst (λ z. passes z ≡ true) (let e : from + 0 ≡ from = omega arith in e) last
 least_from-passes passes (suc count) from last =
-    elim (cases_Bool (passes from)) [ inl e ↦ rw e e | inr e ↦ rw e (least_from-passes passes count (suc from) (subst (λ z. passes z ≡ true) (let e : from + suc count ≡ suc from + count = omega arith in e) last)) ]
+    elim (cases_Bool (passes from)) [
+      | inl e ↦ rw e e
+      | inr e ↦ rw e
+          (least_from-passes passes count (suc from)
+          (subst (λ z. passes z ≡ true) (let e : from + suc count ≡ suc from + count = omega arith in e) last))
+    ]
 
 pub maxval_small : (p : CodingParameters) → AreCodingParameters p → p.maxval < 2 ^ 16
 maxval_small p are =
@@ -27,7 +32,8 @@ reset_small p are = let small = maxval_small p are in omega arith
 -- qbpp bits hold RANGE values
 pub range-le-pow : (p : CodingParameters) → p.maxval < 2 ^ 16 → range p ≤ 2 ^ qbpp p
 range-le-pow p small =
-    leb-true (range p) (2 ^ qbpp p) (least_from-passes (λ bits. leb (range p) (2 ^ bits)) 16 0 (le-leb (range p) (2 ^ (0 + 16)) (omega arith)))
+    leb-true (range p) (2 ^ qbpp p)
+    (least_from-passes (λ bits. leb (range p) (2 ^ bits)) 16 0 (le-leb (range p) (2 ^ (0 + 16)) (omega arith)))
 
 pub error_mapped_at_most : (p : CodingParameters) (special : Bool) (e : ℤ) → IsError p e → error_mapped special e ≤ range p
 error_mapped_at_most p true (pos n) is = omega (arith, ints)

@@ -26,23 +26,27 @@ bias_low n b h = let low : int_le b (neg_ℤ (pos n)) ≡ true = holds _ h.le in
 
 pub bias_high : (n : ℕ) (b : ℤ) → neg_ℤ (pos n) <ℤ b → pos 0 <ℤ b → computed_bias n b ≡ int_min (b -ℤ pos n) (pos 0)
 bias_high n b h i =
-    let low : int_le b (neg_ℤ (pos n)) ≡ false = fails b (neg_ℤ (pos n)) _ refl h in let high : int_lt (pos 0) b ≡ true = holds _ i.lt in rw (low, high) refl
+    let low : int_le b (neg_ℤ (pos n)) ≡ false = fails b (neg_ℤ (pos n)) _ refl h in let high : int_lt (pos 0) b ≡ true = holds _ i.lt in
+    rw (low, high) refl
 
 pub correction_low : (n : ℕ) (b c : ℤ) → b ≤ℤ neg_ℤ (pos n) → computed_correction n b c ≡ int_max (c -ℤ pos 1) (negsuc 127)
 correction_low n b c h = let low : int_le b (neg_ℤ (pos n)) ≡ true = holds _ h.le in rw low refl
 
 pub correction_high : (n : ℕ) (b c : ℤ) → neg_ℤ (pos n) <ℤ b → pos 0 <ℤ b → computed_correction n b c ≡ int_min (c +ℤ pos 1) (pos 127)
 correction_high n b c h i =
-    let low : int_le b (neg_ℤ (pos n)) ≡ false = fails b (neg_ℤ (pos n)) _ refl h in let high : int_lt (pos 0) b ≡ true = holds _ i.lt in rw (low, high) refl
+    let low : int_le b (neg_ℤ (pos n)) ≡ false = fails b (neg_ℤ (pos n)) _ refl h in let high : int_lt (pos 0) b ≡ true = holds _ i.lt in
+    rw (low, high) refl
 
 -- a bias within its range
 pub neither : (n : ℕ) (b c : ℤ) → neg_ℤ (pos n) <ℤ b → b ≤ℤ pos 0 → (computed_bias n b ≡ b) × (computed_correction n b c ≡ c)
 neither n b c h i =
-    let low : int_le b (neg_ℤ (pos n)) ≡ false = fails b (neg_ℤ (pos n)) _ refl h in let high : int_lt (pos 0) b ≡ false = not_above (pos 0) b _ refl i in (rw (low, high) refl, rw (low, high) refl)
+    let low : int_le b (neg_ℤ (pos n)) ≡ false = fails b (neg_ℤ (pos n)) _ refl h in
+    let high : int_lt (pos 0) b ≡ false = not_above (pos 0) b _ refl i in (rw (low, high) refl, rw (low, high) refl)
 
 -- before RESET
 pub updated-grown : (reset : ℕ) (cell : Cell) (e : ℤ) (grown : Cell) → (cell.occurrences ≡ reset → ⊥)
-    → grown.magnitudes ≡ cell.magnitudes + unsigned_abs e → grown.occurrences ≡ cell.occurrences + 1 → grown.bias ≡ cell.bias +ℤ e → grown.correction ≡ cell.correction
+    → grown.magnitudes ≡ cell.magnitudes + unsigned_abs e → grown.occurrences ≡ cell.occurrences + 1 → grown.bias ≡ cell.bias +ℤ e
+    → grown.correction ≡ cell.correction
     → bias_computed grown ≡ updated reset cell e
 unfolding updated
 updated-grown reset cell e grown other m n b c =
@@ -51,7 +55,8 @@ updated-grown reset cell e grown other m n b c =
 
 -- at RESET
 pub updated-aged : (reset : ℕ) (cell : Cell) (e : ℤ) (aged : Cell) → cell.occurrences ≡ reset
-    → aged.magnitudes ≡ (cell.magnitudes + unsigned_abs e) / 2 → aged.occurrences ≡ cell.occurrences / 2 + 1 → aged.bias ≡ int_div_euclid (cell.bias +ℤ e) (pos 2) → aged.correction ≡ cell.correction
+    → aged.magnitudes ≡ (cell.magnitudes + unsigned_abs e) / 2 → aged.occurrences ≡ cell.occurrences / 2 + 1 → aged.bias
+    ≡ int_div_euclid (cell.bias +ℤ e) (pos 2) → aged.correction ≡ cell.correction
     → bias_computed aged ≡ updated reset cell e
 unfolding updated
 updated-aged reset cell e aged same m n b c =

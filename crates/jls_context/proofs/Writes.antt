@@ -1,5 +1,6 @@
 -- One cell is written, and all others stay.
-use Rattle.std.proofs.Common.{◌≡◌, ◌≢◌, ℕ, ◌<◌, List, length, get_or, replicate, set, map, ap, refl, zero, suc, ◌∷◌, sym, subst, ◌∙◌, arith, inl, inr}
+use Rattle.std.proofs.Common.{◌≡◌, ◌≢◌, ℕ, ◌<◌, List, length, get_or, replicate, set, map, ap, refl, zero, suc, ◌∷◌, sym, subst, ◌∙◌}
+use Rattle.std.proofs.Common.{arith, inl, inr}
 use Rattle.std.specs.List.{All}
 use Rattle.std.proofs.lemmas.List.{get_or-map, map-set, get_or-set_same, get_or-set_other, get_or-replicate, length-set, length-replicate}
 use Rattle.std.proofs.lemmas.Bool.{cases_eq, cases_lt}
@@ -15,11 +16,16 @@ use Rattle.std.proofs.Math.ListN.{get_or-eq_default}
 -- a list of one value reads as that value everywhere, where the default is the same
 replicated : (n i : ℕ) (x d : Cell) → x ≡ d → get_or (replicate n x) i d ≡ d
 replicated n i x d is =
-    elim (cases_lt i n) [ inl within ↦ get_or-replicate n i x d within ∙ is | inr beyond ↦ (let size = length-replicate n x in get_or-eq_default (replicate n x) d (omega arith)) ]
+    elim (cases_lt i n) [
+      | inl within ↦ get_or-replicate n i x d within ∙ is
+      | inr beyond ↦
+          (let size = length-replicate n x in get_or-eq_default (replicate n x) d (omega arith))
+    ]
 
 -- at the start all cells are the same
 pub cell_at-start : (p : CodingParameters) (x : Cell) (run_other run_same : RunCell) (i : ℕ) → x ≡ initial_cell p
-    → (let v : Variables = record { parameters = p; regular = replicate 365 x; run_other = run_other; run_same = run_same } in cell_at v i) ≡ initial_cell p
+    → (let v : Variables = record { parameters = p; regular = replicate 365 x; run_other = run_other; run_same = run_same } in cell_at v i)
+    ≡ initial_cell p
 unfolding cell_at
 cell_at-start p x run_other run_same i is = replicated 365 i x (initial_cell p) is
 
@@ -39,7 +45,12 @@ all_set : (reset : ℕ) (cells : List Cell) (i : ℕ) (x : Cell) → All (IsCell
     → All (IsCell reset) (set cells i x)
 all_set reset cells i x all h ok k d l =
     let le = length-set cells i x in
-    elim (cases_eq k i) [ inl e ↦ (let q : get_or (set cells i x) k d ≡ x = rw e (get_or-set_same cells i x d h) in subst (λ z. IsCell reset z) (sym q) ok) | inr ne ↦ subst (λ z. IsCell reset z) (sym (get_or-set_other cells i k x d ne)) (all k d (omega arith)) ]
+    elim (cases_eq k i) [
+      | inl e ↦ (let q : get_or (set cells i x) k d ≡ x = rw e (get_or-set_same cells i x d h) in
+          subst (λ z. IsCell reset z) (sym q) ok)
+      | inr ne ↦
+          subst (λ z. IsCell reset z) (sym (get_or-set_other cells i k x d ne)) (all k d (omega arith))
+    ]
 
 pub written_right : (v : Variables) (i : ℕ) (x : Cell) → i < 365 → AreVariables v → IsCell v.parameters.reset x
     → AreVariables (written v i x)

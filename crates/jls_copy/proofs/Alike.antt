@@ -24,7 +24,8 @@ and_prefix false c d f e = refl
 unwhole_append : (before : ℕ) (xs ys : List ℕ) → is_whole_after before xs ≡ false → is_whole_after before (xs ++ ys) ≡ false
 unfolding is_whole_after
 unwhole_append before [] ys e = cc
-unwhole_append before (x ∷ xs) ys e = and_prefix (not (ends_data before x)) (is_whole_after x xs) (is_whole_after x (xs ++ ys)) (unwhole_append x xs ys) e
+unwhole_append before (x ∷ xs) ys e =
+    and_prefix (not (ends_data before x)) (is_whole_after x xs) (is_whole_after x (xs ++ ys)) (unwhole_append x xs ys) e
 
 two_break : (before : ℕ) (xs ys : List ℕ) → is_whole_after before (xs ++ (255 ∷ 255 ∷ ys)) ≡ false
 unfolding is_whole_after ends_data
@@ -41,7 +42,8 @@ same_equal fed piece n b e More (m, h) = inr (two_break 0 fed (b ∷ []), rw h (
 pub same_more : (fed piece : List ℕ) (held : Held) (n b : ℕ) → HeldIs held n → SameBytes fed piece
     → SameBytes (fed ++ (held_bytes held ++ b ∷ [])) (piece ++ (fill_bytes n ++ b ∷ []))
 same_more fed piece held n b h (inl e) = same_equal fed piece n b e held h
-same_more fed piece held n b h (inr e) = inr (unwhole_append 0 fed (held_bytes held ++ b ∷ []) e.0, unwhole_append 0 piece (fill_bytes n ++ b ∷ []) e.1)
+same_more fed piece held n b h (inr e) =
+    inr (unwhole_append 0 fed (held_bytes held ++ b ∷ []) e.0, unwhole_append 0 piece (fill_bytes n ++ b ∷ []) e.1)
 
 -- and so has the same outcome
 pub same_outcome : (s : Scan) (k : ℕ) (fed piece : List ℕ) (o : PieceOutcome) → SameBytes fed piece → IsOutcomeAt s (Interval k) fed o

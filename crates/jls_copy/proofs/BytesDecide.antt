@@ -34,11 +34,13 @@ module _ (s : Scan) (ok : IsScan s) (k : ℕ) (bytes : List ℕ) where
 
   one_list : (a b : List (List ℕ)) → Reads (interval_shape s.params s.width (length s.components) count) bytes a
       → Reads (interval_shape s.params s.width (length s.components) count) bytes b → a ≡ b
-  one_list a b h r = reads_once s.params ok.params s.width (length s.components) count (let w = ok.width_at_least in omega arith) bytes a b h r
+  one_list a b h r = reads_once s.params ok.params s.width (length s.components) count (let w = ok.width_at_least in omega arith) bytes a b
+      h r
 
   not_long : (a : List (List ℕ)) → Reads (interval_shape s.params s.width (length s.components) count) bytes a
       → IsLong (interval_shape s.params s.width (length s.components) count) bytes → ⊥
-  not_long a h l = read_not_long s.params ok.params s.width (length s.components) count (let w = ok.width_at_least in omega arith) bytes a h l
+  not_long a h l = read_not_long s.params ok.params s.width (length s.components) count (let w = ok.width_at_least in omega arith) bytes a h
+      l
 
   within : (o p : PieceOutcome) → IsOutcomeAt s (Interval k) bytes o → IsOutcomeAt s (Interval k) bytes p → o ≡ p
   within (Lines a) (Lines b) h r = ap Lines (one_list a b h r)
@@ -83,7 +85,8 @@ one_outcomes (p ∷ ps) (o ∷ os) (q ∷ qs) ok h r =
 
 read_eq : (r s : ReadCopy) → r.partial ≡ s.partial → r.pieces ≡ s.pieces → r.piece_count ≡ s.piece_count → r.ended ≡ s.ended → r ≡ s
 read_eq r s e f g h =
-    let x : r ≡ record { partial = s.partial; pieces = s.pieces; piece_count = s.piece_count; ended = s.ended } = rw (sym e, sym f, sym g, sym h) refl in x
+    let x : r ≡ record { partial = s.partial; pieces = s.pieces; piece_count = s.piece_count; ended = s.ended } =
+    rw (sym e, sym f, sym g, sym h) refl in x
 
 some_is : (a b : PictureShape) → Some a ≡ Some b → a ≡ b
 some_is a b e = cc
@@ -92,7 +95,8 @@ some_is a b e = cc
 one_head_at : (s : Scan) (n : PieceNumber) (bytes : List ℕ) (a b : List (List ℕ)) → IsScan s → IsHeadAt s n bytes a → IsHeadAt s n bytes b
     → a ≡ b
 one_head_at s (Interval k) bytes a b ok (inl h) (inl r) =
-    one_head s.params s.width (length s.components) (row_count s k * length s.components) ok.params (let w = ok.width_at_least in omega arith) (bits_read bytes) a b h.1 r.1
+    one_head s.params s.width (length s.components) (row_count s k * length s.components) ok.params
+    (let w = ok.width_at_least in omega arith) (bits_read bytes) a b h.1 r.1
 one_head_at s (Interval k) bytes a b ok (inl h) (inr r) = absurd (true_false (is_whole bytes) h.0 r.0)
 one_head_at s (Interval k) bytes a b ok (inr h) (inl r) = absurd (true_false (is_whole bytes) r.0 h.0)
 one_head_at s (Interval k) bytes a b ok (inr h) (inr r) = h.1 ∙ sym r.1
@@ -124,7 +128,8 @@ one_reading bytes low r s k l =
     let shape = some_is k.shape l.shape (sym k.framed ∙ ap (λ (c : Course). c.headers.frame) same ∙ l.framed) in
     let each = subst (λ c. AreOutcomes (pieces c) l.outcomes) (sym same) l.each in
     let outcomes = one_outcomes (pieces k.course) k.outcomes l.outcomes (course_has bytes k.course low k.is_course) k.each each in
-    let heads = one_head_of_cut (cut_pieces k.course) k.head l.head (cut_has k.course (course_has bytes k.course low k.is_course)) k.head_is (subst (λ c. IsHeadOfCut (cut_pieces c) l.head) (sym same) l.head_is) in
+    let heads = one_head_of_cut (cut_pieces k.course) k.head l.head (cut_has k.course (course_has bytes k.course low k.is_course)) k.head_is
+    (subst (λ c. IsHeadOfCut (cut_pieces c) l.head) (sym same) l.head_is) in
     let fed = ap (λ c. records (pieces c) k.outcomes) same ∙ ap (records (pieces l.course)) outcomes in
     read_eq r s
     (k.partial_is ∙ ap (λ c. given c k.shape k.outcomes k.head) same ∙ ap (λ x. given l.course x k.outcomes k.head) shape
@@ -145,5 +150,6 @@ bytes_decide bytes low = record {
   one_fault = λ f g m n h k.
       fault_is f g m n (h.3 ∙ ap (λ (c : Course). no_picture c.end) (one_course bytes h.0 k.0 h.1 k.1) ∙ sym k.3);
   not_both = λ r f n h k.
-      none_is_some k.0.headers.frame h.shape k.2 (ap (λ (c : Course). c.headers.frame) (one_course bytes k.0 h.course k.1 h.is_course) ∙ h.framed);
+      none_is_some k.0.headers.frame h.shape k.2
+      (ap (λ (c : Course). c.headers.frame) (one_course bytes k.0 h.course k.1 h.is_course) ∙ h.framed);
 }

@@ -42,7 +42,8 @@ outcome_at s (BeyondLast k) x w (Fault kind.Beyond) t h = h
 
 pub outcome_alike : (p q : FoundPiece) (o : PieceOutcome) → AlikePiece p q → IsOutcome p o → IsOutcome q o
 outcome_alike p q o a h =
-    let now : IsOutcomeAt q.plan q.number p.bytes o = rw (a.plan_is, a.number_is) at h in outcome_at q.plan q.number p.bytes q.bytes o a.fed_as now
+    let now : IsOutcomeAt q.plan q.number p.bytes o = rw (a.plan_is, a.number_is) at h in
+    outcome_at q.plan q.number p.bytes q.bytes o a.fed_as now
 
 readings_alike : (p q : FoundPiece) (o : PieceOutcome) → AlikePiece p q → readings_of p o ≡ readings_of q o
 readings_alike p q o a = rw (a.plan_is, a.number_is) refl
@@ -74,7 +75,8 @@ head_alike [] [] head a h = h
 head_alike [] (q ∷ qs) head a h = absurd a
 head_alike (p ∷ ps) [] head a h = absurd a
 head_alike (p ∷ ps) (q ∷ qs) head a h =
-    let now : IsHeadAt q.plan q.number p.bytes head = rw (a.0.plan_is, a.0.number_is) at h in head_at q.plan q.number p.bytes q.bytes head a.0.fed_as now
+    let now : IsHeadAt q.plan q.number p.bytes head = rw (a.0.plan_is, a.0.number_is) at h in
+    head_at q.plan q.number p.bytes q.bytes head a.0.fed_as now
 
 head_readings_alike : (ps qs : List FoundPiece) (head : List (List ℕ)) → AlikePieces ps qs → head_readings ps head ≡ head_readings qs head
 head_readings_alike [] [] head a = refl
@@ -96,8 +98,10 @@ conclusion_fed bytes low read k =
       head = k.head;
       head_is = head_alike (closed_at_end (reading bytes).state.place) (cut_pieces fed.0) k.head fed.5 k.head_is;
       partial_is = k.partial_is
-          ∙ ap (λ rs. without_sources k.shape (set.insert_all set.empty (rs ++ head_readings (closed_at_end (reading bytes).state.place) k.head))) all.1
-          ∙ ap (λ rs. without_sources k.shape (set.insert_all set.empty (readings (pieces fed.0) k.outcomes ++ rs))) (head_readings_alike (closed_at_end (reading bytes).state.place) (cut_pieces fed.0) k.head fed.5);
+          ∙ ap (λ rs. without_sources k.shape
+          (set.insert_all set.empty (rs ++ head_readings (closed_at_end (reading bytes).state.place) k.head))) all.1
+          ∙ ap (λ rs. without_sources k.shape (set.insert_all set.empty (readings (pieces fed.0) k.outcomes ++ rs)))
+          (head_readings_alike (closed_at_end (reading bytes).state.place) (cut_pieces fed.0) k.head fed.5);
       pieces_are = k.pieces_are ∙ ap (take 4096) all.2;
       count_is = k.count_is ∙ ap length all.2;
       ended_is = k.ended_is ∙ sym fed.3;
@@ -106,7 +110,8 @@ conclusion_fed bytes low read k =
 pub none_fed : (bytes : List ℕ) → AllByRecursion (λ b. b < 256) bytes → (f : CopyFault) → SaysNone (reading bytes) f
     → CopyGivesNone bytes f
 none_fed bytes low OutOfMemory k = tt
-none_fed bytes low (NoPicture f offset) k = let fed = course_fed bytes low in (fed.0, fed.1, ap (λ h. h.frame) fed.2 ∙ k.0, k.1 ∙ ap no_picture (sym fed.3))
+none_fed bytes low (NoPicture f offset) k = let fed = course_fed bytes low in
+    (fed.0, fed.1, ap (λ h. h.frame) fed.2 ∙ k.0, k.1 ∙ ap no_picture (sym fed.3))
 
 stops_final : (h : HeaderState) (at : ℕ) (x : List ℕ) (e : End) → EndsHere h at x e → is_final_end e ≡ true
 stops_final _ _ _ _ (at_eoi h at n more p) = refl
@@ -136,5 +141,10 @@ pub done_fed : (bytes : List ℕ) → AllByRecursion (λ b. b < 256) bytes → (
     → done ≡ is_final p → IsDone bytes done
 done_fed bytes low p e done d =
     let fed = course_fed bytes low in
-    let r = reading bytes in
-    (fed.0, fed.1, d ∙ ap is_final e ∙ place_final r.state.place r.state.headers r.state.payload r.pieces bytes r.state.count (readings_tell bytes low) ∙ ap is_final_end (sym fed.3))
+    let r = reading bytes in (
+      fed.0,
+      fed.1,
+      d ∙ ap is_final e
+          ∙ place_final r.state.place r.state.headers r.state.payload r.pieces bytes r.state.count (readings_tell bytes low)
+          ∙ ap is_final_end (sym fed.3),
+    )

@@ -1,4 +1,5 @@
--- A file of one column, 1 and 9, that CharLS 2.4.1 wrote, cut after the first byte of its scan data. By hand a fill byte was put before SOI,
+-- A file of one column, 1 and 9, that CharLS 2.4.1 wrote, cut after the first byte of its scan data. By hand a fill byte was put before
+-- SOI,
 -- and a byte 0xFF at the end, as where the input ends before the code of a marker.
 use Rattle.std.proofs.Common.{◌≡◌, ℕ, List, [], ◌∷◌, Some, refl, lit<, arith}
 use Rattle.jls_values.specs.Params.{CodingParameters}
@@ -37,7 +38,8 @@ abbrev final : HeaderState
 final = record framed { scans = 1 }
 
 abbrev units : List CopyUnit
-units = segment 0 0xF7 (0x08 ∷ 0x00 ∷ 0x02 ∷ 0x00 ∷ 0x01 ∷ 0x01 ∷ 0x01 ∷ 0x11 ∷ 0x00 ∷ []) ∷ scan 0 0xDA (0x01 ∷ 0x01 ∷ 0x00 ∷ 0x00 ∷ 0x00 ∷ 0x00 ∷ []) plan [] (0x50 ∷ []) (by_input 1) ∷ []
+units = segment 0 0xF7 (0x08 ∷ 0x00 ∷ 0x02 ∷ 0x00 ∷ 0x01 ∷ 0x01 ∷ 0x01 ∷ 0x11 ∷ 0x00 ∷ [])
+    ∷ scan 0 0xDA (0x01 ∷ 0x01 ∷ 0x00 ∷ 0x00 ∷ 0x00 ∷ 0x00 ∷ []) plan [] (0x50 ∷ []) (by_input 1) ∷ []
 
 -- the input's end closes the piece, and the 0xFF belongs to none
 abbrev pub course : Course

@@ -10,7 +10,8 @@ codes_of_marks : filter is_restart_code (range_with_len 0 256) ≡ 0xD0 ∷ 0xD1
 codes_of_marks = refl
 
 codes_of_ends : filter ends_scan_data (range_with_len 0 256)
-    ≡ 0xD9 ∷ 0xDA ∷ 0xDD ∷ 0xE0 ∷ 0xE1 ∷ 0xE2 ∷ 0xE3 ∷ 0xE4 ∷ 0xE5 ∷ 0xE6 ∷ 0xE7 ∷ 0xE8 ∷ 0xE9 ∷ 0xEA ∷ 0xEB ∷ 0xEC ∷ 0xED ∷ 0xEE ∷ 0xEF ∷ 0xF8 ∷ 0xFE ∷ []
+    ≡ 0xD9 ∷ 0xDA ∷ 0xDD ∷ 0xE0 ∷ 0xE1 ∷ 0xE2 ∷ 0xE3 ∷ 0xE4 ∷ 0xE5 ∷ 0xE6 ∷ 0xE7 ∷ 0xE8 ∷ 0xE9 ∷ 0xEA ∷ 0xEB ∷ 0xEC ∷ 0xED ∷ 0xEE ∷ 0xEF
+    ∷ 0xF8 ∷ 0xFE ∷ []
 codes_of_ends = refl
 
 -- 80 FF D0 80 FF D9, of a picture of two lines with a mark between them
@@ -27,7 +28,8 @@ filled = record { closed = record { piece = 0x80 ∷ []; fill = 2; mark = 5 } �
 filled_fed : IsCut (0x80 ∷ 0xFF ∷ 0xFF ∷ 0xFF ∷ 0xD5 ∷ 0xFF ∷ 0xFF ∷ []) filled
 filled_fed = record { whole = refl; each = ((λ h. omega arith, lit< tt), tt); last = tt; end = tt }
 
--- where lines 0 to 9 have an interval each and the marks 0 to 6 are lost, the mark 7 gives 8; eight lost marks can't be distinguished from none
+-- where lines 0 to 9 have an interval each and the marks 0 to 6 are lost, the mark 7 gives 8; eight lost marks can't be distinguished
+-- from none
 seven_lost : numbers_after 10 0 (7 ∷ 0 ∷ []) ≡ Interval 8 ∷ Interval 9 ∷ []
 seven_lost = refl
 

@@ -27,7 +27,8 @@ record CutGathers (frame : Option PictureShape) (ps qs : List FoundPiece) (f : F
   head : List (List ℕ)
   head_is : IsHeadOfCut qs head
   picture_is : (shape : PictureShape) → frame ≡ Some shape
-      → picture_of shape f.partial ≡ without_sources shape (set.insert_all set.empty (readings (ps ++ qs) outcomes ++ head_readings qs head))
+      → picture_of shape f.partial ≡ without_sources shape
+      (set.insert_all set.empty (readings (ps ++ qs) outcomes ++ head_readings qs head))
   records_are : f.records.items ≡ take 4096 (records (ps ++ qs) outcomes)
   count_is : f.record_count ≡ length (records (ps ++ qs) outcomes)
 
@@ -42,7 +43,8 @@ cut_gathers frame ps [] old new g e =
       head_is = refl;
       picture_is = λ shape framed.
           ap (λ (f : Findings). picture_of shape f.partial) e ∙ g.picture_is shape framed
-          ∙ ap (λ xs. without_sources shape (set.insert_all set.empty xs)) (sym (append-nil (readings (ps ++ []) g.outcomes) ∙ ap (λ xs. readings xs g.outcomes) all));
+          ∙ ap (λ xs. without_sources shape (set.insert_all set.empty xs))
+          (sym (append-nil (readings (ps ++ []) g.outcomes) ∙ ap (λ xs. readings xs g.outcomes) all));
       records_are = ap (λ (f : Findings). f.records.items) e ∙ g.records_are ∙ ap (λ xs. take 4096 (records xs g.outcomes)) (sym all);
       count_is = ap (λ (f : Findings). f.record_count) e ∙ g.count_is ∙ ap (λ xs. length (records xs g.outcomes)) (sym all);
     }
@@ -57,12 +59,19 @@ cut_gathers frame ps (p ∷ []) old new g (shape, framed, adds) =
       picture_is = λ s e.
           let same : shape ≡ s = some_is shape s (sym framed ∙ e) in
           let more : List partial.Reading = readings_of p o ++ readings_of p (Lines adds.head) in
-          let parts : readings ps g.outcomes ++ more ≡ readings (ps ++ p ∷ []) (g.outcomes ++ o ∷ []) ++ readings_of p (Lines adds.head) = sym (append_assoc (readings ps g.outcomes) (readings_of p o) (readings_of p (Lines adds.head))) ∙ ap (λ xs. xs ++ readings_of p (Lines adds.head)) (sym (readings_more ps g.outcomes p o g.each)) in
-          subst (λ t. picture_of t new.partial ≡ without_sources t (set.insert_all set.empty (readings (ps ++ p ∷ []) (g.outcomes ++ o ∷ []) ++ readings_of p (Lines adds.head)))) same
+          let parts : readings ps g.outcomes ++ more ≡ readings (ps ++ p ∷ []) (g.outcomes ++ o ∷ []) ++ readings_of p (Lines adds.head) =
+          sym (append_assoc (readings ps g.outcomes) (readings_of p o) (readings_of p (Lines adds.head)))
+          ∙ ap (λ xs. xs ++ readings_of p (Lines adds.head)) (sym (readings_more ps g.outcomes p o g.each)) in
+          subst (λ t. picture_of t new.partial
+          ≡ without_sources t (set.insert_all set.empty
+          (readings (ps ++ p ∷ []) (g.outcomes ++ o ∷ []) ++ readings_of p (Lines adds.head)))) same
           (adds.picture_is ∙ ap (λ q. with_readings q more) (g.picture_is shape framed)
-          ∙ ap (λ t. without_sources shape t) (sym (insert_all-append set.empty (readings ps g.outcomes) more) ∙ ap (set.insert_all set.empty) parts));
-      records_are = adds.records_are ∙ ap (λ xs. kept_with xs (records_of p o)) g.records_are ∙ kept_more (records ps g.outcomes) p o ∙ ap (take 4096) (sym (records_more ps g.outcomes p o g.each));
-      count_is = adds.count_is ∙ ap (λ n. n + length (records_of p o)) g.count_is ∙ sym (length-append (records ps g.outcomes) (records_of p o)) ∙ ap length (sym (records_more ps g.outcomes p o g.each));
+          ∙ ap (λ t. without_sources shape t)
+          (sym (insert_all-append set.empty (readings ps g.outcomes) more) ∙ ap (set.insert_all set.empty) parts));
+      records_are = adds.records_are ∙ ap (λ xs. kept_with xs (records_of p o)) g.records_are ∙ kept_more (records ps g.outcomes) p o
+          ∙ ap (take 4096) (sym (records_more ps g.outcomes p o g.each));
+      count_is = adds.count_is ∙ ap (λ n. n + length (records_of p o)) g.count_is
+          ∙ sym (length-append (records ps g.outcomes) (records_of p o)) ∙ ap length (sym (records_more ps g.outcomes p o g.each));
     }
   where
     some_is : (x y : PictureShape) → ◌≡◌ {A = Option PictureShape} (Some x) (Some y) → x ≡ y
@@ -71,12 +80,15 @@ cut_gathers frame ps (p ∷ []) old new g (shape, framed, adds) =
 -- the input ends
 pub concluding : (m n : Machine) (bytes : List ℕ) (e : End) (read : ReadCopy) → IsReading m bytes → e ≡ end_at m.place m.count
     → AddsCut m.headers.frame (closed_at_end m.place) m.findings n.findings → n.headers ≡ m.headers
-    → ((shape : PictureShape) × (n.headers.frame ≡ Some shape) × (read.partial ≡ picture_of shape n.findings.partial) × (read.pieces ≡ n.findings.records.items) × (read.piece_count ≡ n.findings.record_count) × (read.ended ≡ e))
+    → ((shape : PictureShape) × (n.headers.frame ≡ Some shape) × (read.partial ≡ picture_of shape n.findings.partial)
+    × (read.pieces ≡ n.findings.records.items) × (read.piece_count ≡ n.findings.record_count) × (read.ended ≡ e))
     → Concludes (reading bytes) read
 concluding m n bytes e read h end_is a same (shape, framed, p, q, r, s) =
-    let all : CutGathers m.headers.frame (reading bytes).pieces (closed_at_end m.place) n.findings = cut_gathers m.headers.frame (reading bytes).pieces (closed_at_end m.place) m.findings n.findings h.gathers a in
+    let all : CutGathers m.headers.frame (reading bytes).pieces (closed_at_end m.place) n.findings =
+    cut_gathers m.headers.frame (reading bytes).pieces (closed_at_end m.place) m.findings n.findings h.gathers a in
     let place_is : m.place ≡ (reading bytes).state.place = ap (λ t. t.place) h.state_is in
-    let now : CutGathers m.headers.frame (reading bytes).pieces (closed_at_end (reading bytes).state.place) n.findings = subst (λ t. CutGathers m.headers.frame (reading bytes).pieces (closed_at_end t) n.findings) place_is all in
+    let now : CutGathers m.headers.frame (reading bytes).pieces (closed_at_end (reading bytes).state.place) n.findings =
+    subst (λ t. CutGathers m.headers.frame (reading bytes).pieces (closed_at_end t) n.findings) place_is all in
     let frame : m.headers.frame ≡ Some shape = ap (λ t. t.frame) (sym same) ∙ framed in
     record {
       shape = shape;

@@ -42,7 +42,11 @@ items lines = map (λ line. line.items) lines.items
 no_head : (p : CodingParameters) (w c n : ℕ) (bytes : List ℕ) (lines : List (List ℕ)) → AreCodingParameters p → 0 < w
     → Reads (interval_shape p w c n) bytes lines → IsHeadOfPiece (interval_shape p w c n) bytes []
 no_head p w c n bytes lines ok some r =
-    inl (r.begins.data_bits.whole, over_head p ok w c n some (bits_read bytes) lines (min 8 (length r.unread)) (record { unread = r.unread; are_lines = r.begins.are_lines; begins = r.begins.data_bits.read; counted = refl }))
+    inl (
+      r.begins.data_bits.whole,
+      over_head p ok w c n some (bits_read bytes) lines (min 8 (length r.unread))
+          (record { unread = r.unread; are_lines = r.begins.are_lines; begins = r.begins.data_bits.read; counted = refl }),
+    )
 
 -- the lines of a head are first lines of an interval
 head_lines : (p : CodingParameters) (w c n : ℕ) (bytes : List ℕ) (head : List (List ℕ)) → IsHeadOfPiece (interval_shape p w c n) bytes head
@@ -50,15 +54,29 @@ head_lines : (p : CodingParameters) (w c n : ℕ) (bytes : List ℕ) (head : Lis
 head_lines p w c n bytes head (inl (whole, inl (cut, f))) =
     let l = length-append head f.begins.others in let e = ap length f.begins.lines_are in let k = cut.are_lines.count_is in
     (length head, omega (arith, l, e, k), prefix_lines p w n cut.lines head f.begins.others cut.are_lines f.begins.lines_are)
-head_lines p w c n bytes head (inl (whole, inr (none, e))) = (0, omega arith, subst (AreLines p w 0) (sym e) (record { count_is = refl; each = tt }))
+head_lines p w c n bytes head (inl (whole, inr (none, e))) =
+    (0, omega arith, subst (AreLines p w 0) (sym e) (record { count_is = refl; each = tt }))
 head_lines p w c n bytes head (inr (none, e)) = (0, omega arith, subst (AreLines p w 0) (sym e) (record { count_is = refl; each = tt }))
 
 module _ (shape : PictureShape) (index : ℕ) (s : Scan) (offset k : ℕ) (old new : Findings) where
   pub beyond_adds : (piece : OpenPiece) → piece ≡ Beyond k → new.partial ≡ old.partial
-      → new.records.items ≡ kept_with old.records.items (record { scan = index; interval = k; offset = offset; kind = kind.Beyond } ∷ []) → new.record_count ≡ old.record_count + 1
+      → new.records.items ≡ kept_with old.records.items (record { scan = index; interval = k; offset = offset; kind = kind.Beyond } ∷ [])
+      → new.record_count ≡ old.record_count + 1
       → AddsCut (Some shape) (piece_found index s offset piece ∷ []) old new
   beyond_adds piece e p r c =
-      rw e (shape, refl, record { outcome = Fault kind.Beyond; is_outcome = tt; head = []; is_head = refl; picture_is = rw p refl; records_are = r; count_is = c })
+      rw e (
+        shape,
+        refl,
+        record {
+          outcome = Fault kind.Beyond;
+          is_outcome = tt;
+          head = [];
+          is_head = refl;
+          picture_is = rw p refl;
+          records_are = r;
+          count_is = c;
+        },
+      )
 
 module _ (s : Scan) (k : ℕ) (d : IntervalBytes) (piece : OpenPiece) (is : piece ≡ Within k d) (sound : IsOpenPiece s piece) where
   abbrev open_is : IsDecodingOf s k d
@@ -89,8 +107,10 @@ module _ (s : Scan) (k : ℕ) (d : IntervalBytes) (piece : OpenPiece) (is : piec
 
   pub cut_lines : (head : Vec (Vec ℕ Global) Global) (fault : PieceFault) → CutFinishes d (Head head fault)
       → (n : ℕ) × (n ≤ count) × AreLines s.params s.width n (items head)
-  cut_lines head piece_fault.Long h = head_lines s.params s.width (length s.components) count fed_bytes (items head) (said (Head head piece_fault.Long) h).1
-  cut_lines head piece_fault.Broken h = head_lines s.params s.width (length s.components) count fed_bytes (items head) (said (Head head piece_fault.Broken) h).1
+  cut_lines head piece_fault.Long h =
+      head_lines s.params s.width (length s.components) count fed_bytes (items head) (said (Head head piece_fault.Long) h).1
+  cut_lines head piece_fault.Broken h =
+      head_lines s.params s.width (length s.components) count fed_bytes (items head) (said (Head head piece_fault.Broken) h).1
   cut_lines head piece_fault.OutOfMemory h = absurd (said (Head head piece_fault.OutOfMemory) h)
 
   module _ (ok : IsScan s) (shape : PictureShape) (index offset : ℕ) (old new : Findings) where
@@ -100,7 +120,8 @@ module _ (s : Scan) (k : ℕ) (d : IntervalBytes) (piece : OpenPiece) (is : piec
         → AddsCut (Some shape) (piece_found index s offset piece ∷ []) old new
     whole_adds lines h p r c =
         let now : Reads (interval_shape s.params s.width (length s.components) count) fed_bytes (items lines) = said (Whole lines) h in
-        let none = no_head s.params s.width (length s.components) count fed_bytes (items lines) ok.params (let w = ok.width_at_least in omega arith) now in
+        let none = no_head s.params s.width (length s.components) count fed_bytes (items lines) ok.params
+        (let w = ok.width_at_least in omega arith) now in
         let found = placed s.components (first_row s k) 0 (items lines) in
         rw whole (
           shape,
@@ -119,12 +140,39 @@ module _ (s : Scan) (k : ℕ) (d : IntervalBytes) (piece : OpenPiece) (is : piec
     pub head_adds : (head : Vec (Vec ℕ Global) Global) (fault : PieceFault) (f : PieceKind) → CutFinishes d (Head head fault)
         → IsKindOf fault f
         → new.partial ≡ Some (with_readings (picture_of shape old.partial) (placed s.components (first_row s k) 0 (items head)))
-        → new.records.items ≡ kept_with old.records.items (record { scan = index; interval = k; offset = offset; kind = f } ∷ []) → new.record_count ≡ old.record_count + 1
+        → new.records.items ≡ kept_with old.records.items (record { scan = index; interval = k; offset = offset; kind = f } ∷ [])
+        → new.record_count ≡ old.record_count + 1
         → AddsCut (Some shape) (piece_found index s offset piece ∷ []) old new
     head_adds head piece_fault.Long f h e p r c =
         let now = said (Head head piece_fault.Long) h in
-        rw whole (shape, refl, record { outcome = Fault kind.Long; is_outcome = now.0; head = items head; is_head = now.1; picture_is = ap (picture_of shape) p; records_are = rw e at r; count_is = c })
+        rw whole (
+          shape,
+          refl,
+          record {
+            outcome = Fault kind.Long;
+            is_outcome = now.0;
+            head = items head;
+            is_head = now.1;
+            picture_is =
+                ap (picture_of shape) p;
+            records_are = rw e at r;
+            count_is = c;
+          },
+        )
     head_adds head piece_fault.Broken f h e p r c =
         let now = said (Head head piece_fault.Broken) h in
-        rw whole (shape, refl, record { outcome = Fault kind.Broken; is_outcome = now.0; head = items head; is_head = now.1; picture_is = ap (picture_of shape) p; records_are = rw e at r; count_is = c })
+        rw whole (
+          shape,
+          refl,
+          record {
+            outcome = Fault kind.Broken;
+            is_outcome = now.0;
+            head = items head;
+            is_head = now.1;
+            picture_is =
+                ap (picture_of shape) p;
+            records_are = rw e at r;
+            count_is = c;
+          },
+        )
     head_adds head piece_fault.OutOfMemory f h e p r c = absurd e

@@ -119,7 +119,8 @@ dri_unit : unit_bytes (segment 2 0xDD (0 ∷ 0 ∷ 2 ∷ [])) ≡ 0xFF ∷ 0xFF 
 dri_unit = refl
 
 -- SOS with its scan data: a piece, RST0 and a piece, and at the input's end two bytes 0xFF, which are the unit's and no piece's
-scan_unit : unit_bytes (scan 0 0xDA (1 ∷ 1 ∷ 0 ∷ 0 ∷ 0 ∷ 0 ∷ []) plan (record { piece = 0x80 ∷ []; fill = 0; mark = 0 } ∷ []) (0x40 ∷ []) (by_input 2))
+scan_unit : unit_bytes (scan 0 0xDA (1 ∷ 1 ∷ 0 ∷ 0 ∷ 0 ∷ 0 ∷ []) plan (record { piece = 0x80 ∷ []; fill = 0; mark = 0 } ∷ []) (0x40 ∷ [])
+    (by_input 2))
     ≡ 0xFF ∷ 0xDA ∷ 0x00 ∷ 0x08 ∷ 1 ∷ 1 ∷ 0 ∷ 0 ∷ 0 ∷ 0 ∷ 0x80 ∷ 0xFF ∷ 0xD0 ∷ 0x40 ∷ 0xFF ∷ 0xFF ∷ []
 scan_unit = refl
 

@@ -9,7 +9,8 @@ use Rattle.jls_interval.proofs.Finishing.{broken_bits}
 use Rattle.jls_interval.specs.Lines.{interval_shape}
 
 -- it is the code of no lines, where lines are to come
-pub empty_is_broken : (p : CodingParameters) (w c rows : ℕ) → AreCodingParameters p → 1 ≤ w → 1 ≤ c → 1 ≤ rows → IsBroken (interval_shape p w c (rows * c)) []
+pub empty_is_broken : (p : CodingParameters) (w c rows : ℕ) → AreCodingParameters p → 1 ≤ w → 1 ≤ c → 1 ≤ rows
+    → IsBroken (interval_shape p w c (rows * c)) []
 empty_is_broken p w c rows ok some least any =
     let count : 0 < rows * c = (let l = mul-le 1 1 rows c any least in omega arith) in
     let start = working_start p w c (rows * c) some count _ [] refl (λ component. refl) in

@@ -33,16 +33,21 @@ stops_some _ _ _ _ (at_refused_segment h at n code payload after f p r) = some_s
 -- what ends a copy for good does so whatever follows
 stops_more : (h : HeaderState) (at : ℕ) (x more : List ℕ) (e : End) → EndsHere h at x e → EndsHere h at (x ++ more) e
 stops_more _ _ _ more _ (at_eoi h at n after p) =
-    subst (λ y. EndsHere h at y (Eoi (at + n))) (sym (append_assoc (fill_bytes n) (255 ∷ 217 ∷ after) more)) (at_eoi h at n (after ++ more) p)
+    subst (λ y. EndsHere h at y (Eoi (at + n))) (sym (append_assoc (fill_bytes n) (255 ∷ 217 ∷ after) more))
+    (at_eoi h at n (after ++ more) p)
 stops_more _ _ _ more _ (at_eoi_before_a_frame h at n after p) =
-    subst (λ y. EndsHere h at y (Header fault.NoFrame (at + n))) (sym (append_assoc (fill_bytes n) (255 ∷ 217 ∷ after) more)) (at_eoi_before_a_frame h at n (after ++ more) p)
+    subst (λ y. EndsHere h at y (Header fault.NoFrame (at + n))) (sym (append_assoc (fill_bytes n) (255 ∷ 217 ∷ after) more))
+    (at_eoi_before_a_frame h at n (after ++ more) p)
 stops_more _ _ _ more _ (at_no_marker h at b after p) = at_no_marker h at b (after ++ more) p
 stops_more _ _ _ more _ (at_unknown_code h at n code after p q r) =
-    subst (λ y. EndsHere h at y (Header fault.UnknownMarker (at + n))) (sym (append_assoc (fill_bytes n) (255 ∷ code ∷ after) more)) (at_unknown_code h at n code (after ++ more) p q r)
+    subst (λ y. EndsHere h at y (Header fault.UnknownMarker (at + n))) (sym (append_assoc (fill_bytes n) (255 ∷ code ∷ after) more))
+    (at_unknown_code h at n code (after ++ more) p q r)
 stops_more _ _ _ more _ (at_short_length h at n code a b after p q) =
-    subst (λ y. EndsHere h at y (Header fault.Length (at + n))) (sym (append_assoc (fill_bytes n) (255 ∷ code ∷ a ∷ b ∷ after) more)) (at_short_length h at n code a b (after ++ more) p q)
+    subst (λ y. EndsHere h at y (Header fault.Length (at + n))) (sym (append_assoc (fill_bytes n) (255 ∷ code ∷ a ∷ b ∷ after) more))
+    (at_short_length h at n code a b (after ++ more) p q)
 stops_more _ _ _ more _ (at_refused_segment h at n code payload after f p r) =
-    subst (λ y. EndsHere h at y (Header f (at + n))) (sym (append_assoc (segment_unit_bytes n code payload) after more)) (at_refused_segment h at n code payload (after ++ more) f p r)
+    subst (λ y. EndsHere h at y (Header f (at + n))) (sym (append_assoc (segment_unit_bytes n code payload) after more))
+    (at_refused_segment h at n code payload (after ++ more) f p r)
 
 -- bytes that something stands in, and that end a copy for good
 record Stays (P : List ℕ → Type 0) (x more : List ℕ) : Type 0 where
@@ -80,14 +85,22 @@ units_stay h at x (u ∷ us) final e more is (after, rest, whole, unit, next) =
     let s = units_stay after (at + length (unit_bytes u)) rest us final e more is next in
     record {
       some = (let l = ap length whole in let a = length-append (unit_bytes u) rest in let b = s.some in omega arith);
-      there = (after, rest ++ more, ap (λ y. y ++ more) whole ∙ append_assoc (unit_bytes u) rest more, unit_stays h u after rest more s.some unit, s.there);
+      there = (
+        after,
+        rest ++ more,
+        ap (λ y. y ++ more) whole ∙ append_assoc (unit_bytes u) rest more,
+        unit_stays h u after rest more s.some unit,
+        s.there,
+      );
     }
 
 pub final_ends_stay : FinalEndsStay
 final_ends_stay _ more _ (with_soi n bytes units l e h) final =
-    subst (λ y. IsCourse y (record { begin = n + 2; units = units; headers = l; end = e })) (sym (append_assoc (fill_bytes n) (255 ∷ 216 ∷ bytes) more))
+    subst (λ y. IsCourse y (record { begin = n + 2; units = units; headers = l; end = e }))
+    (sym (append_assoc (fill_bytes n) (255 ∷ 216 ∷ bytes) more))
     (with_soi n (bytes ++ more) units l e (units_stay no_headers (n + 2) bytes units l e more final h).there)
 final_ends_stay _ more _ (with_another_marker n code bytes p q) final =
-    subst (λ y. IsCourse y (without_units n (Header fault.NoSoi n))) (sym (append_assoc (fill_bytes n) (255 ∷ code ∷ bytes) more)) (with_another_marker n code (bytes ++ more) p q)
+    subst (λ y. IsCourse y (without_units n (Header fault.NoSoi n))) (sym (append_assoc (fill_bytes n) (255 ∷ code ∷ bytes) more))
+    (with_another_marker n code (bytes ++ more) p q)
 final_ends_stay _ more _ (with_no_marker b bytes p) final = with_no_marker b (bytes ++ more) p
 final_ends_stay _ more _ (with_fill_alone n) final = absurd cc

@@ -47,20 +47,23 @@ row_in row height c place h = elim (cases_lt row height) [
   | inr above ↦ (let more : height * c ≤ row * c = mul-le-mul_right c above in absurd (omega (arith, h, more)))
 ]
 
-module _ (shape : PictureShape) (components : List ℕ) (row place : ℕ) (line : List ℕ) (lines : List (List ℕ)) (fit : FitFrom shape components row place (line ∷ lines)) where
+module _ (shape : PictureShape) (components : List ℕ) (row place : ℕ) (line : List ℕ) (lines : List (List ℕ))
+    (fit : FitFrom shape components row place (line ∷ lines)) where
   pub row_here : row < shape.height
   row_here = let room : row * length components + place + suc (length lines) ≤ shape.height * length components = fit.room in
       row_in row shape.height (length components) place (omega (arith, room))
 
   pub takes_here : reading_fault shape (get_or components place 0) row line ≡ None
-  takes_here = fault_none shape (get_or components place 0) row line (component_in (length shape.ids) place components fit.components_in fit.place_in) row_here fit.each.0
+  takes_here = fault_none shape (get_or components place 0) row line
+      (component_in (length shape.ids) place components fit.components_in fit.place_in) row_here fit.each.0
 
   pub fit_beside : place + 1 < length components → FitFrom shape components row (place + 1) lines
   fit_beside h = record {
     height_below = fit.height_below;
     components_in = fit.components_in;
     place_in = h;
-    room = let room : row * length components + place + suc (length lines) ≤ shape.height * length components = fit.room in omega (arith, room);
+    room = let room : row * length components + place + suc (length lines) ≤ shape.height * length components = fit.room in
+        omega (arith, room);
     each = fit.each.1;
   }
 
@@ -70,7 +73,8 @@ module _ (shape : PictureShape) (components : List ℕ) (row place : ℕ) (line 
     components_in = fit.components_in;
     place_in = omega (arith, h);
     room = let room : row * length components + place + suc (length lines) ≤ shape.height * length components = fit.room in
-        let next : (row + 1) * length components ≡ row * length components + 1 * length components = times_sum row 1 (length components) in omega (arith, room, next, h);
+        let next : (row + 1) * length components ≡ row * length components + 1 * length components = times_sum row 1 (length components) in
+        omega (arith, room, next, h);
     each = fit.each.1;
   }
 
@@ -97,16 +101,19 @@ rows_in s k first = elim (cases_eq s.restart_interval 0) [
 
 -- the first lines of an interval fit where they are placed
 pub lines_fit : (shape : PictureShape) (s : Scan) (k count : ℕ) (lines : List (List ℕ)) → IsScan s → IsScanOf shape s → k < intervals s
-    → count ≤ row_count s k * length s.components → AreLines s.params s.width count lines → FitFrom shape s.components (first_row s k) 0 lines
+    → count ≤ row_count s k * length s.components → AreLines s.params s.width count lines
+    → FitFrom shape s.components (first_row s k) 0 lines
 lines_fit shape s k n lines ok of_shape within few are = record {
   height_below = subst (λ height. height < 2 ^ 16) of_shape.height ok.height_below;
   components_in = of_shape.components_below;
   place_in = omega (arith, ok.components_at_least);
   room =
       let count = are.count_is in let rows = rows_in s k (ok.first_rows k within) in
-      let all : (first_row s k + row_count s k) * length s.components ≤ s.height * length s.components = mul-le-mul_right (length s.components) rows in
+      let all : (first_row s k + row_count s k) * length s.components ≤ s.height * length s.components =
+      mul-le-mul_right (length s.components) rows in
       let parts = times_sum (first_row s k) (row_count s k) (length s.components) in
-      let same : s.height * length s.components ≡ shape.height * length s.components = ap (λ height. height * length s.components) of_shape.height in
+      let same : s.height * length s.components ≡ shape.height * length s.components =
+      ap (λ height. height * length s.components) of_shape.height in
       omega (arith, count, few, all, parts, same);
   each = line_fits shape s.params s.width lines ok.params of_shape.precision of_shape.width are.each;
 }

@@ -47,14 +47,16 @@ pub readings_more : (ps : List FoundPiece) (os : List PieceOutcome) (p : FoundPi
 readings_more [] [] p o h = append-nil (readings_of p o)
 readings_more [] (x ∷ os) p o h = absurd h
 readings_more (x ∷ ps) [] p o h = absurd h
-readings_more (x ∷ ps) (y ∷ os) p o h = ap (λ t. readings_of x y ++ t) (readings_more ps os p o h.1) ∙ sym (append_assoc (readings_of x y) (readings ps os) (readings_of p o))
+readings_more (x ∷ ps) (y ∷ os) p o h = ap (λ t. readings_of x y ++ t) (readings_more ps os p o h.1)
+    ∙ sym (append_assoc (readings_of x y) (readings ps os) (readings_of p o))
 
 pub records_more : (ps : List FoundPiece) (os : List PieceOutcome) (p : FoundPiece) (o : PieceOutcome) → AreOutcomes ps os
     → records (ps ++ p ∷ []) (os ++ o ∷ []) ≡ records ps os ++ records_of p o
 records_more [] [] p o h = append-nil (records_of p o)
 records_more [] (x ∷ os) p o h = absurd h
 records_more (x ∷ ps) [] p o h = absurd h
-records_more (x ∷ ps) (y ∷ os) p o h = ap (λ t. records_of x y ++ t) (records_more ps os p o h.1) ∙ sym (append_assoc (records_of x y) (records ps os) (records_of p o))
+records_more (x ∷ ps) (y ∷ os) p o h = ap (λ t. records_of x y ++ t) (records_more ps os p o h.1)
+    ∙ sym (append_assoc (records_of x y) (records ps os) (records_of p o))
 
 -- the first 4,096 records are kept
 kept_one : (xs : List PieceRecord) (r : PieceRecord) → kept_with (take 4096 xs) (r ∷ []) ≡ take 4096 (xs ++ r ∷ [])
@@ -87,12 +89,17 @@ gathers_piece frame ps p old new g (shape, framed, o, is, adds) = record {
   each = are_more ps g.outcomes p o g.each is;
   picture_is = λ s e.
       let same : shape ≡ s = some_is shape s (sym framed ∙ e) in
-      subst (λ t. picture_of t new.partial ≡ without_sources t (set.insert_all set.empty (readings (ps ++ p ∷ []) (g.outcomes ++ o ∷ [])))) same
+      subst (λ t. picture_of t new.partial ≡ without_sources t (set.insert_all set.empty (readings (ps ++ p ∷ []) (g.outcomes ++ o ∷ []))))
+      same
       (adds.picture_is ∙ ap (λ q. with_readings q (readings_of p o)) (g.picture_is shape framed)
-      ∙ ap (λ t. without_sources shape t) (sym (insert_all-append set.empty (readings ps g.outcomes) (readings_of p o)) ∙ ap (set.insert_all set.empty) (sym (readings_more ps g.outcomes p o g.each))));
+      ∙ ap (λ t. without_sources shape t)
+      (sym (insert_all-append set.empty (readings ps g.outcomes) (readings_of p o))
+      ∙ ap (set.insert_all set.empty) (sym (readings_more ps g.outcomes p o g.each))));
   unframed = λ e. absurd (none_some shape (sym e ∙ framed));
-  records_are = adds.records_are ∙ ap (λ xs. kept_with xs (records_of p o)) g.records_are ∙ kept_more (records ps g.outcomes) p o ∙ ap (take 4096) (sym (records_more ps g.outcomes p o g.each));
-  count_is = adds.count_is ∙ ap (λ n. n + length (records_of p o)) g.count_is ∙ sym (length-append (records ps g.outcomes) (records_of p o)) ∙ ap length (sym (records_more ps g.outcomes p o g.each));
+  records_are = adds.records_are ∙ ap (λ xs. kept_with xs (records_of p o)) g.records_are ∙ kept_more (records ps g.outcomes) p o
+      ∙ ap (take 4096) (sym (records_more ps g.outcomes p o g.each));
+  count_is = adds.count_is ∙ ap (λ n. n + length (records_of p o)) g.count_is ∙ sym (length-append (records ps g.outcomes) (records_of p o))
+      ∙ ap length (sym (records_more ps g.outcomes p o g.each));
 }
   where
     some_is : (x y : PictureShape) → ◌≡◌ {A = Option PictureShape} (Some x) (Some y) → x ≡ y
@@ -155,7 +162,8 @@ frame_stays (InLength marker code high) count h payload b s f =
     cond_frame (nat_lt (256 * high + b) 2) _ _ s f
     (cond_frame (256 * high + b == 2) _ _ s (taken_frame count h [] marker code s f (headers_after h code []) refl) f)
 frame_stays (InPayload marker code size) count h payload b s f =
-    cond_frame (length (payload ++ b ∷ []) + 2 == size) _ _ s (taken_frame count h (payload ++ b ∷ []) marker code s f (headers_after h code (payload ++ b ∷ [])) refl) f
+    cond_frame (length (payload ++ b ∷ []) + 2 == size) _ _ s
+    (taken_frame count h (payload ++ b ∷ []) marker code s f (headers_after h code (payload ++ b ∷ [])) refl) f
 frame_stays (InScan scan) count h payload b s f = f
 frame_stays (Done e) count h payload b s f = f
 
@@ -193,8 +201,11 @@ pub saying_none : (m n : Machine) (bytes : List ℕ) (e : End) (f : CopyFault) �
     → n.headers ≡ m.headers
     → (n.headers.frame ≡ None) × (f ≡ no_picture e) → SaysNone (reading bytes) f
 saying_none m n bytes e OutOfMemory h end_is same k = tt
-saying_none m n bytes e (NoPicture f offset) h end_is same (none, is) =
-    (ap (λ t. t.headers.frame) (sym h.state_is) ∙ ap (λ t. t.frame) (sym same) ∙ none, is ∙ ap no_picture (end_is ∙ ap (λ t. end_at t.place t.count) h.state_is))
+saying_none m n bytes e (NoPicture f offset) h end_is same (none, is) = (
+  ap (λ t. t.headers.frame) (sym h.state_is) ∙ ap (λ t. t.frame) (sym same) ∙ none,
+  is
+      ∙ ap no_picture (end_is ∙ ap (λ t. end_at t.place t.count) h.state_is),
+)
 
 pub fed_or_failed : (failed : Bool) (bytes : List ℕ) (v : Option (List ℕ)) (P : List ℕ → Type 0) → cond failed None (Some bytes) ≡ v
     → (failed ≡ false → P bytes) → IfSome v P
@@ -240,7 +251,8 @@ reading_on m n bytes xs count h t small low =
     from_append _ bytes (take count xs) ∙ ap (λ r. reading_from r (take count xs)) before ∙ t.leads (reading bytes).pieces
     ∙ ap (λ (k : ℕ). counted (state_of n) ((reading bytes).pieces ++ closed) k) total in
     let frame : (s : PictureShape) → m.headers.frame ≡ Some s → n.headers.frame ≡ Some s =
-    λ s f. ap (λ r. r.state.headers.frame) (sym (t.leads [])) ∙ frame_stays_on (take count xs) (record { state = state_of m; pieces = [] }) s f in
+    λ s f. ap (λ r. r.state.headers.frame) (sym (t.leads []))
+    ∙ frame_stays_on (take count xs) (record { state = state_of m; pieces = [] }) s f in
     let gathered : Gathers n.headers.frame ((reading bytes).pieces ++ closed) n.findings =
     gathers_frame m.headers.frame n.headers.frame _ n.findings frame
     (gathers_pieces m.headers.frame (reading bytes).pieces closed m.findings n.findings h.gathers t.found) in
@@ -254,7 +266,8 @@ reading_on m n bytes xs count h t small low =
       place_is = t.place_is;
       following = after_some n.place (n.count + count) (omega (arith, t.some));
       records_counted = omega (arith, t.count_is, one, h.records_counted, t.some);
-      records_kept = rw gathered.records_are (omega (arith, length-take 4096 (records ((reading bytes).pieces ++ closed) gathered.outcomes)));
+      records_kept = rw gathered.records_are
+          (omega (arith, length-take 4096 (records ((reading bytes).pieces ++ closed) gathered.outcomes)));
       header_bytes = t.header_bytes;
     }
 
@@ -269,7 +282,8 @@ all_prefix (suc n) [] low = tt
 all_prefix (suc n) (x ∷ xs) low = (low.0, all_prefix n xs low.1)
 
 -- bytes from the middle of a slice
-pub bytes_between : (n m at : ℕ) (xs : List ℕ) → ((k : ℕ) → get_or xs k 0 < 256) → AllByRecursion (λ x. x < 256) (take n (take m (drop at xs)))
+pub bytes_between : (n m at : ℕ) (xs : List ℕ) → ((k : ℕ) → get_or xs k 0 < 256)
+    → AllByRecursion (λ x. x < 256) (take n (take m (drop at xs)))
 bytes_between n m at xs each =
     all_prefix n (take m (drop at xs)) (all_prefix m (drop at xs) (all_after at xs (all xs each)))
   where

@@ -33,7 +33,8 @@ module _ (h : HeaderState) (payload : List ℕ) (ps : List FoundPiece) where
   at_end : (end : End) (count b : ℕ) → reading_with (at (Done end) count) b ≡ at (Done end) (count + 1)
   at_end end count b = rw (append-nil ps) refl
 
-pub fill_at_start : (xs : List ℕ) (n : ℕ) → n ≤ length xs → ((k : ℕ) → k < n → get_or xs k 0 ≡ 0xFF) → LeadsTo (Start true) (take n xs) (Start true)
+pub fill_at_start : (xs : List ℕ) (n : ℕ) → n ≤ length xs → ((k : ℕ) → k < n → get_or xs k 0 ≡ 0xFF)
+    → LeadsTo (Start true) (take n xs) (Start true)
 fill_at_start xs n within fill payload count h ps =
     stays h payload ps (Start true) (λ b. b ≡ 0xFF) (at_start h payload ps) xs n fill within count
 

@@ -21,7 +21,8 @@ cond_payload false x y z p q = q
 
 pub length_keeps : (count : ℕ) (h : HeaderState) (marker code size : ℕ) → (length_known count h marker code size).payload ≡ []
 length_keeps count h marker code size =
-    cond_payload (nat_lt size 2) _ _ [] refl (cond_payload (size == 2) _ _ [] (taken_payload count h [] marker (headers_after h code [])) refl)
+    cond_payload (nat_lt size 2) _ _ [] refl
+    (cond_payload (size == 2) _ _ [] (taken_payload count h [] marker (headers_after h code [])) refl)
 
 pub after_some : (p : Place) (n : ℕ) → 1 ≤ n → IsAfterStart p n
 after_some (Start fill) n h = λ e. h

@@ -15,7 +15,8 @@ use Rattle.jls_copy.proofs.PayloadStretch.{payload_from, whole_from}
 use Rattle.jls_copy.proofs.SegmentStretch.{segment_leads}
 
 -- bytes that change the place alone
-pub takes_stretch : (m n : Machine) (bytes : List ℕ) (count : ℕ) (p q : Place) → m.place ≡ p → n.place ≡ q → 0 < count → count ≤ length bytes
+pub takes_stretch : (m n : Machine) (bytes : List ℕ) (count : ℕ) (p q : Place) → m.place ≡ p → n.place ≡ q → 0 < count → count
+    ≤ length bytes
     → LeadsTo p (take count bytes) q → closed_at p (get_or bytes 0 0) ≡ [] → n.headers ≡ m.headers → n.payload.items ≡ m.payload.items
     → n.findings ≡ m.findings → n.count ≡ m.count → IsPlace n.headers.frame q n.payload.items → length n.payload.items ≤ 65535
     → Takes m bytes n count
@@ -36,7 +37,8 @@ pub takes_part : (m n : Machine) (bytes : List ℕ) (count marker code size : �
     → n.headers ≡ m.headers → n.findings ≡ m.findings → n.count ≡ m.count → Takes m bytes n count
 takes_part m n bytes count marker code size is there some within payload open_ small headers kept same =
     let taken : length (take count bytes) ≡ count = length-take-le count bytes within in
-    let grown : length n.payload.items ≡ length m.payload.items + count = ap length payload ∙ length-append m.payload.items (take count bytes) ∙ ap (λ k. length m.payload.items + k) taken in
+    let grown : length n.payload.items ≡ length m.payload.items + count = ap length payload
+    ∙ length-append m.payload.items (take count bytes) ∙ ap (λ k. length m.payload.items + k) taken in
     record {
       some = some;
       within = within;
@@ -57,12 +59,14 @@ pub takes_rest : (m n : Machine) (bytes : List ℕ) (count marker code size : �
     → n.findings ≡ m.findings → n.count ≡ m.count → IsPlace n.headers.frame n.place n.payload.items → Takes m bytes n count
 takes_rest m n bytes count marker code size is some within payload whole small place headers kept same sound =
     let taken : length (take count bytes) ≡ count = length-take-le count bytes within in
-    let grown : length n.payload.items ≡ length m.payload.items + count = ap length payload ∙ length-append m.payload.items (take count bytes) ∙ ap (λ k. length m.payload.items + k) taken in
+    let grown : length n.payload.items ≡ length m.payload.items + count = ap length payload
+    ∙ length-append m.payload.items (take count bytes) ∙ ap (λ k. length m.payload.items + k) taken in
     record {
       some = some;
       within = within;
       leads = λ ps. rw (is, place, headers, append-nil ps, payload)
-          (whole_from m.headers marker code size ps (take count bytes) m.count (m.count + count - 1) m.payload.items (omega (arith, taken, some)) (omega (arith, whole, taken)) (omega (arith, some, taken))
+          (whole_from m.headers marker code size ps (take count bytes) m.count (m.count + count - 1) m.payload.items
+          (omega (arith, taken, some)) (omega (arith, whole, taken)) (omega (arith, some, taken))
           ∙ rw (taken_payload (m.count + count - 1) m.headers (m.payload.items ++ take count bytes) marker _) refl);
       found = rw is kept;
       count_is = same;

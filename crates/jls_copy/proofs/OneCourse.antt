@@ -88,7 +88,8 @@ code_ends k (suc n) = code_ends (k + 1) n
 
 found : (n c : ℕ) (more : List ℕ) → c ≢ 255 → marker_at (fill_bytes n ++ (255 ∷ c ∷ more)) ≡ marker n c more
 found zero c more ne = code_fills 0 0 c more ne
-found (suc n) c more ne = ap (code_after 0) (fills_more n (c ∷ more)) ∙ code_fills 0 (suc n) c more ne ∙ ap (λ m. marker m c more) (omega arith)
+found (suc n) c more ne = ap (code_after 0) (fills_more n (c ∷ more)) ∙ code_fills 0 (suc n) c more ne
+    ∙ ap (λ m. marker m c more) (omega arith)
 
 pub segment_not_fill : (c : ℕ) → has_segment c ≡ true → c ≢ 255
 unfolding has_segment
@@ -122,7 +123,8 @@ taken_payload n payload rest e =
     rw (back, two, room, prefix, tail) refl
 
 read_segment : (h : HeaderState) (at total n code : ℕ) (payload rest : List ℕ) → has_segment code ≡ true
-    → after_marker h at total (marker_at (segment_unit_bytes n code payload ++ rest)) ≡ after_taken n code payload rest at (headers_after h code payload)
+    → after_marker h at total (marker_at (segment_unit_bytes n code payload ++ rest))
+    ≡ after_taken n code payload rest at (headers_after h code payload)
 read_segment h at total n code payload rest s =
     let size : ℕ = length payload + 2 in
     ap (λ t. after_marker h at total (marker_at t)) (append_assoc (fill_bytes n) (255 ∷ code ∷ size / 256 ∷ size % 256 ∷ payload) rest)
@@ -134,26 +136,31 @@ step h at x = after_marker h at (at + length x) (marker_at x)
 
 abbrev unit_step : CopyUnit → HeaderState → List ℕ → Step
 unit_step (segment n code payload) after rest = takes n code payload after rest
-unit_step (scan n code payload s closed last closing) after rest = starts n code payload after s (scan_data_bytes closed last closing ++ rest)
+unit_step (scan n code payload s closed last closing) after rest =
+    starts n code payload after s (scan_data_bytes closed last closing ++ rest)
 
 step_is : (h : HeaderState) (at : ℕ) (u : CopyUnit) (after : HeaderState) (rest x : List ℕ) → x ≡ unit_bytes u ++ rest
     → IsUnit h u after rest → step h at x ≡ unit_step u after rest
 step_is h at (segment n code payload) after rest x e (known, t) =
-    ap (λ y. after_marker h at (at + length x) (marker_at y)) e ∙ read_segment h at (at + length x) n code payload rest known.0 ∙ ap (after_taken n code payload rest at) t
+    ap (λ y. after_marker h at (at + length x) (marker_at y)) e ∙ read_segment h at (at + length x) n code payload rest known.0
+    ∙ ap (after_taken n code payload rest at) t
 step_is h at (scan n code payload s closed last closing) after rest x e (known, t, each, piece, following) =
     let left = scan_data_bytes closed last closing ++ rest in
-    ap (λ y. after_marker h at (at + length x) (marker_at y)) (e ∙ append_assoc (segment_unit_bytes n code payload) (scan_data_bytes closed last closing) rest)
+    ap (λ y. after_marker h at (at + length x) (marker_at y))
+    (e ∙ append_assoc (segment_unit_bytes n code payload) (scan_data_bytes closed last closing) rest)
     ∙ read_segment h at (at + length x) n code payload left known.0 ∙ ap (after_taken n code payload left at) t
 
 stops_step : (h : HeaderState) (at total : ℕ) (x : List ℕ) (e : End) → EndsHere h at x e → after_marker h at total (marker_at x) ≡ ends e
 stops_step _ _ total _ _ (at_eoi h at n more p) = ap (after_marker h at total) (found n 217 more (λ z. omega (arith, z))) ∙ rw p refl
-stops_step _ _ total _ _ (at_eoi_before_a_frame h at n more p) = ap (after_marker h at total) (found n 217 more (λ z. omega (arith, z))) ∙ rw p refl
+stops_step _ _ total _ _ (at_eoi_before_a_frame h at n more p) = ap (after_marker h at total) (found n 217 more (λ z. omega (arith, z)))
+    ∙ rw p refl
 stops_step _ _ total _ _ (at_no_marker h at b more p) = let f : (b == 255) ≡ false = grind (arith, nat_tests, p) in rw f refl
 stops_step _ _ total _ _ (at_unknown_code h at n code more p q r) =
     let f : (code == 217) ≡ false = grind (arith, nat_tests, q) in ap (after_marker h at total) (found n code more p) ∙ rw (f, r) refl
 stops_step _ _ total _ _ (at_short_length h at n code a b more p q) =
     let f : nat_lt (256 * a + b) 2 ≡ true = grind (arith, nat_tests, q) in at_segment h at total n code (a ∷ b ∷ more) p ∙ rw f refl
-stops_step _ _ total _ _ (at_refused_segment h at n code payload more f p r) = read_segment h at total n code payload more p.0 ∙ ap (after_taken n code payload more at) r
+stops_step _ _ total _ _ (at_refused_segment h at n code payload more f p r) = read_segment h at total n code payload more p.0
+    ∙ ap (after_taken n code payload more at) r
 
 part_step : (h : HeaderState) (at total : ℕ) (x : List ℕ) → IsPartOfUnit x
     → after_marker h at total (marker_at x) ≡ ends (Header fault.Ended total)
@@ -205,10 +212,14 @@ same_unit h (segment n code payload) (segment m c q) a b r s p t e =
     record { units = cc; headers = cc; rests = cc }
 same_unit h (segment n code payload) (scan m c q plan closed last closing) a b r s p t e = absurd cc
 same_unit h (scan n code payload plan closed last closing) (segment m c q) a b r s p t e = absurd cc
-same_unit h (scan n code payload plan closed last closing) (scan m c q plan' closed' last' closing') a b r s (k, t, each, piece, following) (k', t', each', piece', following') e =
+same_unit h (scan n code payload plan closed last closing) (scan m c q plan' closed' last' closing') a b r s (k, t, each, piece, following)
+    (k', t', each', piece', following') e =
     let left : scan_data_bytes closed last closing ++ r ≡ scan_data_bytes closed' last' closing' ++ s = cc in
-    let cut = same_cut _ (record { closed = closed; last = last; end = end_of closing r following }) (record { closed = closed'; last = last'; end = end_of closing' s following' })
-    (cut_is closed last closing r each piece following) (subst (λ x. IsCut x (record { closed = closed'; last = last'; end = end_of closing' s following' })) (sym left) (cut_is closed' last' closing' s each' piece' following')) in
+    let cut = same_cut _ (record { closed = closed; last = last; end = end_of closing r following })
+    (record { closed = closed'; last = last'; end = end_of closing' s following' })
+    (cut_is closed last closing r each piece following)
+    (subst (λ x. IsCut x (record { closed = closed'; last = last'; end = end_of closing' s following' })) (sym left)
+    (cut_is closed' last' closing' s each' piece' following')) in
     let ends = closing_is closing closing' r s following following' (ap (λ x. x.end) cut) in
     let one : n ≡ m = cc in let two : code ≡ c = cc in let three : payload ≡ q = cc in let four : plan ≡ plan' = cc in
     let five : closed ≡ closed' = ap (λ x. x.closed) cut in let six : last ≡ last' = ap (λ x. x.last) cut in
@@ -240,9 +251,12 @@ record SameFrom (us vs : List CopyUnit) (l m : HeaderState) (d e : End) : Type 0
 
 one_from : (h : HeaderState) (at : ℕ) (x : List ℕ) (us vs : List CopyUnit) (l m : HeaderState) (d e : End) → AreUnits h at x us l d
     → AreUnits h at x vs m e → SameFrom us vs l m d e
-one_from h at x [] [] l m d e p q = record { units = refl; headers = p.0 ∙ sym q.0; end = two_ends d e (sym (ends_step h at x d p.1) ∙ ends_step h at x e q.1) }
-one_from h at x [] (v ∷ vs) l m d e p (b, s, g, t, q) = absurd (end_no_unit d v b s (sym (ends_step h at x d p.1) ∙ step_is h at v b s x g t))
-one_from h at x (u ∷ us) [] l m d e (a, r, f, t, p) q = absurd (end_no_unit e u a r (sym (ends_step h at x e q.1) ∙ step_is h at u a r x f t))
+one_from h at x [] [] l m d e p q =
+    record { units = refl; headers = p.0 ∙ sym q.0; end = two_ends d e (sym (ends_step h at x d p.1) ∙ ends_step h at x e q.1) }
+one_from h at x [] (v ∷ vs) l m d e p (b, s, g, t, q) =
+    absurd (end_no_unit d v b s (sym (ends_step h at x d p.1) ∙ step_is h at v b s x g t))
+one_from h at x (u ∷ us) [] l m d e (a, r, f, t, p) q =
+    absurd (end_no_unit e u a r (sym (ends_step h at x e q.1) ∙ step_is h at u a r x f t))
 one_from h at x (u ∷ us) (v ∷ vs) l m d e (a, r, f, t, p) (b, s, g, w, q) =
     let k = same_unit h u v a b r s t w (sym (step_is h at u a r x f t) ∙ step_is h at v b s x g w) in
     let i = one_from a (at + length (unit_bytes u)) r us vs l m d e p (rw (k.units, k.headers, k.rests) q) in
@@ -255,7 +269,8 @@ After nothing total c = c ≡ without_units 0 (Header fault.Ended 0)
 After no_ff total c = c ≡ without_units 0 (Header fault.NoSoi 0)
 After cut_off total c = c ≡ without_units total (Header fault.Ended total)
 After (marker n code more) total c =
-    ((code ≡ 216) × (c.begin ≡ n + 2) × AreUnits no_headers (n + 2) more c.units c.headers c.end) ⊎ ((code ≢ 216) × (c ≡ without_units n (Header fault.NoSoi n)))
+    ((code ≡ 216) × (c.begin ≡ n + 2) × AreUnits no_headers (n + 2) more c.units c.headers c.end)
+    ⊎ ((code ≢ 216) × (c ≡ without_units n (Header fault.NoSoi n)))
 
 following : (bytes : List ℕ) (c : Course) → IsCourse bytes c → After (marker_at bytes) (length bytes) c
 following _ _ (with_soi n bytes units l e h) = let f = found n 216 bytes (λ z. omega (arith, z)) in rw f (inl (refl, refl, h))

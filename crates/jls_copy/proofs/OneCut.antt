@@ -159,7 +159,8 @@ same (c ∷ cs) (d ∷ ds) u v s t pc pd pu pv ps pt e =
     let y : List ℕ = flat_map closed_bytes ds ++ (v ++ end_bytes t) in
     let f : c.piece ++ (fill_bytes c.fill ++ (255 ∷ (208 + c.mark) ∷ x)) ≡ d.piece ++ (fill_bytes d.fill ++ (255 ∷ (208 + d.mark) ∷ y)) =
     simp append_assoc at e in
-    let r = same_piece c.piece d.piece _ _ pc.0.0 pd.0.0 (break_mark c.fill (208 + c.mark) x (mark_closes c.mark pc.0.1)) (break_mark d.fill (208 + d.mark) y (mark_closes d.mark pd.0.1)) f in
+    let r = same_piece c.piece d.piece _ _ pc.0.0 pd.0.0 (break_mark c.fill (208 + c.mark) x (mark_closes c.mark pc.0.1))
+    (break_mark d.fill (208 + d.mark) y (mark_closes d.mark pd.0.1)) f in
     let q = same_mark c.fill d.fill (208 + c.mark) (208 + d.mark) x y (λ g. omega (arith, pc.0.1)) (λ g. omega (arith, pd.0.1)) r.1 in
     let m : c.mark ≡ d.mark = omega (arith, q.1) in
     let i = same cs ds u v s t pc.1 pd.1 pu pv ps pt q.2 in
@@ -193,8 +194,11 @@ cut_open bytes closed last (suc n) b h = after (cases_eq b 255) (cases_Bool (is_
         → (d : ScanCut) × IsCut (bytes ++ b ∷ []) d
     after (inl e) r s = (open_cut closed last (suc (suc n)), rw e (cut_fill bytes closed last (suc n) h))
     after (inr e) (inl r) s =
-        let low : b - 208 < 8 = grind (arith, nat_tests) in let back : 208 + (b - 208) ≡ b = grind (arith, nat_tests) in
-        (_, subst (λ x. IsCut (bytes ++ x ∷ []) (open_cut (closed ++ (closed_of last n (b - 208)) ∷ []) [] 0)) back (cut_mark bytes closed last n (b - 208) h low))
+        let low : b - 208 < 8 = grind (arith, nat_tests) in let back : 208 + (b - 208) ≡ b = grind (arith, nat_tests) in (
+          _,
+          subst (λ x. IsCut (bytes ++ x ∷ []) (open_cut (closed ++ (closed_of last n (b - 208)) ∷ []) [] 0)) back
+              (cut_mark bytes closed last n (b - 208) h low),
+        )
     after (inr e) (inr r) (inl s) = (ended_cut closed last n b [], cut_end bytes closed last n b h s)
     after (inr e) (inr r) (inr s) =
         (open_cut closed (last ++ (fill_bytes (suc n) ++ (b ∷ []))) 0, cut_more bytes closed last (suc n) b h e (λ k. rw (r, s) refl))

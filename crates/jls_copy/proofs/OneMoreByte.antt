@@ -41,7 +41,8 @@ module _ (bytes : List ℕ) (closed : List ClosedPiece) (last : List ℕ) where
   pub cut_fill : (n : ℕ) → IsCut bytes (open_cut closed last n) → IsCut (bytes ++ 255 ∷ []) (open_cut closed last (suc n))
   cut_fill n h = record {
     whole = let e : bytes ≡ flat_map closed_bytes closed ++ (last ++ fill_bytes n) = h.whole in
-        ap (λ t. t ++ 255 ∷ []) e ∙ simp append_assoc (ap (λ t. flat_map closed_bytes closed ++ (last ++ t)) (fills_more n [] ∙ append-nil _));
+        ap (λ t. t ++ 255 ∷ []) e ∙ simp append_assoc
+        (ap (λ t. flat_map closed_bytes closed ++ (last ++ t)) (fills_more n [] ∙ append-nil _));
     each = h.each;
     last = h.last;
     end = tt;

@@ -29,7 +29,14 @@ on_ok3 (Err e) f p q t = tt
 
 -- the decoder of an interval that was fed these bytes
 abbrev pub decoding_with : Scan → ℕ → List ℕ → IntervalBytes
-decoding_with s k bytes = record { parameters = s.params; width = s.width; components = length s.components; rows = row_count s k; bytes = Some bytes }
+decoding_with s k bytes = record {
+  parameters = s.params;
+  width = s.width;
+  components = length s.components;
+  rows = row_count s k;
+  bytes =
+      Some bytes;
+}
 
 same_decoding : (d : IntervalBytes) (p : CodingParameters) (w c r : ℕ) (b : Option (List ℕ)) → d.parameters ≡ p → d.width ≡ w
     → d.components ≡ c → d.rows ≡ r → d.bytes ≡ b
@@ -37,7 +44,8 @@ same_decoding : (d : IntervalBytes) (p : CodingParameters) (w c r : ℕ) (b : Op
 same_decoding d p w c r b e f g h i = rw (sym e, sym f, sym g, sym h, sym i) refl
 
 pub decoding_is : (s : Scan) (k : ℕ) (d : IntervalBytes) (i : IsDecodingOf s k d) → d ≡ decoding_with s k i.bytes
-decoding_is s k d i = same_decoding d s.params s.width (length s.components) (row_count s k) (Some i.bytes) i.parameters_are i.width_is i.components_are i.rows_are i.bytes_are
+decoding_is s k d i = same_decoding d s.params s.width (length s.components) (row_count s k) (Some i.bytes) i.parameters_are i.width_is
+    i.components_are i.rows_are i.bytes_are
 
 -- what `finish` says of a decoder
 abbrev pub Finishes : IntervalBytes → Result (Vec (Vec ℕ Global) Global) PieceFault → Type 0
@@ -45,7 +53,8 @@ Finishes d r = MatchOption d.bytes (r ≡ Err piece_fault.OutOfMemory) (λ bytes
 
 module _ (shape : PictureShape) (index : ℕ) (s : Scan) (offset k : ℕ) (old new : Findings) where
   pub beyond_adds : (piece : OpenPiece) → piece ≡ Beyond k → new.partial ≡ old.partial
-      → new.records.items ≡ kept_with old.records.items (record { scan = index; interval = k; offset = offset; kind = kind.Beyond } ∷ []) → new.record_count ≡ old.record_count + 1
+      → new.records.items ≡ kept_with old.records.items (record { scan = index; interval = k; offset = offset; kind = kind.Beyond } ∷ [])
+      → new.record_count ≡ old.record_count + 1
       → Adds (Some shape) (piece_found index s offset piece ∷ []) old new
   beyond_adds piece e p r c = rw e (shape, refl, Fault kind.Beyond, tt, record { picture_is = rw p refl; records_are = r; count_is = c })
 
@@ -60,7 +69,8 @@ module _ (shape : PictureShape) (index : ℕ) (s : Scan) (offset k : ℕ) (old n
     whole = is ∙ ap (Within k) (decoding_is s k d open_is)
 
     pub long_adds : Finishes d (Err piece_fault.Long) → new.partial ≡ old.partial
-        → new.records.items ≡ kept_with old.records.items (record { scan = index; interval = k; offset = offset; kind = kind.Long } ∷ []) → new.record_count ≡ old.record_count + 1
+        → new.records.items ≡ kept_with old.records.items (record { scan = index; interval = k; offset = offset; kind = kind.Long } ∷ [])
+        → new.record_count ≡ old.record_count + 1
         → Adds (Some shape) (piece_found index s offset piece ∷ []) old new
     long_adds h p r c =
         let now : IsLong (interval_of s k) fed_bytes =
@@ -68,7 +78,8 @@ module _ (shape : PictureShape) (index : ℕ) (s : Scan) (offset k : ℕ) (old n
         rw whole (shape, refl, Fault kind.Long, now, record { picture_is = rw p refl; records_are = r; count_is = c })
 
     pub broken_adds : Finishes d (Err piece_fault.Broken) → new.partial ≡ old.partial
-        → new.records.items ≡ kept_with old.records.items (record { scan = index; interval = k; offset = offset; kind = kind.Broken } ∷ []) → new.record_count ≡ old.record_count + 1
+        → new.records.items ≡ kept_with old.records.items (record { scan = index; interval = k; offset = offset; kind = kind.Broken } ∷ [])
+        → new.record_count ≡ old.record_count + 1
         → Adds (Some shape) (piece_found index s offset piece ∷ []) old new
     broken_adds h p r c =
         let now : IsBroken (interval_of s k) fed_bytes =
@@ -76,13 +87,20 @@ module _ (shape : PictureShape) (index : ℕ) (s : Scan) (offset k : ℕ) (old n
         rw whole (shape, refl, Fault kind.Broken, now, record { picture_is = rw p refl; records_are = r; count_is = c })
 
     pub lines_add : (lines : Vec (Vec ℕ Global) Global) → Finishes d (Ok lines)
-        → new.partial ≡ Some (with_readings (picture_of shape old.partial) (placed s.components (first_row s k) 0 (map (λ line. line.items) lines.items)))
+        → new.partial ≡ Some (with_readings (picture_of shape old.partial)
+        (placed s.components (first_row s k) 0 (map (λ line. line.items) lines.items)))
         → new.records.items ≡ old.records.items → new.record_count ≡ old.record_count
         → Adds (Some shape) (piece_found index s offset piece ∷ []) old new
     lines_add lines h p r c =
         let now : Reads (interval_of s k) fed_bytes (map (λ line. line.items) lines.items) =
         subst (λ x. Finishes x (Ok lines)) (decoding_is s k d open_is) h in
-        rw whole (shape, refl, Lines (map (λ line. line.items) lines.items), now, record { picture_is = rw p refl; records_are = r; count_is = rw add-zero c })
+        rw whole (
+          shape,
+          refl,
+          Lines (map (λ line. line.items) lines.items),
+          now,
+          record { picture_is = rw p refl; records_are = r; count_is = rw add-zero c },
+        )
 
 -- telling a piece more leaves it sound
 pub fed_sound : (s : Scan) (piece : OpenPiece) (more : List ℕ) → IsOpenPiece s piece → IsOpenPiece s (piece_with piece more)

@@ -35,7 +35,8 @@ module _ (h : HeaderState) (marker code size : ℕ) (ps : List FoundPiece) where
 
   -- the last byte makes the segment whole
   whole_step : (count : ℕ) (payload : List ℕ) (b : ℕ) → length payload + 1 + 2 ≡ size
-      → reading_with (at count payload) b ≡ record { state = segment_state (count + 1) (with_segment count h (payload ++ b ∷ []) marker code); pieces = ps }
+      → reading_with (at count payload) b
+      ≡ record { state = segment_state (count + 1) (with_segment count h (payload ++ b ∷ []) marker code); pieces = ps }
   whole_step count payload b whole_ =
       let is_whole : (length (payload ++ b ∷ []) + 2 == size) ≡ true = grind (arith, nat_tests, length-append payload (b ∷ []), whole_) in
       rw (is_whole, append-nil ps) refl
@@ -51,5 +52,6 @@ module _ (h : HeaderState) (marker code size : ℕ) (ps : List FoundPiece) where
   whole_from (b ∷ c ∷ more) count before_last payload some whole_ last =
       let size_is : count + 1 + length (c ∷ more) ≡ count + length (b ∷ c ∷ more) = omega arith in
       ap (λ r. reading_from r (c ∷ more)) (payload_step count payload b (omega (arith, whole_)))
-      ∙ whole_from (c ∷ more) (count + 1) before_last (payload ++ b ∷ []) (omega arith) (omega (arith, whole_, length-append payload (b ∷ []))) (omega (arith, last))
+      ∙ whole_from (c ∷ more) (count + 1) before_last (payload ++ b ∷ []) (omega arith)
+      (omega (arith, whole_, length-append payload (b ∷ []))) (omega (arith, last))
       ∙ rw (size_is, append_assoc payload (b ∷ []) (c ∷ more)) refl

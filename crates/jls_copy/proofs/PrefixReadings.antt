@@ -53,7 +53,8 @@ module _ (p : CodingParameters) (w c n : ℕ) (ok : AreCodingParameters p) (some
       ∙ r.begins.data_bits.read ∙ ap (λ v. code p w c v ++ r.unread) parted ∙ ap (λ v. v ++ r.unread) parts.1
       ∙ append_assoc (code p w c own) parts.0 r.unread in
       let own_are : AreLines p w (length xs) own =
-      subst (λ k. AreLines p w k own) (length-take-le (length xs) lines within) (prefix_lines p w n lines own others r.begins.are_lines parted) in
+      subst (λ k. AreLines p w k own) (length-take-le (length xs) lines within)
+      (prefix_lines p w n lines own others r.begins.are_lines parted) in
       let same = codes_apart p w c (length xs) ok some xs own (unread ++ following) (parts.0 ++ r.unread) are own_are bits_are in
       (others, parted ∙ ap (λ v. v ++ others) (sym same.0))
 
@@ -64,7 +65,8 @@ module _ (p : CodingParameters) (w c n : ℕ) (ok : AreCodingParameters p) (some
       first_lines xs a.unread (subst (λ k. AreLines p w k xs) (sym count) a.begins.are_lines) (omega (arith, count)) a.begins.data_bits.read
 
   -- and their head
-  of_head : (head : List (List ℕ)) → IsHeadOfPiece (interval_shape p w c n) prefix head → (others : List (List ℕ)) × (lines ≡ head ++ others)
+  of_head : (head : List (List ℕ)) → IsHeadOfPiece (interval_shape p w c n) prefix head → (others : List (List ℕ))
+      × (lines ≡ head ++ others)
   of_head head (inl (whole, inl (cut, f))) =
       let b = f.begins in
       let l = length-append head b.others in let l1 = ap length b.lines_are in let l2 = cut.are_lines.count_is in
@@ -84,24 +86,31 @@ first_placed components row place (x ∷ xs) others r m =
     let place' = if is_last then 0 else place + 1 in
     let here = reading_of (get_or components place 0) row x in
     elim (first_or_rest r here (placed components row' place' xs) m) [
-      | inl e ↦ subst (λ y. Contains (placed components row place (x ∷ xs ++ others)) y) e (is_first here (placed components row' place' (xs ++ others)))
-      | inr later ↦ in_rest r here (placed components row' place' (xs ++ others)) (first_placed components (if place + 1 == length components then row + 1 else row) (if place + 1 == length components then 0 else place + 1) xs others r later)
+      | inl e ↦ subst (λ y. Contains (placed components row place (x ∷ xs ++ others)) y) e
+          (is_first here (placed components row' place' (xs ++ others)))
+      | inr later ↦ in_rest r here (placed components row' place' (xs ++ others))
+          (first_placed components (if place + 1 == length components then row + 1 else row)
+          (if place + 1 == length components then 0 else place + 1) xs others r later)
     ]
 
 -- a piece and the same piece with more bytes
 module _ (s : Scan) (ok : IsScan s) (prefix tail : List ℕ) (lines : List (List ℕ)) (r : Reading) where
-  piece_keeps : (n : PieceNumber) → IsOutcomeAt s n (prefix ++ tail) (Lines lines) → (xs : List (List ℕ)) → IsOutcomeAt s n prefix (Lines xs)
+  piece_keeps : (n : PieceNumber) → IsOutcomeAt s n (prefix ++ tail) (Lines lines) → (xs : List (List ℕ))
+      → IsOutcomeAt s n prefix (Lines xs)
       → Contains (outcome_readings s n (Lines xs)) r → Contains (outcome_readings s n (Lines lines)) r
   piece_keeps (Interval k) reads xs is m =
-      let f = of_read s.params s.width (length s.components) (row_count s k * length s.components) ok.params (let a = ok.width_at_least in omega (arith, a)) prefix tail lines reads xs is in
+      let f = of_read s.params s.width (length s.components) (row_count s k * length s.components) ok.params
+      (let a = ok.width_at_least in omega (arith, a)) prefix tail lines reads xs is in
       subst (λ ls. Contains (placed s.components (first_row s k) 0 ls) r) (sym f.1) (first_placed s.components (first_row s k) 0 xs f.0 r m)
   piece_keeps (BeyondLast k) reads xs is m = absurd reads
 
   head_keeps : (n : PieceNumber) → IsOutcomeAt s n (prefix ++ tail) (Lines lines) → (head : List (List ℕ)) → IsHeadAt s n prefix head
       → Contains (outcome_readings s n (Lines head)) r → Contains (outcome_readings s n (Lines lines)) r
   head_keeps (Interval k) reads head is m =
-      let f = of_head s.params s.width (length s.components) (row_count s k * length s.components) ok.params (let a = ok.width_at_least in omega (arith, a)) prefix tail lines reads head is in
-      subst (λ ls. Contains (placed s.components (first_row s k) 0 ls) r) (sym f.1) (first_placed s.components (first_row s k) 0 head f.0 r m)
+      let f = of_head s.params s.width (length s.components) (row_count s k * length s.components) ok.params
+      (let a = ok.width_at_least in omega (arith, a)) prefix tail lines reads head is in
+      subst (λ ls. Contains (placed s.components (first_row s k) 0 ls) r) (sym f.1)
+      (first_placed s.components (first_row s k) 0 head f.0 r m)
   head_keeps (BeyondLast k) reads head is m = absurd reads
 
 -- Pieces -----------------------------------------------------------------------------------------------------------
@@ -132,68 +141,74 @@ all_in P [] p h m = absurd (none_in p m)
 all_in P (q ∷ ps) p h m =
     elim (first_or_rest p q ps m) [ inl e ↦ subst P e h.0 | inr later ↦ all_in P ps p h.1 later ]
 
-module _ (prefix more : List ℕ) (low : AllByRecursion (λ b. b < 256) (prefix ++ more)) (d : Course) (is_d : IsCourse (prefix ++ more) d) where
-  goes_on : (fed p : FoundPiece) → Stands (reading prefix) fed → AlikePiece fed p → GoesOn d p
-  goes_on fed p stands alike =
-      let stood : Stands (reading (prefix ++ more)) fed = subst (λ r. Stands r fed) (sym (from_append _ prefix more)) (stands_from (reading prefix) more fed stands) in
-      let u = course_fed (prefix ++ more) low in
-      let q = alike_of (all_pieces (reading (prefix ++ more))) (pieces u.0) stood.0 u.4 (among_all (reading (prefix ++ more)) stood.0 stood.1) in
-      let plan : q.0.plan ≡ p.plan = sym q.2.plan_is ∙ stood.2.plan ∙ alike.plan_is in
-      let number : q.0.number ≡ p.number = sym q.2.number_is ∙ stood.2.number ∙ alike.number_is in
-      record {
-        piece = q.0;
-        among = subst (λ e. Contains (pieces e) q.0) (one_course (prefix ++ more) u.0 d u.1 is_d) q.1;
-        plan = plan;
-        number = number;
-        tail = stood.2.tail;
-        bytes = λ lines reads. fed_on p.plan p.number fed.bytes p.bytes stood.0.bytes q.0.bytes stood.2.tail lines alike.fed_as
-            (subst (λ n. FedAs n stood.0.bytes q.0.bytes) number q.2.fed_as) stood.2.bytes reads;
-      }
+module _ (prefix more : List ℕ) (low : AllByRecursion (λ b. b < 256) (prefix ++ more)) (d : Course) (is_d : IsCourse (prefix ++ more) d)
+  where
+    goes_on : (fed p : FoundPiece) → Stands (reading prefix) fed → AlikePiece fed p → GoesOn d p
+    goes_on fed p stands alike =
+        let stood : Stands (reading (prefix ++ more)) fed =
+        subst (λ r. Stands r fed) (sym (from_append _ prefix more)) (stands_from (reading prefix) more fed stands) in
+        let u = course_fed (prefix ++ more) low in
+        let q = alike_of (all_pieces (reading (prefix ++ more))) (pieces u.0) stood.0 u.4
+        (among_all (reading (prefix ++ more)) stood.0 stood.1) in
+        let plan : q.0.plan ≡ p.plan = sym q.2.plan_is ∙ stood.2.plan ∙ alike.plan_is in
+        let number : q.0.number ≡ p.number = sym q.2.number_is ∙ stood.2.number ∙ alike.number_is in
+        record {
+          piece = q.0;
+          among = subst (λ e. Contains (pieces e) q.0) (one_course (prefix ++ more) u.0 d u.1 is_d) q.1;
+          plan = plan;
+          number = number;
+          tail = stood.2.tail;
+          bytes = λ lines reads. fed_on p.plan p.number fed.bytes p.bytes stood.0.bytes q.0.bytes stood.2.tail lines alike.fed_as
+              (subst (λ n. FedAs n stood.0.bytes q.0.bytes) number q.2.fed_as) stood.2.bytes reads;
+        }
 
-  module _ (each : AllByRecursion HasLines (pieces d)) where
-    -- what the piece that goes on reads as
-    lines_of : (p : FoundPiece) (g : GoesOn d p)
-        → (lines : List (List ℕ)) × IsScan p.plan × IsOutcomeAt p.plan p.number (p.bytes ++ g.tail) (Lines lines)
-        × ((r : Reading) → Contains (readings_of p (Lines lines)) r → Gives d r)
-    lines_of p g =
-        let h = all_in HasLines (pieces d) g.piece each g.among in
-        let scan = all_in HasScan (pieces d) g.piece (course_has (prefix ++ more) d low is_d) g.among in
-        let reads : IsOutcomeAt p.plan p.number g.piece.bytes (Lines h.0) =
-        subst (λ n. IsOutcomeAt p.plan n g.piece.bytes (Lines h.0)) g.number
-        (subst (λ s. IsOutcomeAt s g.piece.number g.piece.bytes (Lines h.0)) g.plan h.1) in (
-          h.0,
-          subst IsScan g.plan scan,
-          subst (λ v. IsOutcomeAt p.plan p.number v (Lines h.0)) (g.bytes h.0 reads) reads,
-          λ r m. inl (
-            g.piece,
-            g.among,
+    module _ (each : AllByRecursion HasLines (pieces d)) where
+      -- what the piece that goes on reads as
+      lines_of : (p : FoundPiece) (g : GoesOn d p)
+          → (lines : List (List ℕ)) × IsScan p.plan × IsOutcomeAt p.plan p.number (p.bytes ++ g.tail) (Lines lines)
+          × ((r : Reading) → Contains (readings_of p (Lines lines)) r → Gives d r)
+      lines_of p g =
+          let h = all_in HasLines (pieces d) g.piece each g.among in
+          let scan = all_in HasScan (pieces d) g.piece (course_has (prefix ++ more) d low is_d) g.among in
+          let reads : IsOutcomeAt p.plan p.number g.piece.bytes (Lines h.0) =
+          subst (λ n. IsOutcomeAt p.plan n g.piece.bytes (Lines h.0)) g.number
+          (subst (λ s. IsOutcomeAt s g.piece.number g.piece.bytes (Lines h.0)) g.plan h.1) in (
             h.0,
-            h.1,
-            subst (λ n. Contains (outcome_readings g.piece.plan n (Lines h.0)) r) (sym g.number)
-                (subst (λ s. Contains (outcome_readings s p.number (Lines h.0)) r) (sym g.plan) m),
-          ),
-        )
+            subst IsScan g.plan scan,
+            subst (λ v. IsOutcomeAt p.plan p.number v (Lines h.0)) (g.bytes h.0 reads) reads,
+            λ r m. inl (
+              g.piece,
+              g.among,
+              h.0,
+              h.1,
+              subst (λ n. Contains (outcome_readings g.piece.plan n (Lines h.0)) r) (sym g.number)
+                  (subst (λ s. Contains (outcome_readings s p.number (Lines h.0)) r) (sym g.plan) m),
+            ),
+          )
 
-    keeps : (c : Course) → IsCourse prefix c → (r : Reading) → Gives c r → Gives d r
-    keeps c is_c r given =
-        let t = course_fed prefix (byte_parts prefix more low).0 in
-        let same : t.0 ≡ c = one_course prefix t.0 c t.1 is_c in
-        elim given [
-          | inl (p, m, lines, reads, has) ↦ (
-              let here : Contains (pieces t.0) p = subst (λ e. Contains (pieces e) p) (sym same) m in
-              let fed = of_alike (all_pieces (reading prefix)) (pieces t.0) p t.4 here in
-              let stands : Stands (reading prefix) fed.0 =
-              (fed.0, Contains-append_cases (reading prefix).pieces (closed_at_end (reading prefix).state.place) fed.0 fed.1, at_once fed.0) in
-              let g = goes_on fed.0 p stands fed.2 in
-              let l = lines_of p g in
-              l.3 r (piece_keeps p.plan l.1 p.bytes g.tail l.0 r p.number l.2 lines reads has))
-          | inr (p, m, head, is, has) ↦ (
-              let here : Contains (cut_pieces t.0) p = subst (λ e. Contains (cut_pieces e) p) (sym same) m in
-              let fed = of_alike (closed_at_end (reading prefix).state.place) (cut_pieces t.0) p t.5 here in
-              let g = goes_on fed.0 p (fed.0, inr fed.1, at_once fed.0) fed.2 in
-              let l = lines_of p g in
-              l.3 r (head_keeps p.plan l.1 p.bytes g.tail l.0 r p.number l.2 head is has))
-        ]
+      keeps : (c : Course) → IsCourse prefix c → (r : Reading) → Gives c r → Gives d r
+      keeps c is_c r given =
+          let t = course_fed prefix (byte_parts prefix more low).0 in
+          let same : t.0 ≡ c = one_course prefix t.0 c t.1 is_c in
+          elim given [
+            | inl (p, m, lines, reads, has) ↦ (
+                let here : Contains (pieces t.0) p = subst (λ e. Contains (pieces e) p) (sym same) m in
+                let fed = of_alike (all_pieces (reading prefix)) (pieces t.0) p t.4 here in
+                let stands : Stands (reading prefix) fed.0 = (
+                  fed.0,
+                  Contains-append_cases (reading prefix).pieces (closed_at_end (reading prefix).state.place) fed.0 fed.1,
+                  at_once fed.0,
+                ) in
+                let g = goes_on fed.0 p stands fed.2 in
+                let l = lines_of p g in
+                l.3 r (piece_keeps p.plan l.1 p.bytes g.tail l.0 r p.number l.2 lines reads has))
+            | inr (p, m, head, is, has) ↦ (
+                let here : Contains (cut_pieces t.0) p = subst (λ e. Contains (cut_pieces e) p) (sym same) m in
+                let fed = of_alike (closed_at_end (reading prefix).state.place) (cut_pieces t.0) p t.5 here in
+                let g = goes_on fed.0 p (fed.0, inr fed.1, at_once fed.0) fed.2 in
+                let l = lines_of p g in
+                l.3 r (head_keeps p.plan l.1 p.bytes g.tail l.0 r p.number l.2 head is has))
+          ]
 
 pub prefixes_keep_readings : PrefixesKeepReadings
 prefixes_keep_readings prefix more low c d is_c is_d each r given = keeps prefix more low d is_d each c is_c r given

@@ -37,7 +37,8 @@ use Rattle.jls_copy.proofs.CourseFed.{course_fed}
 use Rattle.jls_copy.specs.IntervalOf.{interval_of}
 
 -- of pieces that are alike, one of each
-pub alike_of : (ps qs : List FoundPiece) (p : FoundPiece) → AlikePieces ps qs → Contains ps p → (q : FoundPiece) × Contains qs q × AlikePiece p q
+pub alike_of : (ps qs : List FoundPiece) (p : FoundPiece) → AlikePieces ps qs → Contains ps p → (q : FoundPiece) × Contains qs q
+    × AlikePiece p q
 alike_of [] qs p h m = absurd (none_in p m)
 alike_of (x ∷ ps) [] p h m = absurd h
 alike_of (x ∷ ps) (y ∷ qs) p h m =
@@ -46,7 +47,8 @@ alike_of (x ∷ ps) (y ∷ qs) p h m =
       | inr later ↦ (let r = alike_of ps qs p h.1 later in (r.0, in_rest r.0 y qs r.1, r.2))
     ]
 
-pub of_alike : (ps qs : List FoundPiece) (q : FoundPiece) → AlikePieces ps qs → Contains qs q → (p : FoundPiece) × Contains ps p × AlikePiece p q
+pub of_alike : (ps qs : List FoundPiece) (q : FoundPiece) → AlikePieces ps qs → Contains qs q → (p : FoundPiece) × Contains ps p
+    × AlikePiece p q
 of_alike ps [] q h m = absurd (none_in q m)
 of_alike [] (y ∷ qs) q h m = absurd h
 of_alike (x ∷ ps) (y ∷ qs) q h m =
@@ -74,7 +76,8 @@ never_longer : (s : Scan) (n : PieceNumber) (bytes more : List ℕ) → NeverRea
 never_longer s n bytes more h others lines reads =
     h (more ++ others) lines (subst (λ b. IsOutcomeAt s n b (Lines lines)) (append_assoc bytes more others) reads)
 
-never_now : (s : Scan) (n : PieceNumber) (bytes : List ℕ) → NeverReads s n bytes → (lines : List (List ℕ)) → IsOutcomeAt s n bytes (Lines lines) → ⊥
+never_now : (s : Scan) (n : PieceNumber) (bytes : List ℕ) → NeverReads s n bytes → (lines : List (List ℕ))
+    → IsOutcomeAt s n bytes (Lines lines) → ⊥
 never_now s n bytes h lines reads = h [] lines (subst (λ b. IsOutcomeAt s n b (Lines lines)) (sym (append-nil bytes)) reads)
 
 abbrev Never : FoundPiece → Type 0
@@ -99,7 +102,8 @@ never_open s (Within k d) is h =
     let b = subst (λ p. ReadsNoMore (interval_shape p d.width d.components (d.rows * d.components)) is.bytes) is.parameters_are a in
     let e = subst (λ w. ReadsNoMore (interval_shape s.params w d.components (d.rows * d.components)) is.bytes) is.width_is b in
     let f = subst (λ n. ReadsNoMore (interval_shape s.params s.width n (d.rows * n)) is.bytes) is.components_are e in
-    let g = subst (λ r. ReadsNoMore (interval_shape s.params s.width (length s.components) (r * length s.components)) is.bytes) is.rows_are f in
+    let g = subst (λ r. ReadsNoMore (interval_shape s.params s.width (length s.components) (r * length s.components)) is.bytes) is.rows_are
+    f in
     subst (λ b. ReadsNoMore (interval_of s k) b) (sym (ap fed is.bytes_are)) g
 never_open s (Beyond k) is h = λ more lines reads. reads
 
@@ -151,7 +155,14 @@ fed_more (Some bytes) more = (more, refl)
 
 grown : (index : ℕ) (plan : Scan) (at : ℕ) (piece : OpenPiece) (more : List ℕ)
     → Continues (record { scan = index; plan = plan; number = number_of piece; offset = at; bytes = bytes_of piece })
-    (record { scan = index; plan = plan; number = number_of (piece_with piece more); offset = at; bytes = bytes_of (piece_with piece more) })
+    (record {
+      scan = index;
+      plan = plan;
+      number = number_of (piece_with piece more);
+      offset = at;
+      bytes =
+          bytes_of (piece_with piece more);
+    })
 grown index plan at (Within k d) more =
     let t = fed_more d.bytes more in record { plan = refl; number = refl; offset = refl; tail = t.0; bytes = t.1 }
 grown index plan at (Beyond k) more = record { plan = refl; number = refl; offset = refl; tail = []; bytes = refl }
@@ -190,7 +201,8 @@ stands_with : (r : Reading) (b : ℕ) (p : FoundPiece) → Stands r p → Stands
 stands_with r b p (q, inl m, on) = (q, inl (Contains-append_left r.pieces (closed_at r.state.place b) q m), on)
 stands_with r b p (q, inr m, on) = by (next_is r.state.place r.state.count r.state.headers r.state.payload b q m)
   where
-    by : NextIs (closed_at r.state.place b) (closed_at_end (step_from r.state.place r.state.count r.state.headers r.state.payload b).place) q
+    by : NextIs (closed_at r.state.place b) (closed_at_end (step_from r.state.place r.state.count r.state.headers r.state.payload b).place)
+        q
         → Stands (reading_with r b) p
     by (x, inl c, more) = (x, inl (Contains-append_right r.pieces (closed_at r.state.place b) x c), on_and_on p q x on more)
     by (x, inr c, more) = (x, inr c, on_and_on p q x on more)

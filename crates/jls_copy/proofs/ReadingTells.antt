@@ -33,8 +33,11 @@ tells_more (Start true) h payload ps x b count low c (n, e, f, g) =
 tells_more (AtMarker false) h payload ps x b count low c (us, p) =
     rw append-nil (marker_more x h us ps payload b count p c (cases_eq b 255))
 tells_more (AtMarker true) h payload ps x b count low c (n, before, us, p, e) =
-    let size : count ≡ length before + suc n = c ∙ ap length e ∙ length-append before (fill_bytes (suc n)) ∙ ap (λ k. length before + k) (fill_length (suc n)) in
-    rw (append-nil, e, append_assoc) (fill_marker_more before h us ps false payload n b count p size (λ k. absurd cc) (cases_eq b 255) (cases_eq b 217) (cases_Bool (is_some h.frame)) (cases_Bool (has_segment b)) (inr refl))
+    let size : count ≡ length before + suc n = c ∙ ap length e ∙ length-append before (fill_bytes (suc n))
+    ∙ ap (λ k. length before + k) (fill_length (suc n)) in
+    rw (append-nil, e, append_assoc)
+    (fill_marker_more before h us ps false payload n b count p size (λ k. absurd cc) (cases_eq b 255) (cases_eq b 217)
+    (cases_Bool (is_some h.frame)) (cases_Bool (has_segment b)) (inr refl))
 tells_more (AtLength marker code) h payload ps x b count low c d =
     rw append-nil (
       low,
@@ -51,15 +54,18 @@ tells_more (AtLength marker code) h payload ps x b count low c d =
       },
     )
 tells_more (InLength marker code high) h payload ps x b count low c (lh, d) =
-    rw append-nil (length_more d.before h d.units ps d.following d.passed d.fill code d.known d.follows x count marker high b lh low d.whole c d.marker_at)
+    rw append-nil (length_more d.before h d.units ps d.following d.passed d.fill code d.known d.follows x count marker high b lh low d.whole
+    c d.marker_at)
 tells_more (InPayload marker code size) h payload ps x b count low c (within, small, d) =
-    rw append-nil (payload_more d.before h d.units ps d.following d.passed d.fill code d.known d.follows x payload count marker size b d.whole within small c d.marker_at)
+    rw append-nil (payload_more d.before h d.units ps d.following d.passed d.fill code d.known d.follows x payload count marker size b
+    d.whole within small c d.marker_at)
 tells_more (InScan o) h payload ps x b count low c d = scan_more o h ps x d b payload count c
 tells_more (Done e) h payload ps x b count low c d = rw append-nil (ended_more e h ps x b d)
 
 from_tells : (before bytes : List ℕ) (r : Reading) → AllByRecursion (λ b. b < 256) bytes → r.state.count ≡ length before
     → Tells r.state.place r.state.headers r.state.payload r.pieces before
-    → Tells (reading_from r bytes).state.place (reading_from r bytes).state.headers (reading_from r bytes).state.payload (reading_from r bytes).pieces (before ++ bytes)
+    → Tells (reading_from r bytes).state.place (reading_from r bytes).state.headers (reading_from r bytes).state.payload
+    (reading_from r bytes).pieces (before ++ bytes)
 from_tells before [] r low c t = rw append-nil t
 from_tells before (b ∷ bytes) r low c t =
     rw append_assoc at (from_tells (before ++ b ∷ []) bytes (reading_with r b) low.1 (omega (arith, c, length-append before (b ∷ [])))

@@ -42,13 +42,18 @@ units_have : (h : HeaderState) (at : ℕ) (bytes : List ℕ) (us : List CopyUnit
 units_have h at bytes [] final e index begin is low u = tt
 units_have h at bytes (segment fill code payload ∷ us) final e index begin is low (after, rest, whole, unit, more) =
     let parts = byte_parts (segment_unit_bytes fill code payload) rest (subst AreBytes whole low) in
-    units_have after (at + length (segment_unit_bytes fill code payload)) rest us final e (index + 0) (begin + length (segment_unit_bytes fill code payload)) (headers_kept h after code payload None is (payload_bytes fill code payload parts.0) unit.1) parts.1 more
+    units_have after (at + length (segment_unit_bytes fill code payload)) rest us final e (index + 0)
+    (begin + length (segment_unit_bytes fill code payload))
+    (headers_kept h after code payload None is (payload_bytes fill code payload parts.0) unit.1) parts.1 more
 units_have h at bytes (scan fill code payload plan closed last closing ∷ us) final e index begin is low (after, rest, whole, unit, more) =
     let parts = byte_parts (segment_unit_bytes fill code payload ++ scan_data_bytes closed last closing) rest (subst AreBytes whole low) in
-    let in_segment = payload_bytes fill code payload (byte_parts (segment_unit_bytes fill code payload) (scan_data_bytes closed last closing) parts.0).0 in
+    let in_segment = payload_bytes fill code payload
+    (byte_parts (segment_unit_bytes fill code payload) (scan_data_bytes closed last closing) parts.0).0 in
     both_have (pieces_from (piece_begun index plan _ _) 0 closed last) _
     (pieces_have index plan 0 _ _ closed last (scans_are_in_range h after code payload plan is in_segment unit.1))
-    (units_have after (at + length (segment_unit_bytes fill code payload ++ scan_data_bytes closed last closing)) rest us final e (index + 1) (begin + length (segment_unit_bytes fill code payload ++ scan_data_bytes closed last closing)) (headers_kept h after code payload (Some plan) is in_segment unit.1) parts.1 more)
+    (units_have after (at + length (segment_unit_bytes fill code payload ++ scan_data_bytes closed last closing)) rest us final e
+    (index + 1) (begin + length (segment_unit_bytes fill code payload ++ scan_data_bytes closed last closing))
+    (headers_kept h after code payload (Some plan) is in_segment unit.1) parts.1 more)
 
 -- each piece of a course is
 pub course_has : (bytes : List ℕ) (c : Course) → AreBytes bytes → IsCourse bytes c → AllByRecursion HasScan (pieces c)

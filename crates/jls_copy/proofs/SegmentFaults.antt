@@ -50,7 +50,8 @@ lse_fine [] = refl
 lse_fine (id ∷ values) = by_id (id == 1)
   where
     by_id : (t : Bool)
-        → IsFine (cond t (preset_of (preset_parameters values)) (first_failing (((id == 2) || (id == 3), fault.LseId) ∷ []) (segment.Skipped lse)))
+        → IsFine (cond t (preset_of (preset_parameters values))
+        (first_failing (((id == 2) || (id == 3), fault.LseId) ∷ []) (segment.Skipped lse)))
     by_id true = preset_fine (preset_parameters values)
     by_id false = first_fine (((id == 2) || (id == 3), fault.LseId) ∷ []) (segment.Skipped lse) refl
 
@@ -123,4 +124,5 @@ pub segment_fault : (h : HeaderState) (code : ℕ) (payload : List ℕ) (f : Mar
     → headers_after h code payload ≡ Err f → is_of_segment f ≡ true
 unfolding headers_after
 segment_fault h code payload f known e =
-    subst (λ (r : Result (HeaderState × Option Scan) MarkerFault). IsFine r) e (taking_fine h (segment_of code payload) (segment_fine code payload known))
+    subst (λ (r : Result (HeaderState × Option Scan) MarkerFault). IsFine r) e
+    (taking_fine h (segment_of code payload) (segment_fine code payload known))

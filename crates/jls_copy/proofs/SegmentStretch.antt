@@ -26,7 +26,8 @@ module _ (h : HeaderState) (ps : List FoundPiece) where
   abbrev at : ℕ → Place → List ℕ → Reading
   at count place payload = record { state = record { count = count; place = place; headers = h; payload = payload }; pieces = ps }
 
-  fill_step : (fill : Bool) (count : ℕ) (old : List ℕ) → reading_with (at count (AtMarker fill) old) 0xFF ≡ at (count + 1) (AtMarker true) old
+  fill_step : (fill : Bool) (count : ℕ) (old : List ℕ) → reading_with (at count (AtMarker fill) old) 0xFF
+      ≡ at (count + 1) (AtMarker true) old
   fill_step fill count old = rw (append-nil ps) refl
 
   code_step : (count code : ℕ) (old : List ℕ) → has_segment code ≡ true
@@ -55,7 +56,8 @@ module _ (h : HeaderState) (ps : List FoundPiece) where
   empty_step count marker code high low old two = rw (two, append-nil ps) refl
 
   header_steps : (fill : Bool) (count code high : ℕ) (old more : List ℕ) → has_segment code ≡ true
-      → reading_from (at count (AtMarker fill) old) (0xFF ∷ code ∷ high ∷ more) ≡ reading_from (at (count + 1 + 1 + 1) (InLength count code high) old) more
+      → reading_from (at count (AtMarker fill) old) (0xFF ∷ code ∷ high ∷ more)
+      ≡ reading_from (at (count + 1 + 1 + 1) (InLength count code high) old) more
   header_steps fill count code high old more known =
       ap (λ r. reading_from r (code ∷ high ∷ more)) (fill_step fill count old)
       ∙ ap (λ r. reading_from r (high ∷ more)) (code_step count code old known)
@@ -64,7 +66,11 @@ module _ (h : HeaderState) (ps : List FoundPiece) where
   segment_steps : (fill : Bool) (count code high low : ℕ) (old payload : List ℕ) → has_segment code ≡ true
       → length payload + 2 ≡ 256 * high + low
       → reading_from (at count (AtMarker fill) old) (0xFF ∷ code ∷ high ∷ low ∷ payload)
-      ≡ record { state = segment_state (count + length (0xFF ∷ code ∷ high ∷ low ∷ payload)) (with_segment (count + length payload + 3) h payload count code); pieces = ps }
+      ≡ record {
+        state = segment_state (count + length (0xFF ∷ code ∷ high ∷ low ∷ payload))
+            (with_segment (count + length payload + 3) h payload count code);
+        pieces = ps;
+      }
   segment_steps fill count code high low old [] known size =
       let total : count + 1 + 1 + 1 + 1 ≡ count + length (0xFF ∷ code ∷ high ∷ low ∷ []) = omega arith in
       let last : count + 1 + 1 + 1 ≡ count + length {A = ℕ} [] + 3 = omega arith in
@@ -75,13 +81,15 @@ module _ (h : HeaderState) (ps : List FoundPiece) where
       let total : count + 1 + 1 + 1 + 1 + length (b ∷ more) ≡ count + length (0xFF ∷ code ∷ high ∷ low ∷ b ∷ more) = omega arith in
       header_steps fill count code high old (low ∷ b ∷ more) known
       ∙ ap (λ r. reading_from r (b ∷ more)) (low_step (count + 1 + 1 + 1) count code high low old (omega (arith, size)))
-      ∙ whole_from h count code (256 * high + low) ps (b ∷ more) (count + 1 + 1 + 1 + 1) (count + length (b ∷ more) + 3) [] (omega arith) (omega (arith, size)) (omega arith)
+      ∙ whole_from h count code (256 * high + low) ps (b ∷ more) (count + 1 + 1 + 1 + 1) (count + length (b ∷ more) + 3) [] (omega arith)
+      (omega (arith, size)) (omega arith)
       ∙ rw total refl
 
 abbrev made : ReaderState → List FoundPiece → Reading
 made s ps = record { state = s; pieces = ps }
 
-pub segment_leads : (fill : Bool) (bytes : List ℕ) (size : ℕ) → IsWholeSegment bytes size → (count : ℕ) (h : HeaderState) (old payload : List ℕ)
+pub segment_leads : (fill : Bool) (bytes : List ℕ) (size : ℕ) → IsWholeSegment bytes size
+    → (count : ℕ) (h : HeaderState) (old payload : List ℕ)
     → payload ≡ take (size - 2) (drop 4 bytes)
     → Leads (record { count = count; place = AtMarker fill; headers = h; payload = old }) (take (size + 2) bytes)
     (segment_state count (with_segment (count + size + 1) h payload count (get_or bytes 1 0))) []
@@ -107,5 +115,7 @@ segment_leads fill (a ∷ code ∷ high ∷ low ∷ rest) size w count h old pay
     λ ps. ap (λ (xs : List ℕ). reading_from (at h ps count (AtMarker fill) old) xs) bytes_are
     ∙ segment_steps h ps fill count code high low old payload known whole
     ∙ ap (λ (n : ℕ). made (segment_state n (with_segment (count + length payload + 3) h payload count code)) ps) count_is
-    ∙ ap (λ (n : ℕ). made (segment_state (count + length (take (size + 2) (a ∷ code ∷ high ∷ low ∷ rest))) (with_segment n h payload count code)) ps) last_is
-    ∙ ap (made (segment_state (count + length (take (size + 2) (a ∷ code ∷ high ∷ low ∷ rest))) (with_segment (count + size + 1) h payload count code))) (sym (append-nil ps))
+    ∙ ap (λ (n : ℕ). made (segment_state (count + length (take (size + 2) (a ∷ code ∷ high ∷ low ∷ rest)))
+    (with_segment n h payload count code)) ps) last_is
+    ∙ ap (made (segment_state (count + length (take (size + 2) (a ∷ code ∷ high ∷ low ∷ rest)))
+    (with_segment (count + size + 1) h payload count code))) (sym (append-nil ps))

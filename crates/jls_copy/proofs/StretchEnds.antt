@@ -30,8 +30,10 @@ stretch_of bytes zero none within last = tt
 stretch_of [] (suc n) none within last = absurd (omega (arith, within))
 stretch_of (b ∷ bytes) (suc zero) none within last = last (omega arith)
 stretch_of (b ∷ []) (suc (suc n)) none within last = absurd (omega (arith, within))
-stretch_of (b ∷ c ∷ more) (suc (suc n)) none within last =
-    (low_after b c more (suc n) none, stretch_of (c ∷ more) (suc n) (following b (c ∷ more) (suc n) none) (omega (arith, within)) (λ _. moved (last (omega arith))))
+stretch_of (b ∷ c ∷ more) (suc (suc n)) none within last = (
+  low_after b c more (suc n) none,
+  stretch_of (c ∷ more) (suc n) (following b (c ∷ more) (suc n) none) (omega (arith, within)) (λ _. moved (last (omega arith))),
+)
   where
     moved : get_or (b ∷ c ∷ more) (suc (suc n) - 1) 0 ≢ 0xFF → get_or (c ∷ more) (suc n - 1) 0 ≢ 0xFF
     moved = subst (λ j. get_or (b ∷ c ∷ more) j 0 ≢ 0xFF) (let e : suc (suc n) - 1 ≡ suc (suc n - 1) = omega arith in e)
@@ -41,7 +43,8 @@ pub stretch_before : (bytes : List ℕ) (n : ℕ) → NoCut bytes n → n ≤ le
     → IsStretch (take (n - 1) bytes)
 stretch_before bytes n none within some is_ff =
     let code : 0x80 ≤ get_or bytes (n - 1) 0 = omega (arith, is_ff) in
-    stretch_of bytes (n - 1) (λ i low. none i (omega (arith, low))) (omega (arith, within)) (λ more first. none (n - 1 - 1) (omega (arith, more)) (record {
+    stretch_of bytes (n - 1) (λ i low. none i (omega (arith, low))) (omega (arith, within))
+    (λ more first. none (n - 1 - 1) (omega (arith, more)) (record {
       within = omega (arith, more, within);
       is_ff = first;
       is_code = subst (λ i. 0x80 ≤ get_or bytes i 0) (omega (arith, more)) code;

@@ -72,7 +72,8 @@ module _ (scan : OpenScan) (h : HeaderState) (payload : List ℕ) where
   fill_step count piece ps = rw (append-nil ps) refl
 
   pair_steps : (count : ℕ) (piece : OpenPiece) (ps : List FoundPiece) (c : ℕ) (more : List ℕ) → c < 0x80
-      → reading_from (at count Nothing piece ps) (0xFF ∷ c ∷ more) ≡ reading_from (at (count + 1 + 1) Nothing (piece_with piece (0xFF ∷ c ∷ [])) ps) more
+      → reading_from (at count Nothing piece ps) (0xFF ∷ c ∷ more)
+      ≡ reading_from (at (count + 1 + 1) Nothing (piece_with piece (0xFF ∷ c ∷ [])) ps) more
   pair_steps count piece ps c more low =
       ap (λ r. reading_from (reading_with r c) more) (fill_step count piece ps)
       ∙ ap (λ r. reading_from r more) (data_step (count + 1) One piece ps c (data_after c low))
@@ -91,28 +92,39 @@ module _ (scan : OpenScan) (h : HeaderState) (payload : List ℕ) where
   stretched (b ∷ []) ne count piece ps = byte_step count piece ps b [] ne
   stretched (b ∷ c ∷ more) ok count piece ps = by (stretched more (tail c more ok.1)) (stretched (c ∷ more) ok.1) (cases_eq b 0xFF)
     where
-      by : ((k : ℕ) (p : OpenPiece) (qs : List FoundPiece) → reading_from (at k Nothing p qs) more ≡ at (k + length more) Nothing (piece_with p more) qs)
-          → ((k : ℕ) (p : OpenPiece) (qs : List FoundPiece) → reading_from (at k Nothing p qs) (c ∷ more) ≡ at (k + length (c ∷ more)) Nothing (piece_with p (c ∷ more)) qs)
-          → (b ≡ 0xFF) ⊎ (b ≢ 0xFF) → reading_from (at count Nothing piece ps) (b ∷ c ∷ more) ≡ at (count + length (b ∷ c ∷ more)) Nothing (piece_with piece (b ∷ c ∷ more)) ps
+      by : ((k : ℕ) (p : OpenPiece) (qs : List FoundPiece) → reading_from (at k Nothing p qs) more
+          ≡ at (k + length more) Nothing (piece_with p more) qs)
+          → ((k : ℕ) (p : OpenPiece) (qs : List FoundPiece) → reading_from (at k Nothing p qs) (c ∷ more)
+          ≡ at (k + length (c ∷ more)) Nothing (piece_with p (c ∷ more)) qs)
+          → (b ≡ 0xFF) ⊎ (b ≢ 0xFF) → reading_from (at count Nothing piece ps) (b ∷ c ∷ more)
+          ≡ at (count + length (b ∷ c ∷ more)) Nothing (piece_with piece (b ∷ c ∷ more)) ps
       by following next (inl e) =
           let size : count + 1 + 1 + length more ≡ count + length (b ∷ c ∷ more) = omega arith in
-          let same : piece_with (piece_with piece (0xFF ∷ c ∷ [])) more ≡ piece_with piece (0xFF ∷ c ∷ more) = with_parts piece (0xFF ∷ c ∷ []) more in
-          rw e (pair_steps count piece ps c more (ok.0 e) ∙ following (count + 1 + 1) (piece_with piece (0xFF ∷ c ∷ [])) ps ∙ rw (size, same) refl)
+          let same : piece_with (piece_with piece (0xFF ∷ c ∷ [])) more ≡ piece_with piece (0xFF ∷ c ∷ more) =
+          with_parts piece (0xFF ∷ c ∷ []) more in
+          rw e (pair_steps count piece ps c more (ok.0 e) ∙ following (count + 1 + 1) (piece_with piece (0xFF ∷ c ∷ [])) ps
+          ∙ rw (size, same) refl)
       by following next (inr ne) =
           let size : count + 1 + length (c ∷ more) ≡ count + length (b ∷ c ∷ more) = omega arith in
-          let same : piece_with (piece_with piece (b ∷ [])) (c ∷ more) ≡ piece_with piece (b ∷ c ∷ more) = with_parts piece (b ∷ []) (c ∷ more) in
+          let same : piece_with (piece_with piece (b ∷ [])) (c ∷ more) ≡ piece_with piece (b ∷ c ∷ more) =
+          with_parts piece (b ∷ []) (c ∷ more) in
           byte_step count piece ps b (c ∷ more) ne ∙ next (count + 1) (piece_with piece (b ∷ [])) ps ∙ rw (size, same) refl
 
 -- a scan that holds nothing back takes a stretch at once
-pub stretch_leads : (scan next : OpenScan) (xs : List ℕ) → scan.held ≡ Nothing → IsStretch xs → next ≡ record scan { piece = piece_with scan.piece xs }
+pub stretch_leads : (scan next : OpenScan) (xs : List ℕ) → scan.held ≡ Nothing → IsStretch xs → next
+    ≡ record scan { piece = piece_with scan.piece xs }
     → LeadsTo (InScan scan) xs (InScan next)
 stretch_leads scan next xs free ok fed payload count h ps =
     let before : scan ≡ holding scan Nothing scan.piece = ap (λ held. record scan { held = held }) free in
-    let after : next ≡ holding scan Nothing (piece_with scan.piece xs) = fed ∙ ap (λ held. record scan { held = held; piece = piece_with scan.piece xs }) free in
-    rw after (subst (λ s. reading_from (record { state = record { count = count; place = InScan s; headers = h; payload = payload }; pieces = ps }) xs
-    ≡ at scan h payload (count + length xs) Nothing (piece_with scan.piece xs) ps) (sym before) (stretched scan h payload xs ok count scan.piece ps))
+    let after : next ≡ holding scan Nothing (piece_with scan.piece xs) = fed
+    ∙ ap (λ held. record scan { held = held; piece = piece_with scan.piece xs }) free in
+    rw after (subst (λ s. reading_from
+    (record { state = record { count = count; place = InScan s; headers = h; payload = payload }; pieces = ps }) xs
+    ≡ at scan h payload (count + length xs) Nothing (piece_with scan.piece xs) ps) (sym before)
+    (stretched scan h payload xs ok count scan.piece ps))
 
 -- and is still a scan of the frame
-pub stretch_sound : (scan next : OpenScan) (xs : List ℕ) → next ≡ record scan { piece = piece_with scan.piece xs } → (frame : Option PictureShape) (payload : List ℕ)
+pub stretch_sound : (scan next : OpenScan) (xs : List ℕ) → next ≡ record scan { piece = piece_with scan.piece xs }
+    → (frame : Option PictureShape) (payload : List ℕ)
     → IsPlace frame (InScan scan) payload → IsPlace frame (InScan next) payload
 stretch_sound scan next xs fed frame payload h = rw fed ((h.0.0, fed_sound scan.plan scan.piece xs h.0.1), h.1)

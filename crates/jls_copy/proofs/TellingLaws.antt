@@ -55,7 +55,8 @@ pieces_stand copy prefix index s last number at [] bytes rest b = (stands copy p
 pieces_stand copy prefix index s last number at (c ∷ closed) bytes rest b =
     let next = number_after (intervals s) last c.mark in
     let more : List ℕ = flat_map closed_bytes closed ++ (bytes ++ rest) in
-    let whole = others copy prefix _ (closed_bytes c ++ more) at (append_assoc (closed_bytes c) (flat_map closed_bytes closed) (bytes ++ rest)) b in
+    let whole = others copy prefix _ (closed_bytes c ++ more) at
+    (append_assoc (closed_bytes c) (flat_map closed_bytes closed) (bytes ++ rest)) b in
     let first = others copy prefix _ (c.piece ++ ((fill_bytes c.fill ++ (0xFF ∷ (0xD0 + c.mark) ∷ [])) ++ more)) at
     (append_assoc c.piece (fill_bytes c.fill ++ (0xFF ∷ (0xD0 + c.mark) ∷ [])) more) whole in (
       stands copy prefix c.piece _ at first,
@@ -63,16 +64,19 @@ pieces_stand copy prefix index s last number at (c ∷ closed) bytes rest b =
           (following copy prefix (closed_bytes c) more at whole),
     )
 
-regrouped : (head closed last dropped rest : List ℕ) → (head ++ (closed ++ (last ++ dropped))) ++ rest ≡ head ++ (closed ++ (last ++ (dropped ++ rest)))
+regrouped : (head closed last dropped rest : List ℕ) → (head ++ (closed ++ (last ++ dropped))) ++ rest ≡ head
+    ++ (closed ++ (last ++ (dropped ++ rest)))
 regrouped head closed last dropped rest = simp append_assoc refl
 
-units_stand : (copy prefix : List ℕ) (h : HeaderState) (at : ℕ) (bytes : List ℕ) (us : List CopyUnit) (final : HeaderState) (e : End) (index : ℕ)
+units_stand : (copy prefix : List ℕ) (h : HeaderState) (at : ℕ) (bytes : List ℕ) (us : List CopyUnit) (final : HeaderState) (e : End)
+    (index : ℕ)
     → After copy prefix bytes at
     → AreUnits h at bytes us final e → AllByRecursion (Stands copy) (pieces_in index at us)
 units_stand copy prefix h at bytes [] final e index b u = tt
 units_stand copy prefix h at bytes (segment fill code payload ∷ us) final e index b (after, rest, whole, unit, more) =
     let parted = others copy prefix bytes (segment_unit_bytes fill code payload ++ rest) at whole b in
-    units_stand copy (prefix ++ segment_unit_bytes fill code payload) after (at + length (segment_unit_bytes fill code payload)) rest us final e (index + 0)
+    units_stand copy (prefix ++ segment_unit_bytes fill code payload) after (at + length (segment_unit_bytes fill code payload)) rest us
+    final e (index + 0)
     (following copy prefix (segment_unit_bytes fill code payload) rest at parted) more
 units_stand copy prefix h at bytes (scan fill code payload plan closed last closing ∷ us) final e index b (after, rest, whole, unit, more) =
     let head = segment_unit_bytes fill code payload in
@@ -83,7 +87,8 @@ units_stand copy prefix h at bytes (scan fill code payload plan closed last clos
     both_stand copy (pieces_from (piece_begun index plan (Interval 0) (at + length head)) 0 closed last) _
     (pieces_stand copy (prefix ++ head) index plan 0 (Interval 0) (at + length head) closed last (dropped_bytes closing ++ rest)
     (following copy prefix head _ at in_data))
-    (units_stand copy (prefix ++ unit_is) after (at + length unit_is) rest us final e (index + 1) (following copy prefix unit_is rest at parted) more)
+    (units_stand copy (prefix ++ unit_is) after (at + length unit_is) rest us final e (index + 1)
+    (following copy prefix unit_is rest at parted) more)
 
 -- SOI stands before the units
 soi : (n : ℕ) (bytes : List ℕ) → After (fill_bytes n ++ (0xFF ∷ 0xD8 ∷ bytes)) (fill_bytes n ++ (0xFF ∷ 0xD8 ∷ [])) bytes (n + 2)
@@ -106,7 +111,8 @@ filled : (copy prefix : List ℕ) (n : ℕ) (bytes : List ℕ) (at : ℕ) → Af
     → After copy (prefix ++ fill_bytes n) bytes (at + n)
 filled copy prefix n bytes at b = record {
   copy_is = b.copy_is ∙ sym (append_assoc prefix (fill_bytes n) bytes);
-  at_is = let e = length-append prefix (fill_bytes n) in let l = length-replicate {A = ℕ} n 0xFF in let k = b.at_is in omega (arith, e, l, k);
+  at_is = let e = length-append prefix (fill_bytes n) in let l = length-replicate {A = ℕ} n 0xFF in let k = b.at_is in
+      omega (arith, e, l, k);
 }
 
 whole_after : (copy prefix bytes : List ℕ) (at : ℕ) → After copy prefix bytes at → at + length bytes ≡ length copy
@@ -115,9 +121,11 @@ whole_after copy prefix bytes at b =
 
 marker_stands : (copy prefix : List ℕ) (n code : ℕ) (more : List ℕ) (at : ℕ) → After copy prefix (fill_bytes n ++ (0xFF ∷ code ∷ more)) at
     → StandsAt copy (at + n) (0xFF ∷ code ∷ [])
-marker_stands copy prefix n code more at b = stands copy (prefix ++ fill_bytes n) (0xFF ∷ code ∷ []) more (at + n) (filled copy prefix n (0xFF ∷ code ∷ more) at b)
+marker_stands copy prefix n code more at b =
+    stands copy (prefix ++ fill_bytes n) (0xFF ∷ code ∷ []) more (at + n) (filled copy prefix n (0xFF ∷ code ∷ more) at b)
 
-stop_stands : (copy prefix : List ℕ) (h : HeaderState) (at : ℕ) (bytes : List ℕ) (e : End) → After copy prefix bytes at → EndsHere h at bytes e
+stop_stands : (copy prefix : List ℕ) (h : HeaderState) (at : ℕ) (bytes : List ℕ) (e : End) → After copy prefix bytes at
+    → EndsHere h at bytes e
     → EndStands copy e
 stop_stands copy prefix _ _ _ _ b (at_eoi h at n more p) = eoi (at + n) (marker_stands copy prefix n 0xD9 more at b)
 stop_stands copy prefix _ _ _ _ b (at_eoi_before_a_frame h at n more p) =

@@ -50,22 +50,30 @@ module _ (before : List ℕ) (h : HeaderState) (us : List CopyUnit) (ps : List F
       → Tells (from_marker false (is_some h.frame) count b) h payload ps (before ++ b ∷ [])
   marker_more payload b count p c (inl e) = rw e (0, before, us, p, refl)
   marker_more payload b count p c (inr ne) =
-      rw (not_fill b ne, c) (ended before h us ps false (b ∷ []) _ _ p refl (none_follows (b ∷ [])) (at_no_marker h (length before) b [] ne))
+      rw (not_fill b ne, c) (ended before h us ps false (b ∷ []) _ _ p refl (none_follows (b ∷ []))
+      (at_no_marker h (length before) b [] ne))
 
   -- after fill bytes; after scan data only a marker that ends it is there
-  pub fill_marker_more : (following : Bool) (payload : List ℕ) (n b count : ℕ) → Passed before h us ps following → count ≡ length before + suc n
+  pub fill_marker_more : (following : Bool) (payload : List ℕ) (n b count : ℕ) → Passed before h us ps following → count ≡ length before
+      + suc n
       → (following ≡ true → ends_scan_data b ≡ true)
-      → (b ≡ 255) ⊎ (b ≢ 255) → (b ≡ 217) ⊎ (b ≢ 217) → (is_some h.frame ≡ true) ⊎ (is_some h.frame ≡ false) → (has_segment b ≡ true) ⊎ (has_segment b ≡ false) → (following ≡ true) ⊎ (following ≡ false)
+      → (b ≡ 255) ⊎ (b ≢ 255) → (b ≡ 217) ⊎ (b ≢ 217) → (is_some h.frame ≡ true) ⊎ (is_some h.frame ≡ false) → (has_segment b ≡ true)
+      ⊎ (has_segment b ≡ false) → (following ≡ true) ⊎ (following ≡ false)
       → Tells (from_marker true (is_some h.frame) count b) h payload ps (before ++ (fill_bytes (suc n) ++ b ∷ []))
-  fill_marker_more following payload n b count p c fol (inl e) q r s (inl t) = absurd (let k : ends_scan_data b ≡ true = fol t in let l : ends_scan_data 255 ≡ true = rw e at k in (cc))
+  fill_marker_more following payload n b count p c fol (inl e) q r s (inl t) =
+      absurd (let k : ends_scan_data b ≡ true = fol t in let l : ends_scan_data 255 ≡ true = rw e at k in (cc))
   fill_marker_more following payload n b count p c fol (inl e) q r s (inr t) =
       rw e (suc n, before, us, subst (Passed before h us ps) t p, ap (λ x. before ++ x) (fill_snoc (suc n)))
   fill_marker_more following payload n b count p c fol (inr ne) (inl e) (inl r) s t =
       let at : count - 1 ≡ length before + n = omega arith in
-      rw (e, r, at, ← fill_more n (217 ∷ [])) (ended before h us ps following (fill_bytes n ++ (255 ∷ 217 ∷ [])) _ _ p refl (λ k. (n, 217, [], refl, refl)) (at_eoi h (length before) n [] r))
+      rw (e, r, at, ← fill_more n (217 ∷ []))
+      (ended before h us ps following (fill_bytes n ++ (255 ∷ 217 ∷ [])) _ _ p refl (λ k. (n, 217, [], refl, refl))
+      (at_eoi h (length before) n [] r))
   fill_marker_more following payload n b count p c fol (inr ne) (inl e) (inr r) s t =
       let at : count - 1 ≡ length before + n = omega arith in
-      rw (e, r, at, ← fill_more n (217 ∷ [])) (ended before h us ps following (fill_bytes n ++ (255 ∷ 217 ∷ [])) _ _ p refl (λ k. (n, 217, [], refl, refl)) (at_eoi_before_a_frame h (length before) n [] r))
+      rw (e, r, at, ← fill_more n (217 ∷ []))
+      (ended before h us ps following (fill_bytes n ++ (255 ∷ 217 ∷ [])) _ _ p refl (λ k. (n, 217, [], refl, refl))
+      (at_eoi_before_a_frame h (length before) n [] r))
   fill_marker_more following payload n b count p c fol (inr ne) (inr q) r (inl s) t =
       let at : count - 1 ≡ length before + n = omega arith in
       let f : (b == 217) ≡ false = grind (arith, nat_tests) in
@@ -83,4 +91,6 @@ module _ (before : List ℕ) (h : HeaderState) (us : List CopyUnit) (ps : List F
   fill_marker_more following payload n b count p c fol (inr ne) (inr q) r (inr s) t =
       let at : count - 1 ≡ length before + n = omega arith in
       let f : (b == 217) ≡ false = grind (arith, nat_tests) in
-      rw (not_fill b ne, f, s, at, ← fill_more n (b ∷ [])) (ended before h us ps following (fill_bytes n ++ (255 ∷ b ∷ [])) _ _ p refl (λ k. (n, b, [], refl, fol k)) (at_unknown_code h (length before) n b [] ne q s))
+      rw (not_fill b ne, f, s, at, ← fill_more n (b ∷ []))
+      (ended before h us ps following (fill_bytes n ++ (255 ∷ b ∷ [])) _ _ p refl (λ k. (n, b, [], refl, fol k))
+      (at_unknown_code h (length before) n b [] ne q s))

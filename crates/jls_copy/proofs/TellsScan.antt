@@ -77,11 +77,19 @@ alike_more (x ∷ ps) (y ∷ qs) p q h a = (h.0, alike_more ps qs p q h.1 a)
 pieces_snoc : (index : ℕ) (s : Scan) (given : ℕ) (number : PieceNumber) (at : ℕ) (cs : List ClosedPiece) (c : ClosedPiece) (w : List ℕ)
     → pieces_from (piece_begun index s number at) given (cs ++ c ∷ []) w
     ≡ pieces_from (piece_begun index s number at) given cs c.piece
-    ++ record { scan = index; plan = s; number = number_after (intervals s) (given_after (intervals s) given cs) c.mark; offset = at + length (flat_map closed_bytes cs) + length (closed_bytes c); bytes = w } ∷ []
+    ++ record {
+      scan = index;
+      plan = s;
+      number = number_after (intervals s) (given_after (intervals s) given cs) c.mark;
+      offset = at
+          + length (flat_map closed_bytes cs) + length (closed_bytes c);
+      bytes = w;
+    } ∷ []
 pieces_snoc index s given number at [] c w = rw add-zero refl
 pieces_snoc index s given number at (x ∷ cs) c w =
     let next = number_after (intervals s) given x.mark in
-    let e : at + length (closed_bytes x) + length (flat_map closed_bytes cs) ≡ at + length (closed_bytes x ++ flat_map closed_bytes cs) = omega (arith, length-append (closed_bytes x) (flat_map closed_bytes cs)) in
+    let e : at + length (closed_bytes x) + length (flat_map closed_bytes cs) ≡ at + length (closed_bytes x ++ flat_map closed_bytes cs) =
+    omega (arith, length-append (closed_bytes x) (flat_map closed_bytes cs)) in
     ap (λ t. record { scan = index; plan = s; number = number; offset = at; bytes = x.piece } ∷ t)
     (pieces_snoc index s (given_last given next) next (at + length (closed_bytes x)) cs c w ∙ rw e refl)
 
@@ -100,7 +108,8 @@ fed_with (open_piece.Within k d) more (bytes, e) = (bytes ++ more, rw e refl)
 fed_with (open_piece.Beyond k) more t = tt
 
 fed_more : (p : OpenPiece) (w : List ℕ) (held : Held) (n b : ℕ) → HeldIs held n → IsFed p → FedAs (number_of p) (bytes_of p) w
-    → FedAs (number_of (piece_with p (held_bytes held ++ b ∷ []))) (bytes_of (piece_with p (held_bytes held ++ b ∷ []))) (w ++ (fill_bytes n ++ b ∷ []))
+    → FedAs (number_of (piece_with p (held_bytes held ++ b ∷ []))) (bytes_of (piece_with p (held_bytes held ++ b ∷ [])))
+    (w ++ (fill_bytes n ++ b ∷ []))
 fed_more (open_piece.Within k d) w held n b h (bytes, e) t = let u : SameBytes bytes w = rw e at t in rw e (same_more bytes w held n b h u)
 fed_more (open_piece.Beyond k) w held n b h i t = tt
 
@@ -188,7 +197,8 @@ module _ (o : OpenScan) (h : HeaderState) (ps : List FoundPiece) (x : List ℕ) 
     whole = ap (λ y. y ++ b ∷ []) d.whole ∙ simp (append_assoc, append-nil) refl;
   }
 
-  pub alike_now : AlikePiece (found o) (record { scan = d.old.scans; plan = o.plan; number = number_of o.piece; offset = o.offset; bytes = d.piece })
+  pub alike_now : AlikePiece (found o)
+      (record { scan = d.old.scans; plan = o.plan; number = number_of o.piece; offset = o.offset; bytes = d.piece })
   alike_now = record { scan_is = d.index_is; plan_is = refl; number_is = refl; offset_is = refl; fed_as = d.fed_as }
 
   mark_tells : (m count : ℕ) → d.held ≡ suc m → is_restart_code b ≡ true → count ≡ length x
@@ -198,11 +208,17 @@ module _ (o : OpenScan) (h : HeaderState) (ps : List FoundPiece) (x : List ℕ) 
       let back : 208 + (b - 208) ≡ b = grind (arith, nat_tests) in
       let closing : ClosedPiece = record { piece = d.piece; fill = m; mark = b - 208 } in
       let given : o.last ≡ given_after (intervals o.plan) 0 d.closed = d.given_is in
-      let bytes : x ++ b ∷ [] ≡ d.before ++ (segment_unit_bytes d.fill d.code d.payload ++ (flat_map closed_bytes (d.closed ++ closing ∷ []) ++ ([] ++ []))) =
+      let bytes : x ++ b ∷ [] ≡ d.before
+      ++ (segment_unit_bytes d.fill d.code d.payload ++ (flat_map closed_bytes (d.closed ++ closing ∷ []) ++ ([] ++ []))) =
       ap (λ y. y ++ b ∷ []) d.whole ∙ rw hm (simp (append_assoc, append-nil, flat_map-append, ← fill_more m) (rw back refl)) in
-      let size : count + 1 ≡ length d.before + length (segment_unit_bytes d.fill d.code d.payload) + length (flat_map closed_bytes (d.closed ++ closing ∷ [])) =
+      let size : count + 1 ≡ length d.before + length (segment_unit_bytes d.fill d.code d.payload)
+      + length (flat_map closed_bytes (d.closed ++ closing ∷ [])) =
       ap (λ n. n + 1) c ∙ sym (length-append x (b ∷ [])) ∙ ap length bytes ∙ length-append d.before _
-      ∙ (omega (arith, length-append (segment_unit_bytes d.fill d.code d.payload) (flat_map closed_bytes (d.closed ++ closing ∷ []) ++ []), ap length (append-nil (flat_map closed_bytes (d.closed ++ closing ∷ []))))) in
+      ∙ (omega (
+        arith,
+        length-append (segment_unit_bytes d.fill d.code d.payload) (flat_map closed_bytes (d.closed ++ closing ∷ []) ++ []),
+        ap length (append-nil (flat_map closed_bytes (d.closed ++ closing ∷ []))),
+      )) in
       let number : PieceNumber = number_after (intervals o.plan) o.last (b - 208) in
       record {
         before = d.before;
@@ -223,10 +239,20 @@ module _ (o : OpenScan) (h : HeaderState) (ps : List FoundPiece) (x : List ℕ) 
         each = each_more d.closed closing d.each (d.piece_is, low);
         piece = [];
         piece_is = tt;
-        prefix = d.prefix ++ record { scan = d.old.scans; plan = o.plan; number = number_of o.piece; offset = o.offset; bytes = d.piece } ∷ [];
+        prefix = d.prefix ++ record { scan = d.old.scans; plan = o.plan; number = number_of o.piece; offset = o.offset; bytes = d.piece }
+            ∷ [];
         pieces_are = λ w.
-            pieces_snoc d.old.scans o.plan 0 (Interval 0) (length d.before + length (segment_unit_bytes d.fill d.code d.payload)) d.closed closing w
-            ∙ rw (d.pieces_are d.piece, opened_number, ← given, size) (ap (λ k. (d.prefix ++ record { scan = d.old.scans; plan = o.plan; number = number_of o.piece; offset = o.offset; bytes = d.piece } ∷ [])
+            pieces_snoc d.old.scans o.plan 0 (Interval 0) (length d.before + length (segment_unit_bytes d.fill d.code d.payload)) d.closed
+            closing w
+            ∙ rw (d.pieces_are d.piece, opened_number, ← given, size)
+            (ap (λ k. (d.prefix ++ record {
+              scan = d.old.scans;
+              plan = o.plan;
+              number = number_of o.piece;
+              offset = o.offset;
+              bytes =
+                  d.piece;
+            } ∷ [])
             ++ record { scan = d.old.scans; plan = o.plan; number = number; offset = k; bytes = w } ∷ []) (shut d.before closing));
         given_is = rw (given_snoc, ← given) refl;
         offset_is = size;
@@ -241,34 +267,47 @@ module _ (o : OpenScan) (h : HeaderState) (ps : List FoundPiece) (x : List ℕ) 
       }
     where
       shut : (before : List ℕ) (closing : ClosedPiece)
-          → length d.before + length (segment_unit_bytes d.fill d.code d.payload) + length (flat_map closed_bytes d.closed) + length (closed_bytes closing)
-          ≡ length d.before + length (segment_unit_bytes d.fill d.code d.payload) + length (flat_map closed_bytes (d.closed ++ closing ∷ []))
-      shut before closing = rw (flat_map-append, append-nil) (omega (arith, length-append (flat_map closed_bytes d.closed) (closed_bytes closing)))
+          → length d.before + length (segment_unit_bytes d.fill d.code d.payload) + length (flat_map closed_bytes d.closed)
+          + length (closed_bytes closing)
+          ≡ length d.before + length (segment_unit_bytes d.fill d.code d.payload)
+          + length (flat_map closed_bytes (d.closed ++ closing ∷ []))
+      shut before closing = rw (flat_map-append, append-nil)
+          (omega (arith, length-append (flat_map closed_bytes d.closed) (closed_bytes closing)))
 
   stop_tells : (payload : List ℕ) (m count : ℕ) → d.held ≡ suc m → b ≢ 255 → ends_scan_data b ≡ true → count ≡ length x
       → Tells (state.from_marker true true count b) h payload (ps ++ found o ∷ []) (x ++ b ∷ [])
   stop_tells payload m count hm ne s c =
       let unit : CopyUnit = scan d.fill d.code d.payload o.plan d.closed d.piece by_marker in
       let y : List ℕ = d.before ++ unit_bytes unit in
-      let alike : AlikePieces (d.here ++ found o ∷ []) (pieces_from (piece_begun d.old.scans o.plan (Interval 0) (length d.before + length (segment_unit_bytes d.fill d.code d.payload))) 0 d.closed d.piece) =
-      subst (AlikePieces (d.here ++ found o ∷ [])) (sym (d.pieces_are d.piece)) (alike_more d.here d.prefix (found o) _ d.here_alike alike_now) in
+      let alike : AlikePieces (d.here ++ found o ∷ [])
+      (pieces_from (piece_begun d.old.scans o.plan (Interval 0) (length d.before + length (segment_unit_bytes d.fill d.code d.payload))) 0
+      d.closed d.piece) =
+      subst (AlikePieces (d.here ++ found o ∷ [])) (sym (d.pieces_are d.piece))
+      (alike_more d.here d.prefix (found o) _ d.here_alike alike_now) in
       let passed : Passed y h (d.units ++ unit ∷ []) (d.earlier ++ (d.here ++ found o ∷ [])) true =
-      passed_scan d.before d.old d.units d.earlier d.following d.passed d.fill d.code d.payload h y d.known d.size d.follows o.plan d.plan_is d.closed d.piece (d.here ++ found o ∷ []) d.each d.piece_is alike refl in
+      passed_scan d.before d.old d.units d.earlier d.following d.passed d.fill d.code d.payload h y d.known d.size d.follows o.plan
+      d.plan_is d.closed d.piece (d.here ++ found o ∷ []) d.each d.piece_is alike refl in
       let all : x ≡ y ++ fill_bytes (suc m) = d.whole ∙ rw hm (simp (append_assoc, append-nil) refl) in
       let bytes : y ++ (fill_bytes (suc m) ++ b ∷ []) ≡ x ++ b ∷ [] = rw all (sym (append_assoc y (fill_bytes (suc m)) (b ∷ []))) in
-      let pieces : d.earlier ++ (d.here ++ found o ∷ []) ≡ ps ++ found o ∷ [] = rw d.found_are (sym (append_assoc d.earlier d.here (found o ∷ []))) in
-      let size : count ≡ length y + suc m = c ∙ ap length all ∙ length-append y (fill_bytes (suc m)) ∙ ap (λ k. length y + k) (fill_length (suc m)) in
+      let pieces : d.earlier ++ (d.here ++ found o ∷ []) ≡ ps ++ found o ∷ [] =
+      rw d.found_are (sym (append_assoc d.earlier d.here (found o ∷ []))) in
+      let size : count ≡ length y + suc m = c ∙ ap length all ∙ length-append y (fill_bytes (suc m))
+      ∙ ap (λ k. length y + k) (fill_length (suc m)) in
       let framed : is_some h.frame ≡ true = scan_has_frame d.old h d.code d.payload o.plan d.plan_is in
-      let fed : Tells (state.from_marker true (is_some h.frame) count b) h payload (d.earlier ++ (d.here ++ found o ∷ [])) (y ++ (fill_bytes (suc m) ++ b ∷ [])) =
-      fill_marker_more y h (d.units ++ unit ∷ []) (d.earlier ++ (d.here ++ found o ∷ [])) true payload m b count passed size (λ _. s) (inr ne) (cases_eq b 217) (inl framed) (cases_Bool (has_segment b)) (inl refl) in
+      let fed : Tells (state.from_marker true (is_some h.frame) count b) h payload (d.earlier ++ (d.here ++ found o ∷ []))
+      (y ++ (fill_bytes (suc m) ++ b ∷ [])) =
+      fill_marker_more y h (d.units ++ unit ∷ []) (d.earlier ++ (d.here ++ found o ∷ [])) true payload m b count passed size (λ _. s)
+      (inr ne) (cases_eq b 217) (inl framed) (cases_Bool (has_segment b)) (inl refl) in
       subst (λ q. Tells (state.from_marker true q count b) h payload (ps ++ found o ∷ []) (x ++ b ∷ [])) framed
       (subst (λ q. Tells (state.from_marker true (is_some h.frame) count b) h payload q (x ++ b ∷ [])) pieces
       (subst (λ q. Tells (state.from_marker true (is_some h.frame) count b) h payload (d.earlier ++ (d.here ++ found o ∷ [])) q) bytes fed))
 
-pub scan_more : (o : OpenScan) (h : HeaderState) (ps : List FoundPiece) (x : List ℕ) (d : InScanData o h ps x) (b : ℕ) (payload : List ℕ) (count : ℕ)
+pub scan_more : (o : OpenScan) (h : HeaderState) (ps : List FoundPiece) (x : List ℕ) (d : InScanData o h ps x) (b : ℕ) (payload : List ℕ)
+    (count : ℕ)
     → count ≡ length x
     → Tells (state.from_scan (class_of o.held b) o count b) h payload (ps ++ state.closed_by (class_of o.held b) o) (x ++ b ∷ [])
-scan_more o h ps x d b payload count c = by (class_is o.held d.held b d.held_is (cases_eq b 255) (cases_Bool (is_restart_code b)) (cases_Bool (ends_scan_data b)))
+scan_more o h ps x d b payload count c =
+    by (class_is o.held d.held b d.held_is (cases_eq b 255) (cases_Bool (is_restart_code b)) (cases_Bool (ends_scan_data b)))
   where
     some : (n : ℕ) → 0 < n → (m : ℕ) × (n ≡ suc m)
     some zero k = absurd (omega arith)

@@ -27,19 +27,25 @@ cond_tells : (b : Bool) (s t : Step) (ps : List FoundPiece) (x : List ℕ) → (
 cond_tells true s t ps x p q = p refl
 cond_tells false s t ps x p q = q refl
 
-module _ (before : List ℕ) (h : HeaderState) (us : List CopyUnit) (ps : List FoundPiece) (following : Bool) (passed : Passed before h us ps following)
+module _ (before : List ℕ) (h : HeaderState) (us : List CopyUnit) (ps : List FoundPiece) (following : Bool)
+    (passed : Passed before h us ps following)
     (fill code : ℕ) (known : has_segment code ≡ true) (follows : following ≡ true → ends_scan_data code ≡ true) where
   -- a whole segment
   taken : (payload x : List ℕ) (count marker : ℕ) → x ≡ before ++ segment_unit_bytes fill code payload → length payload + 2 < 2 ^ 16
       → count + 1 ≡ length x → marker ≡ length before + fill
-      → (r : Result (HeaderState × Option Scan) MarkerFault) → headers_after h code payload ≡ r → TellsStep (segment_taken count h payload marker r) ps x
+      → (r : Result (HeaderState × Option Scan) MarkerFault) → headers_after h code payload ≡ r
+      → TellsStep (segment_taken count h payload marker r) ps x
   taken payload x count marker w small c m (Err f) e =
       rw m (ended before h us ps following (segment_unit_bytes fill code payload) x _ passed w (λ k. (fill, code, _, refl, follows k))
-      (subst (λ y. EndsHere h (length before) y (Header f (length before + fill))) (append-nil (segment_unit_bytes fill code payload)) (at_refused_segment h (length before) fill code payload [] f (known, small) e)))
-  taken payload x count marker w small c m (Ok (after, None)) e =
-      (us ++ segment fill code payload ∷ [], passed_segment before h us ps following passed fill code payload after x known small follows e w)
+      (subst (λ y. EndsHere h (length before) y (Header f (length before + fill))) (append-nil (segment_unit_bytes fill code payload))
+      (at_refused_segment h (length before) fill code payload [] f (known, small) e)))
+  taken payload x count marker w small c m (Ok (after, None)) e = (
+    us ++ segment fill code payload ∷ [],
+    passed_segment before h us ps following passed fill code payload after x known small follows e w,
+  )
   taken payload x count marker w small c m (Ok (after, Some s)) e =
-      let at : count + 1 ≡ length before + length (segment_unit_bytes fill code payload) = c ∙ ap length w ∙ length-append before (segment_unit_bytes fill code payload) in
+      let at : count + 1 ≡ length before + length (segment_unit_bytes fill code payload) = c ∙ ap length w
+      ∙ length-append before (segment_unit_bytes fill code payload) in
       record {
         before = before;
         old = h;
@@ -80,7 +86,8 @@ module _ (before : List ℕ) (h : HeaderState) (us : List CopyUnit) (ps : List F
   length_tells x count marker high b lh lb w c m =
       cond_tells (nat_lt (256 * high + b) 2) _ _ ps x
       (λ t. let low : 256 * high + b < 2 = grind (arith, nat_tests) in
-      rw m (ended before h us ps following _ x _ passed w (λ k. (fill, code, _, refl, follows k)) (at_short_length h (length before) fill code high b [] known low)))
+      rw m (ended before h us ps following _ x _ passed w (λ k. (fill, code, _, refl, follows k))
+      (at_short_length h (length before) fill code high b [] known low)))
       (λ t. let long : 2 ≤ 256 * high + b = grind (arith, nat_tests) in
       cond_tells (256 * high + b == 2) _ _ ps x
       (λ u. let two : 256 * high + b ≡ 2 = grind (arith, nat_tests) in
@@ -137,27 +144,36 @@ module _ (before : List ℕ) (h : HeaderState) (us : List CopyUnit) (ps : List F
 
   pub payload_more : (x payload : List ℕ) (count marker size b : ℕ)
       → x ≡ before ++ (fill_bytes fill ++ (255 ∷ code ∷ size / 256 ∷ size % 256 ∷ payload)) → length payload + 2 < size → size < 2 ^ 16
-      → count ≡ length x → marker ≡ length before + fill → TellsStep (payload_grown count h (payload ++ b ∷ []) marker code size) ps (x ++ b ∷ [])
+      → count ≡ length x → marker ≡ length before + fill
+      → TellsStep (payload_grown count h (payload ++ b ∷ []) marker code size) ps (x ++ b ∷ [])
   payload_more x payload count marker size b w within small c m =
-      payload_tells (x ++ b ∷ []) (payload ++ b ∷ []) count marker size (rw w (simp append_assoc refl)) (omega (arith, length-append payload (b ∷ []))) small (omega (arith, length-append x (b ∷ []))) m
+      payload_tells (x ++ b ∷ []) (payload ++ b ∷ []) count marker size (rw w (simp append_assoc refl))
+      (omega (arith, length-append payload (b ∷ []))) small (omega (arith, length-append x (b ∷ []))) m
 
 -- what ended stays ended
 stops_on : (h : HeaderState) (at b : ℕ) (x : List ℕ) (e : End) → EndsHere h at x e → EndsHere h at (x ++ b ∷ []) e
-stops_on _ _ b _ _ (at_eoi h at n more p) = subst (λ y. EndsHere h at y (Eoi (at + n))) (simp append_assoc refl) (at_eoi h at n (more ++ b ∷ []) p)
-stops_on _ _ b _ _ (at_eoi_before_a_frame h at n more p) = subst (λ y. EndsHere h at y (Header fault.NoFrame (at + n))) (simp append_assoc refl) (at_eoi_before_a_frame h at n (more ++ b ∷ []) p)
+stops_on _ _ b _ _ (at_eoi h at n more p) =
+    subst (λ y. EndsHere h at y (Eoi (at + n))) (simp append_assoc refl) (at_eoi h at n (more ++ b ∷ []) p)
+stops_on _ _ b _ _ (at_eoi_before_a_frame h at n more p) =
+    subst (λ y. EndsHere h at y (Header fault.NoFrame (at + n))) (simp append_assoc refl) (at_eoi_before_a_frame h at n (more ++ b ∷ []) p)
 stops_on _ _ b _ _ (at_no_marker h at c more p) = at_no_marker h at c (more ++ b ∷ []) p
 stops_on _ _ b _ _ (at_unknown_code h at n code more p q r) =
-    subst (λ y. EndsHere h at y (Header fault.UnknownMarker (at + n))) (simp append_assoc refl) (at_unknown_code h at n code (more ++ b ∷ []) p q r)
+    subst (λ y. EndsHere h at y (Header fault.UnknownMarker (at + n))) (simp append_assoc refl)
+    (at_unknown_code h at n code (more ++ b ∷ []) p q r)
 stops_on _ _ b _ _ (at_short_length h at n code u v more p q) =
-    subst (λ y. EndsHere h at y (Header fault.Length (at + n))) (simp append_assoc refl) (at_short_length h at n code u v (more ++ b ∷ []) p q)
+    subst (λ y. EndsHere h at y (Header fault.Length (at + n))) (simp append_assoc refl)
+    (at_short_length h at n code u v (more ++ b ∷ []) p q)
 stops_on _ _ b _ _ (at_refused_segment h at n code payload more f p r) =
-    subst (λ y. EndsHere h at y (Header f (at + n))) (sym (append_assoc (segment_unit_bytes n code payload) more (b ∷ []))) (at_refused_segment h at n code payload (more ++ b ∷ []) f p r)
+    subst (λ y. EndsHere h at y (Header f (at + n))) (sym (append_assoc (segment_unit_bytes n code payload) more (b ∷ [])))
+    (at_refused_segment h at n code payload (more ++ b ∷ []) f p r)
 
 follows_on : (following : Bool) (tail : List ℕ) (b : ℕ) → Follows following tail → Follows following (tail ++ b ∷ [])
 follows_on following tail b f = λ k. let g = f k in (g.0, g.1, g.2 ++ b ∷ [], rw g.3 (simp append_assoc refl), g.4)
 
 pub ended_more : (e : End) (h : HeaderState) (ps : List FoundPiece) (x : List ℕ) (b : ℕ) → EndedAt e h ps x → EndedAt e h ps (x ++ b ∷ [])
 ended_more _ _ _ _ b (ended before h us ps following tail x e p w f s) =
-    ended before h us ps following (tail ++ b ∷ []) (x ++ b ∷ []) e p (rw w (simp append_assoc refl)) (follows_on following tail b f) (stops_on h (length before) b tail e s)
-ended_more _ _ _ _ b (without_soi n code more x p q w) = without_soi n code (more ++ b ∷ []) (x ++ b ∷ []) p q (rw w (simp append_assoc refl))
+    ended before h us ps following (tail ++ b ∷ []) (x ++ b ∷ []) e p (rw w (simp append_assoc refl)) (follows_on following tail b f)
+    (stops_on h (length before) b tail e s)
+ended_more _ _ _ _ b (without_soi n code more x p q w) =
+    without_soi n code (more ++ b ∷ []) (x ++ b ∷ []) p q (rw w (simp append_assoc refl))
 ended_more _ _ _ _ b (without_ff c more x p w) = without_ff c (more ++ b ∷ []) (x ++ b ∷ []) p (rw w refl)

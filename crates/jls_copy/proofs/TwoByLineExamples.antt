@@ -61,7 +61,13 @@ is_course =
         final,
         0xFF ∷ 0xD9 ∷ [],
         refl,
-        ((refl, lit< tt), refl, tt, ((λ h. refl), ((λ h. refl), (λ (h : 0x50 ≡ 0xFF). omega (arith, h)))), record { fill = 0; code = 0xD9; following = []; bytes_are = refl; ends = refl }),
+        (
+          (refl, lit< tt),
+          refl,
+          tt,
+          ((λ h. refl), ((λ h. refl), (λ (h : 0x50 ≡ 0xFF). omega (arith, h)))),
+          record { fill = 0; code = 0xD9; following = []; bytes_are = refl; ends = refl },
+        ),
         (refl, for_good final 33 (0xFF ∷ 0xD9 ∷ []) (Eoi 33) (at_eoi final 33 0 [] refl)),
       ),
     )

@@ -21,7 +21,8 @@ cut_so closed last (by_input count) rest each piece h = (
 cut_so closed last by_marker rest each piece h = (
   at_marker h.fill h.code h.following,
   record {
-    whole = let is : rest ≡ fill_bytes h.fill ++ (0xFF ∷ h.code ∷ h.following) = h.bytes_are in rw is (simp (append_assoc, append-nil) refl);
+    whole = let is : rest ≡ fill_bytes h.fill ++ (0xFF ∷ h.code ∷ h.following) = h.bytes_are in
+        rw is (simp (append_assoc, append-nil) refl);
     each = each;
     last = piece;
     end = h.ends;

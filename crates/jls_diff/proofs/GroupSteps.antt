@@ -43,44 +43,46 @@ place_is_before : (ps : List Part) (count place : ℕ) (end : Option Border) →
 place_is_before ps count place None l h = tt
 place_is_before ps count place (Some border) l h = let e = h.1 in omega (arith, l, e)
 
-module _ (ps : List Part) (count : ℕ) (found : Found) (end : Option Border) (is : IsFound ps count found) (is_end : IsEnd ps count end) where
-  abbrev The : Group
-  The = record { head = found.head; begin = found.begin; end = end }
+module _ (ps : List Part) (count : ℕ) (found : Found) (end : Option Border) (is : IsFound ps count found) (is_end : IsEnd ps count end)
+  where
+    abbrev The : Group
+    The = record { head = found.head; begin = found.begin; end = end }
 
-  the_group : IsGroup ps The × (The.head ≡ found.head)
-  the_group = ((is.begin, is.head, end_is_later ps count found.begin.part end is.following is_end), refl)
+    the_group : IsGroup ps The × (The.head ≡ found.head)
+    the_group = ((is.begin, is.head, end_is_later ps count found.begin.part end is.following is_end), refl)
 
-  groups_if : (was_open : Bool) → AllByRecursion (λ (group : Group). IsGroup ps group × (group.head ≡ found.head))
-      (if was_open then found.groups.items ++ The ∷ [] else found.groups.items)
-  groups_if true = all_more (λ (group : Group). IsGroup ps group × (group.head ≡ found.head)) found.groups.items The is.groups the_group
-  groups_if false = is.groups
+    groups_if : (was_open : Bool) → AllByRecursion (λ (group : Group). IsGroup ps group × (group.head ≡ found.head))
+        (if was_open then found.groups.items ++ The ∷ [] else found.groups.items)
+    groups_if true = all_more (λ (group : Group). IsGroup ps group × (group.head ≡ found.head)) found.groups.items The is.groups the_group
+    groups_if false = is.groups
 
-  in_more : (place : ℕ) → IsInSome found.groups.items place → IsInSome (found.groups.items ++ The ∷ []) place
-  in_more place (group, among, inside) = (group, Contains-append_left found.groups.items (The ∷ []) group among, inside)
+    in_more : (place : ℕ) → IsInSome found.groups.items place → IsInSome (found.groups.items ++ The ∷ []) place
+    in_more place (group, among, inside) = (group, Contains-append_left found.groups.items (The ∷ []) group among, inside)
 
-  in_the_group : (place : ℕ) → place < count → found.begin.part < place → IsInSome (found.groups.items ++ The ∷ []) place
-  in_the_group place l following = (
-    The,
-    Contains-append_right found.groups.items (The ∷ []) The (0, omega arith, refl),
-    inr (following, place_is_before ps count place end l is_end),
-  )
+    in_the_group : (place : ℕ) → place < count → found.begin.part < place → IsInSome (found.groups.items ++ The ∷ []) place
+    in_the_group place l following = (
+      The,
+      Contains-append_right found.groups.items (The ∷ []) The (0, omega arith, refl),
+      inr (following, place_is_before ps count place end l is_end),
+    )
 
-  -- what is covered stands in the head or in one of the groups then
-  covered_if : (was_open : Bool) (place : ℕ) → place < count
-      → (place < found.head) ⊎ (IsInSome found.groups.items place ⊎ ((was_open ≡ true) × (found.begin.part < place)))
-      → (place < found.head) ⊎ IsInSome (if was_open then found.groups.items ++ The ∷ [] else found.groups.items) place
-  covered_if true place l (inl h) = inl h
-  covered_if true place l (inr (inl h)) = inr (in_more place h)
-  covered_if true place l (inr (inr h)) = inr (in_the_group place l h.1)
-  covered_if false place l (inl h) = inl h
-  covered_if false place l (inr (inl h)) = inr h
-  covered_if false place l (inr (inr h)) = let e : false ≡ true = h.0 in absurd cc
+    -- what is covered stands in the head or in one of the groups then
+    covered_if : (was_open : Bool) (place : ℕ) → place < count
+        → (place < found.head) ⊎ (IsInSome found.groups.items place ⊎ ((was_open ≡ true) × (found.begin.part < place)))
+        → (place < found.head) ⊎ IsInSome (if was_open then found.groups.items ++ The ∷ [] else found.groups.items) place
+    covered_if true place l (inl h) = inl h
+    covered_if true place l (inr (inl h)) = inr (in_more place h)
+    covered_if true place l (inr (inr h)) = inr (in_the_group place l h.1)
+    covered_if false place l (inl h) = inl h
+    covered_if false place l (inr (inl h)) = inr h
+    covered_if false place l (inr (inr h)) = let e : false ≡ true = h.0 in absurd cc
 
-  pub closed_groups_are : AllByRecursion (λ (group : Group). IsGroup ps group × (group.head ≡ found.head)) (closed_groups found end)
-  closed_groups_are = groups_if found.is_open
+    pub closed_groups_are : AllByRecursion (λ (group : Group). IsGroup ps group × (group.head ≡ found.head)) (closed_groups found end)
+    closed_groups_are = groups_if found.is_open
 
-  pub closed_groups_cover : (place : ℕ) → place < count → Differs (get_or ps place (Same [])) → (place < found.head) ⊎ IsInSome (closed_groups found end) place
-  closed_groups_cover place l differs = covered_if found.is_open place l (is.covered place l differs)
+    pub closed_groups_cover : (place : ℕ) → place < count → Differs (get_or ps place (Same [])) → (place < found.head)
+        ⊎ IsInSome (closed_groups found end) place
+    closed_groups_cover place l differs = covered_if found.is_open place l (is.covered place l differs)
 
 -- Steps ------------------------------------------------------------------------------------------------------------
 
@@ -101,7 +103,8 @@ module _ (ps : List Part) (count : ℕ) (found : Found) (is : IsFound ps count f
     ];
   })
 
-  not_here : (Differs (get_or ps count (Same [])) → ⊥) → (place : ℕ) → place < count + 1 → Differs (get_or ps place (Same [])) → place < count
+  not_here : (Differs (get_or ps count (Same [])) → ⊥) → (place : ℕ) → place < count + 1 → Differs (get_or ps place (Same [])) → place
+      < count
   not_here same place l differs =
       elim (last_or_before place count l) [
         | inl before ↦ before
@@ -119,7 +122,8 @@ module _ (ps : List Part) (count : ℕ) (found : Found) (is : IsFound ps count f
   }
 
   -- and with borders
-  pub pass_border : (Differs (get_or ps count (Same [])) → ⊥) → (closed after : Found) (end next : Border) → IsBorder ps end → IsBorder ps next
+  pub pass_border : (Differs (get_or ps count (Same [])) → ⊥) → (closed after : Found) (end next : Border) → IsBorder ps end
+      → IsBorder ps next
       → end.part ≡ count → next.part ≡ count → IsClosed found (Some end) closed → after ≡ record closed { begin = next }
       → IsFound ps (count + 1) after
   pass_border same closed after end next is_end is_next at_end at_next c e =
@@ -130,7 +134,8 @@ module _ (ps : List Part) (count : ℕ) (found : Found) (is : IsFound ps count f
         head = (let h = is.head in let b = is.following in let g : closed.head ≤ next.part = omega (arith, h, b, at_next, heads) in g);
         groups =
             subst (λ gs. AllByRecursion (λ (group : Group). IsGroup ps group × (group.head ≡ closed.head)) gs) (sym c.groups)
-            (subst (λ n. AllByRecursion (λ (group : Group). IsGroup ps group × (group.head ≡ n)) (closed_groups found (Some end))) (sym heads)
+            (subst (λ n. AllByRecursion (λ (group : Group). IsGroup ps group × (group.head ≡ n)) (closed_groups found (Some end)))
+            (sym heads)
             (closed_groups_are ps count found (Some end) is (is_end, at_end)));
         covered = λ place l differs.
             elim (closed_groups_cover ps count found (Some end) is (is_end, at_end) place (not_here same place l differs) differs) [
@@ -180,7 +185,8 @@ is_before ps first is place l differs =
 -- The end ----------------------------------------------------------------------------------------------------------
 
 -- what is in the head is in each group
-in_head : (ps : List Part) (head place : ℕ) (groups : List Group) → AllByRecursion (λ (group : Group). IsGroup ps group × (group.head ≡ head)) groups
+in_head : (ps : List Part) (head place : ℕ) (groups : List Group)
+    → AllByRecursion (λ (group : Group). IsGroup ps group × (group.head ≡ head)) groups
     → 0 < length groups → place < head → IsInSome groups place
 in_head ps head place [] h some l = absurd (omega (arith, some))
 in_head ps head place (group ∷ groups) h some l = (group, (0, omega arith, refl), inl (subst (λ n. place < n) (sym h.0.1) l))
@@ -191,7 +197,8 @@ module _ (ps : List Part) (found after : Found) (is : IsFound ps (length ps) fou
       (closed_groups_are ps (length ps) found None is tt)
 
   pub are_groups : AllByRecursion (IsGroup ps) after.groups.items
-  are_groups = all_of (λ (group : Group). IsGroup ps group × (group.head ≡ found.head)) (IsGroup ps) after.groups.items (λ group h. h.0) all_groups
+  are_groups = all_of (λ (group : Group). IsGroup ps group × (group.head ≡ found.head)) (IsGroup ps) after.groups.items (λ group h. h.0)
+      all_groups
 
   pub groups_cover : CoverParts ps after.groups.items
   groups_cover some place l differs =
@@ -207,16 +214,19 @@ closed_before found end e = record {
   head = refl;
   begin = refl;
   is_open = e;
-  groups = sym (ap (λ (was_open : Bool). if was_open then found.groups.items ++ (record { head = found.head; begin = found.begin; end = end }) ∷ [] else found.groups.items) e);
+  groups = sym (ap (λ (was_open : Bool). if was_open then found.groups.items
+      ++ (record { head = found.head; begin = found.begin; end = end }) ∷ [] else found.groups.items) e);
 }
 
 pub closed_now : (found after : Found) (end : Option Border) → found.is_open ≡ true → after.head ≡ found.head → after.begin ≡ found.begin
     → after.is_open ≡ false
-    → after.groups.items ≡ found.groups.items ++ (record { head = found.head; begin = found.begin; end = end }) ∷ [] → IsClosed found end after
+    → after.groups.items ≡ found.groups.items ++ (record { head = found.head; begin = found.begin; end = end }) ∷ []
+    → IsClosed found end after
 closed_now found after end e head_is begin_is over added = record {
   head = head_is;
   begin = begin_is;
   is_open = over;
   groups = added
-      ∙ sym (ap (λ (was_open : Bool). if was_open then found.groups.items ++ (record { head = found.head; begin = found.begin; end = end }) ∷ [] else found.groups.items) e);
+      ∙ sym (ap (λ (was_open : Bool). if was_open then found.groups.items ++ (record { head = found.head; begin = found.begin; end = end })
+      ∷ [] else found.groups.items) e);
 }

@@ -35,7 +35,13 @@ one_splice = (
   omega arith,
   9 ∷ 3 ∷ 4 ∷ 5 ∷ [],
   refl,
-  (1, omega arith, 3 ∷ 4 ∷ 5 ∷ [], refl, (0, omega arith, 4 ∷ 5 ∷ [], refl, (0, omega arith, 5 ∷ [], refl, (0, omega arith, [], refl, refl)))),
+  (
+    1,
+    omega arith,
+    3 ∷ 4 ∷ 5 ∷ [],
+    refl,
+    (0, omega arith, 4 ∷ 5 ∷ [], refl, (0, omega arith, 5 ∷ [], refl, (0, omega arith, [], refl, refl))),
+  ),
 )
 
 -- three copies, of which the third has other bytes and one more

@@ -26,7 +26,8 @@ listed count (Same b ∷ parts) bytes h (j, l, rest, e, more) =
 listed count (Differ ways ∷ parts) bytes h (j, l, rest, e, more) =
     let inside : j < length ways = subst (λ n. j < n) (sym h.0) l in
     subst (Contains (splices (Differ ways ∷ parts))) (sym e)
-    (in_flat_map (λ here. map (λ r. here ++ r) (splices parts)) ways (get_or ways j []) (get_or ways j [] ++ rest) (Contains-get_or ways j [] inside)
+    (in_flat_map (λ here. map (λ r. here ++ r) (splices parts)) ways (get_or ways j []) (get_or ways j [] ++ rest)
+    (Contains-get_or ways j [] inside)
     (in_map (λ r. get_or ways j [] ++ r) (splices parts) rest (listed count parts rest h.1 more)))
 
 of_listed : (count : ℕ) (parts : List Part) (bytes : List ℕ) → 0 < count → AllByRecursion (HasWays count) parts

@@ -30,8 +30,11 @@ module _ {K : Type 0} {R : K → K → Ordering} (total : IsTotalOrder R) (exact
 
   -- what a set holds are its items
   pub set_holds_items : (s : set.OrderedSet R) (k : K) → (set.contains s k ≡ true) ↔ Contains (set.items s) k
-  set_holds_items s k =
-      (λ h. item_of_any total exact (set.items s) k (sym (contains-items s k) ∙ h), λ c. contains-items s k ∙ any_of_item total exact (set.items s) k c)
+  set_holds_items s k = (
+    λ h. item_of_any total exact (set.items s) k (sym (contains-items s k) ∙ h),
+    λ c. contains-items s k
+        ∙ any_of_item total exact (set.items s) k c,
+  )
 
 pub made_holds : (rs : List Reading) (r : Reading) → (set.contains (set.insert_all {R = reading_cmp} set.empty rs) r ≡ true) ↔ Contains rs r
 made_holds = set_of_list_holds reading_total reading_exact

@@ -219,7 +219,8 @@ not_at_input _ _ (refused _ _ n f reads h) (id, line, disputed, e) = cc
 not_at_input _ _ (other_shape _ _ n g events taken other) (id, line, disputed, e) = cc
 not_at_input _ _ (no_memory _ _ n g events taken same) (id, line, disputed, e) = cc
 
-not_at_output : (name bytes : List ℕ) (r : Refusal) (events : List Event) → output.StopsAtOutput name bytes r events → IsUnsettledRefusal r → ⊥
+not_at_output : (name bytes : List ℕ) (r : Refusal) (events : List Event) → output.StopsAtOutput name bytes r events → IsUnsettledRefusal r
+    → ⊥
 unfolding IsUnsettledRefusal
 not_at_output _ _ _ _ (output.not_there named is) (id, line, disputed, e) = cc
 not_at_output _ _ _ _ (output.cut count writes named is wrote) (id, line, disputed, e) = cc

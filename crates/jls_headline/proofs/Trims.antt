@@ -105,7 +105,8 @@ module _ (p : CodingParameters) (ok : AreCodingParameters p) (w c n : ℕ) (some
       let parts = code_parts p w c first back in
       let bits_are : code p w c xs ++ (f.unread ++ more) ≡ code p w c first ++ parts.0 = sym (append_assoc (code p w c xs) f.unread more)
       ∙ ap (λ v. v ++ more) (sym f.given_is) ∙ a.code_is ∙ ap (code p w c) parted ∙ parts.1 in
-      let wide : AreLines p w (length xs) first = subst (λ k. AreLines p w k first) count (prefix_lines p w n a.lines first back a.are_lines parted) in
+      let wide : AreLines p w (length xs) first =
+      subst (λ k. AreLines p w k first) count (prefix_lines p w n a.lines first back a.are_lines parted) in
       let same = codes_apart p w c (length xs) ok some xs first (f.unread ++ more) parts.0
       (prefix_lines p w n b.lines xs f.others b.are_lines f.lines_are) wide bits_are in
       record { others = back; lines_are = parted ∙ ap (λ v. v ++ back) (sym same.0); unread = f.unread; given_is = f.given_is }

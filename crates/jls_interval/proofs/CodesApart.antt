@@ -25,7 +25,8 @@ lines_append p (y ∷ ys) x h j = (h.0, lines_append p ys x h.1 j)
 
 grown_samples : (p : CodingParameters) (w : ℕ) (lines : List (List ℕ)) (line : List ℕ) (earlier : List Event)
     → AllByRecursion (λ l. Small p l) lines → Small p line → HasSamples p (grown w lines line earlier)
-grown_samples p w lines line earlier h j = elim (cases_Bool (eqb (length line) w)) [ inl e ↦ rw e (lines_append p lines line h j, tt) | inr e ↦ rw e (h, j) ]
+grown_samples p w lines line earlier h j =
+    elim (cases_Bool (eqb (length line) w)) [ inl e ↦ rw e (lines_append p lines line h j, tt) | inr e ↦ rw e (h, j) ]
 
 pub a_small : (p : CodingParameters) (w : ℕ) (up : Above) (line : List ℕ) (x : ℕ) → Small p up.line_above → Small p line
     → (neighbours w up line x).ra ≤ p.maxval
@@ -36,15 +37,18 @@ module _ (p : CodingParameters) (w c n : ℕ) where
   pub kept : IsKept (interval_steps p w c n)
   kept s e sound next =
       let up = above c s.lines in let v = (here w c s).ra in
-      let small = added_small p w (length s.lines % c) up s.line e (a_small p w up s.line (length s.line) (small_back p s.lines c sound.0) sound.1) next.1 in
-      grown_samples p w s.lines (s.line ++ added v e) (s.earlier ++ e ∷ []) sound.0 (all_append (λ x. x ≤ p.maxval) s.line (added v e) sound.1 small)
+      let small = added_small p w (length s.lines % c) up s.line e
+      (a_small p w up s.line (length s.line) (small_back p s.lines c sound.0) sound.1) next.1 in
+      grown_samples p w s.lines (s.line ++ added v e) (s.earlier ++ e ∷ []) sound.0
+      (all_append (λ x. x ≤ p.maxval) s.line (added v e) sound.1 small)
 
   bits_is : (es : List Event) (s : Position) → bits_of_steps (interval_steps p w c n) s es ≡ bits_of_events p s.earlier es
   unfolding bits_of_events
   bits_is [] s = refl
   bits_is (e ∷ es) s =
       let r = bits_is es (moved w c s e) in
-      ap (λ z. event_bits p s.earlier e ++ z) (r ∙ ap (λ z. bits_of_events p z es) (grown_earlier w s.lines (s.line ++ added (here w c s).ra e) (s.earlier ++ e ∷ [])))
+      ap (λ z. event_bits p s.earlier e ++ z)
+      (r ∙ ap (λ z. bits_of_events p z es) (grown_earlier w s.lines (s.line ++ added (here w c s).ra e) (s.earlier ++ e ∷ [])))
 
   pub code_is : (lines : List (List ℕ)) → code p w c lines ≡ bits_of_steps (interval_steps p w c n) start (events w c lines)
   unfolding code
@@ -58,7 +62,9 @@ pub codes_apart : (p : CodingParameters) (w c n : ℕ) → AreCodingParameters p
     → code p w c xs ++ s ≡ code p w c ys ++ t → (xs ≡ ys) × (s ≡ t)
 codes_apart p w c n ok some xs ys s t a b e =
     let free = events_apart p w c n ok in
-    let r = one_code (interval_steps p w c n) free (kept p w c n) start (finish w c xs) (finish w c ys) (events w c xs) (events w c ys) s t (tt, tt) (lines_grow p w c n some xs a) (lines_grow p w c n some ys b) (finished p w c n xs a.count_is) (finished p w c n ys b.count_is) (ap (λ z. z ++ s) (sym (code_is p w c n xs)) ∙ e ∙ ap (λ z. z ++ t) (code_is p w c n ys)) in
+    let r = one_code (interval_steps p w c n) free (kept p w c n) start (finish w c xs) (finish w c ys) (events w c xs) (events w c ys) s t
+    (tt, tt) (lines_grow p w c n some xs a) (lines_grow p w c n some ys b) (finished p w c n xs a.count_is)
+    (finished p w c n ys b.count_is) (ap (λ z. z ++ s) (sym (code_is p w c n xs)) ∙ e ∙ ap (λ z. z ++ t) (code_is p w c n ys)) in
     (same_lines r.0, r.1)
   where
     -- the events lead to one place
@@ -68,4 +74,7 @@ codes_apart p w c n ok some xs ys s t a b e =
 
     same_lines : events w c xs ≡ events w c ys → xs ≡ ys
     same_lines h =
-        ap (λ (z : Position). z.lines) (one_place (events w c ys) start (finish w c xs) (finish w c ys) (subst (λ z. Leads (interval_steps p w c n) start z (finish w c xs)) h (lines_grow p w c n some xs a)) (lines_grow p w c n some ys b))
+        ap (λ (z : Position). z.lines)
+        (one_place (events w c ys) start (finish w c xs) (finish w c ys)
+        (subst (λ z. Leads (interval_steps p w c n) start z (finish w c xs)) h (lines_grow p w c n some xs a))
+        (lines_grow p w c n some ys b))

@@ -34,16 +34,65 @@ cut_steps : (m : StepwiseCode) (s y : m.State) (fs : List m.Event) (given : List
     → given ++ b ∷ more ≡ bits_of_steps m s fs → CutSteps m s given
 cut_steps m s y [] given b more l e = absurd (nothing_is given b more e)
 cut_steps m s y (f ∷ fs) given b more l e =
-    elim (one_begins given (b ∷ more) (m.step_bits s f) (bits_of_steps m (m.after s f) fs) e) [ inl q ↦ (let r = cut_steps m (m.after s f) y fs q.0 b more l.1 q.2 in record { whole = f ∷ r.whole; state = r.state; leads = (l.0, r.leads); cut = r.cut; next = r.next; begun = r.begun; given_is = q.1 ∙ ap (λ v. m.step_bits s f ++ v) r.given_is ∙ sym (append_assoc (m.step_bits s f) (bits_of_steps m (m.after s f) r.whole) r.begun); missing = r.missing; more_missing = r.more_missing; bits_are = r.bits_are }) | inr q ↦ record { whole = []; state = s; leads = refl; cut = f; next = l.0; begun = given; given_is = refl; missing = q.1; more_missing = q.0; bits_are = q.2 } ]
+    elim (one_begins given (b ∷ more) (m.step_bits s f) (bits_of_steps m (m.after s f) fs) e) [
+      | inl q ↦ (let r = cut_steps m (m.after s f) y fs q.0 b more l.1 q.2 in
+          record {
+            whole = f ∷ r.whole;
+            state = r.state;
+            leads = (l.0, r.leads);
+            cut = r.cut;
+            next = r.next;
+            begun = r.begun;
+            given_is = q.1
+                ∙ ap (λ v. m.step_bits s f ++ v) r.given_is
+                ∙ sym (append_assoc (m.step_bits s f) (bits_of_steps m (m.after s f) r.whole) r.begun);
+            missing = r.missing;
+            more_missing = r.more_missing;
+            bits_are = r.bits_are;
+          })
+      | inr q ↦
+          record {
+            whole = [];
+            state = s;
+            leads = refl;
+            cut = f;
+            next = l.0;
+            begun = given;
+            given_is = refl;
+            missing = q.1;
+            more_missing = q.0;
+            bits_are = q.2;
+          }
+    ]
 
 module _ (p : CodingParameters) (w c n : ℕ) (some : 0 < w) (given : List Bool) where
   pub cut_code_cuts : IsCutCode (interval_shape p w c n) given → IsCutEvent (interval_shape p w c n) given
   cut_code_cuts h =
-      let r = cut_steps (interval_steps p w c n) start (finish w c h.lines) (events w c h.lines) given h.missing h.more_missing (lines_grow p w c n some h.lines h.are_lines) (h.code_is ∙ code_is p w c n h.lines) in
-      record { whole = r.whole; position = r.state; leads = r.leads; cut = r.cut; is_next = r.next; begun = r.begun; given_is = r.given_is; missing = r.missing; more_missing = r.more_missing; bits_are = r.bits_are }
+      let r = cut_steps (interval_steps p w c n) start (finish w c h.lines) (events w c h.lines) given h.missing h.more_missing
+      (lines_grow p w c n some h.lines h.are_lines) (h.code_is ∙ code_is p w c n h.lines) in
+      record {
+        whole = r.whole;
+        position = r.state;
+        leads = r.leads;
+        cut = r.cut;
+        is_next = r.next;
+        begun = r.begun;
+        given_is = r.given_is;
+        missing = r.missing;
+        more_missing = r.more_missing;
+        bits_are = r.bits_are;
+      }
 
   pub cut_event_cuts : IsCutEvent (interval_shape p w c n) given → IsCutCode (interval_shape p w c n) given
   cut_event_cuts h =
       let any : 0 < n = (let q = h.is_next.0 in omega arith) in
-      let r = cut_converse p w c n some (bits_of_steps (interval_steps p w c n) start h.whole ++ h.begun) h.position h.begun any (decoded_from p w c n some h.whole h.begun h.position h.leads) h.cut h.missing h.more_missing h.is_next h.bits_are in
-      record { lines = r.0; are_lines = r.2; missing = h.missing; more_missing = r.1; code_is = ap (λ v. v ++ h.missing ∷ r.1) h.given_is ∙ r.3 }
+      let r = cut_converse p w c n some (bits_of_steps (interval_steps p w c n) start h.whole ++ h.begun) h.position h.begun any
+      (decoded_from p w c n some h.whole h.begun h.position h.leads) h.cut h.missing h.more_missing h.is_next h.bits_are in
+      record {
+        lines = r.0;
+        are_lines = r.2;
+        missing = h.missing;
+        more_missing = r.1;
+        code_is = ap (λ v. v ++ h.missing ∷ r.1) h.given_is
+            ∙ r.3;
+      }

@@ -27,7 +27,9 @@ use Rattle.jls_interval.proofs.RunEvents.{run_alone, run_broken, run_fits}
 use Rattle.jls_interval.proofs.AfterEvents.{sample_bits}
 use Rattle.jls_interval.proofs.OpenEventBits.{broken_with}
 
-module _ (p : CodingParameters) (ok : AreCodingParameters p) (w k : ℕ) (up : Above) (above_small : AllByRecursion (λ s. s ≤ p.maxval) up.line_above) (line : List ℕ) (short : length line < w) (cells : Variables) (ri : List ℕ) (earlier : List Event) (t : IsAfter p cells ri earlier) where
+module _ (p : CodingParameters) (ok : AreCodingParameters p) (w k : ℕ) (up : Above)
+    (above_small : AllByRecursion (λ s. s ≤ p.maxval) up.line_above) (line : List ℕ) (short : length line < w) (cells : Variables)
+    (ri : List ℕ) (earlier : List Event) (t : IsAfter p cells ri earlier) where
   abbrev near : Neighbours
   near = now_at w up line
 
@@ -55,7 +57,12 @@ module _ (p : CodingParameters) (ok : AreCodingParameters p) (w k : ℕ) (up : A
   sample_begins mode fed b = record {
     event = regular near b.sample;
     fits = (mode, refl, b.at_most);
-    cut = record { missing = b.cut.missing; more_missing = b.cut.more_missing; whole_is = sample_bits p cells ri earlier t near b.sample ∙ b.cut.whole_is };
+    cut = record {
+      missing = b.cut.missing;
+      more_missing = b.cut.more_missing;
+      whole_is = sample_bits p cells ri earlier t near b.sample
+          ∙ b.cut.whole_is;
+    };
   }
 
   module _ (run : is_run_mode near ≡ true) where
@@ -67,16 +74,20 @@ module _ (p : CodingParameters) (ok : AreCodingParameters p) (w k : ℕ) (up : A
 
     -- a run with a sample after it
     with_sample : (count : ℕ) → count < w0 → (s : ℕ) → s ≤ p.maxval → (s ≡ (there count).ra → ⊥) → (fed : List Bool)
-        → IsProperPrefix fed (interrupted_run_bits (blocks r count) (interrupting_bits p (cell count) (there count) (run_order (blocks r count).run_index) s))
+        → IsProperPrefix fed (interrupted_run_bits (blocks r count)
+        (interrupting_bits p (cell count) (there count) (run_order (blocks r count).run_index) s))
         → BeginsEvent p w k up line fed earlier
     with_sample count l s small other fed cut =
         let j = run_order (blocks r count).run_index in let sample = interrupting_bits p (cell count) (there count) j s in
         let given = interrupted_run_bits (blocks r count) (sample ++ []) in
-        let is = run_broken p (wide p ok) w k up above_small line earlier r (t.run_indices_are k) w0 w0_is given run count l (sample ++ []) refl (cell count) refl j refl s [] refl in
-        let whole : event_bits p earlier (interrupted_run k count (there count) s) ≡ interrupted_run_bits (blocks r count) sample = sym (append-nil _) ∙ sym is ∙ ap (interrupted_run_bits (blocks r count)) (append-nil sample) in
+        let is = run_broken p (wide p ok) w k up above_small line earlier r (t.run_indices_are k) w0 w0_is given run count l (sample ++ [])
+        refl (cell count) refl j refl s [] refl in
+        let whole : event_bits p earlier (interrupted_run k count (there count) s) ≡ interrupted_run_bits (blocks r count) sample =
+        sym (append-nil _) ∙ sym is ∙ ap (interrupted_run_bits (blocks r count)) (append-nil sample) in
         record {
           event = interrupted_run k count (there count) s;
-          fits = run_fits p (wide p ok) w k up above_small line earlier r (t.run_indices_are k) w0 w0_is given run count l (sample ++ []) refl (cell count) refl j refl s small other;
+          fits = run_fits p (wide p ok) w k up above_small line earlier r (t.run_indices_are k) w0 w0_is given run count l (sample ++ [])
+              refl (cell count) refl j refl s small other;
           cut = record { missing = cut.missing; more_missing = cut.more_missing; whole_is = whole ∙ cut.whole_is };
         }
 
@@ -88,7 +99,8 @@ module _ (p : CodingParameters) (ok : AreCodingParameters p) (w k : ℕ) (up : A
     pub run_begins : (fed : List Bool) → BeginsRun r w0 fed → BeginsEvent p w k up line fed earlier
     run_begins fed b =
         let s = another (there b.count).ra in
-        with_sample b.count b.short s.0 s.1 s.2 fed (b.cut (interrupting_bits p (cell b.count) (there b.count) (run_order (blocks r b.count).run_index) s.0))
+        with_sample b.count b.short s.0 s.1 s.2 fed
+        (b.cut (interrupting_bits p (cell b.count) (there b.count) (run_order (blocks r b.count).run_index) s.0))
 
     module _ (count rx : ℕ) (fed code : List Bool) (h : RunIs r w0 fed code (Interrupted count rx)) where
       order_is : run_order rx ≡ run_order (blocks r count).run_index
@@ -101,14 +113,21 @@ module _ (p : CodingParameters) (ok : AreCodingParameters p) (w k : ℕ) (up : A
           → BeginsEvent p w k up line fed earlier
       interruption_begins b =
           let sample = interrupting_bits p (cell count) (there count) (run_order (blocks r count).run_index) b.sample in
-          let same : sample ≡ code ++ b.cut.missing ∷ b.cut.more_missing = ap (λ z. interrupting_bits p (cell count) (there count) z b.sample) (sym order_is) ∙ ap (λ (z : RunCell). interrupting_bits p z (there count) (run_order rx) b.sample) (sym cell_is) ∙ b.cut.whole_is in
+          let same : sample ≡ code ++ b.cut.missing ∷ b.cut.more_missing =
+          ap (λ z. interrupting_bits p (cell count) (there count) z b.sample) (sym order_is)
+          ∙ ap (λ (z : RunCell). interrupting_bits p z (there count) (run_order rx) b.sample) (sym cell_is) ∙ b.cut.whole_is in
           with_sample count h.0 b.sample b.at_most b.another fed (record {
             missing = b.cut.missing;
             more_missing = b.cut.more_missing;
-            whole_is = ap (interrupted_run_bits (blocks r count)) same ∙ sym (broken_with (blocks r count) code (b.cut.missing ∷ b.cut.more_missing)) ∙ ap (λ z. z ++ b.cut.missing ∷ b.cut.more_missing) (sym h.1);
+            whole_is = ap (interrupted_run_bits (blocks r count)) same
+                ∙ sym (broken_with (blocks r count) code (b.cut.missing ∷ b.cut.more_missing))
+                ∙ ap (λ z. z ++ b.cut.missing ∷ b.cut.more_missing) (sym h.1);
           })
 
-      pub interruption_missing : ((more : List Bool) → NoInterruption p (run_cell_at cells (is_same (there count))) (there count) (run_order rx) (code ++ more))
+      pub interruption_missing : ((more : List Bool)
+          → NoInterruption p (run_cell_at cells (is_same (there count))) (there count) (run_order rx) (code ++ more))
           → (more : List Bool) → NoEvent p w k up line (fed ++ more) earlier
       interruption_missing none more =
-          run_alone p (wide p ok) w k up above_small line earlier r (t.run_indices_are k) w0 w0_is (fed ++ more) run count h.0 (code ++ more) (ap (λ z. z ++ more) h.1 ∙ broken_with (blocks r count) code more) (run_cell_at cells (is_same (there count))) cell_is (run_order rx) order_is (none more)
+          run_alone p (wide p ok) w k up above_small line earlier r (t.run_indices_are k) w0 w0_is (fed ++ more) run count h.0
+          (code ++ more) (ap (λ z. z ++ more) h.1 ∙ broken_with (blocks r count) code more) (run_cell_at cells (is_same (there count)))
+          cell_is (run_order rx) order_is (none more)

@@ -31,7 +31,8 @@ module _ (r0 w0 : ℕ) (fed : List Bool) (r w : ℕ) where
         cut = λ sample. record {
           missing = b;
           more_missing = more ++ sample;
-          whole_is = sym (broken_with (blocks r0 (w0 - w + n)) [] sample) ∙ ap (λ z. z ++ sample) (sym c.1) ∙ append_assoc fed (b ∷ more) sample;
+          whole_is = sym (broken_with (blocks r0 (w0 - w + n)) [] sample) ∙ ap (λ z. z ++ sample) (sym c.1)
+              ∙ append_assoc fed (b ∷ more) sample;
         };
       }
 
@@ -47,9 +48,12 @@ module _ (r0 w0 : ℕ) (fed : List Bool) (r w : ℕ) where
         let whole : have + d ≡ run_order r = omega arith in
         let fits : n < 2 ^ run_order r = subst (λ z. n < 2 ^ z) whole (shl_below x have d i.5) in
         let first : bits d n ≡ eqb (n / 2 ^ (d - 1) % 2) 1 ∷ bits (d - 1) n = bits_more d n (omega arith) in
-        let parts : bits have x ++ bits d n ≡ bits (run_order r) n = ap (λ v. bits have v ++ bits d n) (sym (shl-shr x d)) ∙ sym (bits_split have d n) ∙ ap (λ z. bits z n) whole in
+        let parts : bits have x ++ bits d n ≡ bits (run_order r) n = ap (λ v. bits have v ++ bits d n) (sym (shl-shr x d))
+        ∙ sym (bits_split have d n) ∙ ap (λ z. bits z n) whole in
         let after = taken_with r0 w0 fed r w (false ∷ bits have x) t (bits d n) in
-        goes_on n (eqb (n / 2 ^ (d - 1) % 2) 1) (bits (d - 1) n) (subst (λ z. Taken r0 w0 (fed ++ z) r w (false ∷ bits (run_order r) n)) first (subst (λ z. Taken r0 w0 (fed ++ bits d n) r w (false ∷ z)) parts after)) fits i.2 l
+        goes_on n (eqb (n / 2 ^ (d - 1) % 2) 1) (bits (d - 1) n)
+        (subst (λ z. Taken r0 w0 (fed ++ z) r w (false ∷ bits (run_order r) n)) first
+        (subst (λ z. Taken r0 w0 (fed ++ bits d n) r w (false ∷ z)) parts after)) fits i.2 l
 
 regroup : (x y : ℕ) → x * (2 * y) ≡ 2 * x * y
 regroup x y = omega arith
@@ -68,13 +72,15 @@ count_too_long zero r0 w0 fed r w have x whole most small some within fits long 
     let e : have ≡ run_order r = omega arith in counted_long r0 w0 fed r w have x t e fits some (omega arith) more
 count_too_long (suc d) r0 w0 fed r w have x whole most small some within fits long t [] =
     let j = j_small r in
-    subst (NoRun r0 w0) (sym (append-nil fed)) (no_whole r0 w0 fed (Count r w have x) (small, some, within, omega arith, omega arith, fits) t)
+    subst (NoRun r0 w0) (sym (append-nil fed))
+    (no_whole r0 w0 fed (Count r w have x) (small, some, within, omega arith, omega arith, fits) t)
 count_too_long (suc d) r0 w0 fed r w have x whole most small some within fits long t (b ∷ more) =
     let j = j_small r in let n = digit_taken r0 w0 fed r w have x t b fits in
     let double : x * 2 ^ suc d ≡ 2 * x * 2 ^ d = twice x d in
     let grows : 2 * x * 2 ^ d ≤ (2 * x + bool_byte b) * 2 ^ d = more_times (2 * x) (bool_byte b) (2 ^ d) in
     subst (NoRun r0 w0) (append_assoc fed (b ∷ []) more)
-    (count_too_long d r0 w0 (fed ++ b ∷ []) r w (have + 1) (2 * x + bool_byte b) (omega arith) (omega arith) small some within n.1 (omega (arith, double, grows)) n.0 more)
+    (count_too_long d r0 w0 (fed ++ b ∷ []) r w (have + 1) (2 * x + bool_byte b) (omega arith) (omega arith) small some within n.1
+    (omega (arith, double, grows)) n.0 more)
 
 -- by the state of the run
 abbrev pub Continues : RunState → Type 0

@@ -32,7 +32,8 @@ module _ (k g q : ℕ) (room : q + 2 ≤ g) (code : CodeState) (open_yet : IsOpe
   proper m has b = parts b.rest b.code
     where
       parts : (rest : List Bool) → golomb k g q m ≡ fed ++ rest → IsProperPrefix fed (golomb k g q m)
-      parts [] e = absurd (none_whole k g q room fed (begins k g q room code open_yet) m [] has (sym (append-nil fed) ∙ sym e ∙ sym (append-nil (golomb k g q m))))
+      parts [] e = absurd (none_whole k g q room fed (begins k g q room code open_yet) m [] has
+          (sym (append-nil fed) ∙ sym e ∙ sym (append-nil (golomb k g q m))))
       parts (x ∷ xs) e = record { missing = x; more_missing = xs; whole_is = e }
 
   -- a code at whose start they stand
@@ -53,7 +54,8 @@ module _ (k g q : ℕ) (fed : List Bool) (Missing : List Bool → Type 0) where
   tried_none m l = absurd (omega arith)
 
   pub tried_more : (i : ℕ) → Tried k g q fed Missing i
-      → (BeginsCodeOf k g q fed i → (given unread : List Bool) → given ≡ golomb k g q i ++ unread → Missing given) → Tried k g q fed Missing (i + 1)
+      → (BeginsCodeOf k g q fed i → (given unread : List Bool) → given ≡ golomb k g q i ++ unread → Missing given)
+      → Tried k g q fed Missing (i + 1)
   tried_more i t now m l = elim (cases_lt m i) [
     | inl below ↦ t m below
     | inr above ↦ (let e : i ≡ m = omega arith in
@@ -65,14 +67,16 @@ module _ (p : CodingParameters) (ok : AreCodingParameters p) where
   pub sample_small : (cell : Cell) (near : Neighbours) (s : ℕ) → regular_mapped cell (regular_error p cell near s) ≤ 2 ^ qbpp p
   sample_small cell near s =
       let w = wide p ok in
-      let m = error_mapped_at_most p (uses_special_mapping cell) (regular_error p cell near s) (error_range p (is_negative p near) s (regular_prediction p cell near)) in
+      let m = error_mapped_at_most p (uses_special_mapping cell) (regular_error p cell near s)
+      (error_range p (is_negative p near) s (regular_prediction p cell near)) in
       omega (arith, w, m)
 
   pub interruption_small : (cell : RunCell) (near : Neighbours) (s : ℕ)
       → interruption_mapped (is_same near) cell (interruption_error p near s) ≤ 2 ^ qbpp p
   interruption_small cell near s =
       let w = wide p ok in
-      let m = interruption_mapped_at_most p (is_same near) cell (interruption_error p near s) (error_range p (ltb near.rb near.ra) s near.rb) in
+      let m = interruption_mapped_at_most p (is_same near) cell (interruption_error p near s)
+      (error_range p (ltb near.rb near.ra) s near.rb) in
       omega (arith, w, m)
 
   pub room_of : qbpp p + 2 ≤ limit p
@@ -86,15 +90,18 @@ module _ (p : CodingParameters) (ok : AreCodingParameters p) where
   no_sample cell near code o i all t more s rest l e =
       let m = regular_mapped cell (regular_error p cell near s) in let small = sample_small cell near s in
       let has = small_has_code (regular_k cell) (limit p) (qbpp p) m room_of small in
-      t m (omega arith) (begun (regular_k cell) (limit p) (qbpp p) room_of code o m more rest has e) (bits_fed (limit p) (qbpp p) code ++ more) rest e s rest l e
+      t m (omega arith) (begun (regular_k cell) (limit p) (qbpp p) room_of code o m more rest has e)
+      (bits_fed (limit p) (qbpp p) code ++ more) rest e s rest l e
 
   pub no_interruption : (cell : RunCell) (near : Neighbours) (j : ℕ) → j ≤ 15 → (code : CodeState)
       → IsOpen (run_k (is_same near) cell) (limit p - j - 1) (qbpp p) code
       → (i : ℕ) → 2 ^ qbpp p < i
-      → Tried (run_k (is_same near) cell) (limit p - j - 1) (qbpp p) (bits_fed (limit p - j - 1) (qbpp p) code) (NoInterruption p cell near j) i
+      → Tried (run_k (is_same near) cell) (limit p - j - 1) (qbpp p) (bits_fed (limit p - j - 1) (qbpp p) code)
+      (NoInterruption p cell near j) i
       → (more : List Bool) → NoInterruption p cell near j (bits_fed (limit p - j - 1) (qbpp p) code ++ more)
   no_interruption cell near j few code o i all t more s rest l n e =
       let g = limit p - j - 1 in let k = run_k (is_same near) cell in
       let m = interruption_mapped (is_same near) cell (interruption_error p near s) in let small = interruption_small cell near s in
       let has = small_has_code k g (qbpp p) m (limit_room p j few) small in
-      t m (omega arith) (begun k g (qbpp p) (limit_room p j few) code o m more rest has e) (bits_fed g (qbpp p) code ++ more) rest e s rest l n e
+      t m (omega arith) (begun k g (qbpp p) (limit_room p j few) code o m more rest has e) (bits_fed g (qbpp p) code ++ more) rest e s rest
+      l n e

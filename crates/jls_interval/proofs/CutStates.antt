@@ -28,7 +28,11 @@ use Rattle.jls_interval.proofs.IntervalReading.{items, working, in_range}
 module _ (p : CodingParameters) (ok : AreCodingParameters p) (w c n : ℕ) (some : 0 < w) (given : List Bool) where
   -- bits that begin no lines' code, whatever comes
   pub no_code_head : BeginsNoCode p w c n given → IsHead (interval_shape p w c n) given []
-  no_code_head no_code = inr (λ cut. no_code (cut.missing ∷ cut.more_missing) cut.lines [] cut.are_lines (cut.code_is ∙ sym (append-nil (code p w c cut.lines))), refl)
+  no_code_head no_code = inr (
+    λ cut. no_code (cut.missing ∷ cut.more_missing) cut.lines [] cut.are_lines
+        (cut.code_is ∙ sym (append-nil (code p w c cut.lines))),
+    refl,
+  )
 
   -- bits after the last line
   pub over_head : (lines : List (List ℕ)) (extra : ℕ) → IsComplete p w c n given lines extra → IsHead (interval_shape p w c n) given []
@@ -41,10 +45,13 @@ module _ (p : CodingParameters) (ok : AreCodingParameters p) (w c n : ℕ) (some
       not_cut : IsCutCode (interval_shape p w c n) given → ⊥
       not_cut cut =
           let more = cut.missing ∷ cut.more_missing in
-          let e : code p w c lines ++ (o.unread ++ more) ≡ code p w c cut.lines ++ [] = sym (append_assoc (code p w c lines) o.unread more) ∙ ap (λ z. z ++ more) (sym o.begins) ∙ cut.code_is ∙ sym (append-nil (code p w c cut.lines)) in
-          nothing_is o.unread cut.missing cut.more_missing (codes_apart p w c n ok some lines cut.lines (o.unread ++ more) [] o.are_lines cut.are_lines e).1
+          let e : code p w c lines ++ (o.unread ++ more) ≡ code p w c cut.lines ++ [] = sym (append_assoc (code p w c lines) o.unread more)
+          ∙ ap (λ z. z ++ more) (sym o.begins) ∙ cut.code_is ∙ sym (append-nil (code p w c cut.lines)) in
+          nothing_is o.unread cut.missing cut.more_missing
+          (codes_apart p w c n ok some lines cut.lines (o.unread ++ more) [] o.are_lines cut.are_lines e).1
 
-  module _ (lines : List (List ℕ)) (line : List ℕ) (cells : Variables) (run_indices : List ℕ) (open_event : OpenEvent) (h : IsWorking p w c n given lines line cells run_indices open_event) where
+  module _ (lines : List (List ℕ)) (line : List ℕ) (cells : Variables) (run_indices : List ℕ) (open_event : OpenEvent)
+      (h : IsWorking p w c n given lines line cells run_indices open_event) where
     pub cut_head : BeginsEvent p w (length lines % c) (above c lines) line h.fed h.earlier → IsHead (interval_shape p w c n) given lines
     cut_head b = head_is p w c some n given (record {
       whole = h.earlier;
@@ -62,7 +69,10 @@ module _ (p : CodingParameters) (ok : AreCodingParameters p) (w c n : ℕ) (some
     pub stuck_head : ((more : List Bool) → NoEvent p w (length lines % c) (above c lines) line (h.fed ++ more) h.earlier)
         → IsHead (interval_shape p w c n) given []
     stuck_head none =
-        no_code_head (subst (BeginsNoCode p w c n) (append-nil given) (working_refused p ok w c n some given lines line cells run_indices open_event h [] (λ more. subst (λ z. NoEvent p w (length lines % c) (above c lines) line (z ++ more) h.earlier) (sym (append-nil h.fed)) (none more))))
+        no_code_head (subst (BeginsNoCode p w c n) (append-nil given)
+        (working_refused p ok w c n some given lines line cells run_indices open_event h []
+        (λ more. subst (λ z. NoEvent p w (length lines % c) (above c lines) line (z ++ more) h.earlier) (sym (append-nil h.fed))
+        (none more))))
 
   -- where no lines are to come, or none can
   pub idle_head : (lines : List (List ℕ)) (line : List ℕ) (cells : Variables) (run_indices : List ℕ) (open_event : OpenEvent) (s : State)
@@ -93,7 +103,8 @@ module _ (p : CodingParameters) (d : IntervalReader) (given : List Bool) (h : Is
 
   pub reading_idle : (d.state ≡ Working → ⊥) → IsHead (interval_shape p w n d.count) given []
   reading_idle none =
-      idle_head p (subst AreCodingParameters h.parameters d.reader.coder.in_range) w n d.count h.width_at_least given lines line cells ri d.reader.open_event d.state none h.state_is
+      idle_head p (subst AreCodingParameters h.parameters d.reader.coder.in_range) w n d.count h.width_at_least given lines line cells ri
+      d.reader.open_event d.state none h.state_is
 
   module _ (is : d.state ≡ Working) (k : ℕ) (k_is : k ≡ length lines % n) (up : Above) (up_is : up ≡ above n lines) where
     -- what is answered of the event in hand, in a line of this component below these lines
@@ -104,18 +115,26 @@ module _ (p : CodingParameters) (d : IntervalReader) (given : List Bool) (h : Is
 
     abbrev No : CodingParameters → ℕ → Above → Type 0
     No q k up = (fed : List Bool) (earlier : List Event) → IsAfter q cells ri earlier
-        → OpenEventAt q w up line cells (get_or ri k 0) d.reader.open_event fed → (more : List Bool) → NoEvent q w k up line (fed ++ more) earlier
+        → OpenEventAt q w up line cells (get_or ri k 0) d.reader.open_event fed → (more : List Bool)
+        → NoEvent q w k up line (fed ++ more) earlier
 
     abbrev work : IsWorking p w n d.count given lines line cells ri d.reader.open_event
     work = working p d given h is
 
     pub reading_cut : Yes cells.parameters k up → IsHead (interval_shape p w n d.count) given lines
     reading_cut all =
-        let a : Yes p (length lines % n) (above n lines) = subst (λ q. Yes q (length lines % n) (above n lines)) h.parameters (subst (λ z. Yes cells.parameters z (above n lines)) k_is (subst (λ (z : Above). Yes cells.parameters k z) up_is all)) in
+        let a : Yes p (length lines % n) (above n lines) =
+        subst (λ q. Yes q (length lines % n) (above n lines)) h.parameters
+        (subst (λ z. Yes cells.parameters z (above n lines)) k_is (subst (λ (z : Above). Yes cells.parameters k z) up_is all)) in
         cut_head p (in_range p d given h is) w n d.count h.width_at_least given lines line cells ri d.reader.open_event work
-        (a work.fed work.earlier work.is_after (λ e fits. event_some p w n d.count (record { lines = lines; line = line; earlier = work.earlier }) e work.unfinished (work.few, fits)) work.open_event_at)
+        (a work.fed work.earlier work.is_after
+        (λ e fits. event_some p w n d.count (record { lines = lines; line = line; earlier = work.earlier }) e work.unfinished
+        (work.few, fits)) work.open_event_at)
 
     pub reading_stuck : No cells.parameters k up → IsHead (interval_shape p w n d.count) given []
     reading_stuck all =
-        let a : No p (length lines % n) (above n lines) = subst (λ q. No q (length lines % n) (above n lines)) h.parameters (subst (λ z. No cells.parameters z (above n lines)) k_is (subst (λ (z : Above). No cells.parameters k z) up_is all)) in
-        stuck_head p (in_range p d given h is) w n d.count h.width_at_least given lines line cells ri d.reader.open_event work (a work.fed work.earlier work.is_after work.open_event_at)
+        let a : No p (length lines % n) (above n lines) =
+        subst (λ q. No q (length lines % n) (above n lines)) h.parameters
+        (subst (λ z. No cells.parameters z (above n lines)) k_is (subst (λ (z : Above). No cells.parameters k z) up_is all)) in
+        stuck_head p (in_range p d given h is) w n d.count h.width_at_least given lines line cells ri d.reader.open_event work
+        (a work.fed work.earlier work.is_after work.open_event_at)

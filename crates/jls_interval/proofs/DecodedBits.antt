@@ -23,14 +23,20 @@ pub record Decoded (p : CodingParameters) (w c n : ℕ) (given : List Bool) (z :
 bits_more : (m : StepwiseCode) (s z : m.State) (es : List m.Event) (e : m.Event) → Leads m s es z
     → bits_of_steps m s (es ++ e ∷ []) ≡ bits_of_steps m s es ++ m.step_bits z e
 bits_more m s z [] e l = append-nil (m.step_bits s e) ∙ ap (λ v. m.step_bits v e) l
-bits_more m s z (f ∷ es) e l = ap (λ v. m.step_bits s f ++ v) (bits_more m (m.after s f) z es e l.1) ∙ sym (append_assoc (m.step_bits s f) (bits_of_steps m (m.after s f) es) (m.step_bits z e))
+bits_more m s z (f ∷ es) e l = ap (λ v. m.step_bits s f ++ v) (bits_more m (m.after s f) z es e l.1)
+    ∙ sym (append_assoc (m.step_bits s f) (bits_of_steps m (m.after s f) es) (m.step_bits z e))
 
 module _ (p : CodingParameters) (w c n : ℕ) (some : 0 < w) where
   pub moved_open : (z : Position) (e : Event) → length z.line < w → IsNext p w c n z e → length (moved w c z e).line < w
   moved_open z e o a =
       let line = z.line ++ added (here w c z).ra e in let es = z.earlier ++ e ∷ [] in
       let f = added_fits p w (length z.lines % c) (above c z.lines) z.line e o a.1 in
-      elim (cases_lt (length line) w) [ inl h ↦ subst (λ (v : Position). length v.line < w) (sym (grown_part p w c n some z.lines line es h)) h | inr h ↦ (let q : length line ≡ w = omega arith in subst (λ (v : Position). length v.line < w) (sym (grown_full p w c n some z.lines line es q)) some) ]
+      elim (cases_lt (length line) w) [
+        | inl h ↦ subst (λ (v : Position). length v.line < w) (sym (grown_part p w c n some z.lines line es h)) h
+        | inr h ↦
+            (let q : length line ≡ w = omega arith in
+            subst (λ (v : Position). length v.line < w) (sym (grown_full p w c n some z.lines line es q)) some)
+      ]
 
   -- an event that is read
   pub decoded_more : (given : List Bool) (z : Position) (left left' : List Bool) (e : Event) → Decoded p w c n given z left
@@ -40,7 +46,9 @@ module _ (p : CodingParameters) (w c n : ℕ) (some : 0 < w) where
       let m = interval_steps p w c n in let ge = grown_earlier w z.lines (z.line ++ added (here w c z).ra e) (z.earlier ++ e ∷ []) in
       record {
         leads = subst (λ v. Leads m start v (moved w c z e)) (sym ge) (leads_more m start z z.earlier e d.leads a);
-        bits_are = d.bits_are ∙ ap (λ v. bits_of_steps m start z.earlier ++ v) b ∙ sym (append_assoc (bits_of_steps m start z.earlier) (event_bits p z.earlier e) left') ∙ ap (λ v. v ++ left') (sym (bits_more m start z z.earlier e d.leads)) ∙ ap (λ v. bits_of_steps m start v ++ left') (sym ge);
+        bits_are = d.bits_are ∙ ap (λ v. bits_of_steps m start z.earlier ++ v) b
+            ∙ sym (append_assoc (bits_of_steps m start z.earlier) (event_bits p z.earlier e) left')
+            ∙ ap (λ v. v ++ left') (sym (bits_more m start z z.earlier e d.leads)) ∙ ap (λ v. bits_of_steps m start v ++ left') (sym ge);
         samples = kept p w c n z e d.samples a;
         unfinished = moved_open z e d.unfinished a;
       }
@@ -58,6 +66,10 @@ module _ (p : CodingParameters) (w c n : ℕ) (some : 0 < w) where
       let m = interval_steps p w c n in
       let over : IsEnd m z = λ e a. let l : length z.lines < n = a.0 in omega arith in
       let r = ends p w c n some z.earlier start z any some d.leads over in
-      let wide : AllByRecursion (λ l. length l ≡ w) z.lines = subst (λ v. AllByRecursion (λ l. length l ≡ w) v) (sym r.lines_are) (r.wide, r.others_wide) in
-      let es : z.earlier ≡ events w c z.lines = r.events_are ∙ ap (λ v. events w c v) (sym r.lines_are) in
-      (record { count_is = r.number; each = all_lines z.lines wide d.samples.0 }, d.bits_are ∙ ap (λ v. bits_of_steps m start v ++ left) es ∙ ap (λ v. v ++ left) (sym (code_is p w c n z.lines)))
+      let wide : AllByRecursion (λ l. length l ≡ w) z.lines =
+      subst (λ v. AllByRecursion (λ l. length l ≡ w) v) (sym r.lines_are) (r.wide, r.others_wide) in
+      let es : z.earlier ≡ events w c z.lines = r.events_are ∙ ap (λ v. events w c v) (sym r.lines_are) in (
+        record { count_is = r.number; each = all_lines z.lines wide d.samples.0 },
+        d.bits_are ∙ ap (λ v. bits_of_steps m start v ++ left) es
+            ∙ ap (λ v. v ++ left) (sym (code_is p w c n z.lines)),
+      )

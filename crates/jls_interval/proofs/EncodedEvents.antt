@@ -31,7 +31,10 @@ pub bits_append : (p : CodingParameters) (earlier xs ys : List Event)
 unfolding bits_of_events
 bits_append p earlier [] ys = ap (λ z. bits_of_events p z ys) (sym (append-nil earlier))
 bits_append p earlier (x ∷ xs) ys =
-    ap (λ z. event_bits p earlier x ++ z) (bits_append p (earlier ++ x ∷ []) xs ys ∙ ap (λ z. bits_of_events p (earlier ++ x ∷ []) xs ++ bits_of_events p z ys) (append_assoc earlier (x ∷ []) xs)) ∙ sym (append_assoc (event_bits p earlier x) (bits_of_events p (earlier ++ x ∷ []) xs) (bits_of_events p (earlier ++ x ∷ xs) ys))
+    ap (λ z. event_bits p earlier x ++ z)
+    (bits_append p (earlier ++ x ∷ []) xs ys
+    ∙ ap (λ z. bits_of_events p (earlier ++ x ∷ []) xs ++ bits_of_events p z ys) (append_assoc earlier (x ∷ []) xs))
+    ∙ sym (append_assoc (event_bits p earlier x) (bits_of_events p (earlier ++ x ∷ []) xs) (bits_of_events p (earlier ++ x ∷ xs) ys))
 
 pub bits_none : (p : CodingParameters) (earlier : List Event) → bits_of_events p earlier [] ≡ []
 unfolding bits_of_events
@@ -50,11 +53,16 @@ module _ (p : CodingParameters) where
 
   pub writes_then : (a b c : Written) (xs ys : List Event) → Writes p a b xs → Writes p b c ys → Writes p a c (xs ++ ys)
   writes_then a b c xs ys f g = record {
-    is_after = λ earlier h. subst (IsAfter p c.cells c.run_indices) (append_assoc earlier xs ys) (g.is_after (earlier ++ xs) (f.is_after earlier h));
-    bits_are = λ earlier h. g.bits_are (earlier ++ xs) (f.is_after earlier h) ∙ ap (λ z. z ++ bits_of_events p (earlier ++ xs) ys) (f.bits_are earlier h) ∙ append_assoc a.written (bits_of_events p earlier xs) (bits_of_events p (earlier ++ xs) ys) ∙ ap (λ z. a.written ++ z) (sym (bits_append p earlier xs ys));
+    is_after = λ earlier h. subst (IsAfter p c.cells c.run_indices) (append_assoc earlier xs ys)
+        (g.is_after (earlier ++ xs) (f.is_after earlier h));
+    bits_are = λ earlier h. g.bits_are (earlier ++ xs) (f.is_after earlier h)
+        ∙ ap (λ z. z ++ bits_of_events p (earlier ++ xs) ys) (f.bits_are earlier h)
+        ∙ append_assoc a.written (bits_of_events p earlier xs) (bits_of_events p (earlier ++ xs) ys)
+        ∙ ap (λ z. a.written ++ z) (sym (bits_append p earlier xs ys));
   }
 
-pub written_same : (a a' : Variables) (b b' : List ℕ) (c c' : List Bool) → a ≡ a' → b ≡ b' → c ≡ c' → (let w : Written = record { cells = a; run_indices = b; written = c } in w) ≡ record { cells = a'; run_indices = b'; written = c' }
+pub written_same : (a a' : Variables) (b b' : List ℕ) (c c' : List Bool) → a ≡ a' → b ≡ b' → c ≡ c'
+    → (let w : Written = record { cells = a; run_indices = b; written = c } in w) ≡ record { cells = a'; run_indices = b'; written = c' }
 written_same a a' b b' c c' e f g = cc
 
 -- A sample of regular mode -------------------------------------------------------------
@@ -73,7 +81,8 @@ event_regular : (p : CodingParameters) (earlier : List Event) (near : Neighbours
 unfolding event_bits
 event_regular p earlier near sample = refl
 
-module _ (old new : Variables) (near : Neighbours) (cell : ℕ) (negative : Bool) (sample : ℕ) (mode : IsRegularMode old.parameters near cell negative) where
+module _ (old new : Variables) (near : Neighbours) (cell : ℕ) (negative : Bool) (sample : ℕ)
+    (mode : IsRegularMode old.parameters near cell negative) where
   abbrev scan : CodingParameters
   scan = old.parameters
 
@@ -86,22 +95,32 @@ module _ (old new : Variables) (near : Neighbours) (cell : ℕ) (negative : Bool
       → difference ≡ with_sign negative (pos sample -ℤ pos predicted)
       → error ≡ modulo_reduced scan difference → error ≡ regular_error scan used near sample
   error_is predicted difference error a b c =
-      c ∙ ap (modulo_reduced scan) b ∙ ap (λ z. modulo_reduced scan (with_sign negative (pos sample -ℤ pos z))) a ∙ ap (λ n. modulo_reduced scan (with_sign n (pos sample -ℤ pos (corrected_prediction scan n (cell_at old cell).correction (edge_detecting_predictor near.ra near.rb near.rc))))) mode.sign_is
+      c ∙ ap (modulo_reduced scan) b ∙ ap (λ z. modulo_reduced scan (with_sign negative (pos sample -ℤ pos z))) a
+      ∙ ap (λ n. modulo_reduced scan
+      (with_sign n (pos sample -ℤ pos
+      (corrected_prediction scan n (cell_at old cell).correction (edge_detecting_predictor near.ra near.rb near.rc))))) mode.sign_is
 
   -- the code that is written
   pub regular_code_is : (error : ℤ) (k g q m : ℕ) → error ≡ regular_error scan used near sample → k ≡ regular_k used → g ≡ limit scan
       → q ≡ qbpp scan → m ≡ regular_mapped used error
       → golomb k g q m ≡ regular_bits scan used near sample
-  regular_code_is error k g q m e a b c d = golomb_same k (regular_k used) g (limit scan) q (qbpp scan) m (regular_mapped used (regular_error scan used near sample)) a b c (d ∙ ap (regular_mapped used) e)
+  regular_code_is error k g q m e a b c d =
+      golomb_same k (regular_k used) g (limit scan) q (qbpp scan) m (regular_mapped used (regular_error scan used near sample)) a b c
+      (d ∙ ap (regular_mapped used) e)
 
   pub regular_writes : (error : ℤ) → error ≡ regular_error scan used near sample → new.parameters ≡ scan
       → cell_at new cell ≡ updated old.parameters.reset used error
-      → ((other : ℕ) → (other ≡ cell → ⊥) → cell_at new other ≡ cell_at old other) → ((same : Bool) → run_cell_at new same ≡ run_cell_at old same)
+      → ((other : ℕ) → (other ≡ cell → ⊥) → cell_at new other ≡ cell_at old other)
+      → ((same : Bool) → run_cell_at new same ≡ run_cell_at old same)
       → (run_indices : List ℕ) (before after code : List Bool) → after ≡ before ++ code → code ≡ regular_bits scan used near sample
-      → Writes scan (record { cells = old; run_indices = run_indices; written = before }) (record { cells = new; run_indices = run_indices; written = after }) (regular near sample ∷ [])
+      → Writes scan (record { cells = old; run_indices = run_indices; written = before })
+      (record { cells = new; run_indices = run_indices; written = after }) (regular near sample ∷ [])
   regular_writes error is parameters changed others run_cells run_indices before after code a b = record {
-    is_after = λ earlier h. after_regular scan old run_indices earlier h near cell mode.context_is sample error new parameters is changed others run_cells;
-    bits_are = λ earlier h. a ∙ ap (λ z. before ++ z) (b ∙ ap (λ (d : Cell). regular_bits scan d near sample) (h.regular_cells cell ∙ ap (cell_before scan earlier) mode.context_is) ∙ sym (event_regular scan earlier near sample) ∙ sym (bits_one scan earlier (regular near sample)));
+    is_after = λ earlier h. after_regular scan old run_indices earlier h near cell mode.context_is sample error new parameters is changed
+        others run_cells;
+    bits_are = λ earlier h. a ∙ ap (λ z. before ++ z)
+        (b ∙ ap (λ (d : Cell). regular_bits scan d near sample) (h.regular_cells cell ∙ ap (cell_before scan earlier) mode.context_is)
+        ∙ sym (event_regular scan earlier near sample) ∙ sym (bits_one scan earlier (regular near sample)));
   }
 
 -- A run to the end ---------------------------------------------------------------------
@@ -114,16 +133,22 @@ event_to_end p earlier component count = refl
 pub to_end_writes : (p : CodingParameters) (cells : Variables) (run_indices : List ℕ) (component index count : ℕ) (before after : List Bool)
     → component < length run_indices → after ≡ before ++ run_to_end_bits (blocks (get_or run_indices component 0) count)
     → index ≡ (blocks (get_or run_indices component 0) count).run_index
-    → Writes p (record { cells = cells; run_indices = run_indices; written = before }) (record { cells = cells; run_indices = set run_indices component index; written = after }) (run_to_end component count ∷ [])
+    → Writes p (record { cells = cells; run_indices = run_indices; written = before })
+    (record { cells = cells; run_indices = set run_indices component index; written = after }) (run_to_end component count ∷ [])
 to_end_writes p cells run_indices component index count before after within a b = record {
   is_after = λ earlier h. after_end p cells run_indices earlier h component count within index b;
-  bits_are = λ earlier h. a ∙ ap (λ z. before ++ z) (ap (λ z. run_to_end_bits (blocks z count)) (h.run_indices_are component) ∙ sym (event_to_end p earlier component count) ∙ sym (bits_one p earlier (run_to_end component count)));
+  bits_are = λ earlier h. a ∙ ap (λ z. before ++ z)
+      (ap (λ z. run_to_end_bits (blocks z count)) (h.run_indices_are component) ∙ sym (event_to_end p earlier component count)
+      ∙ sym (bits_one p earlier (run_to_end component count)));
 }
 
 -- An interrupted run -------------------------------------------------------------------
 
 event_interrupted : (p : CodingParameters) (earlier : List Event) (component count : ℕ) (near : Neighbours) (sample : ℕ)
-    → event_bits p earlier (interrupted_run component count near sample) ≡ interrupted_run_bits (blocks (run_index_before earlier component) count) (interrupting_bits p (run_cell_before p earlier (is_same near)) near (run_order (blocks (run_index_before earlier component) count).run_index) sample)
+    → event_bits p earlier (interrupted_run component count near sample)
+    ≡ interrupted_run_bits (blocks (run_index_before earlier component) count)
+    (interrupting_bits p (run_cell_before p earlier (is_same near)) near
+    (run_order (blocks (run_index_before earlier component) count).run_index) sample)
 unfolding event_bits
 event_interrupted p earlier component count near sample = refl
 
@@ -137,21 +162,43 @@ module _ (old new : Variables) (near : Neighbours) (sample : ℕ) where
   -- the code that is written
   pub interrupting_code_is : (error : ℤ) (k g q m order : ℕ) (same' : Bool) → same' ≡ same → error ≡ interruption_error was near sample
       → k ≡ run_k same' (run_cell_at old same') → g ≡ limit was - order - 1 → q ≡ qbpp was
-      → m ≡ interruption_mapped same' (run_cell_at old same') error → golomb k g q m ≡ interrupting_bits was (run_cell_at old same) near order sample
+      → m ≡ interruption_mapped same' (run_cell_at old same') error → golomb k g q m
+      ≡ interrupting_bits was (run_cell_at old same) near order sample
   interrupting_code_is error k g q m order same' s e a b c d =
-      golomb_same k (run_k same (run_cell_at old same)) g (limit was - order - 1) q (qbpp was) m (interruption_mapped same (run_cell_at old same) (interruption_error was near sample)) (a ∙ ap (λ z. run_k z (run_cell_at old z)) s) b c (d ∙ ap (interruption_mapped same' (run_cell_at old same')) e ∙ ap (λ z. interruption_mapped z (run_cell_at old z) (interruption_error was near sample)) s)
+      golomb_same k (run_k same (run_cell_at old same)) g (limit was - order - 1) q (qbpp was) m
+      (interruption_mapped same (run_cell_at old same) (interruption_error was near sample)) (a ∙ ap (λ z. run_k z (run_cell_at old z)) s)
+      b c (d ∙ ap (interruption_mapped same' (run_cell_at old same')) e
+      ∙ ap (λ z. interruption_mapped z (run_cell_at old z) (interruption_error was near sample)) s)
 
-  module _ (parameters : new.parameters ≡ was) (changed : run_cell_at new same ≡ run_updated old.parameters.reset same (run_cell_at old same) (interruption_error was near sample))
-      (other : run_cell_at new (not same) ≡ run_cell_at old (not same)) (cells : new.regular ≡ old.regular) (run_indices : List ℕ) (component count : ℕ) (within : component < length run_indices) where
+  module _ (parameters : new.parameters ≡ was)
+      (changed : run_cell_at new same ≡ run_updated old.parameters.reset same (run_cell_at old same) (interruption_error was near sample))
+      (other : run_cell_at new (not same) ≡ run_cell_at old (not same)) (cells : new.regular ≡ old.regular) (run_indices : List ℕ)
+      (component count : ℕ) (within : component < length run_indices) where
     pub interrupted_writes : (raised index order : ℕ) (before middle after : List Bool)
         → middle ≡ before ++ interrupted_run_bits (blocks (get_or run_indices component 0) count) []
         → raised ≡ (blocks (get_or run_indices component 0) count).run_index
-        → order ≡ run_order raised → after ≡ middle ++ interrupting_bits was (run_cell_at old same) near order sample → index ≡ run_index_lowered raised
-        → Writes was (record { cells = old; run_indices = run_indices; written = before }) (record { cells = new; run_indices = set run_indices component index; written = after }) (interrupted_run component count near sample ∷ [])
+        → order ≡ run_order raised → after ≡ middle ++ interrupting_bits was (run_cell_at old same) near order sample → index
+        ≡ run_index_lowered raised
+        → Writes was (record { cells = old; run_indices = run_indices; written = before })
+        (record { cells = new; run_indices = set run_indices component index; written = after })
+        (interrupted_run component count near sample ∷ [])
     interrupted_writes raised index order before middle after m r o a i =
-        let run = blocks (get_or run_indices component 0) count in let own = interrupting_bits was (run_cell_at old same) near (run_order run.run_index) sample in
-        let written : after ≡ before ++ interrupted_run_bits run own = a ∙ ap (λ z. z ++ interrupting_bits was (run_cell_at old same) near order sample) m ∙ ap (λ z. (before ++ interrupted_run_bits run []) ++ interrupting_bits was (run_cell_at old same) near z sample) (o ∙ ap run_order r) ∙ append_assoc before (interrupted_run_bits run []) own ∙ ap (λ z. before ++ z) (interruption_then run own) in
+        let run = blocks (get_or run_indices component 0) count in
+        let own = interrupting_bits was (run_cell_at old same) near (run_order run.run_index) sample in
+        let written : after ≡ before ++ interrupted_run_bits run own = a
+        ∙ ap (λ z. z ++ interrupting_bits was (run_cell_at old same) near order sample) m
+        ∙ ap (λ z. (before ++ interrupted_run_bits run []) ++ interrupting_bits was (run_cell_at old same) near z sample)
+        (o ∙ ap run_order r) ∙ append_assoc before (interrupted_run_bits run []) own
+        ∙ ap (λ z. before ++ z) (interruption_then run own) in
         record {
-          is_after = λ earlier h. after_interruption was old run_indices earlier h component count within near sample index same (interruption_error was near sample) new (i ∙ ap run_index_lowered r) refl refl cells parameters changed other;
-          bits_are = λ earlier h. written ∙ ap (λ (z : RunCell). before ++ interrupted_run_bits run (interrupting_bits was z near (run_order run.run_index) sample)) (h.run_cells same) ∙ ap (λ z. before ++ interrupted_run_bits (blocks z count) (interrupting_bits was (run_cell_before was earlier same) near (run_order (blocks z count).run_index) sample)) (h.run_indices_are component) ∙ ap (λ z. before ++ z) (sym (event_interrupted was earlier component count near sample) ∙ sym (bits_one was earlier (interrupted_run component count near sample)));
+          is_after = λ earlier h. after_interruption was old run_indices earlier h component count within near sample index same
+              (interruption_error was near sample) new (i ∙ ap run_index_lowered r) refl refl cells parameters changed other;
+          bits_are = λ earlier h. written
+              ∙ ap (λ (z : RunCell). before ++ interrupted_run_bits run (interrupting_bits was z near (run_order run.run_index) sample))
+              (h.run_cells same) ∙ ap (λ z. before
+              ++ interrupted_run_bits (blocks z count)
+              (interrupting_bits was (run_cell_before was earlier same) near (run_order (blocks z count).run_index) sample))
+              (h.run_indices_are component) ∙ ap (λ z. before ++ z)
+              (sym (event_interrupted was earlier component count near sample)
+              ∙ sym (bits_one was earlier (interrupted_run component count near sample)));
         }

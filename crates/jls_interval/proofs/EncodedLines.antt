@@ -33,7 +33,8 @@ module _ (p : CodingParameters) (component : ℕ) (up : Above) (line : List ℕ)
   columns_then x y z old middle new a b = record {
     first = a.first ++ b.first;
     writes = writes_then p old middle new a.first b.first a.writes b.writes;
-    parted = a.parted ∙ ap (λ u. a.first ++ u) b.parted ∙ sym (append_assoc a.first b.first (events_from (stretch width component up line) width width z));
+    parted = a.parted ∙ ap (λ u. a.first ++ u) b.parted
+        ∙ sym (append_assoc a.first b.first (events_from (stretch width component up line) width width z));
   }
 
   -- one stretch
@@ -45,13 +46,15 @@ module _ (p : CodingParameters) (component : ℕ) (up : Above) (line : List ℕ)
       record {
         first = s.event ∷ [];
         writes = w;
-        parted = fuel_same width component up width (suc width) line x (omega arith) (omega arith) ∙ more width component up width line x l ∙ ap (λ z. s.event ∷ events_from (stretch width component up line) width width z) (sym e);
+        parted = fuel_same width component up width (suc width) line x (omega arith) (omega arith) ∙ more width component up width line x l
+            ∙ ap (λ z. s.event ∷ events_from (stretch width component up line) width width z) (sym e);
       }
 
   pub columns_end : (x : ℕ) (old new : Written) → width ≤ x → WritesColumns p component up line 0 x old new
       → Writes p old new (line_events width component up line)
   columns_end x old new l b =
-      subst (Writes p old new) (sym (b.parted ∙ ap (λ z. b.first ++ z) (past width component up width line x l) ∙ append-nil b.first)) b.writes
+      subst (Writes p old new) (sym (b.parted ∙ ap (λ z. b.first ++ z) (past width component up width line x l) ∙ append-nil b.first))
+      b.writes
 
   -- a sample of regular mode
   pub columns_sample : (x y : ℕ) (old middle new : Written) (near : Neighbours) (sample : ℕ) → y < width → near ≡ neighbours width up line y
@@ -59,7 +62,8 @@ module _ (p : CodingParameters) (component : ℕ) (up : Above) (line : List ℕ)
       → Writes p middle new (regular near sample ∷ []) → WritesColumns p component up line x (y + 1) old new
   columns_sample x y old middle new near sample l near_is not_run sample_is b w =
       let s = at_regular width component up line y (subst (λ (z : Neighbours). is_run_mode z ≡ false) near_is not_run) in
-      let e : regular near sample ≡ (stretch width component up line y).event = ap (λ z. regular z sample) near_is ∙ ap (regular (neighbours width up line y)) sample_is ∙ ap (λ (z : Stretch). z.event) (sym s) in
+      let e : regular near sample ≡ (stretch width component up line y).event = ap (λ z. regular z sample) near_is
+      ∙ ap (regular (neighbours width up line y)) sample_is ∙ ap (λ (z : Stretch). z.event) (sym s) in
       let n : y + 1 ≡ (stretch width component up line y).next = add-one y ∙ ap (λ (z : Stretch). z.next) (sym s) in
       columns_then x y (y + 1) old middle new b (columns_one y (y + 1) middle new l (subst (λ z. Writes p middle new (z ∷ [])) e w) n)
 
@@ -68,7 +72,8 @@ module _ (p : CodingParameters) (component : ℕ) (up : Above) (line : List ℕ)
 module _ (w : ℕ) (up : Above) (line : List ℕ) where
   pub neighbours_taken : (x : ℕ) → x ≤ length line → neighbours w up (take x line) x ≡ neighbours w up line x
   neighbours_taken x l =
-      sym (at_prefix w 0 up (take x line) (drop x line) x (omega (arith, length-take-le x line l))) ∙ ap (λ z. neighbours w up z x) (take-append-drop x line)
+      sym (at_prefix w 0 up (take x line) (drop x line) x (omega (arith, length-take-le x line l)))
+      ∙ ap (λ z. neighbours w up z x) (take-append-drop x line)
 
   -- those of the next column, as they move along
   pub neighbours_next : (x value : ℕ) (near next : Neighbours) → x < length line → value ≡ get_or line x 0 → near ≡ neighbours w up line x
@@ -76,24 +81,31 @@ module _ (w : ℕ) (up : Above) (line : List ℕ) where
       → next ≡ neighbours w up line (x + 1)
   neighbours_next x value near next l value_is near_is moves =
       let grown : take x line ++ value ∷ [] ≡ take (x + 1) line = ap (λ z. take x line ++ z ∷ []) value_is ∙ sym (take_more line x 0 l) in
-      moves (take x line) (sym (length-take-le x line (omega arith))) (near_is ∙ sym (neighbours_taken x (omega arith))) ∙ ap (λ z. neighbours w up z (x + 1)) grown ∙ neighbours_taken (x + 1) (omega arith)
+      moves (take x line) (sym (length-take-le x line (omega arith))) (near_is ∙ sym (neighbours_taken x (omega arith)))
+      ∙ ap (λ z. neighbours w up z (x + 1)) grown ∙ neighbours_taken (x + 1) (omega arith)
 
 -- The lines of an interval -----------------------------------------------------------------
 
 pub events_line : (w c : ℕ) (before xs : List (List ℕ)) (line : List ℕ)
-    → events_after w c before (xs ++ line ∷ []) ≡ events_after w c before xs ++ line_events w (length (before ++ xs) % c) (above c (before ++ xs)) line
+    → events_after w c before (xs ++ line ∷ []) ≡ events_after w c before xs
+    ++ line_events w (length (before ++ xs) % c) (above c (before ++ xs)) line
 unfolding events_after
 events_line w c before [] line =
-    append-nil (line_events w (length before % c) (above c before) line) ∙ ap (λ z. line_events w (length z % c) (above c z) line) (sym (append-nil before))
+    append-nil (line_events w (length before % c) (above c before) line)
+    ∙ ap (λ z. line_events w (length z % c) (above c z) line) (sym (append-nil before))
 events_line w c before (x ∷ xs) line =
     let first = line_events w (length before % c) (above c before) x in
-    ap (λ z. first ++ z) (events_line w c (before ++ x ∷ []) xs line) ∙ sym (append_assoc first (events_after w c (before ++ x ∷ []) xs) _) ∙ ap (λ z. (first ++ events_after w c (before ++ x ∷ []) xs) ++ line_events w (length z % c) (above c z) line) (append_assoc before (x ∷ []) xs)
+    ap (λ z. first ++ z) (events_line w c (before ++ x ∷ []) xs line) ∙ sym (append_assoc first (events_after w c (before ++ x ∷ []) xs) _)
+    ∙ ap (λ z. (first ++ events_after w c (before ++ x ∷ []) xs) ++ line_events w (length z % c) (above c z) line)
+    (append_assoc before (x ∷ []) xs)
 
 module _ (w c : ℕ) (lines : List (List ℕ)) (j : ℕ) (within : j < length lines) where
-  events_taken : events w c (take (j + 1) lines) ≡ events w c (take j lines) ++ line_events w (j % c) (above c (take j lines)) (get_or lines j [])
+  events_taken : events w c (take (j + 1) lines) ≡ events w c (take j lines)
+      ++ line_events w (j % c) (above c (take j lines)) (get_or lines j [])
   events_taken =
       let n : length (take j lines) ≡ j = length-take-le j lines (omega arith) in
-      ap (events w c) (take_more lines j [] within) ∙ events_line w c [] (take j lines) (get_or lines j []) ∙ ap (λ z. events w c (take j lines) ++ line_events w (z % c) (above c (take j lines)) (get_or lines j [])) n
+      ap (events w c) (take_more lines j [] within) ∙ events_line w c [] (take j lines) (get_or lines j [])
+      ∙ ap (λ z. events w c (take j lines) ++ line_events w (z % c) (above c (take j lines)) (get_or lines j [])) n
 
 pub no_events : (w c : ℕ) → events w c [] ≡ []
 unfolding events_after
@@ -123,16 +135,22 @@ module _ (p : CodingParameters) where
         → Writes p old new (line_events (length line) k up line) → AreWritten p w c lines (j + 1) new
     written_more k up line new l k_is up_is line_is wide ws =
         let earlier = events w c (take j lines) in let own = line_events (length line) k up line in
-        let own_is : earlier ++ own ≡ events w c (take (j + 1) lines) = ap (λ z. earlier ++ line_events z k up line) wide ∙ ap (λ z. earlier ++ line_events w z up line) k_is ∙ ap (λ z. earlier ++ line_events w (j % c) z line) up_is ∙ ap (λ z. earlier ++ line_events w (j % c) (above c (take j lines)) z) line_is ∙ sym (events_taken w c lines j l) in
+        let own_is : earlier ++ own ≡ events w c (take (j + 1) lines) = ap (λ z. earlier ++ line_events z k up line) wide
+        ∙ ap (λ z. earlier ++ line_events w z up line) k_is ∙ ap (λ z. earlier ++ line_events w (j % c) z line) up_is
+        ∙ ap (λ z. earlier ++ line_events w (j % c) (above c (take j lines)) z) line_is ∙ sym (events_taken w c lines j l) in
         record {
           is_after = subst (IsAfter p new.cells new.run_indices) own_is (ws.is_after earlier are.is_after);
-          bits_are = ws.bits_are earlier are.is_after ∙ ap (λ z. z ++ bits_of_events p earlier own) (are.bits_are ∙ code_is p w c (take j lines)) ∙ sym (bits_append p [] earlier own) ∙ ap (bits_of_events p []) own_is ∙ sym (code_is p w c (take (j + 1) lines));
+          bits_are = ws.bits_are earlier are.is_after
+              ∙ ap (λ z. z ++ bits_of_events p earlier own) (are.bits_are ∙ code_is p w c (take j lines))
+              ∙ sym (bits_append p [] earlier own)
+              ∙ ap (bits_of_events p []) own_is ∙ sym (code_is p w c (take (j + 1) lines));
         }
 
 -- What stands above a line -------------------------------------------------------------------
 
 pub none_back : (lines : List (List ℕ)) (j back : ℕ) → j ≤ length lines → j < back → line_back (take j lines) back ≡ []
-none_back lines j back l h = let n = length-take-le j lines l in let t : ltb (length (take j lines)) back ≡ true = lt-ltb _ _ (omega arith) in rw t refl
+none_back lines j back l h = let n = length-take-le j lines l in
+    let t : ltb (length (take j lines)) back ≡ true = lt-ltb _ _ (omega arith) in rw t refl
 
 pub some_back : (lines : List (List ℕ)) (j back : ℕ) → j ≤ length lines → 0 < back → back ≤ j
     → line_back (take j lines) back ≡ get_or lines (j - back) []
@@ -150,4 +168,9 @@ module _ (p : CodingParameters) (w : ℕ) where
   pub back_small : (lines : List (List ℕ)) (j back : ℕ) → AllByRecursion (IsLine p w) lines → j ≤ length lines → 0 < back
       → AllByRecursion (λ sample. sample ≤ p.maxval) (line_back (take j lines) back)
   back_small lines j back h l some =
-      elim (cases_lt j back) [ inl a ↦ subst (AllByRecursion (λ sample. sample ≤ p.maxval)) (sym (none_back lines j back l a)) tt | inr a ↦ subst (AllByRecursion (λ sample. sample ≤ p.maxval)) (sym (some_back lines j back l some a)) (line_in lines (j - back) h (omega arith)).1 ]
+      elim (cases_lt j back) [
+        | inl a ↦ subst (AllByRecursion (λ sample. sample ≤ p.maxval)) (sym (none_back lines j back l a)) tt
+        | inr a ↦
+            subst (AllByRecursion (λ sample. sample ≤ p.maxval)) (sym (some_back lines j back l some a))
+            (line_in lines (j - back) h (omega arith)).1
+      ]

@@ -46,10 +46,16 @@ module _ (line : List ℕ) (x value count : ℕ) (within : x < length line) (is 
       pub stretch_to_end : x + count ≡ w → stretch w component up line x ≡ to (run_to_end component count) w
       stretch_to_end e =
           let s = stop_is in
-          at_end w component up line x run (omega arith) ∙ stretch_same (run_to_end component (w - x)) (run_to_end component count) w w (ap (run_to_end component) (omega arith)) refl
+          at_end w component up line x run (omega arith)
+          ∙ stretch_same (run_to_end component (w - x)) (run_to_end component count) w w (ap (run_to_end component) (omega arith)) refl
 
       pub stretch_interrupted : (x + count ≡ w → ⊥)
-          → stretch w component up line x ≡ to (interrupted_run component count (neighbours w up line (x + count)) (get_or line (x + count) 0)) (x + count + 1)
+          → stretch w component up line x
+          ≡ to (interrupted_run component count (neighbours w up line (x + count)) (get_or line (x + count) 0)) (x + count + 1)
       stretch_interrupted short =
           let l = stop_within in let e : x + count - x ≡ count = omega arith in
-          at_stop w component up line x (x + count) run stop_is (omega arith) ∙ stretch_same (interrupted_run component (x + count - x) (neighbours w up line (x + count)) (get_or line (x + count) 0)) (interrupted_run component count (neighbours w up line (x + count)) (get_or line (x + count) 0)) (suc (x + count)) (x + count + 1) (ap (λ z. interrupted_run component z (neighbours w up line (x + count)) (get_or line (x + count) 0)) e) (omega arith)
+          at_stop w component up line x (x + count) run stop_is (omega arith)
+          ∙ stretch_same (interrupted_run component (x + count - x) (neighbours w up line (x + count)) (get_or line (x + count) 0))
+          (interrupted_run component count (neighbours w up line (x + count)) (get_or line (x + count) 0)) (suc (x + count))
+          (x + count + 1) (ap (λ z. interrupted_run component z (neighbours w up line (x + count)) (get_or line (x + count) 0)) e)
+          (omega arith)

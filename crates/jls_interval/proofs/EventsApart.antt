@@ -36,7 +36,11 @@ use Rattle.jls_interval.proofs.Runs.{run_index_before_small, run_apart, run_same
 -- a number up to 2^q has a code where the escape isn't empty
 pub has_from : (k g q m : ℕ) → q + 2 ≤ g → m ≤ 2 ^ q → has_golomb k g q m ≡ true
 has_from k g q m h j =
-    elim (cases_Bool (ltb (m / 2 ^ k) (g - q - 1))) [ inl e ↦ rw e refl | inr e ↦ (let l = ltb-false _ _ e in let s = shr_le m k in rw e (and_from (leb 1 m) (leb m (2 ^ q)) (le-leb _ _ (omega arith)) (le-leb _ _ j))) ]
+    elim (cases_Bool (ltb (m / 2 ^ k) (g - q - 1))) [
+      | inl e ↦ rw e refl
+      | inr e ↦ (let l = ltb-false _ _ e in let s = shr_le m k in
+          rw e (and_from (leb 1 m) (leb m (2 ^ q)) (le-leb _ _ (omega arith)) (le-leb _ _ j)))
+    ]
 
 pub limit_room : (p : CodingParameters) (j : ℕ) → j ≤ 15 → qbpp p + 2 ≤ limit p - j - 1
 limit_room p j h = generic (qbpp p)
@@ -51,7 +55,8 @@ small_get (x ∷ xs) zero m h = h.0
 small_get (x ∷ xs) (suc i) m h = small_get xs i m h.1
 
 pub j_small : (r : ℕ) → run_order r ≤ 15
-j_small r = small_get (0 ∷ 0 ∷ 0 ∷ 0 ∷ 1 ∷ 1 ∷ 1 ∷ 1 ∷ 2 ∷ 2 ∷ 2 ∷ 2 ∷ 3 ∷ 3 ∷ 3 ∷ 3 ∷ 4 ∷ 4 ∷ 5 ∷ 5 ∷ 6 ∷ 6 ∷ 7 ∷ 7 ∷ 8 ∷ 9 ∷ 10 ∷ 11 ∷ 12 ∷ 13 ∷ 14 ∷ 15 ∷ []) r 15 (omega arith)
+j_small r = small_get (0 ∷ 0 ∷ 0 ∷ 0 ∷ 1 ∷ 1 ∷ 1 ∷ 1 ∷ 2 ∷ 2 ∷ 2 ∷ 2 ∷ 3 ∷ 3 ∷ 3 ∷ 3 ∷ 4 ∷ 4 ∷ 5 ∷ 5 ∷ 6 ∷ 6 ∷ 7 ∷ 7 ∷ 8 ∷ 9 ∷ 10 ∷ 11 ∷ 12
+    ∷ 13 ∷ 14 ∷ 15 ∷ []) r 15 (omega arith)
 
 pub clamped_small : (p : CodingParameters) (z : ℤ) → clamped_prediction p z ≤ p.maxval
 clamped_small p (pos n) = omega arith
@@ -68,19 +73,25 @@ pub regular_same : (p : CodingParameters) (cell : Cell) (near : Neighbours) (s s
 regular_same p cell near s s' t u r a b e =
     let neg = is_negative p near in let x = regular_prediction p cell near in let xs : x ≤ p.maxval = predicted_small p cell near in
     let v = prediction_error p neg s x in let v' = prediction_error p neg s' x in
-    let m = error_mapped_at_most p (uses_special_mapping cell) v (error_range p neg s x) in let m' = error_mapped_at_most p (uses_special_mapping cell) v' (error_range p neg s' x) in
+    let m = error_mapped_at_most p (uses_special_mapping cell) v (error_range p neg s x) in
+    let m' = error_mapped_at_most p (uses_special_mapping cell) v' (error_range p neg s' x) in
     let room = limit_room p 0 (omega arith) in
-    let h = golomb_same (regular_k cell) (limit p) (qbpp p) (error_mapped (uses_special_mapping cell) v) (error_mapped (uses_special_mapping cell) v') t u (has_from (regular_k cell) (limit p) (qbpp p) (error_mapped (uses_special_mapping cell) v) (omega arith) (omega arith)) (has_from (regular_k cell) (limit p) (qbpp p) (error_mapped (uses_special_mapping cell) v') (omega arith) (omega arith)) e in
+    let h = golomb_same (regular_k cell) (limit p) (qbpp p) (error_mapped (uses_special_mapping cell) v)
+    (error_mapped (uses_special_mapping cell) v') t u
+    (has_from (regular_k cell) (limit p) (qbpp p) (error_mapped (uses_special_mapping cell) v) (omega arith) (omega arith))
+    (has_from (regular_k cell) (limit p) (qbpp p) (error_mapped (uses_special_mapping cell) v') (omega arith) (omega arith)) e in
     sample_same p neg s s' x a b xs (mapped_same (uses_special_mapping cell) v v' h.0)
 
 -- the sign decides the map
 pub run_map_is : (same : Bool) (cell : RunCell) (e : ℤ)
     → interruption_map same cell e ≡ map_by_sign (maps_positive same cell) e
 run_map_is same cell e =
-    parts (run_k same cell == 0) (ltb (2 * cell.negative_errors) cell.occurrences) (leb cell.occurrences (2 * cell.negative_errors)) (int_lt (pos 0) e) (int_lt e (pos 0)) (opposite (2 * cell.negative_errors) cell.occurrences) (apart e)
+    parts (run_k same cell == 0) (ltb (2 * cell.negative_errors) cell.occurrences) (leb cell.occurrences (2 * cell.negative_errors))
+    (int_lt (pos 0) e) (int_lt e (pos 0)) (opposite (2 * cell.negative_errors) cell.occurrences) (apart e)
   where
     opposite : (a b : ℕ) → leb b a ≡ not (ltb a b)
-    opposite a b = elim (cases_lt a b) [ inl h ↦ (let t = lt-ltb a b h in let u = lt-leb b a h in cc) | inr h ↦ (let t = le-ltb a b h in let u = le-leb b a h in cc) ]
+    opposite a b = elim (cases_lt a b)
+        [ inl h ↦ (let t = lt-ltb a b h in let u = lt-leb b a h in cc) | inr h ↦ (let t = le-ltb a b h in let u = le-leb b a h in cc) ]
 
     apart : (e : ℤ) → (int_lt (pos 0) e && int_lt e (pos 0)) ≡ false
     apart (pos zero) = refl
@@ -107,12 +118,15 @@ run_map_is same cell e =
 
 -- the value of a run before its interrupting sample
 pub run_value : (w : ℕ) (up : Above) (line : List ℕ) (count : ℕ)
-    → (neighbours w up (line ++ replicate count (neighbours w up line (length line)).ra) (length line + count)).ra ≡ (neighbours w up line (length line)).ra
-run_value w up line zero = ap (λ z. (neighbours w up z (length line + 0)).ra) (append-nil line) ∙ ap (λ z. (neighbours w up line z).ra) (let e : length line + 0 ≡ length line = omega arith in e)
+    → (neighbours w up (line ++ replicate count (neighbours w up line (length line)).ra) (length line + count)).ra
+    ≡ (neighbours w up line (length line)).ra
+run_value w up line zero = ap (λ z. (neighbours w up z (length line + 0)).ra) (append-nil line)
+    ∙ ap (λ z. (neighbours w up line z).ra) (let e : length line + 0 ≡ length line = omega arith in e)
 run_value w up line (suc c) =
     let v = (neighbours w up line (length line)).ra in
     let step : length line + suc c ≡ suc (length line + c) = omega arith in
-    ap (λ z. (neighbours w up (line ++ replicate (suc c) v) z).ra) step ∙ get_or-append-add line (replicate (suc c) v) c 0 ∙ get_or-replicate (suc c) c v 0 (omega arith)
+    ap (λ z. (neighbours w up (line ++ replicate (suc c) v) z).ra) step ∙ get_or-append-add line (replicate (suc c) v) c 0
+    ∙ get_or-replicate (suc c) c v 0 (omega arith)
 
 pub same_is : (p : CodingParameters) (x : ℕ) → prediction_error p false x x ≡ pos 0
 same_is p x =
@@ -133,15 +147,25 @@ no_zero p near x s a n i z =
 pub interrupting_same : (p : CodingParameters) (run : Blocks) (cell : RunCell) (near : Neighbours) (g s s' : ℕ) (t u : List Bool)
     → range p ≤ 2 ^ qbpp p → qbpp p + 2 ≤ g → near.rb ≤ p.maxval → s ≤ p.maxval → s' ≤ p.maxval
     → (s ≡ near.ra → ⊥) → (s' ≡ near.ra → ⊥)
-    → golomb (run_k (is_same near) cell) g (qbpp p) (interruption_mapped (is_same near) cell (interruption_error p near s)) ++ t ≡ golomb (run_k (is_same near) cell) g (qbpp p) (interruption_mapped (is_same near) cell (interruption_error p near s')) ++ u → (s ≡ s') × (t ≡ u)
+    → golomb (run_k (is_same near) cell) g (qbpp p) (interruption_mapped (is_same near) cell (interruption_error p near s)) ++ t
+    ≡ golomb (run_k (is_same near) cell) g (qbpp p) (interruption_mapped (is_same near) cell (interruption_error p near s')) ++ u
+    → (s ≡ s') × (t ≡ u)
 interrupting_same p run cell near g s s' t u r room x a b na nb e =
     let neg = ltb near.rb near.ra in let same = is_same near in let turn = maps_positive same cell in
     let v = interruption_error p near s in let v' = interruption_error p near s' in
-    let m : interruption_mapped same cell v ≡ mapped_by_sign same turn v = ap (λ z. 2 * unsigned_abs v - one_if same - one_if z) (run_map_is same cell v) in
-    let m' : interruption_mapped same cell v' ≡ mapped_by_sign same turn v' = ap (λ z. 2 * unsigned_abs v' - one_if same - one_if z) (run_map_is same cell v') in
-    let l = interruption_mapped_at_most p same cell v (error_range p neg s near.rb) in let l' = interruption_mapped_at_most p same cell v' (error_range p neg s' near.rb) in
-    let h = golomb_same (run_k same cell) g (qbpp p) (interruption_mapped same cell v) (interruption_mapped same cell v') t u (has_from (run_k same cell) g (qbpp p) (interruption_mapped same cell v) room (omega arith)) (has_from (run_k same cell) g (qbpp p) (interruption_mapped same cell v') room (omega arith)) e in
-    (sample_same p neg s s' near.rb a b x (interruption_mapped_same same turn v v' (λ i. (no_zero p near x s a na i, no_zero p near x s' b nb i)) (sym m ∙ h.0 ∙ m')), h.1)
+    let m : interruption_mapped same cell v ≡ mapped_by_sign same turn v =
+    ap (λ z. 2 * unsigned_abs v - one_if same - one_if z) (run_map_is same cell v) in
+    let m' : interruption_mapped same cell v' ≡ mapped_by_sign same turn v' =
+    ap (λ z. 2 * unsigned_abs v' - one_if same - one_if z) (run_map_is same cell v') in
+    let l = interruption_mapped_at_most p same cell v (error_range p neg s near.rb) in
+    let l' = interruption_mapped_at_most p same cell v' (error_range p neg s' near.rb) in
+    let h = golomb_same (run_k same cell) g (qbpp p) (interruption_mapped same cell v) (interruption_mapped same cell v') t u
+    (has_from (run_k same cell) g (qbpp p) (interruption_mapped same cell v) room (omega arith))
+    (has_from (run_k same cell) g (qbpp p) (interruption_mapped same cell v') room (omega arith)) e in (
+      sample_same p neg s s' near.rb a b x
+          (interruption_mapped_same same turn v v' (λ i. (no_zero p near x s a na i, no_zero p near x s' b nb i)) (sym m ∙ h.0 ∙ m')),
+      h.1,
+    )
 
 -- the line above has small samples
 small_lines : (p : CodingParameters) (lines : List (List ℕ)) (i : ℕ) → AllByRecursion (λ l. AllByRecursion (λ s. s ≤ p.maxval) l) lines
@@ -173,7 +197,8 @@ to_end_event k k' c c' x y = cc
 pub true_false : (b : Bool) → b ≡ true → b ≡ false → ⊥
 true_false b h j = cc
 
-module _ (p : CodingParameters) (wide : range p ≤ 2 ^ qbpp p) (w k : ℕ) (up : Above) (above_small : AllByRecursion (λ s. s ≤ p.maxval) up.line_above) (line : List ℕ) (earlier : List Event) where
+module _ (p : CodingParameters) (wide : range p ≤ 2 ^ qbpp p) (w k : ℕ) (up : Above)
+    (above_small : AllByRecursion (λ s. s ≤ p.maxval) up.line_above) (line : List ℕ) (earlier : List Event) where
   abbrev now : Neighbours
   now = neighbours w up line (length line)
 
@@ -182,11 +207,13 @@ module _ (p : CodingParameters) (wide : range p ≤ 2 ^ qbpp p) (w k : ℕ) (up 
 
   -- the bits of a run that is interrupted, with what follows them
   pub broken_is : (c : ℕ) (n : Neighbours) (s : ℕ) (t : List Bool) → event_bits p earlier (interrupted_run k c n s) ++ t
-      ≡ interrupted_run_bits (blocks (run_index_before earlier k) c) (interrupting_bits p (run_cell_before p earlier (is_same n)) n (run_order (blocks (run_index_before earlier k) c).run_index) s ++ t)
+      ≡ interrupted_run_bits (blocks (run_index_before earlier k) c)
+      (interrupting_bits p (run_cell_before p earlier (is_same n)) n (run_order (blocks (run_index_before earlier k) c).run_index) s ++ t)
   unfolding event_bits
   broken_is c n s t =
       let run = blocks (run_index_before earlier k) c in
-      append_assoc (replicate run.full_blocks true ++ false ∷ bits (run_order run.run_index) run.remaining) (interrupting_bits p (run_cell_before p earlier (is_same n)) n (run_order run.run_index) s) t
+      append_assoc (replicate run.full_blocks true ++ false ∷ bits (run_order run.run_index) run.remaining)
+      (interrupting_bits p (run_cell_before p earlier (is_same n)) n (run_order run.run_index) s) t
 
   regular_case : (s s' : ℕ) (t u : List Bool) → s ≤ p.maxval → s' ≤ p.maxval
       → event_bits p earlier (regular now s) ++ t ≡ event_bits p earlier (regular now s') ++ u → s ≡ s'
@@ -196,39 +223,67 @@ module _ (p : CodingParameters) (wide : range p ≤ 2 ^ qbpp p) (w k : ℕ) (up 
   apart_case : (c n' : ℕ) (n : Neighbours) (s : ℕ) (t u : List Bool) → c < n'
       → event_bits p earlier (interrupted_run k c n s) ++ t ≡ event_bits p earlier (run_to_end k n') ++ u → ⊥
   unfolding event_bits
-  apart_case c n' n s t u h e = run_apart c (run_index_before earlier k) c n' _ u (run_index_before_small earlier k) (omega arith) h (sym (broken_is c n s t) ∙ e)
+  apart_case c n' n s t u h e = run_apart c (run_index_before earlier k) c n' _ u (run_index_before_small earlier k) (omega arith) h
+      (sym (broken_is c n s t) ∙ e)
 
   broken_case : (c c' : ℕ) (n n' : Neighbours) (s s' : ℕ) (t u : List Bool) → Possible (interrupted_run k c n s)
       → Possible (interrupted_run k c' n' s')
       → event_bits p earlier (interrupted_run k c n s) ++ t ≡ event_bits p earlier (interrupted_run k c' n' s') ++ u → (c ≡ c') × (s ≡ s')
   broken_case c c' n n' s s' t u h j e =
-      let r = run_same c (run_index_before earlier k) c c' _ _ (run_index_before_small earlier k) (omega arith) (sym (broken_is c n s t) ∙ e ∙ broken_is c' n' s' u) in
+      let r = run_same c (run_index_before earlier k) c c' _ _ (run_index_before_small earlier k) (omega arith)
+      (sym (broken_is c n s t) ∙ e ∙ broken_is c' n' s' u) in
       let nn : n' ≡ n = j.3 ∙ ap (λ z. neighbours w up (line ++ replicate z now.ra) (length line + z)) (sym r.0) ∙ sym h.3 in
       let run = blocks (run_index_before earlier k) c in
       let run_is : blocks (run_index_before earlier k) c' ≡ run = ap (blocks (run_index_before earlier k)) (sym r.0) in
       let na : n.ra ≡ now.ra = ap (λ (z : Neighbours). z.ra) h.3 ∙ run_value w up line c in
-      let bs : n.rb ≤ p.maxval = subst (λ (z : Neighbours). z.rb ≤ p.maxval) (sym h.3) (b_small p w up (line ++ replicate c now.ra) (length line + c) above_small) in
-      let other : interrupting_bits p (run_cell_before p earlier (is_same n')) n' (run_order (blocks (run_index_before earlier k) c').run_index) s' ++ u ≡ interrupting_bits p (run_cell_before p earlier (is_same n)) n (run_order run.run_index) s' ++ u = ap (λ (z : Neighbours). interrupting_bits p (run_cell_before p earlier (is_same z)) z (run_order (blocks (run_index_before earlier k) c').run_index) s' ++ u) nn ∙ ap (λ (z : Blocks). interrupting_bits p (run_cell_before p earlier (is_same n)) n (run_order z.run_index) s' ++ u) run_is in
-      (r.0, (interrupting_same p run (run_cell_before p earlier (is_same n)) n (limit p - run_order run.run_index - 1) s s' t u wide (limit_room p (run_order run.run_index) (j_small run.run_index)) bs h.4 j.4 (λ q. h.5 (q ∙ na)) (λ q. j.5 (q ∙ na)) (r.1 ∙ other)).0)
+      let bs : n.rb ≤ p.maxval = subst (λ (z : Neighbours). z.rb ≤ p.maxval) (sym h.3)
+      (b_small p w up (line ++ replicate c now.ra) (length line + c) above_small) in
+      let other : interrupting_bits p (run_cell_before p earlier (is_same n')) n'
+      (run_order (blocks (run_index_before earlier k) c').run_index) s' ++ u
+      ≡ interrupting_bits p (run_cell_before p earlier (is_same n)) n (run_order run.run_index) s' ++ u =
+      ap (λ (z : Neighbours). interrupting_bits p (run_cell_before p earlier (is_same z)) z
+      (run_order (blocks (run_index_before earlier k) c').run_index) s' ++ u) nn
+      ∙ ap (λ (z : Blocks). interrupting_bits p (run_cell_before p earlier (is_same n)) n (run_order z.run_index) s' ++ u) run_is in (
+        r.0,
+        (interrupting_same p run (run_cell_before p earlier (is_same n)) n (limit p - run_order run.run_index - 1) s s' t u wide
+            (limit_room p (run_order run.run_index) (j_small run.run_index)) bs h.4 j.4 (λ q. h.5 (q ∙ na)) (λ q. j.5 (q ∙ na))
+            (r.1 ∙ other)).0,
+      )
 
   pub cases : (e f : Event) (t u : List Bool) → Possible e → Possible f → event_bits p earlier e ++ t ≡ event_bits p earlier f ++ u → e ≡ f
   cases (regular n s) (regular n' s') t u h j e =
-      regular_event n n' s s' (h.1 ∙ sym j.1) (regular_case s s' t u h.2 j.2 (subst (λ z. event_bits p earlier (regular z s) ++ t ≡ event_bits p earlier (regular now s') ++ u) h.1 (subst (λ z. event_bits p earlier (regular n s) ++ t ≡ event_bits p earlier (regular z s') ++ u) j.1 e)))
+      regular_event n n' s s' (h.1 ∙ sym j.1)
+      (regular_case s s' t u h.2 j.2
+      (subst (λ z. event_bits p earlier (regular z s) ++ t ≡ event_bits p earlier (regular now s') ++ u) h.1
+      (subst (λ z. event_bits p earlier (regular n s) ++ t ≡ event_bits p earlier (regular z s') ++ u) j.1 e)))
   cases (regular n s) (run_to_end k' c) t u h j e = absurd (true_false (is_run_mode now) j.0 h.0)
   cases (regular n s) (interrupted_run k' c n' s') t u h j e = absurd (true_false (is_run_mode now) j.0 h.0)
   cases (run_to_end k' c) (regular n s) t u h j e = absurd (true_false (is_run_mode now) h.0 j.0)
   cases (interrupted_run k' c n s) (regular n' s') t u h j e = absurd (true_false (is_run_mode now) h.0 j.0)
-  cases (run_to_end k' c) (run_to_end k'' c') t u h j e = let a = h.2 in let b = j.2 in to_end_event k' k'' c c' (h.1 ∙ sym j.1) (omega arith)
+  cases (run_to_end k' c) (run_to_end k'' c') t u h j e = let a = h.2 in let b = j.2 in
+      to_end_event k' k'' c c' (h.1 ∙ sym j.1) (omega arith)
   cases (run_to_end k' c) (interrupted_run k'' c' n s) t u h j e =
-      let a = h.2 in let b = j.2 in absurd (apart_case c' c n s u t (omega arith) (subst (λ z. event_bits p earlier (interrupted_run z c' n s) ++ u ≡ event_bits p earlier (run_to_end k c) ++ t) j.1 (subst (λ z. event_bits p earlier (interrupted_run k'' c' n s) ++ u ≡ event_bits p earlier (run_to_end z c) ++ t) h.1 (sym e))))
+      let a = h.2 in let b = j.2 in absurd
+      (apart_case c' c n s u t (omega arith)
+      (subst (λ z. event_bits p earlier (interrupted_run z c' n s) ++ u ≡ event_bits p earlier (run_to_end k c) ++ t) j.1
+      (subst (λ z. event_bits p earlier (interrupted_run k'' c' n s) ++ u ≡ event_bits p earlier (run_to_end z c) ++ t) h.1 (sym e))))
   cases (interrupted_run k'' c' n s) (run_to_end k' c) t u h j e =
-      let a = h.2 in let b = j.2 in absurd (apart_case c' c n s t u (omega arith) (subst (λ z. event_bits p earlier (interrupted_run z c' n s) ++ t ≡ event_bits p earlier (run_to_end k c) ++ u) h.1 (subst (λ z. event_bits p earlier (interrupted_run k'' c' n s) ++ t ≡ event_bits p earlier (run_to_end z c) ++ u) j.1 e)))
+      let a = h.2 in let b = j.2 in absurd
+      (apart_case c' c n s t u (omega arith)
+      (subst (λ z. event_bits p earlier (interrupted_run z c' n s) ++ t ≡ event_bits p earlier (run_to_end k c) ++ u) h.1
+      (subst (λ z. event_bits p earlier (interrupted_run k'' c' n s) ++ t ≡ event_bits p earlier (run_to_end z c) ++ u) j.1 e)))
   cases (interrupted_run k' c n s) (interrupted_run k'' c' n' s') t u h j e =
-      let h' : Possible (interrupted_run k c n s) = (h.0, refl, h.2, h.3, h.4, h.5) in let j' : Possible (interrupted_run k c' n' s') = (j.0, refl, j.2, j.3, j.4, j.5) in
-      let b = broken_case c c' n n' s s' t u h' j' (subst (λ z. event_bits p earlier (interrupted_run z c n s) ++ t ≡ event_bits p earlier (interrupted_run k c' n' s') ++ u) h.1 (subst (λ z. event_bits p earlier (interrupted_run k' c n s) ++ t ≡ event_bits p earlier (interrupted_run z c' n' s') ++ u) j.1 e)) in
-      interrupted_event k' k'' c c' n n' s s' (h.1 ∙ sym j.1) b.0 (h.3 ∙ ap (λ z. neighbours w up (line ++ replicate z now.ra) (length line + z)) b.0 ∙ sym j.3) b.1
+      let h' : Possible (interrupted_run k c n s) = (h.0, refl, h.2, h.3, h.4, h.5) in
+      let j' : Possible (interrupted_run k c' n' s') = (j.0, refl, j.2, j.3, j.4, j.5) in
+      let b = broken_case c c' n n' s s' t u h' j'
+      (subst (λ z. event_bits p earlier (interrupted_run z c n s) ++ t ≡ event_bits p earlier (interrupted_run k c' n' s') ++ u) h.1
+      (subst (λ z. event_bits p earlier (interrupted_run k' c n s) ++ t ≡ event_bits p earlier (interrupted_run z c' n' s') ++ u) j.1
+      e)) in
+      interrupted_event k' k'' c c' n n' s s' (h.1 ∙ sym j.1) b.0
+      (h.3 ∙ ap (λ z. neighbours w up (line ++ replicate z now.ra) (length line + z)) b.0 ∙ sym j.3) b.1
 
 pub events_apart : (p : CodingParameters) (width components count : ℕ) → AreCodingParameters p
     → IsPrefixFree (interval_steps p width components count)
 events_apart p width components count ok s e f t u sound a b eq =
-    cases p (range-le-pow p (maxval_small p ok)) width (length s.lines % components) (above components s.lines) (small_back p s.lines components sound.0) s.line s.earlier e f t u a.1 b.1 eq
+    cases p (range-le-pow p (maxval_small p ok)) width (length s.lines % components) (above components s.lines)
+    (small_back p s.lines components sound.0) s.line s.earlier e f t u a.1 b.1 eq

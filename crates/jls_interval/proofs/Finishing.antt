@@ -38,7 +38,11 @@ pub data_bits_at_most : (before : ℕ) (xs : List ℕ) → length (bits_read_aft
 data_bits_at_most before [] = let e = ap length (data_end before) in omega arith
 data_bits_at_most before (x ∷ xs) =
     let r = data_bits_at_most x xs in
-    elim (cases_Bool (ends_data before x)) [ inl h ↦ (let e = ap length (data_stop before x xs h) in omega arith) | inr h ↦ (let e = length_more before x xs h in let b = width_bounds before in let b1 = b.1 in omega arith) ]
+    elim (cases_Bool (ends_data before x)) [
+      | inl h ↦ (let e = ap length (data_stop before x xs h) in omega arith)
+      | inr h ↦
+          (let e = length_more before x xs h in let b = width_bounds before in let b1 = b.1 in omega arith)
+    ]
 
 -- The end ------------------------------------------------------------------------------------
 
@@ -60,12 +64,26 @@ module _ (p : CodingParameters) (w c n : ℕ) (bytes : List ℕ) where
   pub no_code_breaks : BeginsNoCode p w c n (bits_read bytes) → IsBroken (interval_shape p w c n) bytes
   no_code_breaks d = broken_bits (subst (NoLines p w c n) (append-nil (bits_read bytes)) (d []))
 
-  module _ (are_bytes : AllByRecursion (λ x. x < 256) bytes) (whole : is_whole bytes ≡ true) (lines : List (List ℕ)) (extra : ℕ) (o : IsComplete p w c n (bits_read bytes) lines extra) where
+  module _ (are_bytes : AllByRecursion (λ x. x < 256) bytes) (whole : is_whole bytes ≡ true) (lines : List (List ℕ)) (extra : ℕ)
+      (o : IsComplete p w c n (bits_read bytes) lines extra) where
     pub over_reads : extra ≤ 7 → Reads (interval_shape p w c n) bytes lines
-    over_reads l = record { unread = o.unread; begins = record { are_bytes = are_bytes; are_lines = o.are_lines; data_bits = record { whole = whole; read = o.begins } }; at_most_seven = (let e = o.counted in omega arith) }
+    over_reads l = record {
+      unread = o.unread;
+      begins =
+          record { are_bytes = are_bytes; are_lines = o.are_lines; data_bits = record { whole = whole; read = o.begins } };
+      at_most_seven =
+          (let e = o.counted in omega arith);
+    }
 
     pub over_long : 7 < extra → IsLong (interval_shape p w c n) bytes
-    over_long l = record { lines = lines; unread = o.unread; begins = record { are_bytes = are_bytes; are_lines = o.are_lines; data_bits = record { whole = whole; read = o.begins } }; more_than_seven = (let e = o.counted in omega arith) }
+    over_long l = record {
+      lines = lines;
+      unread = o.unread;
+      begins =
+          record { are_bytes = are_bytes; are_lines = o.are_lines; data_bits = record { whole = whole; read = o.begins } };
+      more_than_seven =
+          (let e = o.counted in omega arith);
+    }
 
   -- a piece that reads is answered by its lines
   pub outcome_read : AreCodingParameters p → 0 < w → (result : Result (Vec (Vec ℕ Global) Global) PieceFault)
@@ -79,7 +97,8 @@ module _ (p : CodingParameters) (w c n : ℕ) (bytes : List ℕ) where
 pub read_of : (p : CodingParameters) (w c n : ℕ) → AreCodingParameters p → 0 < w
     → (result : Result (Vec (Vec ℕ Global) Global) PieceFault) (Q : Type 0) (o : Option (List ℕ))
     → MatchOption o Q (λ bytes. OutcomeIs (interval_shape p w c n) bytes result)
-    → IfSome o (λ bytes. (lines : List (List ℕ)) → Reads (interval_shape p w c n) bytes lines → MatchResult result (λ v. map (λ v. v.items) v.items ≡ lines) (λ fault. ⊥))
+    → IfSome o (λ bytes. (lines : List (List ℕ)) → Reads (interval_shape p w c n) bytes lines
+    → MatchResult result (λ v. map (λ v. v.items) v.items ≡ lines) (λ fault. ⊥))
 read_of p w c n ok some result Q None h = tt
 read_of p w c n ok some result Q (Some bytes) h = outcome_read p w c n bytes ok some result h
 
@@ -104,14 +123,20 @@ lengths_more bytes more d h = record {
 module _ (p : CodingParameters) (bytes : List ℕ) (d : IntervalReader) where
   pub before_lengths : (chunk : List Bool) → IsReadingBefore p bytes chunk d → HasLengths bytes d
   before_lengths chunk h = record {
-    lines_paid = (let a = h.reading.lines_paid in let e = ap length h.bits_are in let s = length-append h.given chunk in let b = data_bits_at_most 0 bytes in omega arith);
+    lines_paid = (let a = h.reading.lines_paid in let e = ap length h.bits_are in let s = length-append h.given chunk in
+        let b = data_bits_at_most 0 bytes in omega arith);
     lines_at_most = h.reading.lines_at_most;
     lines_wide = h.reading.lines_wide;
     line_at_most = h.reading.line_at_most;
   }
 
   pub before_start : (chunk : List Bool) → chunk ≡ [] → IsReading p (bits_read bytes) d → IsReadingBefore p bytes chunk d
-  before_start chunk e h = record { given = bits_read bytes; bits_are = sym (ap (λ z. bits_read bytes ++ z) e ∙ append-nil (bits_read bytes)); reading = h }
+  before_start chunk e h = record {
+    given = bits_read bytes;
+    bits_are =
+        sym (ap (λ z. bits_read bytes ++ z) e ∙ append-nil (bits_read bytes));
+    reading = h;
+  }
 
   -- bytes after them, of which the chunk has the bits
   pub before_appended : (bytes' : List ℕ) (chunk chunk' : List Bool)
@@ -124,7 +149,12 @@ module _ (p : CodingParameters) (bytes : List ℕ) (d : IntervalReader) where
       → IsReadingBefore p bytes chunk' d'
   before_taken d' chunk chunk' t h =
       let a = t p h.given h.reading in
-      record { given = h.given ++ a.taken; bits_are = h.bits_are ∙ ap (λ z. h.given ++ z) a.chunk_is ∙ sym (append_assoc h.given a.taken chunk'); reading = a.reading }
+      record {
+        given = h.given ++ a.taken;
+        bits_are = h.bits_are ∙ ap (λ z. h.given ++ z) a.chunk_is
+            ∙ sym (append_assoc h.given a.taken chunk');
+        reading = a.reading;
+      }
 
   -- no bit left in the chunk
   pub before_end : (chunk : List Bool) → length chunk ≤ 0 → IsReadingBefore p bytes chunk d → IsReading p (bits_read bytes) d
@@ -132,16 +162,21 @@ module _ (p : CodingParameters) (bytes : List ℕ) (d : IntervalReader) where
   before_end (b ∷ bs) l h = absurd (omega arith)
 
 -- bits given back
-pub before_back : (p : CodingParameters) (bytes : List ℕ) (d d' : IntervalReader) (chunk : List Bool) → IsReading p (bits_read bytes) d → GivesBack d d' chunk
+pub before_back : (p : CodingParameters) (bytes : List ℕ) (d d' : IntervalReader) (chunk : List Bool) → IsReading p (bits_read bytes) d
+    → GivesBack d d' chunk
     → IsReadingBefore p bytes chunk d'
-before_back p bytes d d' chunk h b = let g = b p (bits_read bytes) h in record { given = g.before; bits_are = g.given_is; reading = g.reading }
+before_back p bytes d d' chunk h b = let g = b p (bits_read bytes) h in
+    record { given = g.before; bits_are = g.given_is; reading = g.reading }
 
-pub lengths_same : (bytes : List ℕ) (d d' : IntervalReader) → HasShape d d' → (d'.lines ≡ d.lines) × (d'.reader.line ≡ d.reader.line) → HasLengths bytes d
+pub lengths_same : (bytes : List ℕ) (d d' : IntervalReader) → HasShape d d' → (d'.lines ≡ d.lines) × (d'.reader.line ≡ d.reader.line)
+    → HasLengths bytes d
     → HasLengths bytes d'
 lengths_same bytes d d' s e h = record {
   lines_paid = (let a = h.lines_paid in let q = ap (λ (v : Vec (Vec ℕ Global) Global). length v.items) e.0 in omega arith);
-  lines_at_most = (let a = h.lines_at_most in let q = ap (λ (v : Vec (Vec ℕ Global) Global). length v.items) e.0 in let n = s.count in omega arith);
-  lines_wide = subst (λ z. HaveWidth z (items d'.lines.items)) (sym s.width) (subst (λ (v : Vec (Vec ℕ Global) Global). HaveWidth d.reader.width (items v.items)) (sym e.0) h.lines_wide);
+  lines_at_most = (let a = h.lines_at_most in let q = ap (λ (v : Vec (Vec ℕ Global) Global). length v.items) e.0 in let n = s.count in
+      omega arith);
+  lines_wide = subst (λ z. HaveWidth z (items d'.lines.items)) (sym s.width)
+      (subst (λ (v : Vec (Vec ℕ Global) Global). HaveWidth d.reader.width (items v.items)) (sym e.0) h.lines_wide);
   line_at_most = (let a = h.line_at_most in let q = ap (λ (v : Vec ℕ Global). length v.items) e.1 in let n = s.width in omega arith);
 }
 

@@ -27,7 +27,12 @@ module _ (p : CodingParameters) (w c n : ℕ) (some : 0 < w) where
   one_line s e o a =
       let line = s.line ++ added (here w c s).ra e in let es = s.earlier ++ e ∷ [] in
       let f = added_fits p w (length s.lines % c) (above c s.lines) s.line e o a.1 in let l = length-append s.lines (line ∷ []) in
-      elim (cases_lt (length line) w) [ inl h ↦ subst (λ (v : Position). length v.lines ≤ length s.lines + 1) (sym (grown_part p w c n some s.lines line es h)) (omega arith) | inr h ↦ subst (λ (v : Position). length v.lines ≤ length s.lines + 1) (sym (grown_full p w c n some s.lines line es (omega arith))) (omega arith) ]
+      elim (cases_lt (length line) w) [
+        | inl h ↦ subst (λ (v : Position). length v.lines ≤ length s.lines + 1) (sym (grown_part p w c n some s.lines line es h))
+            (omega arith)
+        | inr h ↦ subst (λ (v : Position). length v.lines ≤ length s.lines + 1)
+            (sym (grown_full p w c n some s.lines line es (omega arith))) (omega arith)
+      ]
 
   some_bit : (xs : List Bool) → (xs ≡ [] → ⊥) → 0 < length xs
   some_bit [] h = absurd (h refl)
@@ -47,17 +52,20 @@ module _ (p : CodingParameters) (given : List Bool) (d : IntervalReader) (h : Is
   pub sample_open : (code : CodeState) → d.reader.open_event ≡ Sample code → (k : ℕ) × IsOpen k (limit p) (qbpp p) code
   sample_open code open_event =
       let x = working p d given h is in let L = items d.lines.items in
-      let at = subst (λ z. OpenEventAt p d.reader.width (above d.components L) d.reader.line.items d.reader.coder.cells (get_or d.reader.coder.run_indices (length L % d.components) 0) z x.fed) open_event x.open_event_at in (_, at.1)
+      let at = subst (λ z. OpenEventAt p d.reader.width (above d.components L) d.reader.line.items d.reader.coder.cells
+      (get_or d.reader.coder.run_indices (length L % d.components) 0) z x.fed) open_event x.open_event_at in (_, at.1)
 
   -- a sample that isn't whole
   pub sample_back : (code : CodeState) → d.reader.open_event ≡ Sample code → (chunk : List Bool) → chunk ≡ bits_fed (limit p) (qbpp p) code
-      → (short : d.reader.width < 2 ^ 16) → GivenBack p given (record d { reader = record d.reader { open_event = NotBegun; width_below = short } }) chunk
+      → (short : d.reader.width < 2 ^ 16)
+      → GivenBack p given (record d { reader = record d.reader { open_event = NotBegun; width_below = short } }) chunk
   sample_back code open_event chunk is_fed short =
       let w : ℕ = d.reader.width in let k : ℕ = d.components in let L = items d.lines.items in let line : List ℕ = d.reader.line.items in
       let cells : Variables = d.reader.coder.cells in let ri : List ℕ = d.reader.coder.run_indices in
       let x = working p d given h is in let m = interval_steps p w k d.count in let before = bits_of_steps m start x.earlier in
       let at = subst (λ z. OpenEventAt p w (above k L) line cells (get_or ri (length L % k) 0) z x.fed) open_event x.open_event_at in
-      let paid = lines_have_bits p w k d.count h.width_at_least x.earlier start (record { lines = L; line = line; earlier = x.earlier }) h.width_at_least x.leads in
+      let paid = lines_have_bits p w k d.count h.width_at_least x.earlier start (record { lines = L; line = line; earlier = x.earlier })
+      h.width_at_least x.leads in
       record {
         before = before;
         given_is = x.bits_are ∙ ap (λ z. before ++ z) (at.2 ∙ sym is_fed);
@@ -70,6 +78,18 @@ module _ (p : CodingParameters) (given : List Bool) (d : IntervalReader) (h : Is
           lines_paid = (let e = length-map d.lines.items (λ (v : Vec ℕ Global). v.items) in omega arith);
           lines_wide = h.lines_wide;
           line_at_most = h.line_at_most;
-          state_is = subst (λ s. StateIs p w k d.count before L line cells ri NotBegun s) (sym is) (record { earlier = x.earlier; fed = []; leads = x.leads; bits_are = sym (append-nil before); samples = x.samples; unfinished = x.unfinished; few = x.few; is_after = x.is_after; open_event_at = refl });
+          state_is = subst (λ s. StateIs p w k d.count before L line cells ri NotBegun s) (sym is)
+              (record {
+                earlier = x.earlier;
+                fed = [];
+                leads = x.leads;
+                bits_are = sym (append-nil before);
+                samples = x.samples;
+                unfinished =
+                    x.unfinished;
+                few = x.few;
+                is_after = x.is_after;
+                open_event_at = refl;
+              });
         };
       }

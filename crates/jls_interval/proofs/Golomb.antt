@@ -36,4 +36,23 @@ long_range k g qbpp m h l =
 pub golomb_same : (k g qbpp m m' : ℕ) (s t : List Bool) → has_golomb k g qbpp m ≡ true → has_golomb k g qbpp m' ≡ true
     → golomb k g qbpp m ++ s ≡ golomb k g qbpp m' ++ t → (m ≡ m') × (s ≡ t)
 golomb_same k g qbpp m m' s t h h' e =
-    elim (cases_Bool (ltb (m / 2 ^ k) (g - qbpp - 1))) [ inl a ↦ elim (cases_Bool (ltb (m' / 2 ^ k) (g - qbpp - 1))) [ inl b ↦ (let z = zeros_then_one _ _ _ _ (sym (golomb_short k g qbpp m s a) ∙ e ∙ golomb_short k g qbpp m' t b) in let r = bits_same k m m' s t z.1 in (short_same k m m' z.0 r.0, r.1)) | inr b ↦ (let z = zeros_then_one _ _ _ _ (sym (golomb_short k g qbpp m s a) ∙ e ∙ golomb_long k g qbpp m' t b) in let l = ltb-true _ _ a in absurd (omega (arith, z.0, l))) ] | inr a ↦ elim (cases_Bool (ltb (m' / 2 ^ k) (g - qbpp - 1))) [ inl b ↦ (let z = zeros_then_one _ _ _ _ (sym (golomb_long k g qbpp m s a) ∙ e ∙ golomb_short k g qbpp m' t b) in let l = ltb-true _ _ b in absurd (omega (arith, z.0, l))) | inr b ↦ (let z = zeros_then_one _ _ _ _ (sym (golomb_long k g qbpp m s a) ∙ e ∙ golomb_long k g qbpp m' t b) in let r = bits_same qbpp (m - 1) (m' - 1) s t z.1 in let u = long_range k g qbpp m h a in let v = long_range k g qbpp m' h' b in (long_same qbpp m m' u.0 u.1 v.0 v.1 r.0, r.1)) ] ]
+    elim (cases_Bool (ltb (m / 2 ^ k) (g - qbpp - 1))) [
+      | inl a ↦ elim (cases_Bool (ltb (m' / 2 ^ k) (g - qbpp - 1))) [
+        | inl b ↦ (let z = zeros_then_one _ _ _ _ (sym (golomb_short k g qbpp m s a) ∙ e ∙ golomb_short k g qbpp m' t b) in
+            let r = bits_same k m m' s t z.1 in (short_same k m m' z.0 r.0, r.1))
+        | inr b ↦
+            (let z = zeros_then_one _ _ _ _ (sym (golomb_short k g qbpp m s a) ∙ e ∙ golomb_long k g qbpp m' t b) in
+            let l = ltb-true _ _ a in
+            absurd (omega (arith, z.0, l)))
+      ]
+      | inr a ↦
+          elim (cases_Bool (ltb (m' / 2 ^ k) (g - qbpp - 1))) [
+            | inl b ↦ (let z = zeros_then_one _ _ _ _ (sym (golomb_long k g qbpp m s a) ∙ e ∙ golomb_short k g qbpp m' t b) in
+                let l = ltb-true _ _ b in absurd (omega (arith, z.0, l)))
+            | inr b ↦
+                (let z = zeros_then_one _ _ _ _ (sym (golomb_long k g qbpp m s a) ∙ e ∙ golomb_long k g qbpp m' t b) in
+                let r = bits_same qbpp (m - 1) (m' - 1) s t z.1 in let u = long_range k g qbpp m h a in
+                let v = long_range k g qbpp m' h' b in
+                (long_same qbpp m m' u.0 u.1 v.0 v.1 r.0, r.1))
+          ]
+    ]

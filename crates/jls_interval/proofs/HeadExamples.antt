@@ -60,7 +60,8 @@ record FirstLines : Type 0 where
   all : length (code bits_8 4 1 lines_of_four) ≡ 235
 
 first_lines : FirstLines
-unfolding least_from bits golomb quantized_gradient is_negative context modulo_reduced corrected_prediction golomb_k updated run_updated events_from events_after cell_before run_cell_before block_columns full_blocks blocks run_index_before event_bits bits_of_events code
+unfolding least_from bits golomb quantized_gradient is_negative context modulo_reduced corrected_prediction golomb_k updated run_updated
+    events_from events_after cell_before run_cell_before block_columns full_blocks blocks run_index_before event_bits bits_of_events code
 first_lines = record { one = refl; two = refl; three = refl; all = refl }
 
 -- Two lines of one column, 1 and 34, cut at many places ---------------------------------------------
@@ -109,14 +110,21 @@ none_after_first given begun e no_code cut =
     let m = interval_steps bits_8 1 1 2 in let left = begun ++ cut.missing ∷ cut.more_missing in
     let second : IsNext bits_8 1 1 2 after_first (regular near 34) = (lit< tt, (refl, refl, lit≤ tt)) in
     let first = bits_of_steps m start (first_event ∷ []) in
-    let flat : first ++ left ≡ bits_of_steps m start (events 1 1 cut.lines) ++ [] = sym (append_assoc first begun (cut.missing ∷ cut.more_missing)) ∙ ap (λ v. v ++ cut.missing ∷ cut.more_missing) (sym e) ∙ cut.code_is ∙ code_is bits_8 1 1 2 cut.lines ∙ sym (append-nil (bits_of_steps m start (events 1 1 cut.lines))) in
-    refused m (events_apart bits_8 1 1 2 are_parameters) (kept bits_8 1 1 2) start after_first (finish 1 1 cut.lines) (first_event ∷ []) (events 1 1 cut.lines) left [] (tt, tt) ((lit< tt, (refl, refl, lit< tt, refl, lit≤ tt, λ (q : 1 ≡ 0). cc)), refl) (lines_grow bits_8 1 1 2 (lit< tt) cut.lines cut.are_lines) (finished bits_8 1 1 2 cut.lines cut.are_lines.count_is) (regular near 34) second stuck flat
+    let flat : first ++ left ≡ bits_of_steps m start (events 1 1 cut.lines) ++ [] =
+    sym (append_assoc first begun (cut.missing ∷ cut.more_missing)) ∙ ap (λ v. v ++ cut.missing ∷ cut.more_missing) (sym e) ∙ cut.code_is
+    ∙ code_is bits_8 1 1 2 cut.lines ∙ sym (append-nil (bits_of_steps m start (events 1 1 cut.lines))) in
+    refused m (events_apart bits_8 1 1 2 are_parameters) (kept bits_8 1 1 2) start after_first (finish 1 1 cut.lines) (first_event ∷ [])
+    (events 1 1 cut.lines) left [] (tt, tt) ((lit< tt, (refl, refl, lit< tt, refl, lit≤ tt, λ (q : 1 ≡ 0). cc)), refl)
+    (lines_grow bits_8 1 1 2 (lit< tt) cut.lines cut.are_lines) (finished bits_8 1 1 2 cut.lines cut.are_lines.count_is) (regular near 34)
+    second stuck flat
   where
     stuck : (x : Event) (rest : List Bool) → IsNext bits_8 1 1 2 after_first x
         → begun ++ cut.missing ∷ cut.more_missing ≡ event_bits bits_8 (first_event ∷ []) x ++ rest → ⊥
     stuck (regular n s) rest a q =
-        let q' : begun ++ cut.missing ∷ cut.more_missing ≡ event_bits bits_8 (first_event ∷ []) (regular near s) ++ rest = subst (λ v. begun ++ cut.missing ∷ cut.more_missing ≡ event_bits bits_8 (first_event ∷ []) (regular v s) ++ rest) a.1.1 q in
-        no_code _ (cut.missing ∷ cut.more_missing) rest (regular_has bits_8 are_parameters (cell_before bits_8 (first_event ∷ []) (context bits_8 near)) near s a.1.2) q'
+        let q' : begun ++ cut.missing ∷ cut.more_missing ≡ event_bits bits_8 (first_event ∷ []) (regular near s) ++ rest =
+        subst (λ v. begun ++ cut.missing ∷ cut.more_missing ≡ event_bits bits_8 (first_event ∷ []) (regular v s) ++ rest) a.1.1 q in
+        no_code _ (cut.missing ∷ cut.more_missing) rest
+        (regular_has bits_8 are_parameters (cell_before bits_8 (first_event ∷ []) (context bits_8 near)) near s a.1.2) q'
     stuck (run_to_end k count) rest a q = (let mode : false ≡ true = a.1.0 in cc)
     stuck (interrupted_run k count n s) rest a q = (let mode : false ≡ true = a.1.0 in cc)
 
@@ -140,17 +148,71 @@ record Heads : Type 0 where
   whole : Reads (interval_shape bits_8 1 1 2) (0x50 ∷ 0x00 ∷ 0x0C ∷ []) ((1 ∷ []) ∷ (34 ∷ []) ∷ [])
 
 heads : Heads
-unfolding least_from bits value_of_bits width_after golomb quantized_gradient is_negative context modulo_reduced corrected_prediction golomb_k updated run_updated events_from events_after cell_before run_cell_before block_columns full_blocks blocks run_index_before event_bits bits_of_events code bits_read_after is_whole_after ends_data
+unfolding least_from bits value_of_bits width_after golomb quantized_gradient is_negative context modulo_reduced corrected_prediction
+    golomb_k updated run_updated events_from events_after cell_before run_cell_before block_columns full_blocks blocks run_index_before
+    event_bits bits_of_events code bits_read_after is_whole_after ends_data
 heads = record {
-  nothing = inl (refl, head_is bits_8 1 1 (lit< tt) 2 [] (record { whole = []; position = start; leads = refl; cut = run_to_end 0 1; is_next = (lit< tt, (refl, refl, refl)); begun = []; given_is = refl; missing = true; more_missing = []; bits_are = refl }));
-  one_byte = inl (refl, head_is bits_8 1 1 (lit< tt) 2 (bits_read (0x50 ∷ [])) (cut_second (0x50 ∷ []) 34 (replicate 4 false) false (replicate 11 false ++ true ∷ true ∷ false ∷ []) (lit< tt, (refl, refl, lit≤ tt)) refl refl));
-  two_bytes = inl (refl, head_is bits_8 1 1 (lit< tt) 2 (bits_read (0x50 ∷ 0x00 ∷ [])) (cut_second (0x50 ∷ 0x00 ∷ []) 34 (replicate 12 false) false (replicate 3 false ++ true ∷ true ∷ false ∷ []) (lit< tt, (refl, refl, lit≤ tt)) refl refl));
-  in_an_escape = inl (refl, head_is bits_8 1 1 (lit< tt) 2 (bits_read (0x50 ∷ 0x00 ∷ 0x00 ∷ 0x15 ∷ [])) (cut_second (0x50 ∷ 0x00 ∷ 0x00 ∷ 0x15 ∷ []) 47 (replicate 23 false ++ true ∷ false ∷ true ∷ false ∷ true ∷ []) true (false ∷ true ∷ true ∷ []) (lit< tt, (refl, refl, lit≤ tt)) refl refl));
-  in_no_escape = inl (refl, inr (none_after_first (bits_read (0x50 ∷ 0x00 ∷ 0x00 ∷ 0x10 ∷ [])) ((replicate 23 false ++ true ∷ bits 3 0) ++ false ∷ []) refl (escape_too_small 2 32 8 (lit≤ tt) 3 0 false (lit< tt) (lit≤ tt) (lit< tt)), refl));
-  too_many_zeros = inl (refl, inr (none_after_first (bits_read (0x50 ∷ 0x00 ∷ 0x00 ∷ 0x00 ∷ 0x00 ∷ [])) ((replicate 23 false ++ false ∷ []) ++ replicate 12 false) refl (refused_on (replicate 23 false ++ false ∷ []) (replicate 12 false) (zero_too_many 2 32 8 (lit≤ tt) 23 false refl refl)), refl));
+  nothing = inl (
+    refl,
+    head_is bits_8 1 1 (lit< tt) 2 []
+        (record {
+          whole = [];
+          position = start;
+          leads = refl;
+          cut = run_to_end 0 1;
+          is_next = (lit< tt, (refl, refl, refl));
+          begun = [];
+          given_is = refl;
+          missing = true;
+          more_missing = [];
+          bits_are = refl;
+        }),
+  );
+  one_byte = inl (
+    refl,
+    head_is bits_8 1 1 (lit< tt) 2 (bits_read (0x50 ∷ []))
+        (cut_second (0x50 ∷ []) 34 (replicate 4 false) false (replicate 11 false ++ true ∷ true ∷ false ∷ [])
+        (lit< tt, (refl, refl, lit≤ tt))
+        refl refl),
+  );
+  two_bytes = inl (
+    refl,
+    head_is bits_8 1 1 (lit< tt) 2 (bits_read (0x50 ∷ 0x00 ∷ []))
+        (cut_second (0x50 ∷ 0x00 ∷ []) 34 (replicate 12 false) false (replicate 3 false ++ true ∷ true ∷ false ∷ [])
+        (lit< tt, (refl, refl, lit≤ tt)) refl refl),
+  );
+  in_an_escape = inl (
+    refl,
+    head_is bits_8 1 1 (lit< tt) 2 (bits_read (0x50 ∷ 0x00 ∷ 0x00 ∷ 0x15 ∷ []))
+        (cut_second (0x50 ∷ 0x00 ∷ 0x00 ∷ 0x15 ∷ []) 47 (replicate 23 false ++ true ∷ false ∷ true ∷ false ∷ true ∷ []) true
+        (false ∷ true ∷ true ∷ []) (lit< tt, (refl, refl, lit≤ tt)) refl refl),
+  );
+  in_no_escape = inl (
+    refl,
+    inr (
+      none_after_first (bits_read (0x50 ∷ 0x00 ∷ 0x00 ∷ 0x10 ∷ []))
+          ((replicate 23 false ++ true ∷ bits 3 0) ++ false ∷ []) refl
+          (escape_too_small 2 32 8 (lit≤ tt) 3 0 false (lit< tt) (lit≤ tt) (lit< tt)),
+      refl,
+    ),
+  );
+  too_many_zeros = inl (
+    refl,
+    inr (
+      none_after_first (bits_read (0x50 ∷ 0x00 ∷ 0x00 ∷ 0x00 ∷ 0x00 ∷ [])) ((replicate 23 false ++ false ∷ []) ++ replicate 12 false) refl
+          (refused_on (replicate 23 false ++ false ∷ []) (replicate 12 false) (zero_too_many 2 32 8 (lit≤ tt) 23 false refl refl)),
+      refl,
+    ),
+  );
   whole = record {
     unread = false ∷ [];
-    begins = record { are_bytes = (lit< tt, (lit< tt, (lit< tt, tt))); are_lines = record { count_is = refl; each = ((refl, (lit≤ tt, tt)), ((refl, (lit≤ tt, tt)), tt)) }; data_bits = record { whole = refl; read = refl } };
+    begins = record {
+      are_bytes = (lit< tt, (lit< tt, (lit< tt, tt)));
+      are_lines =
+          record { count_is = refl; each = ((refl, (lit≤ tt, tt)), ((refl, (lit≤ tt, tt)), tt)) };
+      data_bits =
+          record { whole = refl; read = refl };
+    };
     at_most_seven = lit≤ tt;
   };
 }

@@ -40,7 +40,8 @@ unfolding events_after
 events_append w c before [] ys = ap (λ z. events_after w c z ys) (sym (append-nil before))
 events_append w c before (x ∷ xs) ys =
     let own = line_events w (length before % c) (above c before) x in let on = before ++ x ∷ [] in
-    ap (λ z. own ++ z) (events_append w c on xs ys ∙ ap (λ z. events_after w c on xs ++ events_after w c z ys) (append_assoc before (x ∷ []) xs))
+    ap (λ z. own ++ z) (events_append w c on xs ys
+    ∙ ap (λ z. events_after w c on xs ++ events_after w c z ys) (append_assoc before (x ∷ []) xs))
     ∙ sym (append_assoc own (events_after w c on xs) (events_after w c (before ++ x ∷ xs) ys))
 
 -- the code of first lines begins the code
@@ -71,7 +72,8 @@ bits_join : (m : StepwiseCode) (a b : List m.Event) (s y : m.State) → Leads m 
     → bits_of_steps m s (a ++ b) ≡ bits_of_steps m s a ++ bits_of_steps m y b
 bits_join m [] b s y l = ap (λ v. bits_of_steps m v b) l
 bits_join m (e ∷ a) b s y l =
-    ap (λ v. m.step_bits s e ++ v) (bits_join m a b (m.after s e) y l.1) ∙ sym (append_assoc (m.step_bits s e) (bits_of_steps m (m.after s e) a) (bits_of_steps m y b))
+    ap (λ v. m.step_bits s e ++ v) (bits_join m a b (m.after s e) y l.1)
+    ∙ sym (append_assoc (m.step_bits s e) (bits_of_steps m (m.after s e) a) (bits_of_steps m y b))
 
 nothing_is : (xs : List Bool) (y : Bool) (ys : List Bool) → xs ++ y ∷ ys ≡ [] → ⊥
 nothing_is [] y ys h = cc
@@ -103,18 +105,21 @@ module _ (p : CodingParameters) (w c : ℕ) (some : 0 < w) where
         let line = z.line ++ added (here w c z).ra e in let es = z.earlier ++ e ∷ [] in
         let f = added_fits p w (length z.lines % c) (above c z.lines) z.line e o a.1 in
         elim (cases_lt (length line) w) [
-          | inl h ↦ subst (λ (v : Position). Grows z v) (sym (grown_part p w c n some z.lines line es h)) (omega (arith, f), h, ([], sym (append-nil z.lines)))
+          | inl h ↦ subst (λ (v : Position). Grows z v) (sym (grown_part p w c n some z.lines line es h))
+              (omega (arith, f), h, ([], sym (append-nil z.lines)))
           | inr h ↦ (
               let q : length line ≡ w = omega arith in let l = length-append z.lines (line ∷ []) in
               let more : length (z.lines ++ line ∷ []) * w ≡ length z.lines * w + w = ap (λ v. v * w) l ∙ one_more (length z.lines) in
-              subst (λ (v : Position). Grows z v) (sym (grown_full p w c n some z.lines line es q)) (omega (arith, f, q, more), some, (line ∷ [], refl)))
+              subst (λ (v : Position). Grows z v) (sym (grown_full p w c n some z.lines line es q))
+              (omega (arith, f, q, more), some, (line ∷ [], refl)))
         ]
 
     steps_grow : (es : List Event) (s z : Position) → length s.line < w → Leads m s es z
         → (size s ≤ size z) × (length z.line < w) × ((ext : List (List ℕ)) × (z.lines ≡ s.lines ++ ext))
     unfolding Grows
     steps_grow [] s z o l =
-        subst (λ (v : Position). (size s ≤ size v) × (length v.line < w) × ((ext : List (List ℕ)) × (v.lines ≡ s.lines ++ ext))) l (omega arith, o, ([], sym (append-nil s.lines)))
+        subst (λ (v : Position). (size s ≤ size v) × (length v.line < w) × ((ext : List (List ℕ)) × (v.lines ≡ s.lines ++ ext))) l
+        (omega arith, o, ([], sym (append-nil s.lines)))
     steps_grow (e ∷ es) s z o l =
         let g = event_grows s e o l.0 in let r = steps_grow es (moved w c s e) z g.1 l.1 in
         (omega (arith, g.0, r.0), r.1, (g.2.0 ++ r.2.0, r.2.1 ∙ ap (λ v. v ++ r.2.0) g.2.1 ∙ append_assoc s.lines g.2.0 r.2.0))
@@ -125,7 +130,8 @@ module _ (p : CodingParameters) (w c : ℕ) (some : 0 < w) where
     unfolding Grows
     to_end zero s o h =
         elim (cases_lt (length s.lines) n) [
-          | inl l ↦ (let q : (length s.lines + 1) * w ≤ n * w = mul-le (length s.lines + 1) w n w (omega arith) (omega arith) in let d : (length s.lines + 1) * w ≡ length s.lines * w + w = one_more (length s.lines) in absurd (omega (arith, q, d)))
+          | inl l ↦ (let q : (length s.lines + 1) * w ≤ n * w = mul-le (length s.lines + 1) w n w (omega arith) (omega arith) in
+              let d : (length s.lines + 1) * w ≡ length s.lines * w + w = one_more (length s.lines) in absurd (omega (arith, q, d)))
           | inr l ↦ ended s l
         ]
     to_end (suc fuel) s o h =
@@ -183,7 +189,8 @@ module _ (p : CodingParameters) (w c : ℕ) (some : 0 < w) where
     unfolding lines all_events
     events_are = (growth_ends p w c n some all_events later.1 all_lead later.2.1).2
 
-    bits_all : code p w c lines ≡ bits_of_steps steps start cut.whole ++ (event_bits p z.earlier e ++ bits_of_steps steps (moved w c z e) later.0)
+    bits_all : code p w c lines ≡ bits_of_steps steps start cut.whole
+        ++ (event_bits p z.earlier e ++ bits_of_steps steps (moved w c z e) later.0)
     bits_all =
         code_is p w c n lines ∙ ap (bits_of_steps steps start) (sym events_are) ∙ bits_join steps cut.whole (e ∷ later.0) start z cut.leads
 
@@ -195,7 +202,10 @@ module _ (p : CodingParameters) (w c : ℕ) (some : 0 < w) where
           are_lines = are_lines;
           missing = cut.missing;
           more_missing = cut.more_missing ++ rest;
-          code_is = ap (λ v. v ++ cut.missing ∷ (cut.more_missing ++ rest)) cut.given_is ∙ append_assoc whole cut.begun (cut.missing ∷ (cut.more_missing ++ rest)) ∙ ap (λ v. whole ++ v) (sym (append_assoc cut.begun (cut.missing ∷ cut.more_missing) rest) ∙ ap (λ v. v ++ rest) (sym cut.bits_are)) ∙ sym bits_all;
+          code_is = ap (λ v. v ++ cut.missing ∷ (cut.more_missing ++ rest)) cut.given_is
+              ∙ append_assoc whole cut.begun (cut.missing ∷ (cut.more_missing ++ rest))
+              ∙ ap (λ v. whole ++ v) (sym (append_assoc cut.begun (cut.missing ∷ cut.more_missing) rest)
+              ∙ ap (λ v. v ++ rest) (sym cut.bits_are)) ∙ sym bits_all;
         }
 
     extends : (ext : List (List ℕ)) × (lines ≡ z.lines ++ ext)
@@ -207,14 +217,16 @@ module _ (p : CodingParameters) (w c : ℕ) (some : 0 < w) where
     -- first lines, and the events that lead to them
     module _ (xs ys : List (List ℕ)) (parts : lines ≡ xs ++ ys) where
       xs_lead : length xs ≤ n → Leads steps start (events w c xs) (finish w c xs)
-      xs_lead few = leads_wider (length xs) n (events w c xs) start (finish w c xs) few (lines_grow p w c (length xs) some xs (prefix_lines p w n lines xs ys are_lines parts))
+      xs_lead few = leads_wider (length xs) n (events w c xs) start (finish w c xs) few
+          (lines_grow p w c (length xs) some xs (prefix_lines p w n lines xs ys are_lines parts))
 
       few_lines : length xs ≤ n
       few_lines = let a = length-append xs ys in let b = ap length parts in let d = are_lines.count_is in omega (arith, a, b, d)
 
       split : ((x : List Event) × (cut.whole ≡ events w c xs ++ x)) ⊎ ((x : List Event) × (events w c xs ≡ cut.whole ++ e ∷ x))
       split =
-          elim (one_begins cut.whole (e ∷ later.0) (events w c xs) (events_after w c xs ys) (events_are ∙ ap (events w c) parts ∙ events_append w c [] xs ys)) [
+          elim (one_begins cut.whole (e ∷ later.0) (events w c xs) (events_after w c xs ys)
+          (events_are ∙ ap (events w c) parts ∙ events_append w c [] xs ys)) [
             | inl r ↦ inl (r.0, r.1)
             | inr r ↦ inr (r.0, (let q = r.3 in let h : e ≡ r.1 = cc in r.2 ∙ ap (λ v. cut.whole ++ v ∷ r.0) (sym h)))
           ]
@@ -225,7 +237,10 @@ module _ (p : CodingParameters) (w c : ℕ) (some : 0 < w) where
         others = ys;
         lines_are = parts;
         unread = bits_of_steps steps (finish w c xs) x ++ cut.begun;
-        given_is = cut.given_is ∙ ap (λ v. bits_of_steps steps start v ++ cut.begun) is ∙ ap (λ v. v ++ cut.begun) (bits_join steps (events w c xs) x start (finish w c xs) (xs_lead few_lines)) ∙ append_assoc (bits_of_steps steps start (events w c xs)) (bits_of_steps steps (finish w c xs) x) cut.begun ∙ ap (λ v. v ++ (bits_of_steps steps (finish w c xs) x ++ cut.begun)) (sym (code_is p w c n xs));
+        given_is = cut.given_is ∙ ap (λ v. bits_of_steps steps start v ++ cut.begun) is
+            ∙ ap (λ v. v ++ cut.begun) (bits_join steps (events w c xs) x start (finish w c xs) (xs_lead few_lines))
+            ∙ append_assoc (bits_of_steps steps start (events w c xs)) (bits_of_steps steps (finish w c xs) x) cut.begun
+            ∙ ap (λ v. v ++ (bits_of_steps steps (finish w c xs) x ++ cut.begun)) (sym (code_is p w c n xs));
       }
 
       size_before : (x : List Event) → cut.whole ≡ events w c xs ++ x → length xs * w ≤ size z
@@ -239,18 +254,25 @@ module _ (p : CodingParameters) (w c : ℕ) (some : 0 < w) where
       size_after : (x : List Event) → events w c xs ≡ cut.whole ++ e ∷ x → size z < length xs * w
       unfolding Grows
       size_after x is =
-          let l = leads_apart steps cut.whole (e ∷ x) start (finish w c xs) (subst (λ v. Leads steps start v (finish w c xs)) is (xs_lead few_lines)) in
+          let l = leads_apart steps cut.whole (e ∷ x) start (finish w c xs)
+          (subst (λ v. Leads steps start v (finish w c xs)) is (xs_lead few_lines)) in
           let same = one_place steps cut.whole start l.0 z l.1.0 cut.leads in
           let on : Leads steps z (e ∷ x) (finish w c xs) = subst (λ v. Leads steps v (e ∷ x) (finish w c xs)) same l.1.1 in
-          let g = event_grows n z e open_line on.0 in let r = steps_grow n x (moved w c z e) (finish w c xs) g.1 on.1 in omega (arith, g.0, r.0)
+          let g = event_grows n z e open_line on.0 in let r = steps_grow n x (moved w c z e) (finish w c xs) g.1 on.1 in
+          omega (arith, g.0, r.0)
 
       not_after : (x : List Event) → events w c xs ≡ cut.whole ++ e ∷ x → BeginsWithFirst (interval_shape p w c n) given lines xs → ⊥
       not_after x is b =
           let whole = bits_of_steps steps start cut.whole in let rest = bits_of_steps steps (moved w c z e) x in
-          let a : code p w c xs ≡ whole ++ (event_bits p z.earlier e ++ rest) = code_is p w c n xs ∙ ap (bits_of_steps steps start) is ∙ bits_join steps cut.whole (e ∷ x) start z cut.leads in
-          let d : cut.begun ≡ (event_bits p z.earlier e ++ rest) ++ b.unread = append_cancel_left whole cut.begun ((event_bits p z.earlier e ++ rest) ++ b.unread) (sym cut.given_is ∙ b.given_is ∙ ap (λ v. v ++ b.unread) a ∙ append_assoc whole (event_bits p z.earlier e ++ rest) b.unread) in
-          let l = ap length d in let l1 = length-append (event_bits p z.earlier e ++ rest) b.unread in let l2 = length-append (event_bits p z.earlier e) rest in
-          let l3 = ap length cut.bits_are in let l4 = length-append cut.begun (cut.missing ∷ cut.more_missing) in omega (arith, l, l1, l2, l3, l4)
+          let a : code p w c xs ≡ whole ++ (event_bits p z.earlier e ++ rest) = code_is p w c n xs ∙ ap (bits_of_steps steps start) is
+          ∙ bits_join steps cut.whole (e ∷ x) start z cut.leads in
+          let d : cut.begun ≡ (event_bits p z.earlier e ++ rest) ++ b.unread =
+          append_cancel_left whole cut.begun ((event_bits p z.earlier e ++ rest) ++ b.unread)
+          (sym cut.given_is ∙ b.given_is ∙ ap (λ v. v ++ b.unread) a ∙ append_assoc whole (event_bits p z.earlier e ++ rest) b.unread) in
+          let l = ap length d in let l1 = length-append (event_bits p z.earlier e ++ rest) b.unread in
+          let l2 = length-append (event_bits p z.earlier e) rest in
+          let l3 = ap length cut.bits_are in let l4 = length-append cut.begun (cut.missing ∷ cut.more_missing) in
+          omega (arith, l, l1, l2, l3, l4)
 
     begins : BeginsWithFirst (interval_shape p w c n) given lines z.lines
     begins =
@@ -263,7 +285,10 @@ module _ (p : CodingParameters) (w c : ℕ) (some : 0 < w) where
     longest xs b =
         elim (split xs b.others b.lines_are) [
           | inl r ↦ elim (cases_lt (length z.lines) (length xs)) [
-            | inl l ↦ (let s = size_before xs b.others b.lines_are r.0 r.1 in let q : (length z.lines + 1) * w ≤ length xs * w = mul-le (length z.lines + 1) w (length xs) w (omega arith) (omega arith) in let o = open_line in absurd (omega (arith, s, q, o)))
+            | inl l ↦ (let s = size_before xs b.others b.lines_are r.0 r.1 in
+                let q : (length z.lines + 1) * w ≤ length xs * w =
+                mul-le (length z.lines + 1) w (length xs) w (omega arith) (omega arith) in
+                let o = open_line in absurd (omega (arith, s, q, o)))
             | inr l ↦ l
           ]
           | inr r ↦ absurd (not_after xs b.others b.lines_are r.0 r.1 b)
@@ -283,16 +308,20 @@ take_drop (suc n) (x ∷ xs) h = let r = take_drop n xs (omega arith) in (x ∷ 
 
 module _ (p : CodingParameters) (w c n : ℕ) (ok : AreCodingParameters p) (some : 0 < w) (given : List Bool) where
   -- the lines that stand whole are the first of all lines in whose code the bits are cut
-  first_of_others : (a b : IsCutCode (interval_shape p w c n) given) (xs : List (List ℕ)) → BeginsWithFirst (interval_shape p w c n) given b.lines xs
+  first_of_others : (a b : IsCutCode (interval_shape p w c n) given) (xs : List (List ℕ))
+      → BeginsWithFirst (interval_shape p w c n) given b.lines xs
       → BeginsWithFirst (interval_shape p w c n) given a.lines xs
   first_of_others a b xs f =
-      let l = length-append xs f.others in let l1 = ap length f.lines_are in let l2 = b.are_lines.count_is in let l3 = a.are_lines.count_is in
+      let l = length-append xs f.others in let l1 = ap length f.lines_are in let l2 = b.are_lines.count_is in
+      let l3 = a.are_lines.count_is in
       let t = take_drop (length xs) a.lines (omega (arith, l, l1, l2, l3)) in
       let more = a.missing ∷ a.more_missing in
       let parts = code_parts p w c t.0 t.1 in
-      let bits_are : code p w c xs ++ (f.unread ++ more) ≡ code p w c t.0 ++ parts.0 = sym (append_assoc (code p w c xs) f.unread more) ∙ ap (λ v. v ++ more) (sym f.given_is) ∙ a.code_is ∙ ap (code p w c) t.2 ∙ parts.1 in
+      let bits_are : code p w c xs ++ (f.unread ++ more) ≡ code p w c t.0 ++ parts.0 = sym (append_assoc (code p w c xs) f.unread more)
+      ∙ ap (λ v. v ++ more) (sym f.given_is) ∙ a.code_is ∙ ap (code p w c) t.2 ∙ parts.1 in
       let wide : AreLines p w (length xs) t.0 = subst (λ k. AreLines p w k t.0) t.3 (prefix_lines p w n a.lines t.0 t.1 a.are_lines t.2) in
-      let same = codes_apart p w c (length xs) ok some xs t.0 (f.unread ++ more) parts.0 (prefix_lines p w n b.lines xs f.others b.are_lines f.lines_are) wide bits_are in
+      let same = codes_apart p w c (length xs) ok some xs t.0 (f.unread ++ more) parts.0
+      (prefix_lines p w n b.lines xs f.others b.are_lines f.lines_are) wide bits_are in
       record { others = t.1; lines_are = t.2 ∙ ap (λ v. v ++ t.1) (sym same.0); unread = f.unread; given_is = f.given_is }
 
   pub one_head : (xs ys : List (List ℕ)) → IsHead (interval_shape p w c n) given xs → IsHead (interval_shape p w c n) given ys → xs ≡ ys
@@ -311,7 +340,8 @@ pub read_has_none : (p : CodingParameters) (w c n : ℕ) → AreCodingParameters
     → Reads (interval_shape p w c n) piece xs → IsHeadOfPiece (interval_shape p w c n) piece head → head ≡ []
 read_has_none p w c n ok some piece xs head r (inl (whole, inl (cut, f))) =
     let more = cut.missing ∷ cut.more_missing in let given = bits_read piece in
-    let e : code p w c xs ++ (r.unread ++ more) ≡ code p w c cut.lines ++ [] = sym (append_assoc (code p w c xs) r.unread more) ∙ ap (λ v. v ++ more) (sym r.begins.data_bits.read) ∙ cut.code_is ∙ sym (append-nil (code p w c cut.lines)) in
+    let e : code p w c xs ++ (r.unread ++ more) ≡ code p w c cut.lines ++ [] = sym (append_assoc (code p w c xs) r.unread more)
+    ∙ ap (λ v. v ++ more) (sym r.begins.data_bits.read) ∙ cut.code_is ∙ sym (append-nil (code p w c cut.lines)) in
     let same = codes_apart p w c n ok some xs cut.lines (r.unread ++ more) [] r.begins.are_lines cut.are_lines e in
     absurd (nothing_is r.unread cut.missing cut.more_missing same.1)
 read_has_none p w c n ok some piece xs head r (inl (whole, inr (none, e))) = e

@@ -29,7 +29,8 @@ pub shape_then : (a b c : IntervalReader) → HasShape a b → HasShape b c → 
 shape_then a b c f g = record { width = g.width ∙ f.width; components = g.components ∙ f.components; count = g.count ∙ f.count }
 
 pub taking_none : (old : IntervalReader) (chunk : List Bool) → TakesFirst old chunk old chunk
-taking_none old chunk = λ p given h. record { taken = []; chunk_is = refl; reading = subst (λ z. IsReading p z old) (sym (append-nil given)) h }
+taking_none old chunk = λ p given h.
+    record { taken = []; chunk_is = refl; reading = subst (λ z. IsReading p z old) (sym (append-nil given)) h }
 
 module _ (old now next : IntervalReader) (chunk unread : List Bool) (t : TakesFirst old chunk now unread) where
   pub taking_then : (unread' : List Bool) → TakesFirst now unread next unread' → TakesFirst old chunk next unread'
@@ -51,7 +52,8 @@ module _ (old now next : IntervalReader) (chunk unread : List Bool) (t : TakesFi
       record {
         taken = chunk;
         chunk_is = sym (ap (λ z. chunk ++ z) e ∙ append-nil chunk);
-        reading = subst (λ z. IsReading p z next) (append_assoc given a.taken unread ∙ ap (λ z. given ++ z) (sym a.chunk_is)) (s p (given ++ a.taken) a.reading);
+        reading = subst (λ z. IsReading p z next) (append_assoc given a.taken unread ∙ ap (λ z. given ++ z) (sym a.chunk_is))
+            (s p (given ++ a.taken) a.reading);
       }
 
   pub taking_shorter : (unread' : List Bool) → TakesEvent now next unread unread' true → (p : CodingParameters) (given : List Bool)
@@ -61,7 +63,8 @@ module _ (old now next : IntervalReader) (chunk unread : List Bool) (t : TakesFi
       let l = b.some in let e = ap length b.chunk_is in let n = length-append b.taken unread' in omega arith
 
 -- no bit comes back
-pub taking_fewer : (old new : IntervalReader) (chunk unread : List Bool) → TakesFirst old chunk new unread → (p : CodingParameters) (given : List Bool)
+pub taking_fewer : (old new : IntervalReader) (chunk unread : List Bool) → TakesFirst old chunk new unread
+    → (p : CodingParameters) (given : List Bool)
     → IsReading p given old → length unread ≤ length chunk
 taking_fewer old new chunk unread t p given h =
     let a = t p given h in let e = ap length a.chunk_is in let n = length-append a.taken unread in omega arith
@@ -80,17 +83,23 @@ pub wide_more : (w : ℕ) (lines : List (List ℕ)) (line : List ℕ) → HaveWi
 wide_more w [] line h e = (e, tt)
 wide_more w (x ∷ xs) line h e = (h.0, wide_more w xs line h.1 e)
 
-pub line_fits : (p : CodingParameters) (w k : ℕ) (up : Above) (line line' : List ℕ) (cells' : Variables) (run_indices' : List ℕ) (fed : List Bool) (earlier : List Event)
+pub line_fits : (p : CodingParameters) (w k : ℕ) (up : Above) (line line' : List ℕ) (cells' : Variables) (run_indices' : List ℕ)
+    (fed : List Bool) (earlier : List Event)
     → EventDone p w k up line line' cells' run_indices' fed earlier → length line < w → length line' ≤ w
 line_fits p w k up line line' cells' run_indices' fed earlier m short =
     let f = added_fits p w k up line m.event short m.fits in let e = ap length m.line_is in omega (arith, f, e)
 
 module _ (p : CodingParameters) (n count : ℕ) (lines : List (List ℕ)) (s : State) where
-  pub state_same : (w w' : ℕ) (given given' : List Bool) (line line' : List ℕ) (cells cells' : Variables) (ri ri' : List ℕ) (open_event : OpenEvent)
+  pub state_same : (w w' : ℕ) (given given' : List Bool) (line line' : List ℕ) (cells cells' : Variables) (ri ri' : List ℕ)
+      (open_event : OpenEvent)
       → w' ≡ w → given' ≡ given → line' ≡ line → cells' ≡ cells → ri' ≡ ri
       → StateIs p w n count given lines line cells ri open_event s → StateIs p w' n count given' lines line' cells' ri' open_event s
   state_same w w' given given' line line' cells cells' ri ri' open_event a b c d e h =
-      subst (λ z. StateIs p z n count given' lines line' cells' ri' open_event s) (sym a) (subst (λ z. StateIs p w n count z lines line' cells' ri' open_event s) (sym b) (subst (λ z. StateIs p w n count given lines z cells' ri' open_event s) (sym c) (subst (λ (z : Variables). StateIs p w n count given lines line z ri' open_event s) (sym d) (subst (λ z. StateIs p w n count given lines line cells z open_event s) (sym e) h))))
+      subst (λ z. StateIs p z n count given' lines line' cells' ri' open_event s) (sym a)
+      (subst (λ z. StateIs p w n count z lines line' cells' ri' open_event s) (sym b)
+      (subst (λ z. StateIs p w n count given lines z cells' ri' open_event s) (sym c)
+      (subst (λ (z : Variables). StateIs p w n count given lines line z ri' open_event s) (sym d)
+      (subst (λ z. StateIs p w n count given lines line cells z open_event s) (sym e) h))))
 
 module _ (p : CodingParameters) (d : IntervalReader) (given : List Bool) (h : IsReading p given d) (is : d.state ≡ Working) where
   abbrev w : ℕ
@@ -123,21 +132,29 @@ module _ (p : CodingParameters) (d : IntervalReader) (given : List Bool) (h : Is
   module _ (new : LineReader) (chunk unread : List Bool) (k : ℕ) (k_is : k ≡ component) (up : Above) (up_is : up ≡ above n lines) where
     abbrev Pushes : ℕ → Above → EventStep → Type 0
     Pushes k up step =
-        (fed : List Bool) (earlier : List Event) → IsAfter cells.parameters cells run_indices earlier → Holds k up d.reader fed → EventPushed k up d.reader new fed chunk unread earlier step
+        (fed : List Bool) (earlier : List Event) → IsAfter cells.parameters cells run_indices earlier → Holds k up d.reader fed
+        → EventPushed k up d.reader new fed chunk unread earlier step
 
     pushed : (step : EventStep) → Pushes k up step
         → EventPushed component (above n lines) d.reader new working.fed chunk unread working.earlier step
     pushed step all =
-        let a : Pushes component (above n lines) step = subst (λ z. Pushes z (above n lines) step) k_is (subst (λ (z : Above). Pushes k z step) up_is all) in
-        a working.fed working.earlier (subst (λ q. IsAfter q cells run_indices working.earlier) (sym h.parameters) working.is_after) (subst (λ q. OpenEventAt q w (above n lines) line cells (get_or run_indices component 0) d.reader.open_event working.fed) (sym h.parameters) working.open_event_at)
+        let a : Pushes component (above n lines) step =
+        subst (λ z. Pushes z (above n lines) step) k_is (subst (λ (z : Above). Pushes k z step) up_is all) in
+        a working.fed working.earlier (subst (λ q. IsAfter q cells run_indices working.earlier) (sym h.parameters) working.is_after)
+        (subst (λ q. OpenEventAt q w (above n lines) line cells (get_or run_indices component 0) d.reader.open_event working.fed)
+        (sym h.parameters) working.open_event_at)
 
     -- the event isn't whole
     pub more_state : Pushes k up More → StateIs p w n d.count (given ++ chunk) lines line cells run_indices new.open_event d.state
     more_state all =
         let e = pushed More all in
-        let at = subst (λ q. OpenEventAt q w (above n lines) line cells (get_or run_indices component 0) new.open_event (working.fed ++ e.taken)) h.parameters e.step_is.3 in
+        let at = subst (λ q. OpenEventAt q w (above n lines) line cells (get_or run_indices component 0) new.open_event
+        (working.fed ++ e.taken)) h.parameters e.step_is.3 in
         let whole : e.taken ≡ chunk = sym (e.chunk_is ∙ ap (λ z. e.taken ++ z) e.all ∙ append-nil e.taken) in
-        subst (λ s. StateIs p w n d.count (given ++ chunk) lines line cells run_indices new.open_event s) (sym is) (subst (λ z. IsWorking p w n d.count (given ++ z) lines line cells run_indices new.open_event) whole (working_more p in_range w n d.count h.width_at_least given lines line cells run_indices d.reader.open_event working e.taken new.open_event at))
+        subst (λ s. StateIs p w n d.count (given ++ chunk) lines line cells run_indices new.open_event s) (sym is)
+        (subst (λ z. IsWorking p w n d.count (given ++ z) lines line cells run_indices new.open_event) whole
+        (working_more p in_range w n d.count h.width_at_least given lines line cells run_indices d.reader.open_event working e.taken
+        new.open_event at))
 
     pub more_same : Pushes k up More → (new.line.items ≡ line) × (new.coder.cells ≡ cells) × (new.coder.run_indices ≡ run_indices)
     more_same all = let e = pushed More all in (e.step_is.0, e.step_is.1, e.step_is.2)
@@ -149,22 +166,33 @@ module _ (p : CodingParameters) (d : IntervalReader) (given : List Bool) (h : Is
     pub refused_state : Pushes k up Refused → BeginsNoCode p w n d.count (given ++ chunk)
     refused_state all =
         let e = pushed Refused all in
-        let no_code = working_refused p in_range w n d.count h.width_at_least given lines line cells run_indices d.reader.open_event working e.taken (λ more. subst (λ q. NoEvent q w component (above n lines) line ((working.fed ++ e.taken) ++ more) working.earlier) h.parameters (e.step_is.1 more)) in
-        subst (BeginsNoCode p w n d.count) (append_assoc given e.taken unread ∙ ap (λ z. given ++ z) (sym e.chunk_is)) (no_code_more p w n d.count (given ++ e.taken) unread no_code)
+        let no_code = working_refused p in_range w n d.count h.width_at_least given lines line cells run_indices d.reader.open_event working
+        e.taken (λ more. subst (λ q. NoEvent q w component (above n lines) line ((working.fed ++ e.taken) ++ more) working.earlier)
+        h.parameters (e.step_is.1 more)) in
+        subst (BeginsNoCode p w n d.count) (append_assoc given e.taken unread ∙ ap (λ z. given ++ z) (sym e.chunk_is))
+        (no_code_more p w n d.count (given ++ e.taken) unread no_code)
 
     -- the event is whole
     pub moved_taken : Pushes k up Moved
-        → (taken : List Bool) × (chunk ≡ taken ++ unread) × EventDone p w component (above n lines) line new.line.items new.coder.cells new.coder.run_indices (working.fed ++ taken) working.earlier × (new.open_event ≡ NotBegun)
+        → (taken : List Bool) × (chunk ≡ taken ++ unread)
+        × EventDone p w component (above n lines) line new.line.items new.coder.cells new.coder.run_indices (working.fed ++ taken)
+        working.earlier × (new.open_event ≡ NotBegun)
     moved_taken all =
-        let e = pushed Moved all in
-        (e.taken, e.chunk_is, subst (λ q. EventDone q w component (above n lines) line new.line.items new.coder.cells new.coder.run_indices (working.fed ++ e.taken) working.earlier) h.parameters e.step_is.0, e.step_is.1)
+        let e = pushed Moved all in (
+          e.taken,
+          e.chunk_is,
+          subst (λ q. EventDone q w component (above n lines) line new.line.items new.coder.cells new.coder.run_indices
+              (working.fed ++ e.taken) working.earlier) h.parameters e.step_is.0,
+          e.step_is.1,
+        )
 
     -- samples that end no line
     pub samples_taken : new.width ≡ w → new.coder.cells.parameters ≡ cells.parameters → TakesInLine k up d.reader new chunk unread
         → Taken p given (record d { reader = new }) chunk unread
     samples_taken wide params t =
         let a = t n d.count given lines k_is up_is (subst (λ q. Works q n d.count given lines d.reader) (sym h.parameters) working) in
-        let works : Works p n d.count (given ++ a.taken) lines new = subst (λ q. Works q n d.count (given ++ a.taken) lines new) h.parameters a.works in
+        let works : Works p n d.count (given ++ a.taken) lines new =
+        subst (λ q. Works q n d.count (given ++ a.taken) lines new) h.parameters a.works in
         record {
           taken = a.taken;
           chunk_is = a.chunk_is;
@@ -177,6 +205,7 @@ module _ (p : CodingParameters) (d : IntervalReader) (given : List Bool) (h : Is
             lines_paid = (let b = h.lines_paid in let m = length-append given a.taken in omega arith);
             lines_wide = wide_same w new.width lines wide h.lines_wide;
             line_at_most = (let b = works.unfinished in omega arith);
-            state_is = subst (λ s. StateIs p new.width n d.count (given ++ a.taken) lines new.line.items new.coder.cells new.coder.run_indices new.open_event s) (sym is) works;
+            state_is = subst (λ s. StateIs p new.width n d.count (given ++ a.taken) lines new.line.items new.coder.cells
+                new.coder.run_indices new.open_event s) (sym is) works;
           };
         }

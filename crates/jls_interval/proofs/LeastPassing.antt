@@ -18,7 +18,12 @@ pub least_passes : (passes : ℕ → Bool) (fuel from : ℕ) → passes (from + 
 unfolding least_from
 least_passes passes zero from h = subst (λ z. passes z ≡ true) (let e : from + 0 ≡ from = omega arith in e) h
 least_passes passes (suc fuel) from h =
-    elim (cases_Bool (passes from)) [ inl e ↦ rw e e | inr e ↦ rw e (least_passes passes fuel (suc from) (subst (λ z. passes z ≡ true) (let e : from + suc fuel ≡ suc from + fuel = omega arith in e) h)) ]
+    elim (cases_Bool (passes from)) [
+      | inl e ↦ rw e e
+      | inr e ↦ rw e
+          (least_passes passes fuel (suc from)
+          (subst (λ z. passes z ≡ true) (let e : from + suc fuel ≡ suc from + fuel = omega arith in e) h))
+    ]
 
 pub least_low : (passes : ℕ → Bool) (fuel from : ℕ) → least_from passes fuel from ≤ from + fuel
 unfolding least_from
@@ -31,4 +36,13 @@ pub least_before : (passes : ℕ → Bool) (fuel from i : ℕ) → from ≤ i �
 unfolding least_from
 least_before passes zero from i h l = absurd (omega arith)
 least_before passes (suc fuel) from i h l =
-    elim (cases_Bool (passes from)) [ inl e ↦ (let l' : i < from = subst (λ z. i < z) (least_here passes (suc fuel) from e) l in absurd (omega arith)) | inr e ↦ (let l' : i < least_from passes fuel (suc from) = subst (λ z. i < z) (least_next passes fuel from e) l in elim (cases_eq from i) [ inl q ↦ subst (λ z. passes z ≡ false) q e | inr q ↦ least_before passes fuel (suc from) i (omega arith) l' ]) ]
+    elim (cases_Bool (passes from)) [
+      | inl e ↦ (let l' : i < from = subst (λ z. i < z) (least_here passes (suc fuel) from e) l in absurd (omega arith))
+      | inr e ↦
+          (let l' : i < least_from passes fuel (suc from) = subst (λ z. i < z) (least_next passes fuel from e) l in
+          elim (cases_eq from i) [
+            | inl q ↦ subst (λ z. passes z ≡ false) q e
+            | inr q ↦
+                least_before passes fuel (suc from) i (omega arith) l'
+          ])
+    ]

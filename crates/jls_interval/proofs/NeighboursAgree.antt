@@ -62,9 +62,15 @@ module _ (c : ℕ) (lines : List (List ℕ)) (j : ℕ) (some : 0 < c) (within : 
   pub neighbours_are : (w x : ℕ) → neighbours_at w c lines (j % c) (j / c) x ≡ neighbours w (above c (take j lines)) (get_or lines j []) x
   unfolding neighbours_at
   neighbours_are w zero =
-      let one : (x : ℕ) → sample_at c lines (j % c) (pos (j / c) -ℤ pos 1) x ≡ get_or (line_back (take j lines) c) x 0 = λ x. above_one c lines (j % c) j x (omega arith) within (j / c) (sym place_is) in
-      near_same _ _ _ _ _ _ _ _ (one 0) (one 0) (above_two c lines (j % c) j 0 (omega arith) within (j / c) (sym place_is)) (if_same (ltb 1 w) (ltb 1 w) _ _ _ _ refl (one 1) (one 0))
+      let one : (x : ℕ) → sample_at c lines (j % c) (pos (j / c) -ℤ pos 1) x ≡ get_or (line_back (take j lines) c) x 0 =
+      λ x. above_one c lines (j % c) j x (omega arith) within (j / c) (sym place_is) in
+      near_same _ _ _ _ _ _ _ _ (one 0) (one 0) (above_two c lines (j % c) j 0 (omega arith) within (j / c) (sym place_is))
+      (if_same (ltb 1 w) (ltb 1 w) _ _ _ _ refl (one 1) (one 0))
   neighbours_are w (suc x) =
-      let one : (x : ℕ) → sample_at c lines (j % c) (pos (j / c) -ℤ pos 1) x ≡ get_or (line_back (take j lines) c) x 0 = λ x. above_one c lines (j % c) j x (omega arith) within (j / c) (sym place_is) in
-      let t : eqb (suc x) 0 ≡ false = ne_eqb (suc x) 0 (λ e. omega arith) in let e : suc x - 1 ≡ x = omega arith in let f : suc x + 1 ≡ x + 2 = omega arith in
-      near_same _ _ _ _ _ _ _ _ (rw (t, e) (sample_is x)) (one (suc x)) (rw (t, e) (one x)) (if_same (ltb (suc x + 1) w) (ltb (x + 2) w) _ _ _ _ (ap (λ z. ltb z w) f) (ap (λ z. sample_at c lines (j % c) (pos (j / c) -ℤ pos 1) z) f ∙ one (x + 2)) (one (suc x)))
+      let one : (x : ℕ) → sample_at c lines (j % c) (pos (j / c) -ℤ pos 1) x ≡ get_or (line_back (take j lines) c) x 0 =
+      λ x. above_one c lines (j % c) j x (omega arith) within (j / c) (sym place_is) in
+      let t : eqb (suc x) 0 ≡ false = ne_eqb (suc x) 0 (λ e. omega arith) in let e : suc x - 1 ≡ x = omega arith in
+      let f : suc x + 1 ≡ x + 2 = omega arith in
+      near_same _ _ _ _ _ _ _ _ (rw (t, e) (sample_is x)) (one (suc x)) (rw (t, e) (one x))
+      (if_same (ltb (suc x + 1) w) (ltb (x + 2) w) _ _ _ _ (ap (λ z. ltb z w) f)
+      (ap (λ z. sample_at c lines (j % c) (pos (j / c) -ℤ pos 1) z) f ∙ one (x + 2)) (one (suc x)))

@@ -17,7 +17,8 @@ module _ (p : CodingParameters) (w c n : ℕ) (bytes : List ℕ) where
   pub no_code_reads_no_more : BeginsNoCode p w c n (bits_read bytes) → ReadsNoMore (interval_shape p w c n) bytes
   no_code_reads_no_more no_code more lines r =
       let t = (whole_prefix 0 bytes more r.begins.data_bits.whole).0 in
-      no_code (bits_read_after (last_after 0 bytes) more) lines r.unread r.begins.are_lines (sym (data_append 0 bytes more t) ∙ r.begins.data_bits.read)
+      no_code (bits_read_after (last_after 0 bytes) more) lines r.unread r.begins.are_lines
+      (sym (data_append 0 bytes more t) ∙ r.begins.data_bits.read)
 
   pub over_reads_no_more : AreCodingParameters p → 0 < w → (whole : List (List ℕ)) (extra : ℕ)
       → IsComplete p w c n (bits_read bytes) whole extra → 7 < extra → ReadsNoMore (interval_shape p w c n) bytes
@@ -25,7 +26,8 @@ module _ (p : CodingParameters) (w c n : ℕ) (bytes : List ℕ) where
       let t = (whole_prefix 0 bytes more r.begins.data_bits.whole).0 in
       let following : List Bool = bits_read_after (last_after 0 bytes) more in
       let e : code p w c lines ++ r.unread ≡ code p w c whole ++ (over.unread ++ following) =
-      sym r.begins.data_bits.read ∙ data_append 0 bytes more t ∙ ap (λ z. z ++ following) over.begins ∙ append_assoc (code p w c whole) over.unread following in
+      sym r.begins.data_bits.read ∙ data_append 0 bytes more t ∙ ap (λ z. z ++ following) over.begins
+      ∙ append_assoc (code p w c whole) over.unread following in
       let same = (codes_apart p w c n ok some lines whole r.unread (over.unread ++ following) r.begins.are_lines over.are_lines e).1 in
       let k : length r.unread ≡ length over.unread + length following = ap length same ∙ length-append over.unread following in
       let few = r.at_most_seven in

@@ -38,7 +38,8 @@ last_same xs ys a b e = let r = (same_prefix xs (a ∷ []) ys (b ∷ []) e refl)
 
 zeros_split : (m n : ℕ) → replicate (m + n) false ≡ replicate m false ++ replicate n false
 zeros_split zero n = ap (λ z. replicate z false) (let e : 0 + n ≡ n = omega arith in e)
-zeros_split (suc m) n = ap (λ z. replicate z false) (let e : suc m + n ≡ suc (m + n) = omega arith in e) ∙ ap (λ z. false ∷ z) (zeros_split m n)
+zeros_split (suc m) n = ap (λ z. replicate z false) (let e : suc m + n ≡ suc (m + n) = omega arith in e)
+    ∙ ap (λ z. false ∷ z) (zeros_split m n)
 
 prefix_bytes : (xs ys : List ℕ) → AllByRecursion (λ x. x < 256) (xs ++ ys) → AllByRecursion (λ x. x < 256) xs
 prefix_bytes [] ys h = tt
@@ -49,7 +50,8 @@ ones_last : (n : ℕ) → 1 ≤ n → bits n 255 ≡ bits (n - 1) (255 / 2 ^ 1) 
 unfolding bits
 ones_last n h = ap (λ z. bits z 255) (let e : n ≡ n - 1 + 1 = omega arith in e) ∙ bits_split (n - 1) 1 255
 
-module _ (given : List Bool) (bytes : List ℕ) (is_pad : IsPad given bytes) (many : 8 ≤ is_pad.carries.zeros) (prefix : List ℕ) (x : ℕ) (is : bytes ≡ prefix ++ x ∷ []) where
+module _ (given : List Bool) (bytes : List ℕ) (is_pad : IsPad given bytes) (many : 8 ≤ is_pad.carries.zeros) (prefix : List ℕ) (x : ℕ)
+    (is : bytes ≡ prefix ++ x ∷ []) where
   abbrev width : ℕ
   width = width_after (last_after 0 prefix)
 
@@ -63,9 +65,15 @@ module _ (given : List Bool) (bytes : List ℕ) (is_pad : IsPad given bytes) (ma
   read_less : bits_read_after 0 prefix ≡ given ++ replicate fewer false
   read_less =
       let n = width_bounds (last_after 0 prefix) in let ends = (whole_parts (last_after 0 prefix) x [] whole.1).0 in
-      let read : bits_read_after 0 (prefix ++ x ∷ []) ≡ bits_read_after 0 prefix ++ bits width x = data_append 0 prefix (x ∷ []) whole.0 ∙ ap (λ z. bits_read_after 0 prefix ++ z) (data_more (last_after 0 prefix) x [] ends ∙ ap (λ z. bits width x ++ z) (data_end x) ∙ append-nil (bits width x)) in
-      let zs : replicate is_pad.carries.zeros false ≡ replicate fewer false ++ replicate width false = ap (λ k. replicate k false) (let e : is_pad.carries.zeros ≡ fewer + width = omega (arith, n) in e) ∙ zeros_split fewer width in
-      (same_prefix (bits_read_after 0 prefix) (bits width x) (given ++ replicate fewer false) (replicate width false) (sym read ∙ ap (bits_read_after 0) (sym is) ∙ is_pad.carries.data_bits.read ∙ ap (λ k. given ++ k) zs ∙ sym (append_assoc given (replicate fewer false) (replicate width false))) (length-bits width x ∙ sym (length-replicate width false))).0
+      let read : bits_read_after 0 (prefix ++ x ∷ []) ≡ bits_read_after 0 prefix ++ bits width x = data_append 0 prefix (x ∷ []) whole.0
+      ∙ ap (λ z. bits_read_after 0 prefix ++ z)
+      (data_more (last_after 0 prefix) x [] ends ∙ ap (λ z. bits width x ++ z) (data_end x) ∙ append-nil (bits width x)) in
+      let zs : replicate is_pad.carries.zeros false ≡ replicate fewer false ++ replicate width false =
+      ap (λ k. replicate k false) (let e : is_pad.carries.zeros ≡ fewer + width = omega (arith, n) in e) ∙ zeros_split fewer width in
+      (same_prefix (bits_read_after 0 prefix) (bits width x) (given ++ replicate fewer false) (replicate width false)
+      (sym read ∙ ap (bits_read_after 0) (sym is) ∙ is_pad.carries.data_bits.read ∙ ap (λ k. given ++ k) zs
+      ∙ sym (append_assoc given (replicate fewer false) (replicate width false)))
+      (length-bits width x ∙ sym (length-replicate width false))).0
 
   no_ff : (f : List ℕ) → prefix ≡ f ++ 255 ∷ [] → ⊥
   unfolding width_after
@@ -74,20 +82,36 @@ module _ (given : List Bool) (bytes : List ℕ) (is_pad : IsPad given bytes) (ma
       let seven : width_after (last_after 0 prefix) ≡ 7 = ap width_after l in
       let w = whole_prefix 0 f (255 ∷ []) (subst (λ z. is_whole_after 0 z ≡ true) e whole.0) in
       let m = width_after (last_after 0 f) in let b = width_bounds (last_after 0 f) in
-      let read : bits_read_after 0 prefix ≡ (bits_read_after 0 f ++ bits (m - 1) (255 / 2 ^ 1)) ++ true ∷ [] = ap (bits_read_after 0) e ∙ data_append 0 f (255 ∷ []) w.0 ∙ ap (λ z. bits_read_after 0 f ++ z) (data_more (last_after 0 f) 255 [] (whole_parts (last_after 0 f) 255 [] w.1).0 ∙ ap (λ z. bits m 255 ++ z) (data_end 255) ∙ append-nil (bits m 255) ∙ ones_last m (omega (arith, b))) ∙ sym (append_assoc (bits_read_after 0 f) (bits (m - 1) (255 / 2 ^ 1)) (true ∷ [])) in
-      let zs : replicate fewer false ≡ replicate (fewer - 1) false ++ false ∷ [] = ap (λ k. replicate k false) (let q : fewer ≡ fewer - 1 + 1 = omega (arith, seven) in q) ∙ zeros_split (fewer - 1) 1 in
-      let bad : true ≡ false = last_same (bits_read_after 0 f ++ bits (m - 1) (255 / 2 ^ 1)) (given ++ replicate (fewer - 1) false) true false (sym read ∙ read_less ∙ ap (λ z. given ++ z) zs ∙ sym (append_assoc given (replicate (fewer - 1) false) (false ∷ []))) in cc
+      let read : bits_read_after 0 prefix ≡ (bits_read_after 0 f ++ bits (m - 1) (255 / 2 ^ 1)) ++ true ∷ [] = ap (bits_read_after 0) e
+      ∙ data_append 0 f (255 ∷ []) w.0
+      ∙ ap (λ z. bits_read_after 0 f ++ z)
+      (data_more (last_after 0 f) 255 [] (whole_parts (last_after 0 f) 255 [] w.1).0 ∙ ap (λ z. bits m 255 ++ z) (data_end 255)
+      ∙ append-nil (bits m 255) ∙ ones_last m (omega (arith, b)))
+      ∙ sym (append_assoc (bits_read_after 0 f) (bits (m - 1) (255 / 2 ^ 1)) (true ∷ [])) in
+      let zs : replicate fewer false ≡ replicate (fewer - 1) false ++ false ∷ [] =
+      ap (λ k. replicate k false) (let q : fewer ≡ fewer - 1 + 1 = omega (arith, seven) in q) ∙ zeros_split (fewer - 1) 1 in
+      let bad : true ≡ false = last_same (bits_read_after 0 f ++ bits (m - 1) (255 / 2 ^ 1)) (given ++ replicate (fewer - 1) false) true
+      false (sym read ∙ read_less ∙ ap (λ z. given ++ z) zs ∙ sym (append_assoc given (replicate (fewer - 1) false) (false ∷ []))) in cc
 
   pub not_shortest : ⊥
   not_shortest =
-      let s = is_pad.shortest prefix (record { are_bytes = prefix_bytes prefix (x ∷ []) (subst (λ z. AllByRecursion (λ y. y < 256) z) is is_pad.carries.are_bytes); zeros = fewer; data_bits = record { whole = whole.0; read = read_less }; last = no_ff }) in
+      let s = is_pad.shortest prefix
+      (record {
+        are_bytes = prefix_bytes prefix (x ∷ []) (subst (λ z. AllByRecursion (λ y. y < 256) z) is is_pad.carries.are_bytes);
+        zeros = fewer;
+        data_bits = record { whole = whole.0; read = read_less };
+        last = no_ff;
+      }) in
       let l = ap length is in let a = length-append prefix (x ∷ []) in absurd (omega (arith, s, l, a))
 
 pub pad_zeros : (given : List Bool) (bytes : List ℕ) → (is_pad : IsPad given bytes) → is_pad.carries.zeros ≤ 7
 pad_zeros given [] is_pad =
-    let e = ap length is_pad.carries.data_bits.read in let n = ap length (data_end 0) in let a = length-append given (replicate is_pad.carries.zeros false) in let r = length-replicate is_pad.carries.zeros false in omega (arith, e, n, a, r)
+    let e = ap length is_pad.carries.data_bits.read in let n = ap length (data_end 0) in
+    let a = length-append given (replicate is_pad.carries.zeros false) in let r = length-replicate is_pad.carries.zeros false in
+    omega (arith, e, n, a, r)
 pad_zeros given (x ∷ xs) is_pad =
-    elim (cases_lt 7 is_pad.carries.zeros) [ inl many ↦ (let r = ended x xs in absurd (not_shortest given (x ∷ xs) is_pad many r.prefix r.last r.is)) | inr few ↦ few ]
+    elim (cases_lt 7 is_pad.carries.zeros)
+    [ inl many ↦ (let r = ended x xs in absurd (not_shortest given (x ∷ xs) is_pad many r.prefix r.last r.is)) | inr few ↦ few ]
 
 pub packed_reads : (p : CodingParameters) (w c n : ℕ) (lines : List (List ℕ)) → AreLines p w n lines
     → Reads (interval_shape p w c n) (packed p w c lines) lines

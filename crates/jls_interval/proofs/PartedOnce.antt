@@ -52,23 +52,45 @@ module _ (w c : ℕ) (lines : List (List ℕ)) (j : ℕ) (some : 0 < c) (within 
   -- what stands at a column is the stretch there
   stands_stretch : (x : ℕ) (e : Event) (next : ℕ) → x < w → StandsIn w c lines k (j / c) x e next → stretch w k up line x ≡ to e next
   stands_stretch x (regular n s) next l h =
-      at_regular w k up line x (sym (run_is x) ∙ ap is_run_mode (sym h.near_is) ∙ h.not_run) ∙ stretch_same (regular (at x) (get_or line x 0)) (regular n s) (suc x) next (let a = h.near_is ∙ near x in let b = h.sample_is ∙ sample x in cc) (let e = h.next_is in omega arith)
+      at_regular w k up line x (sym (run_is x) ∙ ap is_run_mode (sym h.near_is) ∙ h.not_run)
+      ∙ stretch_same (regular (at x) (get_or line x 0)) (regular n s) (suc x) next
+      (let a = h.near_is ∙ near x in let b = h.sample_is ∙ sample x in cc) (let e = h.next_is in omega arith)
   stands_stretch x (run_to_end of count) next l h =
       let d = length-drop x line in let full : x + count ≡ w = h.to_end in
-      let len : prefix_len (λ s. eqb s (at x).ra) (drop x line) ≡ count = prefix_len_is (λ s. eqb s (at x).ra) (drop x line) count 0 (omega arith) (holds_passes x count h.holds) (λ m. absurd (omega arith)) in
-      at_end w k up line x (sym (run_is x) ∙ h.run) (omega arith) ∙ stretch_same (run_to_end k (w - x)) (run_to_end of count) w next (let a = h.component_is in let b : w - x ≡ count = omega arith in cc) (sym h.next_is)
+      let len : prefix_len (λ s. eqb s (at x).ra) (drop x line) ≡ count =
+      prefix_len_is (λ s. eqb s (at x).ra) (drop x line) count 0 (omega arith) (holds_passes x count h.holds)
+      (λ m. absurd (omega arith)) in
+      at_end w k up line x (sym (run_is x) ∙ h.run) (omega arith)
+      ∙ stretch_same (run_to_end k (w - x)) (run_to_end of count) w next
+      (let a = h.component_is in let b : w - x ≡ count = omega arith in cc) (sym h.next_is)
   stands_stretch x (interrupted_run of count n s) next l h =
       let d = length-drop x line in let room : x + count < w = h.within in
-      let other : eqb (get_or (drop x line) count 0) (at x).ra ≡ false = ne_eqb _ _ (λ e. h.interrupts (h.sample_is ∙ sample (x + count) ∙ sym (get_or-drop x line count 0) ∙ e ∙ ap (λ (n : Neighbours). n.ra) (sym (near x)))) in
-      let len : prefix_len (λ s. eqb s (at x).ra) (drop x line) ≡ count = prefix_len_is (λ s. eqb s (at x).ra) (drop x line) count 0 (omega arith) (holds_passes x count h.holds) (λ m. other) in
-      at_stop w k up line x (x + count) (sym (run_is x) ∙ h.run) (ap (λ z. x + z) len) room ∙ stretch_same (interrupted_run k (x + count - x) (at (x + count)) (get_or line (x + count) 0)) (interrupted_run of count n s) (suc (x + count)) next (let a = h.component_is in let b : x + count - x ≡ count = omega arith in let f = h.near_is ∙ near (x + count) in let g = h.sample_is ∙ sample (x + count) in cc) (let e = h.next_is in omega arith)
+      let other : eqb (get_or (drop x line) count 0) (at x).ra ≡ false =
+      ne_eqb _ _ (λ e. h.interrupts (h.sample_is ∙ sample (x + count) ∙ sym (get_or-drop x line count 0) ∙ e
+      ∙ ap (λ (n : Neighbours). n.ra) (sym (near x)))) in
+      let len : prefix_len (λ s. eqb s (at x).ra) (drop x line) ≡ count =
+      prefix_len_is (λ s. eqb s (at x).ra) (drop x line) count 0 (omega arith) (holds_passes x count h.holds) (λ m. other) in
+      at_stop w k up line x (x + count) (sym (run_is x) ∙ h.run) (ap (λ z. x + z) len) room
+      ∙ stretch_same (interrupted_run k (x + count - x) (at (x + count)) (get_or line (x + count) 0)) (interrupted_run of count n s)
+      (suc (x + count)) next (let a = h.component_is in let b : x + count - x ≡ count = omega arith in
+      let f = h.near_is ∙ near (x + count) in let g = h.sample_is ∙ sample (x + count) in cc) (let e = h.next_is in omega arith)
 
   -- and the stretch stands there
   stretch_stands : (x : ℕ) → x < w → (e : Event) (next : ℕ) → stretch w k up line x ≡ to e next
       → StandsIn w c lines k (j / c) x e next × (next ≤ w)
   stretch_stands x l e next is =
-      let stop = run_stop line (at x).ra x in let d = length-drop x line in let pl = prefix_len-le-length (λ s. eqb s (at x).ra) (drop x line) in
-      elim (cases_Bool (is_run_mode (at x))) [ inl r ↦ elim (cases_lt stop w) [ inl s ↦ (let q = sym (at_stop w k up line x stop r refl s) ∙ is in along (interrupted_run k (stop - x) (at stop) (get_or line stop 0)) (suc stop) e next q (stops x r s)) | inr s ↦ (let q = sym (at_end w k up line x r s) ∙ is in along (run_to_end k (w - x)) w e next q (ends x l r s)) ] | inr r ↦ (let q = sym (at_regular w k up line x r) ∙ is in along (regular (at x) (get_or line x 0)) (suc x) e next q (alone x l r)) ]
+      let stop = run_stop line (at x).ra x in let d = length-drop x line in
+      let pl = prefix_len-le-length (λ s. eqb s (at x).ra) (drop x line) in
+      elim (cases_Bool (is_run_mode (at x))) [
+        | inl r ↦ elim (cases_lt stop w) [
+          | inl s ↦ (let q = sym (at_stop w k up line x stop r refl s) ∙ is in
+              along (interrupted_run k (stop - x) (at stop) (get_or line stop 0)) (suc stop) e next q (stops x r s))
+          | inr s ↦
+              (let q = sym (at_end w k up line x r s) ∙ is in along (run_to_end k (w - x)) w e next q (ends x l r s))
+        ]
+        | inr r ↦
+            (let q = sym (at_regular w k up line x r) ∙ is in along (regular (at x) (get_or line x 0)) (suc x) e next q (alone x l r))
+      ]
     where
       along : (f : Event) (m : ℕ) (e : Event) (next : ℕ) → to f m ≡ to e next → StandsIn w c lines k (j / c) x f m × (m ≤ w)
           → StandsIn w c lines k (j / c) x e next × (next ≤ w)
@@ -80,14 +102,39 @@ module _ (w c : ℕ) (lines : List (List ℕ)) (j : ℕ) (some : 0 < c) (within 
 
       ends : (x : ℕ) → x < w → is_run_mode (at x) ≡ true → w ≤ run_stop line (at x).ra x
           → StandsIn w c lines k (j / c) x (run_to_end k (w - x)) w × (w ≤ w)
-      ends x l r s = (record { component_is = refl; run = run_is x ∙ r; to_end = omega arith; holds = passes_hold x (w - x) (omega arith); next_is = refl }, omega arith)
+      ends x l r s = (
+        record {
+          component_is = refl;
+          run = run_is x ∙ r;
+          to_end = omega arith;
+          holds = passes_hold x (w - x) (omega arith);
+          next_is = refl;
+        },
+        omega arith,
+      )
 
       stops : (x : ℕ) → is_run_mode (at x) ≡ true → run_stop line (at x).ra x < w
-          → StandsIn w c lines k (j / c) x (interrupted_run k (run_stop line (at x).ra x - x) (at (run_stop line (at x).ra x)) (get_or line (run_stop line (at x).ra x) 0)) (suc (run_stop line (at x).ra x)) × (suc (run_stop line (at x).ra x) ≤ w)
+          → StandsIn w c lines k (j / c) x
+          (interrupted_run k (run_stop line (at x).ra x - x) (at (run_stop line (at x).ra x)) (get_or line (run_stop line (at x).ra x) 0))
+          (suc (run_stop line (at x).ra x)) × (suc (run_stop line (at x).ra x) ≤ w)
       stops x r s =
-          let n = prefix_len (λ s. eqb s (at x).ra) (drop x line) in let d = length-drop x line in let b : x + n - x ≡ n = omega arith in let f : x + (x + n - x) ≡ x + n = omega arith in
-          let stop = prefix_len_stops (λ s. eqb s (at x).ra) (drop x line) 0 (omega arith) in
-          (record { component_is = refl; run = run_is x ∙ r; within = omega arith; holds = passes_hold x (x + n - x) (omega arith); near_is = ap at (sym f) ∙ sym (near (x + (x + n - x))); sample_is = ap (λ z. get_or line z 0) (sym f) ∙ sym (sample (x + (x + n - x))); interrupts = λ e. eqb-false _ _ stop (get_or-drop x line n 0 ∙ e ∙ ap (λ (m : Neighbours). m.ra) (near x)); next_is = omega arith }, omega arith)
+          let n = prefix_len (λ s. eqb s (at x).ra) (drop x line) in let d = length-drop x line in let b : x + n - x ≡ n = omega arith in
+          let f : x + (x + n - x) ≡ x + n = omega arith in
+          let stop = prefix_len_stops (λ s. eqb s (at x).ra) (drop x line) 0 (omega arith) in (
+            record {
+              component_is = refl;
+              run = run_is x ∙ r;
+              within = omega arith;
+              holds = passes_hold x (x + n - x) (omega arith);
+              near_is = ap at (sym f) ∙ sym (near (x + (x + n - x)));
+              sample_is = ap (λ z. get_or line z 0) (sym f)
+                  ∙ sym (sample (x + (x + n - x)));
+              interrupts =
+                  λ e. eqb-false _ _ stop (get_or-drop x line n 0 ∙ e ∙ ap (λ (m : Neighbours). m.ra) (near x));
+              next_is = omega arith;
+            },
+            omega arith,
+          )
 
   -- the columns from x on
   parted_only : (es : List Event) (x : ℕ) → IsParted w c lines k (j / c) x es → es ≡ events_from (stretch w k up line) w w x
@@ -95,12 +142,21 @@ module _ (w c : ℕ) (lines : List (List ℕ)) (j : ℕ) (some : 0 < c) (within 
   parted_only (e ∷ es) x h =
       let s = stands_stretch x e h.0 h.1 h.2 in let m = stretch_moves w k up line x h.1 in
       let l : x < w = h.1 in
-      ap (λ z. e ∷ z) (parted_only es h.0 h.3) ∙ ap (λ (z : Stretch). z.event ∷ events_from (stretch w k up line) w w z.next) (sym s) ∙ sym (more w k up w line x l) ∙ fuel_same w k up (suc w) w line x (omega arith) (omega arith)
+      ap (λ z. e ∷ z) (parted_only es h.0 h.3) ∙ ap (λ (z : Stretch). z.event ∷ events_from (stretch w k up line) w w z.next) (sym s)
+      ∙ sym (more w k up w line x l) ∙ fuel_same w k up (suc w) w line x (omega arith) (omega arith)
 
   parted_so : (fuel x : ℕ) → x ≤ w → w ≤ x + fuel → IsParted w c lines k (j / c) x (events_from (stretch w k up line) w fuel x)
-  parted_so zero x l f = let e : x ≡ w = omega arith in subst (λ z. IsParted w c lines k (j / c) x z) (sym (past w k up zero line x (omega arith))) e
+  parted_so zero x l f = let e : x ≡ w = omega arith in
+      subst (λ z. IsParted w c lines k (j / c) x z) (sym (past w k up zero line x (omega arith))) e
   parted_so (suc fuel) x l f =
-      elim (cases_lt x w) [ inl m ↦ (let s = stretch w k up line x in let h = stretch_stands x m s.event s.next refl in let g = stretch_moves w k up line x m in subst (λ z. IsParted w c lines k (j / c) x z) (sym (more w k up fuel line x m)) (s.next, m, h.0, parted_so fuel s.next h.1 (omega arith))) | inr m ↦ (let e : x ≡ w = omega arith in subst (λ z. IsParted w c lines k (j / c) x z) (sym (past w k up (suc fuel) line x m)) e) ]
+      elim (cases_lt x w) [
+        | inl m ↦ (let s = stretch w k up line x in let h = stretch_stands x m s.event s.next refl in
+            let g = stretch_moves w k up line x m in
+            subst (λ z. IsParted w c lines k (j / c) x z) (sym (more w k up fuel line x m))
+            (s.next, m, h.0, parted_so fuel s.next h.1 (omega arith)))
+        | inr m ↦
+            (let e : x ≡ w = omega arith in subst (λ z. IsParted w c lines k (j / c) x z) (sym (past w k up (suc fuel) line x m)) e)
+      ]
 
 -- The lines from line j on ------------------------------------------------------
 
@@ -120,7 +176,10 @@ module _ (p : CodingParameters) (w c : ℕ) (lines : List (List ℕ)) (some : 0 
   unfolding events_after
   first_line j l =
       let n = length-take-le j lines (omega arith) in let d = drop_more lines j [] l in let t = take_more lines j [] l in
-      ap (λ z. events_after w c (take j lines) z) d ∙ ap (λ z. line_events w (z % c) (above c (take j lines)) (get_or lines j []) ++ events_after w c (take j lines ++ get_or lines j [] ∷ []) (drop (j + 1) lines)) n ∙ ap (λ z. line_events w (j % c) (above c (take j lines)) (get_or lines j []) ++ events_after w c z (drop (j + 1) lines)) (sym t)
+      ap (λ z. events_after w c (take j lines) z) d
+      ∙ ap (λ z. line_events w (z % c) (above c (take j lines)) (get_or lines j [])
+      ++ events_after w c (take j lines ++ get_or lines j [] ∷ []) (drop (j + 1) lines)) n
+      ∙ ap (λ z. line_events w (j % c) (above c (take j lines)) (get_or lines j []) ++ events_after w c z (drop (j + 1) lines)) (sym t)
 
   no_line : (j : ℕ) → length lines ≤ j → from_line j ≡ []
   unfolding events_after
@@ -130,13 +189,20 @@ module _ (p : CodingParameters) (w c : ℕ) (lines : List (List ℕ)) (some : 0 
   only_so zero j es e h = h ∙ sym (no_line j (omega arith))
   only_so (suc n) j es e h =
       let l : j < length lines = omega arith in
-      h.2 ∙ ap (λ z. z ++ h.1) (parted_only w c lines j some l (wide_at p w lines j wide l) h.0 0 h.3) ∙ ap (λ z. line_events w (j % c) (above c (take j lines)) (get_or lines j []) ++ z) (only_so n (j + 1) h.1 (omega arith) h.4) ∙ sym (first_line j l)
+      h.2 ∙ ap (λ z. z ++ h.1) (parted_only w c lines j some l (wide_at p w lines j wide l) h.0 0 h.3)
+      ∙ ap (λ z. line_events w (j % c) (above c (take j lines)) (get_or lines j []) ++ z) (only_so n (j + 1) h.1 (omega arith) h.4)
+      ∙ sym (first_line j l)
 
   parted_as : (n j : ℕ) → j + n ≡ length lines → AreParted w c lines j n (from_line j)
   parted_as zero j e = no_line j (omega arith)
   parted_as (suc n) j e =
-      let l : j < length lines = omega arith in
-      (line_events w (j % c) (above c (take j lines)) (get_or lines j []), from_line (j + 1), first_line j l, parted_so w c lines j some l (wide_at p w lines j wide l) w 0 (omega arith) (omega arith), parted_as n (j + 1) (omega arith))
+      let l : j < length lines = omega arith in (
+        line_events w (j % c) (above c (take j lines)) (get_or lines j []),
+        from_line (j + 1),
+        first_line j l,
+        parted_so w c lines j some l (wide_at p w lines j wide l) w 0 (omega arith) (omega arith),
+        parted_as n (j + 1) (omega arith),
+      )
 
   pub only_events : (es : List Event) → AreEvents w c lines es → es ≡ events w c lines
   only_events es h = only_so (length lines) 0 es (omega arith) h

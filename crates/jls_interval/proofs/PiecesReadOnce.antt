@@ -8,7 +8,8 @@ use Rattle.jls_interval.proofs.CodesApart.{codes_apart}
 
 module _ (p : CodingParameters) (ok : AreCodingParameters p) (w c n : ℕ) (some : 0 < w) (piece : List ℕ) where
   -- what follows the code of lines is determined too
-  pub begins_once : (xs ys : List (List ℕ)) (s t : List Bool) → BeginsWithCode (interval_shape p w c n) piece xs s → BeginsWithCode (interval_shape p w c n) piece ys t
+  pub begins_once : (xs ys : List (List ℕ)) (s t : List Bool) → BeginsWithCode (interval_shape p w c n) piece xs s
+      → BeginsWithCode (interval_shape p w c n) piece ys t
       → (xs ≡ ys) × (s ≡ t)
   begins_once xs ys s t a b = codes_apart p w c n ok some xs ys s t a.are_lines b.are_lines (sym a.data_bits.read ∙ b.data_bits.read)
 
@@ -24,7 +25,11 @@ module _ (p : CodingParameters) (w c n : ℕ) (piece : List ℕ) where
   pub broken_begins_with_none : IsBroken (interval_shape p w c n) piece → (lines : List (List ℕ)) (unread : List Bool)
       → BeginsWithCode (interval_shape p w c n) piece lines unread → ⊥
   broken_begins_with_none h lines unread b =
-      elim (cases_lt 7 (length unread)) [ inl many ↦ h.not_long (record { lines = lines; unread = unread; begins = b; more_than_seven = many }) | inr few ↦ h.not_read lines (record { unread = unread; begins = b; at_most_seven = few }) ]
+      elim (cases_lt 7 (length unread)) [
+        | inl many ↦ h.not_long (record { lines = lines; unread = unread; begins = b; more_than_seven = many })
+        | inr few ↦
+            h.not_read lines (record { unread = unread; begins = b; at_most_seven = few })
+      ]
 
   pub none_is_broken : ((lines : List (List ℕ)) (unread : List Bool) → BeginsWithCode (interval_shape p w c n) piece lines unread → ⊥)
       → IsBroken (interval_shape p w c n) piece

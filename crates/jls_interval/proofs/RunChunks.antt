@@ -38,7 +38,8 @@ module _ (w0 : ℕ) (first : RunState) (chunk : List Bool) where
 
     step_at : (step : RunStep) → ((r0 : ℕ) (fed : List Bool) → RunAt r0 w0 fed state → RunStepIs r0 w0 (fed ++ b ∷ []) step)
         → (r0 : ℕ) (fed : List Bool) → RunAt r0 w0 fed first → RunStepIs r0 w0 (fed ++ (t.taken ++ b ∷ [])) step
-    step_at step s r0 fed h = subst (λ z. RunStepIs r0 w0 z step) (append_assoc fed t.taken (b ∷ [])) (s r0 (fed ++ t.taken) (t.at r0 fed h))
+    step_at step s r0 fed h = subst (λ z. RunStepIs r0 w0 z step) (append_assoc fed t.taken (b ∷ []))
+        (s r0 (fed ++ t.taken) (t.at r0 fed h))
 
     pub taking_more : (next : RunState)
         → ((r0 : ℕ) (fed : List Bool) → RunAt r0 w0 fed state → RunStepIs r0 w0 (fed ++ b ∷ []) (More next)) → Taking next left'
@@ -50,4 +51,5 @@ module _ (w0 : ℕ) (first : RunState) (chunk : List Bool) where
 
   pub taking_all : (state : RunState) (left left' : List Bool) → Taking state left → (left ≡ []) × (left' ≡ [])
       → RunPushed w0 first chunk left' (More state)
-  taking_all state left left' t e = record { taken = t.taken; chunk_is = t.chunk_is ∙ ap (λ z. t.taken ++ z) (e.0 ∙ sym e.1); step_is = t.at; all = e.1 }
+  taking_all state left left' t e =
+      record { taken = t.taken; chunk_is = t.chunk_is ∙ ap (λ z. t.taken ++ z) (e.0 ∙ sym e.1); step_is = t.at; all = e.1 }

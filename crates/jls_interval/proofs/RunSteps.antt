@@ -17,26 +17,31 @@ use Rattle.jls_interval.proofs.BlocksTaken.{taken_with, taken_more, ended, ended
 -- fewer bits than a number has
 bits_short : (i n x m : ℕ) (rest : List Bool) → i < n → bits i x ≡ bits n m ++ rest → ⊥
 bits_short i n x m rest l e =
-    let b = length-append (bits n m) rest in let c = ap length e in let p = length-bits i x in let q = length-bits n m in omega (arith, b, c, p, q)
+    let b = length-append (bits n m) rest in let c = ap length e in let p = length-bits i x in let q = length-bits n m in
+    omega (arith, b, c, p, q)
 
 -- a bit more of the count
 pub digit_taken : (r0 w0 : ℕ) (given : List Bool) (r w have x : ℕ) → Taken r0 w0 given r w (false ∷ bits have x) → (b : Bool) → x < 2 ^ have
     → Taken r0 w0 (given ++ b ∷ []) r w (false ∷ bits (have + 1) (2 * x + bool_byte b)) × (2 * x + bool_byte b < 2 ^ (have + 1))
 digit_taken r0 w0 given r w have x t b l =
-    let d = bits_push_bool b have x l in
-    (subst (λ z. Taken r0 w0 (given ++ b ∷ []) r w (false ∷ z)) (sym d.0) (taken_with r0 w0 given r w (false ∷ bits have x) t (b ∷ [])), d.1)
+    let d = bits_push_bool b have x l in (
+      subst (λ z. Taken r0 w0 (given ++ b ∷ []) r w (false ∷ z)) (sym d.0) (taken_with r0 w0 given r w (false ∷ bits have x) t (b ∷ [])),
+      d.1,
+    )
 
 -- the bits fed so far are no run as a whole
 pub no_whole : (r0 w0 : ℕ) (given : List Bool) (s : RunState) → IsRunState w0 s → RunAt r0 w0 given s → NoRun r0 w0 given
 no_whole r0 w0 given (Blocks r w) i t = no_run_empty r0 w0 given r w [] t i.1 refl
 no_whole r0 w0 given (Count r w have x) i t =
-    no_run_zero r0 w0 given r w (false ∷ bits have x) t i.1 (bits have x) refl (λ n rest l k e. bits_short have (run_order r) x n rest i.3 e)
+    no_run_zero r0 w0 given r w (false ∷ bits have x) t i.1 (bits have x) refl
+    (λ n rest l k e. bits_short have (run_order r) x n rest i.3 e)
 
 -- the zero alone
 pub zero_taken : (r0 w0 : ℕ) (given : List Bool) (r w : ℕ) → Taken r0 w0 given r w [] → (b : Bool) → b ≡ false
     → Taken r0 w0 (given ++ b ∷ []) r w (false ∷ bits 0 0)
 zero_taken r0 w0 given r w t b e =
-    subst (λ z. Taken r0 w0 (given ++ b ∷ []) r w (false ∷ z)) (sym (bits_none 0)) (subst (λ z. Taken r0 w0 (given ++ b ∷ []) r w (z ∷ [])) e (taken_with r0 w0 given r w [] t (b ∷ [])))
+    subst (λ z. Taken r0 w0 (given ++ b ∷ []) r w (false ∷ z)) (sym (bits_none 0))
+    (subst (λ z. Taken r0 w0 (given ++ b ∷ []) r w (z ∷ [])) e (taken_with r0 w0 given r w [] t (b ∷ [])))
 
 pub one_taken : (r0 w0 : ℕ) (given : List Bool) (r w : ℕ) → Taken r0 w0 given r w [] → Taken r0 w0 (given ++ true ∷ []) r w (true ∷ [])
 one_taken r0 w0 given r w t = taken_with r0 w0 given r w [] t (true ∷ [])
@@ -46,13 +51,15 @@ pub counted : (r0 w0 : ℕ) (given : List Bool) (r w j n : ℕ) → Taken r0 w0 
     → w ≤ w0 → n < w
     → (w0 - w + n < w0) × (given ≡ interrupted_run_bits (blocks r0 (w0 - w + n)) []) × ((blocks r0 (w0 - w + n)).run_index ≡ r)
 counted r0 w0 given r w j n t e l f m =
-    let h = broken_here r0 w0 given r w (false ∷ bits j n) t n [] (subst (λ z. n < 2 ^ z) e l) (ap (λ z. false ∷ z) (ap (λ z. bits z n) e ∙ sym (append-nil (bits (run_order r) n)))) in (omega arith, h.0, h.1)
+    let h = broken_here r0 w0 given r w (false ∷ bits j n) t n [] (subst (λ z. n < 2 ^ z) e l)
+    (ap (λ z. false ∷ z) (ap (λ z. bits z n) e ∙ sym (append-nil (bits (run_order r) n)))) in (omega arith, h.0, h.1)
 
 -- a count that passes the columns left
 pub counted_long : (r0 w0 : ℕ) (given : List Bool) (r w j n : ℕ) → Taken r0 w0 given r w (false ∷ bits j n) → j ≡ run_order r → n < 2 ^ j
     → 0 < w → w ≤ n → (more : List Bool) → NoRun r0 w0 (given ++ more)
 counted_long r0 w0 given r w j n t e l s m more =
-    no_run_long r0 w0 (given ++ more) r w (false ∷ (bits j n ++ more)) (taken_with r0 w0 given r w (false ∷ bits j n) t more) s n (bits j n ++ more) more refl (subst (λ z. n < 2 ^ z) e l) (ap (λ z. bits z n ++ more) e) m
+    no_run_long r0 w0 (given ++ more) r w (false ∷ (bits j n ++ more)) (taken_with r0 w0 given r w (false ∷ bits j n) t more) s n
+    (bits j n ++ more) more refl (subst (λ z. n < 2 ^ z) e l) (ap (λ z. bits z n ++ more) e) m
 
 -- a one for less than a block
 pub short_end : (r0 w0 : ℕ) (given : List Bool) (r w : ℕ) → Taken r0 w0 given r w (true ∷ []) → 0 < w → w < 2 ^ run_order r

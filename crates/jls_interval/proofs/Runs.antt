@@ -23,7 +23,11 @@ columns_more r m = let q = pow_pos (run_order (run_index_raised r m)) in omega a
 columns_grow : (r a b : ℕ) → a ≤ b → block_columns r a ≤ block_columns r b
 columns_grow r a zero h = let e : a ≡ zero = omega arith in subst (λ z. block_columns r z ≤ block_columns r zero) (sym e) (omega arith)
 columns_grow r a (suc b) h =
-    elim (cases_eq a (suc b)) [ inl e ↦ subst (λ z. block_columns r z ≤ block_columns r (suc b)) (sym e) (omega arith) | inr n ↦ (let g = columns_grow r a b (omega arith) in let m = columns_more r b in omega arith) ]
+    elim (cases_eq a (suc b)) [
+      | inl e ↦ subst (λ z. block_columns r z ≤ block_columns r (suc b)) (sym e) (omega arith)
+      | inr n ↦
+          (let g = columns_grow r a b (omega arith) in let m = columns_more r b in omega arith)
+    ]
 
 -- from the 32nd on a block has 2^15 columns
 columns_deep : (r m : ℕ) → m * 2 ^ 15 ≤ block_columns r (31 + m)
@@ -66,7 +70,12 @@ full_fit r n = (low (full_blocks r n) refl, ltb-true _ _ (least_passes passes fu
 pub full_only : (r n m : ℕ) → block_columns r m ≤ n → n < block_columns r (suc m) → full_blocks r n ≡ m
 full_only r n m a b =
     let h = full_fit r n in
-    elim (cases_lt m (full_blocks r n)) [ inl l ↦ (let g = columns_grow r (suc m) (full_blocks r n) (omega arith) in absurd (omega arith)) | inr l ↦ elim (cases_lt (full_blocks r n) m) [ inl k ↦ (let g = columns_grow r (suc (full_blocks r n)) m (omega arith) in absurd (omega arith)) | inr k ↦ omega arith ] ]
+    elim (cases_lt m (full_blocks r n)) [
+      | inl l ↦ (let g = columns_grow r (suc m) (full_blocks r n) (omega arith) in absurd (omega arith))
+      | inr l ↦
+          elim (cases_lt (full_blocks r n) m)
+          [ inl k ↦ (let g = columns_grow r (suc (full_blocks r n)) m (omega arith) in absurd (omega arith)) | inr k ↦ omega arith ]
+    ]
 
 -- the first block, and the others from the next RUNindex on
 columns_first : (r m : ℕ) → r ≤ 31 → block_columns r (suc m) ≡ 2 ^ run_order r + block_columns (run_index_raised r 1) m
@@ -74,7 +83,8 @@ unfolding block_columns
 columns_first r zero h = let e : run_index_raised r 0 ≡ r = omega arith in ap (λ z. 0 + 2 ^ run_order z) e ∙ (omega arith)
 columns_first r (suc m) h =
     let i = columns_first r m h in let e : run_index_raised r (suc m) ≡ run_index_raised (run_index_raised r 1) m = omega arith in
-    let f : 2 ^ run_order (run_index_raised r (suc m)) ≡ 2 ^ run_order (run_index_raised (run_index_raised r 1) m) = ap (λ z. 2 ^ run_order z) e in
+    let f : 2 ^ run_order (run_index_raised r (suc m)) ≡ 2 ^ run_order (run_index_raised (run_index_raised r 1) m) =
+    ap (λ z. 2 ^ run_order z) e in
     omega (arith, i, f)
 
 -- What `blocks` is ---------------------------------------------------------------
@@ -87,7 +97,8 @@ unfolding blocks
 made_is r n m e = ap (made r n) e
 
 made_same : (full full' index index' rest rest' : ℕ) → full ≡ full' → index ≡ index' → rest ≡ rest'
-    → (let b : Blocks = record { full_blocks = full; run_index = index; remaining = rest } in b) ≡ record { full_blocks = full'; run_index = index'; remaining = rest' }
+    → (let b : Blocks = record { full_blocks = full; run_index = index; remaining = rest } in b)
+    ≡ record { full_blocks = full'; run_index = index'; remaining = rest' }
 made_same full full' index index' rest rest' a b c = cc
 
 abbrev pub none : ℕ → ℕ → Blocks
@@ -106,7 +117,9 @@ blocks_step r n small h =
     let b = 2 ^ run_order r in let m = full_blocks (risen r) (n - b) in let f = full_fit (risen r) (n - b) in
     let c = columns_first r m small in let d = columns_first r (suc m) small in
     let e : full_blocks r n ≡ suc m = full_only r n (suc m) (omega arith) (omega arith) in
-    made_is r n (suc m) e ∙ made_same (suc m) (suc m) (run_index_raised r (suc m)) (run_index_raised (risen r) m) (n - block_columns r (suc m)) (n - b - block_columns (risen r) m) refl (omega arith) (omega arith) ∙ ap one_more (sym (made_is (risen r) (n - b) m refl))
+    made_is r n (suc m) e ∙ made_same (suc m) (suc m) (run_index_raised r (suc m)) (run_index_raised (risen r) m)
+    (n - block_columns r (suc m)) (n - b - block_columns (risen r) m) refl (omega arith) (omega arith)
+    ∙ ap one_more (sym (made_is (risen r) (n - b) m refl))
 
 pub blocks_none : (r n : ℕ) → r ≤ 31 → n < 2 ^ run_order r → blocks r n ≡ none r n
 unfolding block_columns
@@ -159,16 +172,43 @@ pub run_apart : (fuel r n w : ℕ) (s t : List Bool) → r ≤ 31 → n ≤ fuel
     → interrupted_run_bits (blocks r n) s ≡ run_to_end_bits (blocks r w) ++ t → ⊥
 run_apart zero r n w s t small f h e =
     let q = pow_pos (run_order r) in let a = broken_none r n s small (omega arith) in
-    elim (cases_lt w (2 ^ run_order r)) [ inl m ↦ (let b = end_none r w t small m (omega arith) in let c : false ∷ (bits (run_order r) n ++ s) ≡ true ∷ t = sym a ∙ e ∙ b in cc) | inr m ↦ (let b = end_step r w t small m in let c : false ∷ (bits (run_order r) n ++ s) ≡ true ∷ (run_to_end_bits (blocks (risen r) (w - 2 ^ run_order r)) ++ t) = sym a ∙ e ∙ b in cc) ]
+    elim (cases_lt w (2 ^ run_order r)) [
+      | inl m ↦ (let b = end_none r w t small m (omega arith) in let c : false ∷ (bits (run_order r) n ++ s) ≡ true ∷ t = sym a ∙ e ∙ b in
+          cc)
+      | inr m ↦ (let b = end_step r w t small m in
+          let c : false ∷ (bits (run_order r) n ++ s) ≡ true ∷ (run_to_end_bits (blocks (risen r) (w - 2 ^ run_order r)) ++ t) = sym a ∙ e
+          ∙ b in cc)
+    ]
 run_apart (suc fuel) r n w s t small f h e =
     let q = pow_pos (run_order r) in
-    elim (cases_lt n (2 ^ run_order r)) [ inl l ↦ (let a = broken_none r n s small l in elim (cases_lt w (2 ^ run_order r)) [ inl m ↦ (let b = end_none r w t small m (omega arith) in let c : false ∷ (bits (run_order r) n ++ s) ≡ true ∷ t = sym a ∙ e ∙ b in cc) | inr m ↦ (let b = end_step r w t small m in let c : false ∷ (bits (run_order r) n ++ s) ≡ true ∷ (run_to_end_bits (blocks (risen r) (w - 2 ^ run_order r)) ++ t) = sym a ∙ e ∙ b in cc) ]) | inr l ↦ (let a = broken_step r n s small l in let b = end_step r w t small (omega arith) in run_apart fuel (risen r) (n - 2 ^ run_order r) (w - 2 ^ run_order r) s t (omega arith) (omega arith) (omega arith) (tail_same true _ _ (sym a ∙ e ∙ b))) ]
+    elim (cases_lt n (2 ^ run_order r)) [
+      | inl l ↦ (let a = broken_none r n s small l in
+          elim (cases_lt w (2 ^ run_order r)) [
+            | inl m ↦ (let b = end_none r w t small m (omega arith) in
+                let c : false ∷ (bits (run_order r) n ++ s) ≡ true ∷ t = sym a ∙ e ∙ b in
+                cc)
+            | inr m ↦ (let b = end_step r w t small m in
+                let c : false ∷ (bits (run_order r) n ++ s) ≡ true
+                ∷ (run_to_end_bits (blocks (risen r) (w - 2 ^ run_order r)) ++ t) = sym a ∙ e
+                ∙ b in cc)
+          ])
+      | inr l ↦ (let a = broken_step r n s small l in let b = end_step r w t small (omega arith) in
+          run_apart fuel (risen r) (n - 2 ^ run_order r) (w - 2 ^ run_order r) s t (omega arith) (omega arith) (omega arith)
+          (tail_same true _ _ (sym a ∙ e ∙ b)))
+    ]
 
 -- two runs that end before the line's end, of which one has no full block
 run_short : (r n w : ℕ) (s t : List Bool) → r ≤ 31 → n < 2 ^ run_order r
     → interrupted_run_bits (blocks r n) s ≡ interrupted_run_bits (blocks r w) t → (n ≡ w) × (s ≡ t)
 run_short r n w s t small l e =
-    elim (cases_lt w (2 ^ run_order r)) [ inl m ↦ (let z = bits_same (run_order r) n w s t (tail_same false (bits (run_order r) n ++ s) (bits (run_order r) w ++ t) (sym (broken_none r n s small l) ∙ e ∙ broken_none r w t small m)) in (sym (mod-eq_of_lt l) ∙ z.0 ∙ mod-eq_of_lt m, z.1)) | inr m ↦ (let c : false ∷ (bits (run_order r) n ++ s) ≡ true ∷ interrupted_run_bits (blocks (risen r) (w - 2 ^ run_order r)) t = sym (broken_none r n s small l) ∙ e ∙ broken_step r w t small m in cc) ]
+    elim (cases_lt w (2 ^ run_order r)) [
+      | inl m ↦ (let z = bits_same (run_order r) n w s t
+          (tail_same false (bits (run_order r) n ++ s) (bits (run_order r) w ++ t)
+          (sym (broken_none r n s small l) ∙ e ∙ broken_none r w t small m)) in (sym (mod-eq_of_lt l) ∙ z.0 ∙ mod-eq_of_lt m, z.1))
+      | inr m ↦
+          (let c : false ∷ (bits (run_order r) n ++ s) ≡ true ∷ interrupted_run_bits (blocks (risen r) (w - 2 ^ run_order r)) t =
+          sym (broken_none r n s small l) ∙ e ∙ broken_step r w t small m in cc)
+    ]
 
 -- two runs that end before the line's end
 pub run_same : (fuel r n w : ℕ) (s t : List Bool) → r ≤ 31 → n ≤ fuel
@@ -176,4 +216,17 @@ pub run_same : (fuel r n w : ℕ) (s t : List Bool) → r ≤ 31 → n ≤ fuel
 run_same zero r n w s t small f e = let q = pow_pos (run_order r) in run_short r n w s t small (omega arith) e
 run_same (suc fuel) r n w s t small f e =
     let q = pow_pos (run_order r) in
-    elim (cases_lt n (2 ^ run_order r)) [ inl l ↦ run_short r n w s t small l e | inr l ↦ elim (cases_lt w (2 ^ run_order r)) [ inl m ↦ (let c : true ∷ interrupted_run_bits (blocks (risen r) (n - 2 ^ run_order r)) s ≡ false ∷ (bits (run_order r) w ++ t) = sym (broken_step r n s small l) ∙ e ∙ broken_none r w t small m in cc) | inr m ↦ (let z = run_same fuel (risen r) (n - 2 ^ run_order r) (w - 2 ^ run_order r) s t (omega arith) (omega arith) (tail_same true (interrupted_run_bits (blocks (risen r) (n - 2 ^ run_order r)) s) (interrupted_run_bits (blocks (risen r) (w - 2 ^ run_order r)) t) (sym (broken_step r n s small l) ∙ e ∙ broken_step r w t small m)) in (omega (arith, z.0), z.1)) ] ]
+    elim (cases_lt n (2 ^ run_order r)) [
+      | inl l ↦ run_short r n w s t small l e
+      | inr l ↦
+          elim (cases_lt w (2 ^ run_order r)) [
+            | inl m ↦ (let c : true ∷ interrupted_run_bits (blocks (risen r) (n - 2 ^ run_order r)) s ≡ false
+                ∷ (bits (run_order r) w ++ t) =
+                sym (broken_step r n s small l) ∙ e ∙ broken_none r w t small m in cc)
+            | inr m ↦
+                (let z = run_same fuel (risen r) (n - 2 ^ run_order r) (w - 2 ^ run_order r) s t (omega arith) (omega arith)
+                (tail_same true (interrupted_run_bits (blocks (risen r) (n - 2 ^ run_order r)) s)
+                (interrupted_run_bits (blocks (risen r) (w - 2 ^ run_order r)) t)
+                (sym (broken_step r n s small l) ∙ e ∙ broken_step r w t small m)) in (omega (arith, z.0), z.1))
+          ]
+    ]

@@ -31,8 +31,10 @@ regular_has p ok cell near s l =
     has_from (regular_k cell) (limit p) (qbpp p) (error_mapped (uses_special_mapping cell) v) (omega arith) (omega arith)
 
 pub regular_none : (p : CodingParameters) → AreCodingParameters p → (cell : Cell) (near : Neighbours) (given : List Bool)
-    → ((m : ℕ) (rest : List Bool) → has_golomb (regular_k cell) (limit p) (qbpp p) m ≡ true → given ≡ golomb (regular_k cell) (limit p) (qbpp p) m ++ rest → ⊥) → NoSample p cell near given
-regular_none p ok cell near given none = λ s rest l e. none (regular_mapped cell (regular_error p cell near s)) rest (regular_has p ok cell near s l) e
+    → ((m : ℕ) (rest : List Bool) → has_golomb (regular_k cell) (limit p) (qbpp p) m ≡ true → given
+    ≡ golomb (regular_k cell) (limit p) (qbpp p) m ++ rest → ⊥) → NoSample p cell near given
+regular_none p ok cell near given none =
+    λ s rest l e. none (regular_mapped cell (regular_error p cell near s)) rest (regular_has p ok cell near s l) e
 
 pub regular_wrong : (p : CodingParameters) → AreCodingParameters p
     → (cell : Cell) (near : Neighbours) (given : List Bool) (m : ℕ) (t : List Bool)
@@ -40,12 +42,14 @@ pub regular_wrong : (p : CodingParameters) → AreCodingParameters p
     → ((e : ℤ) → IsError p e → regular_mapped cell e ≡ m → ⊥) → NoSample p cell near given
 regular_wrong p ok cell near given m t has is none = λ s rest l e.
     let v = regular_error p cell near s in
-    let h = golomb_same (regular_k cell) (limit p) (qbpp p) (regular_mapped cell v) m rest t (regular_has p ok cell near s l) has (sym e ∙ is) in
+    let h = golomb_same (regular_k cell) (limit p) (qbpp p) (regular_mapped cell v) m rest t (regular_has p ok cell near s l) has
+    (sym e ∙ is) in
     none v (error_range p (is_negative p near) s (regular_prediction p cell near)) h.0
 
 -- Interrupting samples ---------------------------------------------------------
 
-module _ (p : CodingParameters) (ok : AreCodingParameters p) (cell : RunCell) (near : Neighbours) (b_small : near.rb ≤ p.maxval) (j : ℕ) (few : j ≤ 15) where
+module _ (p : CodingParameters) (ok : AreCodingParameters p) (cell : RunCell) (near : Neighbours) (b_small : near.rb ≤ p.maxval) (j : ℕ)
+    (few : j ≤ 15) where
   abbrev k : ℕ
   k = run_k (is_same near) cell
 
@@ -61,32 +65,42 @@ module _ (p : CodingParameters) (ok : AreCodingParameters p) (cell : RunCell) (n
   pub interruption_none : (given : List Bool)
       → ((m : ℕ) (rest : List Bool) → has_golomb k g (qbpp p) m ≡ true → given ≡ golomb k g (qbpp p) m ++ rest → ⊥)
       → NoInterruption p cell near j given
-  interruption_none given none = λ s rest l n e. none (interruption_mapped (is_same near) cell (interruption_error p near s)) rest (run_has s l) e
+  interruption_none given none =
+      λ s rest l n e. none (interruption_mapped (is_same near) cell (interruption_error p near s)) rest (run_has s l) e
 
-  module _ (given : List Bool) (m : ℕ) (t : List Bool) (has : has_golomb k g (qbpp p) m ≡ true) (is : given ≡ golomb k g (qbpp p) m ++ t) where
-    number_is : (s : ℕ) (rest : List Bool) → s ≤ p.maxval → given ≡ interrupting_bits p cell near j s ++ rest
-        → interruption_mapped (is_same near) cell (interruption_error p near s) ≡ m
-    number_is s rest l e = (golomb_same k g (qbpp p) (interruption_mapped (is_same near) cell (interruption_error p near s)) m rest t (run_has s l) has (sym e ∙ is)).0
+  module _ (given : List Bool) (m : ℕ) (t : List Bool) (has : has_golomb k g (qbpp p) m ≡ true) (is : given ≡ golomb k g (qbpp p) m ++ t)
+    where
+      number_is : (s : ℕ) (rest : List Bool) → s ≤ p.maxval → given ≡ interrupting_bits p cell near j s ++ rest
+          → interruption_mapped (is_same near) cell (interruption_error p near s) ≡ m
+      number_is s rest l e = (golomb_same k g (qbpp p) (interruption_mapped (is_same near) cell (interruption_error p near s)) m rest t
+          (run_has s l) has (sym e ∙ is)).0
 
-    pub interruption_wrong : ((e : ℤ) → IsError p e → (is_same near ≡ true → e ≡ pos 0 → ⊥) → interruption_mapped (is_same near) cell e ≡ m → ⊥)
-        → NoInterruption p cell near j given
-    interruption_wrong none = λ s rest l n e.
-        none (interruption_error p near s) (error_range p (ltb near.rb near.ra) s near.rb) (λ i. no_zero p near b_small s l n i) (number_is s rest l e)
+      pub interruption_wrong : ((e : ℤ) → IsError p e → (is_same near ≡ true → e ≡ pos 0 → ⊥)
+          → interruption_mapped (is_same near) cell e ≡ m
+          → ⊥)
+          → NoInterruption p cell near j given
+      interruption_wrong none = λ s rest l n e.
+          none (interruption_error p near s) (error_range p (ltb near.rb near.ra) s near.rb) (λ i. no_zero p near b_small s l n i)
+          (number_is s rest l e)
 
-    -- the run's own value
-    pub interruption_own : (s : ℕ) (v : ℤ) → s ≤ p.maxval → s ≡ near.ra → interruption_error p near s ≡ v
-        → (is_same near ≡ true → v ≡ pos 0 → ⊥) → interruption_mapped (is_same near) cell v ≡ m → NoInterruption p cell near j given
-    interruption_own s v a own err some map = λ s' rest l n e.
-        let same = is_same near in let turn = maps_positive same cell in
-        let v' = interruption_error p near s' in
-        let x : interruption_mapped same cell v ≡ mapped_by_sign same turn v = ap (λ z. 2 * unsigned_abs v - one_if same - one_if z) (run_map_is same cell v) in
-        let x' : interruption_mapped same cell v' ≡ mapped_by_sign same turn v' = ap (λ z. 2 * unsigned_abs v' - one_if same - one_if z) (run_map_is same cell v') in
-        let same_error = interruption_mapped_same same turn v' v (λ i. (no_zero p near b_small s' l n i, some i)) (sym x' ∙ number_is s' rest l e ∙ sym map ∙ x) in
-        n (sample_same p (ltb near.rb near.ra) s' s near.rb l a b_small (same_error ∙ sym err) ∙ own)
+      -- the run's own value
+      pub interruption_own : (s : ℕ) (v : ℤ) → s ≤ p.maxval → s ≡ near.ra → interruption_error p near s ≡ v
+          → (is_same near ≡ true → v ≡ pos 0 → ⊥) → interruption_mapped (is_same near) cell v ≡ m → NoInterruption p cell near j given
+      interruption_own s v a own err some map = λ s' rest l n e.
+          let same = is_same near in let turn = maps_positive same cell in
+          let v' = interruption_error p near s' in
+          let x : interruption_mapped same cell v ≡ mapped_by_sign same turn v =
+          ap (λ z. 2 * unsigned_abs v - one_if same - one_if z) (run_map_is same cell v) in
+          let x' : interruption_mapped same cell v' ≡ mapped_by_sign same turn v' =
+          ap (λ z. 2 * unsigned_abs v' - one_if same - one_if z) (run_map_is same cell v') in
+          let same_error = interruption_mapped_same same turn v' v (λ i. (no_zero p near b_small s' l n i, some i))
+          (sym x' ∙ number_is s' rest l e ∙ sym map ∙ x) in
+          n (sample_same p (ltb near.rb near.ra) s' s near.rb l a b_small (same_error ∙ sym err) ∙ own)
 
-    pub interruption_right : (s : ℕ) (v : ℤ) → interruption_mapped (is_same near) cell v ≡ m → interruption_error p near s ≡ v
-        → given ≡ interrupting_bits p cell near j s ++ t
-    interruption_right s v a b = is ∙ ap (λ z. golomb k g (qbpp p) z ++ t) (sym a) ∙ ap (λ z. golomb k g (qbpp p) (interruption_mapped (is_same near) cell z) ++ t) (sym b)
+      pub interruption_right : (s : ℕ) (v : ℤ) → interruption_mapped (is_same near) cell v ≡ m → interruption_error p near s ≡ v
+          → given ≡ interrupting_bits p cell near j s ++ t
+      interruption_right s v a b = is ∙ ap (λ z. golomb k g (qbpp p) z ++ t) (sym a)
+          ∙ ap (λ z. golomb k g (qbpp p) (interruption_mapped (is_same near) cell z) ++ t) (sym b)
 
 -- the same at equal arguments
 pub along : (P : ℕ → ℕ → ℕ → Type 0) (k k' g g' q q' : ℕ) → k ≡ k' → g ≡ g' → q ≡ q' → P k g q → P k' g' q'

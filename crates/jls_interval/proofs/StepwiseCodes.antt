@@ -39,11 +39,16 @@ module _ (m : StepwiseCode) (free : IsPrefixFree m) (kept : IsKept m) where
   one_code s z y [] (f ∷ fs) t u ok p q a b e = absurd (a f (subst (λ v. m.Next v f) p q.0))
   one_code s z y (g ∷ es) [] t u ok p q a b e = absurd (b g (subst (λ v. m.Next v g) q p.0))
   one_code s z y (g ∷ es) (f ∷ fs) t u ok p q a b e =
-      let flat : m.step_bits s g ++ (bits_of_steps m (m.after s g) es ++ t) ≡ m.step_bits s f ++ (bits_of_steps m (m.after s f) fs ++ u) = regroup (m.step_bits s g) (bits_of_steps m (m.after s g) es) t (m.step_bits s f) (bits_of_steps m (m.after s f) fs) u e in
+      let flat : m.step_bits s g ++ (bits_of_steps m (m.after s g) es ++ t) ≡ m.step_bits s f ++ (bits_of_steps m (m.after s f) fs ++ u) =
+      regroup (m.step_bits s g) (bits_of_steps m (m.after s g) es) t (m.step_bits s f) (bits_of_steps m (m.after s f) fs) u e in
       let h : g ≡ f = free s g f (bits_of_steps m (m.after s g) es ++ t) (bits_of_steps m (m.after s f) fs ++ u) ok p.0 q.0 flat in
-      let onto : m.step_bits s f ++ (bits_of_steps m (m.after s f) es ++ t) ≡ m.step_bits s f ++ (bits_of_steps m (m.after s f) fs ++ u) = subst (λ k. m.step_bits s k ++ (bits_of_steps m (m.after s k) es ++ t) ≡ m.step_bits s f ++ (bits_of_steps m (m.after s f) fs ++ u)) h flat in
-      let rest : bits_of_steps m (m.after s f) es ++ t ≡ bits_of_steps m (m.after s f) fs ++ u = append_cancel_left (m.step_bits s f) _ _ onto in
-      let r : (es ≡ fs) × (t ≡ u) = one_code (m.after s f) z y es fs t u (kept s f ok q.0) (subst (λ k. Leads m (m.after s k) es z) h p.1) q.1 a b rest in
+      let onto : m.step_bits s f ++ (bits_of_steps m (m.after s f) es ++ t) ≡ m.step_bits s f ++ (bits_of_steps m (m.after s f) fs ++ u) =
+      subst (λ k. m.step_bits s k ++ (bits_of_steps m (m.after s k) es ++ t) ≡ m.step_bits s f ++ (bits_of_steps m (m.after s f) fs ++ u))
+      h flat in
+      let rest : bits_of_steps m (m.after s f) es ++ t ≡ bits_of_steps m (m.after s f) fs ++ u =
+      append_cancel_left (m.step_bits s f) _ _ onto in
+      let r : (es ≡ fs) × (t ≡ u) = one_code (m.after s f) z y es fs t u (kept s f ok q.0) (subst (λ k. Leads m (m.after s k) es z) h p.1)
+      q.1 a b rest in
       (cons_same g f es fs h r.0, r.1)
 
   -- where no event's bits stand after those of some first events, no whole code does
@@ -52,10 +57,18 @@ module _ (m : StepwiseCode) (free : IsPrefixFree m) (kept : IsKept m) where
       → bits_of_steps m s es ++ left ≡ bits_of_steps m s fs ++ rest → ⊥
   refused s z y [] [] left rest ok l k end x a stuck e = end x (subst (λ v. m.Next v x) (sym l ∙ k) a)
   refused s z y [] (f ∷ fs) left rest ok l k end x a stuck e =
-      stuck f (bits_of_steps m (m.after s f) fs ++ rest) (subst (λ v. m.Next v f) l k.0) (e ∙ append_assoc (m.step_bits s f) (bits_of_steps m (m.after s f) fs) rest ∙ ap (λ v. m.step_bits v f ++ (bits_of_steps m (m.after s f) fs ++ rest)) l)
+      stuck f (bits_of_steps m (m.after s f) fs ++ rest) (subst (λ v. m.Next v f) l k.0)
+      (e ∙ append_assoc (m.step_bits s f) (bits_of_steps m (m.after s f) fs) rest
+      ∙ ap (λ v. m.step_bits v f ++ (bits_of_steps m (m.after s f) fs ++ rest)) l)
   refused s z y (g ∷ es) [] left rest ok l k end x a stuck e = end g (subst (λ v. m.Next v g) k l.0)
   refused s z y (g ∷ es) (f ∷ fs) left rest ok l k end x a stuck e =
-      let flat : m.step_bits s g ++ (bits_of_steps m (m.after s g) es ++ left) ≡ m.step_bits s f ++ (bits_of_steps m (m.after s f) fs ++ rest) = regroup (m.step_bits s g) (bits_of_steps m (m.after s g) es) left (m.step_bits s f) (bits_of_steps m (m.after s f) fs) rest e in
+      let flat : m.step_bits s g ++ (bits_of_steps m (m.after s g) es ++ left) ≡ m.step_bits s f
+      ++ (bits_of_steps m (m.after s f) fs ++ rest) =
+      regroup (m.step_bits s g) (bits_of_steps m (m.after s g) es) left (m.step_bits s f) (bits_of_steps m (m.after s f) fs) rest e in
       let h : g ≡ f = free s g f (bits_of_steps m (m.after s g) es ++ left) (bits_of_steps m (m.after s f) fs ++ rest) ok l.0 k.0 flat in
-      let onto : m.step_bits s f ++ (bits_of_steps m (m.after s f) es ++ left) ≡ m.step_bits s f ++ (bits_of_steps m (m.after s f) fs ++ rest) = subst (λ v. m.step_bits s v ++ (bits_of_steps m (m.after s v) es ++ left) ≡ m.step_bits s f ++ (bits_of_steps m (m.after s f) fs ++ rest)) h flat in
-      refused (m.after s f) z y es fs left rest (kept s f ok k.0) (subst (λ v. Leads m (m.after s v) es z) h l.1) k.1 end x a stuck (append_cancel_left (m.step_bits s f) (bits_of_steps m (m.after s f) es ++ left) (bits_of_steps m (m.after s f) fs ++ rest) onto)
+      let onto : m.step_bits s f ++ (bits_of_steps m (m.after s f) es ++ left) ≡ m.step_bits s f
+      ++ (bits_of_steps m (m.after s f) fs ++ rest) =
+      subst (λ v. m.step_bits s v ++ (bits_of_steps m (m.after s v) es ++ left) ≡ m.step_bits s f
+      ++ (bits_of_steps m (m.after s f) fs ++ rest)) h flat in
+      refused (m.after s f) z y es fs left rest (kept s f ok k.0) (subst (λ v. Leads m (m.after s v) es z) h l.1) k.1 end x a stuck
+      (append_cancel_left (m.step_bits s f) (bits_of_steps m (m.after s f) es ++ left) (bits_of_steps m (m.after s f) fs ++ rest) onto)

@@ -32,7 +32,8 @@ module _ (w k : ℕ) (up : Above) where
   past (suc f) line x h = let t : ltb x w ≡ false = le-ltb x w h in rw t
 
   pub more : (f : ℕ) (line : List ℕ) (x : ℕ) → x < w
-      → events_from (stretch w k up line) w (suc f) x ≡ (stretch w k up line x).event ∷ events_from (stretch w k up line) w f (stretch w k up line x).next
+      → events_from (stretch w k up line) w (suc f) x ≡ (stretch w k up line x).event
+      ∷ events_from (stretch w k up line) w f (stretch w k up line x).next
   unfolding events_from
   more f line x h = let t : ltb x w ≡ true = lt-ltb x w h in rw t
 
@@ -51,7 +52,8 @@ module _ (w k : ℕ) (up : Above) where
   -- the neighbours of a place need only the samples before it
   pub at_prefix : (line more : List ℕ) (x : ℕ) → x ≤ length line → at (line ++ more) x ≡ at line x
   at_prefix line more zero h = refl
-  at_prefix line more (suc x) h = let e : get_or (line ++ more) x 0 ≡ get_or line x 0 = get_or_append_left line more 0 x (omega arith) in rw e
+  at_prefix line more (suc x) h = let e : get_or (line ++ more) x 0 ≡ get_or line x 0 = get_or_append_left line more 0 x (omega arith) in
+      rw e
 
   pub run_long : (v n : ℕ) → prefix_len (λ s. eqb s v) (replicate n v) ≡ n
   run_long v zero = refl
@@ -65,7 +67,8 @@ module _ (w k : ℕ) (up : Above) where
   pub fits_stretch : (p : CodingParameters) (line rest : List ℕ) (e : Event)
       → length line + length (added (at line (length line)).ra e) + length rest ≡ w
       → Fits p w k up line (at line (length line)) e
-      → stretch w k up (line ++ (added (at line (length line)).ra e ++ rest)) (length line) ≡ to e (length line + length (added (at line (length line)).ra e))
+      → stretch w k up (line ++ (added (at line (length line)).ra e ++ rest)) (length line)
+      ≡ to e (length line + length (added (at line (length line)).ra e))
   fits_stretch p line rest (regular near sample) l h =
       let x = length line in let whole = line ++ sample ∷ rest in
       let e1 : at whole x ≡ at line x = at_prefix line (sample ∷ rest) x (omega arith) in
@@ -97,15 +100,23 @@ module _ (w k : ℕ) (up : Above) where
       let hc : x + count < w = h.2 in
       let shape : whole ≡ prefix ++ sample ∷ rest = regroup line (replicate count v) sample rest in
       let e1 : at whole x ≡ at line x = at_prefix line ((replicate count v ++ sample ∷ []) ++ rest) x (omega arith) in
-      let e2 : at whole (x + count) ≡ at prefix (x + count) = ap (λ z. at z (x + count)) shape ∙ at_prefix prefix (sample ∷ rest) (x + count) (omega arith) in
-      let e3 : get_or whole (x + count) 0 ≡ sample = ap (λ z. get_or z (x + count) 0) shape ∙ get_or_at prefix sample rest 0 (x + count) lf in
-      let d : drop x whole ≡ (replicate count v ++ sample ∷ []) ++ rest = drop_at line ((replicate count v ++ sample ∷ []) ++ rest) x refl in
+      let e2 : at whole (x + count) ≡ at prefix (x + count) = ap (λ z. at z (x + count)) shape
+      ∙ at_prefix prefix (sample ∷ rest) (x + count) (omega arith) in
+      let e3 : get_or whole (x + count) 0 ≡ sample = ap (λ z. get_or z (x + count) 0) shape
+      ∙ get_or_at prefix sample rest 0 (x + count) lf in
+      let d : drop x whole ≡ (replicate count v ++ sample ∷ []) ++ rest =
+      drop_at line ((replicate count v ++ sample ∷ []) ++ rest) x refl in
       let d' : drop x whole ≡ replicate count v ++ sample ∷ rest = d ∙ append_assoc (replicate count v) (sample ∷ []) rest in
       let len : prefix_len (λ s. eqb s v) (drop x whole) ≡ count = ap (prefix_len (λ s. eqb s v)) d' ∙ run_short v count sample rest h.5 in
       let r : is_run_mode (at whole x) ≡ true = ap is_run_mode e1 ∙ h.0 in
       let st : run_stop whole v x ≡ x + count = ap (λ z. x + z) len in
       let st' : run_stop whole (at whole x).ra x ≡ x + count = ap (λ z. run_stop whole z.ra x) e1 ∙ st in
-      let s : stretch w k up whole x ≡ to (interrupted_run k (x + count - x) (at whole (x + count)) (get_or whole (x + count) 0)) (suc (x + count)) = at_stop whole x (x + count) r st' hc in
+      let s : stretch w k up whole x
+      ≡ to (interrupted_run k (x + count - x) (at whole (x + count)) (get_or whole (x + count) 0)) (suc (x + count)) =
+      at_stop whole x (x + count) r st' hc in
       let sub : x + count - x ≡ count = omega arith in
-      let la : length (replicate count v ++ sample ∷ []) ≡ count + 1 = length-append (replicate count v) (sample ∷ []) ∙ ap (λ z. z + 1) lr in
-      s ∙ stretch_same (interrupted_run k (x + count - x) (at whole (x + count)) (get_or whole (x + count) 0)) (interrupted_run c count near sample) (suc (x + count)) (x + length (replicate count v ++ sample ∷ [])) (let n = h.1 in let m = h.3 in cc) (omega arith)
+      let la : length (replicate count v ++ sample ∷ []) ≡ count + 1 = length-append (replicate count v) (sample ∷ [])
+      ∙ ap (λ z. z + 1) lr in
+      s ∙ stretch_same (interrupted_run k (x + count - x) (at whole (x + count)) (get_or whole (x + count) 0))
+      (interrupted_run c count near sample) (suc (x + count)) (x + length (replicate count v ++ sample ∷ []))
+      (let n = h.1 in let m = h.3 in cc) (omega arith)

@@ -32,8 +32,10 @@ values_16 = record { precision = 8; maxval = 15; t1 = 2; t2 = 3; t3 = 4; reset =
 
 record WorkedExamples : Type 0 where
   -- regular mode and runs of both kinds, with escapes; in the first column of the third line Rc is 0, the Ra of the line above
-  picture_of_four_lines : packed bits_8 4 1 ((0 ∷ 0 ∷ 90 ∷ 74 ∷ []) ∷ (68 ∷ 50 ∷ 43 ∷ 205 ∷ []) ∷ (64 ∷ 145 ∷ 145 ∷ 145 ∷ []) ∷ (100 ∷ 145 ∷ 145 ∷ 145 ∷ []) ∷ [])
-      ≡ 0xC0 ∷ 0x00 ∷ 0x00 ∷ 0x6C ∷ 0x80 ∷ 0x20 ∷ 0x8E ∷ 0x01 ∷ 0xC0 ∷ 0x00 ∷ 0x00 ∷ 0x57 ∷ 0x40 ∷ 0x00 ∷ 0x00 ∷ 0x6E ∷ 0xE6 ∷ 0x00 ∷ 0x00 ∷ 0x01 ∷ 0xBC ∷ 0x18 ∷ 0x00 ∷ 0x00 ∷ 0x05 ∷ 0xD8 ∷ 0x00 ∷ 0x00 ∷ 0x91 ∷ 0x60 ∷ []
+  picture_of_four_lines : packed bits_8 4 1
+      ((0 ∷ 0 ∷ 90 ∷ 74 ∷ []) ∷ (68 ∷ 50 ∷ 43 ∷ 205 ∷ []) ∷ (64 ∷ 145 ∷ 145 ∷ 145 ∷ []) ∷ (100 ∷ 145 ∷ 145 ∷ 145 ∷ []) ∷ [])
+      ≡ 0xC0 ∷ 0x00 ∷ 0x00 ∷ 0x6C ∷ 0x80 ∷ 0x20 ∷ 0x8E ∷ 0x01 ∷ 0xC0 ∷ 0x00 ∷ 0x00 ∷ 0x57 ∷ 0x40 ∷ 0x00 ∷ 0x00 ∷ 0x6E ∷ 0xE6 ∷ 0x00 ∷ 0x00
+      ∷ 0x01 ∷ 0xBC ∷ 0x18 ∷ 0x00 ∷ 0x00 ∷ 0x05 ∷ 0xD8 ∷ 0x00 ∷ 0x00 ∷ 0x91 ∷ 0x60 ∷ []
   -- the error 255 is -1 modulo RANGE
   error_modulo_range : packed bits_8 1 1 ((255 ∷ []) ∷ []) ≡ 0x40 ∷ []
   -- EM is 1, which has the short code 1 01 and never the escape
@@ -74,7 +76,9 @@ record WorkedExamples : Type 0 where
   too_long : IsLong (interval_shape bits_8 1 1 1) (0x80 ∷ 0x00 ∷ [])
 
 worked_examples : WorkedExamples
-unfolding least_from bits value_of_bits width_after golomb pad_after quantized_gradient is_negative context modulo_reduced corrected_prediction golomb_k updated run_updated events_from events_after cell_before run_cell_before block_columns full_blocks blocks run_index_before event_bits bits_of_events code bits_read_after is_whole_after ends_data
+unfolding least_from bits value_of_bits width_after golomb pad_after quantized_gradient is_negative context modulo_reduced
+    corrected_prediction golomb_k updated run_updated events_from events_after cell_before run_cell_before block_columns full_blocks blocks
+    run_index_before event_bits bits_of_events code bits_read_after is_whole_after ends_data
 worked_examples = record {
   picture_of_four_lines = refl;
   error_modulo_range = refl;
@@ -95,13 +99,22 @@ worked_examples = record {
   two_events = refl;
   read_with_seven_bits = record {
     unread = true ∷ false ∷ false ∷ false ∷ false ∷ false ∷ false ∷ [];
-    begins = record { are_bytes = (lit< tt, tt); are_lines = record { count_is = refl; each = ((refl, (lit≤ tt, tt)), tt) }; data_bits = record { whole = refl; read = refl } };
+    begins = record {
+      are_bytes = (lit< tt, tt);
+      are_lines = record { count_is = refl; each = ((refl, (lit≤ tt, tt)), tt) };
+      data_bits =
+          record { whole = refl; read = refl };
+    };
     at_most_seven = lit≤ tt;
   };
   too_long = record {
     lines = (0 ∷ []) ∷ [];
     unread = replicate 15 false;
-    begins = record { are_bytes = (lit< tt, (lit< tt, tt)); are_lines = record { count_is = refl; each = ((refl, (lit≤ tt, tt)), tt) }; data_bits = record { whole = refl; read = refl } };
+    begins = record {
+      are_bytes = (lit< tt, (lit< tt, tt));
+      are_lines = record { count_is = refl; each = ((refl, (lit≤ tt, tt)), tt) };
+      data_bits = record { whole = refl; read = refl };
+    };
     more_than_seven = lit< tt;
   };
 }

@@ -8,7 +8,8 @@ use Rattle.jls_interval.proofs.Runs.{risen, blocks_step, blocks_none}
 -- one full block more
 module _ (r n : ℕ) (within : r ≤ 31) (full : 2 ^ run_order r ≤ n) where
   pub block_written : (before : List Bool)
-      → (before ++ true ∷ []) ++ replicate (blocks (risen r) (n - 2 ^ run_order r)).full_blocks true ≡ before ++ replicate (blocks r n).full_blocks true
+      → (before ++ true ∷ []) ++ replicate (blocks (risen r) (n - 2 ^ run_order r)).full_blocks true ≡ before
+      ++ replicate (blocks r n).full_blocks true
   block_written before =
       append_assoc before (true ∷ []) _ ∙ ap (λ (b : Blocks). before ++ replicate b.full_blocks true) (sym (blocks_step r n within full))
 

@@ -15,7 +15,8 @@ abbrev pub fieldless : Val
 fieldless = vstruct vnil
 
 -- a cell owns nothing, so there is one for each history
-pub cell_made : {M : Type 1} {𝓤 : Ura M} {𝓛 : Logic 𝓤} {K : Type 0} {Γ : List (Item 𝓤)} {G : Goal 𝓤 𝓛.H} (h : History) → K → Step K 𝓛 (‵ (Cell.own_val (record { history = h }) (fieldless ∷ [])) ∷ Γ) G Γ G
+pub cell_made : {M : Type 1} {𝓤 : Ura M} {𝓛 : Logic 𝓤} {K : Type 0} {Γ : List (Item 𝓤)} {G : Goal 𝓤 𝓛.H} (h : History) → K
+    → Step K 𝓛 (‵ (Cell.own_val (record { history = h }) (fieldless ∷ [])) ∷ Γ) G Γ G
 cell_made h t = step (λ s.
     nothing t $ nothing t $ feq_i t (List Val) (fieldless ∷ []) (fieldless ∷ []) refl $ fjoin t $
     fpack t (Valss []) (within (record { name = []; args = []; types = []; fields = [] }) tt (fieldless ∷ [])) tt $ fjoin t $ s)

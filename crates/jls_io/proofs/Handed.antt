@@ -25,7 +25,8 @@ module _ (line bytes : List ℕ) (before old new : History) where
       (h.0 ++ bytes, written_on before old new h.0 bytes h.1 k, h.2 ∙ sym (append-nil (h.0 ++ bytes)))
   flushed_whole false e k h = absurd cc
 
-  pub flushed_prefix : (went : Bool) (count : ℕ) → went ≡ true → GrewBy (WrotePrefix bytes count) old new → HandedBut line went bytes before old
+  pub flushed_prefix : (went : Bool) (count : ℕ) → went ≡ true → GrewBy (WrotePrefix bytes count) old new
+      → HandedBut line went bytes before old
       → HandedBut line false [] before new
   flushed_prefix true count e k h = (
     length h.0 + count,
@@ -53,7 +54,8 @@ pub fresh : (bytes : List ℕ) (went : Bool) (h : History) → bytes ≡ [] → 
 fresh bytes went h e w =
     subst (λ (b : List ℕ). HandedBut [] went b h h) (sym e) (subst (λ (w : Bool). HandedBut [] w [] h h) (sym w) (begun h))
 
-pub printed : (line bytes : List ℕ) (went : Bool) (old new : History) → bytes ≡ [] → HandedBut line went bytes old new → GrewBy (Printed line) old new
+pub printed : (line bytes : List ℕ) (went : Bool) (old new : History) → bytes ≡ [] → HandedBut line went bytes old new
+    → GrewBy (Printed line) old new
 printed line bytes true old new e h =
     let whole : line ≡ h.0 = h.2 ∙ (ap (λ (b : List ℕ). h.0 ++ b) e ∙ append-nil h.0) in
     grew_as (Wrote line) (Printed line) old new (λ events w. inl w)
@@ -80,4 +82,5 @@ handed_as line line' bytes went before now e h = subst (λ (l : List ℕ). Hande
 
 pub line_ends : (parts : List LinePart) → flat_map part_bytes parts ++ codes "\n" ≡ line_of parts
 line_ends [] = refl
-line_ends (part ∷ parts) = append_assoc (part_bytes part) (flat_map part_bytes parts) (codes "\n") ∙ ap (λ (t : List ℕ). part_bytes part ++ t) (line_ends parts)
+line_ends (part ∷ parts) = append_assoc (part_bytes part) (flat_map part_bytes parts) (codes "\n")
+    ∙ ap (λ (t : List ℕ). part_bytes part ++ t) (line_ends parts)

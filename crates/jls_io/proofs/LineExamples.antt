@@ -16,7 +16,8 @@ d18 : decimal 18 ≡ codes "18"
 d18 = decimal-digits_of 18 (lit< tt) (lit< tt)
 
 -- the newline is added
-each_part : line_of (Text (given (codes "of ")) ∷ Name (given (0x1B ∷ codes "N")) ∷ Text (given (codes "\\: ")) ∷ Number 18 ∷ []) ≡ codes "of \\u{1b}N\\: 18\n"
+each_part : line_of (Text (given (codes "of ")) ∷ Name (given (0x1B ∷ codes "N")) ∷ Text (given (codes "\\: ")) ∷ Number 18 ∷ [])
+    ≡ codes "of \\u{1b}N\\: 18\n"
 unfolding chars encode_utf8
 each_part = rw d18 refl
 

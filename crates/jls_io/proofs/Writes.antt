@@ -20,7 +20,8 @@ wrote_on a b (took x ∷ writes) more h k =
     let rest = wrote_on (bytes_taken writes) b writes more (record { are_writes = h.are_writes.1; they_took = refl }) k in
     record {
       are_writes = (h.are_writes.0, rest.are_writes);
-      they_took = ap (λ (y : List ℕ). x ++ y) rest.they_took ∙ (sym (append_assoc x (bytes_taken writes) b) ∙ ap (λ (y : List ℕ). y ++ b) h.they_took);
+      they_took = ap (λ (y : List ℕ). x ++ y) rest.they_took
+          ∙ (sym (append_assoc x (bytes_taken writes) b) ∙ ap (λ (y : List ℕ). y ++ b) h.they_took);
     }
 wrote_on a b (opened name ∷ writes) more h k = absurd h.are_writes
 wrote_on a b (not_opened name ∷ writes) more h k = absurd h.are_writes
@@ -36,7 +37,8 @@ pub prefix_after : (a b : List ℕ) (count : ℕ) (writes more : List Event) →
 prefix_after a b count writes more h k = record {
   writes = writes ++ k.writes;
   events_are = ap (λ (x : List Event). writes ++ x) k.events_are ∙ sym (append_assoc writes k.writes (write_failed ∷ []));
-  wrote = subst (λ (x : List ℕ). Wrote x (writes ++ k.writes)) (sym (take-append-add a b count)) (wrote_on a (take count b) writes k.writes h k.wrote);
+  wrote = subst (λ (x : List ℕ). Wrote x (writes ++ k.writes)) (sym (take-append-add a b count))
+      (wrote_on a (take count b) writes k.writes h k.wrote);
   not_all = let n = length-append a b in omega (arith, n, k.not_all);
 }
 
@@ -55,7 +57,8 @@ module _ (old mid new : History) where
 
   pub cut_after : (a b : List ℕ) (count : ℕ) → GrewBy (Wrote a) old mid → GrewBy (WrotePrefix b count) mid new
       → GrewBy (WrotePrefix (a ++ b) (length a + count)) old new
-  cut_after a b count = grew_on (Wrote a) (WrotePrefix b count) (WrotePrefix (a ++ b) (length a + count)) old mid new (prefix_after a b count)
+  cut_after a b count = grew_on (Wrote a) (WrotePrefix b count) (WrotePrefix (a ++ b) (length a + count)) old mid new
+      (prefix_after a b count)
 
   pub one_write_more : (a b : List ℕ) → GrewBy (Wrote a) old mid → 0 < length b → new ≡ mid ++ took b ∷ [] → GrewBy (Wrote (a ++ b)) old new
   one_write_more a b h lt e = written_on a b h (record { events = took b ∷ []; grew = e; they_are = one_write b lt })

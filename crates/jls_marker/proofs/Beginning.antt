@@ -71,7 +71,8 @@ abbrev pub ok_scan : Scan → Result Scan MarkerFault
 ok_scan x = Ok x
 
 pub begins : (f : PictureShape) (p : PresetParameters) (r n : ℕ) (s : ScanSelection) (cs : List ℕ) (params : CodingParameters)
-    → are_known f.ids s.ids ≡ true → cs ≡ map (index_of f.ids) s.ids → params_of f.precision p ≡ Ok params → samples f p r s ≤ 2 ^ 28 → n < 16
+    → are_known f.ids s.ids ≡ true → cs ≡ map (index_of f.ids) s.ids → params_of f.precision p ≡ Ok params → samples f p r s ≤ 2 ^ 28 → n
+    < 16
     → scan_judged f p r n s ≡ Ok (scan_with f cs params r)
 begins f p r n s cs params known indices there small few =
     let made = params_there f.precision p params there in
@@ -79,4 +80,5 @@ begins f p r n s cs params known indices there small few =
     let e : nat_le (samples f p r s) (2 ^ 28) ≡ true = le-leb _ _ small in
     let g : nat_lt n 16 ≡ true = lt-ltb _ _ few in
     let judged : scan_judged f p r n s ≡ Ok (scan_in f p r s) = rw (known, fine, e, g) refl in
-    judged ∙ ap (λ (x : List ℕ). ok_scan (scan_with f x (in_force f.precision p) r)) (sym indices) ∙ ap (λ (x : CodingParameters). ok_scan (scan_with f cs x r)) (sym made.0)
+    judged ∙ ap (λ (x : List ℕ). ok_scan (scan_with f x (in_force f.precision p) r)) (sym indices)
+    ∙ ap (λ (x : CodingParameters). ok_scan (scan_with f cs x r)) (sym made.0)

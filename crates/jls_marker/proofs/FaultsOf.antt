@@ -49,7 +49,8 @@ lse_fault [] f e = ap is_other (sym (refused_is fault.Length f e))
 lse_fault (id ∷ values) f e = by_id (id == 1) e
   where
     by_id : (t : Bool)
-        → cond t (preset_of (preset_parameters values)) (first_failing (((id == 2) || (id == 3), fault.LseId) ∷ []) (segment.Skipped lse)) ≡ Err f
+        → cond t (preset_of (preset_parameters values)) (first_failing (((id == 2) || (id == 3), fault.LseId) ∷ []) (segment.Skipped lse))
+        ≡ Err f
         → is_other f ≡ true
     by_id true h = preset_fault (preset_parameters values) f h
     by_id false h = a_listed_fault is_other (((id == 2) || (id == 3), fault.LseId) ∷ []) (segment.Skipped lse) f refl h
@@ -154,7 +155,9 @@ segment_not_ended code payload e = at_frame (eqb code sof55) e
 begun_not_ended : (h : HeaderState) (s : ScanSelection) (o : Option PictureShape) → begun h (scan_under h s o) ≡ Err Ended → ⊥
 begun_not_ended h s None e = absurd cc
 begun_not_ended h s (Some f) e =
-    let g : is_not_end Ended ≡ true = a_listed_fault is_not_end (begin_tests f h.preset h.restart_interval h.scans s) (scan_in f h.preset h.restart_interval s) Ended refl (unbegun (scan_under h s (Some f)) e) in
+    let g : is_not_end Ended ≡ true =
+    a_listed_fault is_not_end (begin_tests f h.preset h.restart_interval h.scans s) (scan_in f h.preset h.restart_interval s) Ended refl
+    (unbegun (scan_under h s (Some f)) e) in
     absurd cc
   where
     unbegun : (r : Result Scan MarkerFault) → begun h r ≡ Err Ended → r ≡ Err Ended
@@ -169,7 +172,8 @@ begun_not_ended h s (Some f) e =
 
 accepted_not_ended : (h : HeaderState) (s : Segment) → accepted h s ≡ Err Ended → ⊥
 accepted_not_ended h (segment.Frame f) e =
-    let g : is_not_end Ended ≡ true = a_listed_fault is_not_end ((is_none h.frame, fault.SecondFrame) ∷ []) (record h { frame = Some f }, None) Ended refl e in
+    let g : is_not_end Ended ≡ true =
+    a_listed_fault is_not_end ((is_none h.frame, fault.SecondFrame) ∷ []) (record h { frame = Some f }, None) Ended refl e in
     absurd cc
 accepted_not_ended h (segment.Scan s) e = begun_not_ended h s h.frame e
 accepted_not_ended h (segment.Preset a b c d f) e = absurd cc

@@ -38,4 +38,5 @@ pub a_listed_fault : {A : Type 0} (p : MarkerFault → Bool) (tests : List (Bool
     → list_all (λ t. p t.1) tests ≡ true → first_failing tests v ≡ Err f → p f ≡ true
 a_listed_fault p [] v f all e = absurd cc
 a_listed_fault p ((true, g) ∷ tests) v f all e = a_listed_fault p tests v f (and_parts (p g) (list_all (λ t. p t.1) tests) all).1 e
-a_listed_fault {A} p ((false, g) ∷ tests) v f all e = sym (ap p (fault_is {A = A} g f e)) ∙ (and_parts (p g) (list_all (λ t. p t.1) tests) all).0
+a_listed_fault {A} p ((false, g) ∷ tests) v f all e = sym (ap p (fault_is {A = A} g f e))
+    ∙ (and_parts (p g) (list_all (λ t. p t.1) tests) all).0

@@ -57,7 +57,8 @@ stays h after scan f (segment.Frame g) e framed = absurd (first_frame h after sc
 stays h after scan f (segment.Scan s) e framed =
     let b = began h after scan (scan_under h s h.frame) e in ap (λ (x : HeaderState). x.frame) b.2 ∙ framed
 stays h after scan f (segment.Preset a b c d r) e framed =
-    ap (λ (x : HeaderState). x.frame) (sym (parts (record h { preset = record { maxval = a; t1 = b; t2 = c; t3 = d; reset = r } }, None) (after, scan) e).0) ∙ framed
+    ap (λ (x : HeaderState). x.frame)
+    (sym (parts (record h { preset = record { maxval = a; t1 = b; t2 = c; t3 = d; reset = r } }, None) (after, scan) e).0) ∙ framed
 stays h after scan f (segment.Restart n) e framed =
     ap (λ (x : HeaderState). x.frame) (sym (parts (record h { restart_interval = n }, None) (after, scan) e).0) ∙ framed
 stays h after scan f (segment.Skipped c) e framed = ap (λ (x : HeaderState). x.frame) (sym (parts (h, None) (after, scan) e).0) ∙ framed
@@ -97,8 +98,11 @@ from_segment h after scan (segment.Frame g) e =
     let t = all_pass ((is_none h.frame, fault.SecondFrame) ∷ []) (record h { frame = Some g }, None) (after, Some scan) e in
     absurd (not_some scan (ap (λ (z : After). z.1) t.1))
 from_segment h after scan (segment.Scan x) e = (x, refl, from_scan h after scan x h.frame refl e)
-from_segment h after scan (segment.Preset a b c d r) e = absurd (not_some scan (parts (record h { preset = record { maxval = a; t1 = b; t2 = c; t3 = d; reset = r } }, None) (after, Some scan) e).1)
-from_segment h after scan (segment.Restart n) e = absurd (not_some scan (parts (record h { restart_interval = n }, None) (after, Some scan) e).1)
+from_segment h after scan (segment.Preset a b c d r) e =
+    absurd (not_some scan (parts (record h { preset = record { maxval = a; t1 = b; t2 = c; t3 = d; reset = r } }, None) (after, Some scan)
+    e).1)
+from_segment h after scan (segment.Restart n) e =
+    absurd (not_some scan (parts (record h { restart_interval = n }, None) (after, Some scan) e).1)
 from_segment h after scan (segment.Skipped c) e = absurd (not_some scan (parts (h, None) (after, Some scan) e).1)
 
 pub from_taken : (h after : HeaderState) (scan : Scan) (r : Result Segment MarkerFault) → taking h r ≡ Ok (after, Some scan)
@@ -111,7 +115,8 @@ scan_of_frame : (f : PictureShape) (h : HeaderState) (s : ScanSelection) (scan :
     → IsScanOf f scan × (scan.restart_interval ≡ h.restart_interval)
 scan_of_frame f h s scan e =
     let t = all_pass (begin_tests f h.preset h.restart_interval h.scans s) (scan_in f h.preset h.restart_interval s) scan e in
-    let is : IsScanOf f (scan_in f h.preset h.restart_interval s) = record { precision = refl; width = refl; height = refl; components_below = indices_below f.ids s.ids t.0.0 } in
+    let is : IsScanOf f (scan_in f h.preset h.restart_interval s) =
+    record { precision = refl; width = refl; height = refl; components_below = indices_below f.ids s.ids t.0.0 } in
     (subst (IsScanOf f) t.1 is, ap (λ (x : Scan). x.restart_interval) (sym t.1))
 
 pub scans_begin : (h after : HeaderState) (code : ℕ) (payload : List ℕ) (scan : Scan) → headers_after h code payload ≡ Ok (after, Some scan)
@@ -152,8 +157,11 @@ counts_none h after (segment.Frame g) e =
     let t = all_pass ((is_none h.frame, fault.SecondFrame) ∷ []) (record h { frame = Some g }, None) (after, None) e in
     ap (λ (z : After). z.0.scans) (sym t.1)
 counts_none h after (segment.Scan s) e = let b = began h after None (scan_under h s h.frame) e in absurd (not_some b.0 b.3)
-counts_none h after (segment.Preset a b c d r) e = ap (λ (x : HeaderState). x.scans) (sym (parts (record h { preset = record { maxval = a; t1 = b; t2 = c; t3 = d; reset = r } }, None) (after, None) e).0)
-counts_none h after (segment.Restart n) e = ap (λ (x : HeaderState). x.scans) (sym (parts (record h { restart_interval = n }, None) (after, None) e).0)
+counts_none h after (segment.Preset a b c d r) e =
+    ap (λ (x : HeaderState). x.scans)
+    (sym (parts (record h { preset = record { maxval = a; t1 = b; t2 = c; t3 = d; reset = r } }, None) (after, None) e).0)
+counts_none h after (segment.Restart n) e =
+    ap (λ (x : HeaderState). x.scans) (sym (parts (record h { restart_interval = n }, None) (after, None) e).0)
 counts_none h after (segment.Skipped c) e = ap (λ (x : HeaderState). x.scans) (sym (parts (h, None) (after, None) e).0)
 
 taking_counts_none : (h after : HeaderState) (r : Result Segment MarkerFault) → taking h r ≡ Ok (after, None) → after.scans ≡ h.scans

@@ -81,7 +81,8 @@ accepted_kept h after scan (segment.Frame g) is low e =
     subst IsHeaderState (ap (λ (z : After). z.0) t.1) (framed h g is low)
 accepted_kept h after scan (segment.Scan s) is low e =
     let t = scans_few h after scan s h.frame e in
-    subst IsHeaderState (sym t.1) (record { frame = is.frame; preset = is.preset; restart_below = is.restart_below; scans_at_most = (let a = t.0 in omega arith) })
+    subst IsHeaderState (sym t.1) (record
+    { frame = is.frame; preset = is.preset; restart_below = is.restart_below; scans_at_most = (let a = t.0 in omega arith) })
 accepted_kept h after scan (segment.Preset a b c d r) is low e =
     let p : PresetParameters = record { maxval = a; t1 = b; t2 = c; t3 = d; reset = r } in
     subst IsHeaderState (left (record h { preset = p }, None) (after, scan) e)
@@ -107,7 +108,14 @@ headers_kept h after code payload scan is bytes e =
 pub no_headers_kept : IsHeaderState no_headers
 no_headers_kept = record {
   frame = λ f e. absurd (nothing f e);
-  preset = record { maxval_below = omega arith; t1_below = omega arith; t2_below = omega arith; t3_below = omega arith; reset_below = omega arith };
+  preset = record {
+    maxval_below = omega arith;
+    t1_below = omega arith;
+    t2_below = omega arith;
+    t3_below = omega arith;
+    reset_below =
+        omega arith;
+  };
   restart_below = omega arith;
   scans_at_most = omega arith;
 }

@@ -82,7 +82,8 @@ has h f s scan e =
     let t = all_pass (begin_tests f h.preset h.restart_interval h.scans s) (scan_in f h.preset h.restart_interval s) scan e in
     record {
       components = ap (λ (x : Scan). x.components) (sym t.1);
-      params = none_broken (in_force f.precision h.preset) (param_fault (in_force f.precision h.preset)) t.0.1.0 ∙ ap (λ (x : Scan). done x.params) t.1;
+      params = none_broken (in_force f.precision h.preset) (param_fault (in_force f.precision h.preset)) t.0.1.0
+          ∙ ap (λ (x : Scan). done x.params) t.1;
       restart_interval = ap (λ (x : Scan). x.restart_interval) (sym t.1);
     }
 
@@ -92,7 +93,8 @@ some f = Some f
 some_same : (f g : PictureShape) → some f ≡ some g → f ≡ g
 some_same f g e = cc
 
-pub scans_have_what_is_in_force : (h after : HeaderState) (code : ℕ) (payload : List ℕ) (scan : Scan) → headers_after h code payload ≡ Ok (after, Some scan)
+pub scans_have_what_is_in_force : (h after : HeaderState) (code : ℕ) (payload : List ℕ) (scan : Scan) → headers_after h code payload
+    ≡ Ok (after, Some scan)
     → (s : ScanSelection) × (segment_of code payload ≡ Ok (segment.Scan s))
     × ((frame : PictureShape) → h.frame ≡ Some frame → HasWhatIsInForce h frame s scan)
 unfolding headers_after
@@ -101,5 +103,6 @@ scans_have_what_is_in_force h after code payload scan e =
       t.0,
       t.1,
       λ frame framed. has h frame t.0 scan
-          (ap (λ (f : PictureShape). scan_judged f h.preset h.restart_interval h.scans t.0) (some_same frame t.2.frame (sym framed ∙ t.2.framed)) ∙ t.2.judged),
+          (ap (λ (f : PictureShape). scan_judged f h.preset h.restart_interval h.scans t.0)
+          (some_same frame t.2.frame (sym framed ∙ t.2.framed)) ∙ t.2.judged),
     )

@@ -126,6 +126,7 @@ scan_is s params w1 w h1 h c1 c4 bytes samples = record {
   first_rows = λ k lt. first_below s.height s.restart_interval k h1 lt;
   rows_at_least = λ k lt. rows_some s.height s.restart_interval k h1 lt;
   samples_at_most = λ k lt.
-      let a : s.width * length s.components * row_count s k ≤ s.width * length s.components * row_count s 0 = mul-le-mul_left (s.width * length s.components) (rows_first s.height s.restart_interval k) in
+      let a : s.width * length s.components * row_count s k ≤ s.width * length s.components * row_count s 0 =
+      mul-le-mul_left (s.width * length s.components) (rows_first s.height s.restart_interval k) in
       omega (arith, a, samples);
 }

@@ -52,7 +52,8 @@ pub frame_reads_back : (s : PictureShape) → IsShape s → segment_of sof55 (fr
 frame_reads_back s is =
     let h = written_frame s in
     let again = frame_ids_again s.ids in
-    let shape : is_ok (shape_of s.precision s.width s.height (frame_ids h)) ≡ true = ap is_ok (ap (shape_of s.precision s.width s.height) again ∙ shape_there s is) in
+    let shape : is_ok (shape_of s.precision s.width s.height (frame_ids h)) ≡ true =
+    ap is_ok (ap (shape_of s.precision s.width s.height) again ∙ shape_there s is) in
     ap (λ (t : List ℕ). frame_of (frame_header t)) (frame_bytes s)
     ∙ ap frame_of (frame_header_again h is.height_below is.width_below)
     ∙ none_fails (frame_tests h) (Frame (shape_in h)) (shape, (sampled s.ids, tt))
@@ -104,7 +105,8 @@ scan_reads_back s is =
     let differ : not (has_repeat (scan_ids h)) ≡ true = ap (λ (ids : List ℕ). not (has_repeat ids)) again ∙ ap not is.ids_differ in
     let by_line = interleaved (length h.components) s.line (λ lt. is.interleaved (let m = lt in omega (arith, count, m))) in
     ap (λ (t : List ℕ). scan_of (scan_header t)) (scan_bytes s)
-    ∙ ap scan_of (scan_header_again h (let a = is.ids_at_least in omega (arith, count, a)) (let a = is.ids_at_most in omega (arith, count, a)))
+    ∙ ap scan_of (scan_header_again h (let a = is.ids_at_least in omega (arith, count, a))
+    (let a = is.ids_at_most in omega (arith, count, a)))
     ∙ none_fails (scan_tests h) (Scan (selection_in h)) (differ, (without_table s.ids, (refl, (by_line, (refl, tt)))))
     ∙ ap (λ (ids : List ℕ). selected ids ((if s.line then 1 else 0) == 1)) again
     ∙ ap (selected s.ids) (line_again s.line)

@@ -63,7 +63,8 @@ frame_read code payload b ce (Some h) e s g =
       width = refl;
       ids = refl;
       sampling = each_is (λ (c : FrameComponent). c.sampling) 0x11 h.components t.0.1.0;
-      in_range = shape_in_range h.precision h.width h.height (frame_ids h) t.0.0 l.width_below l.height_below (frame_bytes_of_ids h.components bytes.1.1.1.1.1.1);
+      in_range = shape_in_range h.precision h.width h.height (frame_ids h) t.0.0 l.width_below l.height_below
+          (frame_bytes_of_ids h.components bytes.1.1.1.1.1.1);
     } in
     subst (IsPayload code payload) t.1 (ce, (h, l, is))
 
@@ -108,7 +109,8 @@ preset_read : (code : ℕ) (values : List ℕ) → AreBytes values → code ≡ 
     → (s : Segment) → preset_of o ≡ Ok s → IsPayload code (1 ∷ values) s
 preset_read code values b ce None e s g = absurd cc
 preset_read code values b ce (Some p) e s g =
-    subst (IsPayload code (1 ∷ values)) (fine_is (Preset p.maxval p.t1 p.t2 p.t3 p.reset) s g) (ce, (values, refl, preset_there values p b e))
+    subst (IsPayload code (1 ∷ values)) (fine_is (Preset p.maxval p.t1 p.t2 p.t3 p.reset) s g)
+    (ce, (values, refl, preset_there values p b e))
 
 two_or_three : (id : ℕ) (values : List ℕ) → ((id == 2) || (id == 3)) ≡ true → HasLseId (id ∷ values) 2 ⊎ HasLseId (id ∷ values) 3
 two_or_three id values e =
@@ -125,7 +127,8 @@ lse_read code (id ∷ values) b ce s g = by_id (id == 1) refl g
         → cond t (preset_of (preset_parameters values)) (first_failing (((id == 2) || (id == 3), fault.LseId) ∷ []) (Skipped lse)) ≡ Ok s
         → IsPayload code (id ∷ values) s
     by_id true e h =
-        subst (λ (k : ℕ). IsPayload code (k ∷ values) s) (sym (eqb-true id 1 e)) (preset_read code values b.1 ce (preset_parameters values) refl s h)
+        subst (λ (k : ℕ). IsPayload code (k ∷ values) s) (sym (eqb-true id 1 e))
+        (preset_read code values b.1 ce (preset_parameters values) refl s h)
     by_id false e h =
         let t = all_pass (((id == 2) || (id == 3), fault.LseId) ∷ []) (Skipped lse) s h in
         subst (IsPayload code (id ∷ values)) t.1 (sym ce, inr (ce, two_or_three id values t.0.0))
@@ -147,19 +150,27 @@ module _ (code : ℕ) (payload : List ℕ) (b : AreBytes payload) (s : Segment) 
   at_dri false e h = at_skipped (is_skipped code) refl h
 
   at_lse : (t : Bool) → eqb code lse ≡ t
-      → cond t (lse_of payload) (cond (eqb code dri) (restart_of (restart_interval payload)) (cond (is_skipped code) (Ok (Skipped code)) (Err fault.UnknownMarker))) ≡ Ok s
+      → cond t (lse_of payload) (cond (eqb code dri) (restart_of (restart_interval payload))
+      (cond (is_skipped code) (Ok (Skipped code)) (Err fault.UnknownMarker))) ≡ Ok s
       → IsPayload code payload s
   at_lse true e h = lse_read code payload b (eqb-true _ _ e) s h
   at_lse false e h = at_dri (eqb code dri) refl h
 
   at_sos : (t : Bool) → eqb code sos ≡ t
-      → cond t (scan_of (scan_header payload)) (cond (eqb code lse) (lse_of payload) (cond (eqb code dri) (restart_of (restart_interval payload)) (cond (is_skipped code) (Ok (Skipped code)) (Err fault.UnknownMarker)))) ≡ Ok s
+      → cond t (scan_of (scan_header payload))
+      (cond (eqb code lse) (lse_of payload)
+      (cond (eqb code dri) (restart_of (restart_interval payload))
+      (cond (is_skipped code) (Ok (Skipped code)) (Err fault.UnknownMarker)))) ≡ Ok s
       → IsPayload code payload s
   at_sos true e h = scan_read code payload b (eqb-true _ _ e) (scan_header payload) refl s h
   at_sos false e h = at_lse (eqb code lse) refl h
 
   at_frame : (t : Bool) → eqb code sof55 ≡ t
-      → cond t (frame_of (frame_header payload)) (cond (eqb code sos) (scan_of (scan_header payload)) (cond (eqb code lse) (lse_of payload) (cond (eqb code dri) (restart_of (restart_interval payload)) (cond (is_skipped code) (Ok (Skipped code)) (Err fault.UnknownMarker))))) ≡ Ok s
+      → cond t (frame_of (frame_header payload))
+      (cond (eqb code sos) (scan_of (scan_header payload))
+      (cond (eqb code lse) (lse_of payload)
+      (cond (eqb code dri) (restart_of (restart_interval payload))
+      (cond (is_skipped code) (Ok (Skipped code)) (Err fault.UnknownMarker))))) ≡ Ok s
       → IsPayload code payload s
   at_frame true e h = frame_read code payload b (eqb-true _ _ e) (frame_header payload) refl s h
   at_frame false e h = at_sos (eqb code sos) refl h
@@ -183,9 +194,11 @@ frame_again : (payload : List ℕ) (s : PictureShape) (h : FrameHeader) → HasF
     → segment_of sof55 payload ≡ Ok (Frame s)
 frame_again payload s h l is =
     let e = shape_is s h is in
-    let shape : is_ok (shape_of h.precision h.width h.height (frame_ids h)) ≡ true = ap (λ (t : PictureShape). is_ok (shape_of t.precision t.width t.height t.ids)) e ∙ ap is_ok (shape_there s is.in_range) in
+    let shape : is_ok (shape_of h.precision h.width h.height (frame_ids h)) ≡ true =
+    ap (λ (t : PictureShape). is_ok (shape_of t.precision t.width t.height t.ids)) e ∙ ap is_ok (shape_there s is.in_range) in
     ap frame_of (frame_header_of payload h l)
-    ∙ none_fails (frame_tests h) (Frame (shape_in h)) (shape, (all_are (λ (c : FrameComponent). c.sampling) 0x11 h.components is.sampling, tt))
+    ∙ none_fails (frame_tests h) (Frame (shape_in h))
+    (shape, (all_are (λ (c : FrameComponent). c.sampling) 0x11 h.components is.sampling, tt))
     ∙ ap (λ (t : PictureShape). fine (Frame t)) e
 
 abbrev chosen : List ℕ → Bool → ScanSelection
@@ -193,17 +206,26 @@ chosen ids line = record { ids = ids; line = line }
 
 selection_is : (s : ScanSelection) (h : ScanHeader) → IsScanHeaderOf s h → selection_in h ≡ s
 selection_is s h is =
-    ap (λ (ids : List ℕ). chosen ids (h.interleave == 1)) is.ids ∙ ap (chosen s.ids) (ap (λ (k : ℕ). k == 1) is.interleave ∙ line_again s.line)
+    ap (λ (ids : List ℕ). chosen ids (h.interleave == 1)) is.ids
+    ∙ ap (chosen s.ids) (ap (λ (k : ℕ). k == 1) is.interleave ∙ line_again s.line)
 
 scan_again : (payload : List ℕ) (s : ScanSelection) (h : ScanHeader) → HasScanLayout payload h → IsScanHeaderOf s h
     → segment_of sos payload ≡ Ok (Scan s)
 scan_again payload s h l is =
     let n = length h.components in
     let count : n ≡ length s.ids = sym (length-map h.components (λ (c : ScanComponent). c.id)) ∙ ap length is.ids in
-    let differ : not (has_repeat (scan_ids h)) ≡ true = ap (λ (ids : List ℕ). not (has_repeat ids)) is.ids ∙ ap not is.in_range.ids_differ in
-    let ilv = subst (λ (k : ℕ). (nat_le k 1 && (nat_le n 1 || (k == 1))) ≡ true) (sym is.interleave) (interleaved n s.line (λ lt. is.in_range.interleaved (let m = lt in omega (arith, count, m)))) in
+    let differ : not (has_repeat (scan_ids h)) ≡ true = ap (λ (ids : List ℕ). not (has_repeat ids)) is.ids
+    ∙ ap not is.in_range.ids_differ in
+    let ilv = subst (λ (k : ℕ). (nat_le k 1 && (nat_le n 1 || (k == 1))) ≡ true) (sym is.interleave)
+    (interleaved n s.line (λ lt. is.in_range.interleaved (let m = lt in omega (arith, count, m)))) in
     ap scan_of (scan_header_of payload h l)
-    ∙ none_fails (scan_tests h) (Scan (selection_in h)) (differ, (all_are (λ (c : ScanComponent). c.table) 0 h.components is.tables, (eq-eqb _ _ is.near, (ilv, (eq-eqb _ _ is.point_transform, tt)))))
+    ∙ none_fails (scan_tests h) (Scan (selection_in h)) (
+      differ,
+      (
+        all_are (λ (c : ScanComponent). c.table) 0 h.components is.tables,
+        (eq-eqb _ _ is.near, (ilv, (eq-eqb _ _ is.point_transform, tt))),
+      ),
+    )
     ∙ ap (λ (t : ScanSelection). fine (Scan t)) (selection_is s h is)
 
 not_code : (code k : ℕ) → is_skipped code ≡ true → is_skipped k ≡ false → eqb code k ≡ false
@@ -218,8 +240,10 @@ skipped_again code c payload ce (inl e) =
     let f = not_code code dri e refl in
     let g : segment_of code payload ≡ Ok (Skipped code) = rw (a, b, d, f, e) refl in
     g ∙ ap (λ (k : ℕ). fine (Skipped k)) (sym ce)
-skipped_again code c payload ce (inr (k, inl (values, pe))) = ap (λ (x : ℕ). segment_of x payload) k ∙ ap lse_of pe ∙ ap (λ (x : ℕ). fine (Skipped x)) (sym k ∙ sym ce)
-skipped_again code c payload ce (inr (k, inr (values, pe))) = ap (λ (x : ℕ). segment_of x payload) k ∙ ap lse_of pe ∙ ap (λ (x : ℕ). fine (Skipped x)) (sym k ∙ sym ce)
+skipped_again code c payload ce (inr (k, inl (values, pe))) = ap (λ (x : ℕ). segment_of x payload) k ∙ ap lse_of pe
+    ∙ ap (λ (x : ℕ). fine (Skipped x)) (sym k ∙ sym ce)
+skipped_again code c payload ce (inr (k, inr (values, pe))) = ap (λ (x : ℕ). segment_of x payload) k ∙ ap lse_of pe
+    ∙ ap (λ (x : ℕ). fine (Skipped x)) (sym k ∙ sym ce)
 
 pub is_read : (code : ℕ) (payload : List ℕ) (s : Segment) → IsPayload code payload s → segment_of code payload ≡ Ok s
 is_read code payload (Frame s) p = ap (λ (x : ℕ). segment_of x payload) p.0 ∙ frame_again payload s p.1.0 p.1.1 p.1.2

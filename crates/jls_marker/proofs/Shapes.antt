@@ -39,7 +39,8 @@ no_size_fault p x y n p2 p16 x1 y1 n1 n4 =
 -- values in range have a shape
 pub shape_there : (s : PictureShape) → IsShape s → shape_of s.precision s.width s.height s.ids ≡ Ok s
 shape_there s is =
-    let none = no_size_fault s.precision s.width s.height (length s.ids) is.precision_at_least is.precision_at_most is.width_at_least is.height_at_least is.ids_at_least is.ids_at_most in
+    let none = no_size_fault s.precision s.width s.height (length s.ids) is.precision_at_least is.precision_at_most is.width_at_least
+    is.height_at_least is.ids_at_least is.ids_at_most in
     let differ = is.ids_differ in
     rw (none, differ) refl
 
@@ -51,7 +52,8 @@ pub shape_in_range : (p x y : ℕ) (ids : List ℕ) → is_ok (shape_of p x y id
     → AllByRecursion (λ id. id < 256) ids
     → IsShape (four p x y ids)
 shape_in_range p x y ids e wx wy bytes =
-    elim (size_fault p x y (length ids)) as (λ (o : Option ShapeFault). size_fault p x y (length ids) ≡ o → is_ok (unless_fault o (cond (has_repeat ids) (Err RepeatedId) (Ok (four p x y ids)))) ≡ true → IsShape (four p x y ids)) [
+    elim (size_fault p x y (length ids)) as (λ (o : Option ShapeFault). size_fault p x y (length ids) ≡ o
+    → is_ok (unless_fault o (cond (has_repeat ids) (Err RepeatedId) (Ok (four p x y ids)))) ≡ true → IsShape (four p x y ids)) [
       | None ↦ λ n h.
           let z = sizes p x y (length ids) n in
           record {

@@ -50,7 +50,14 @@ presets = record { maxval = 200; t1 = 4; t2 = 8; t3 = 22; reset = 32 }
 abbrev given : PresetParameters → ℕ → ℕ → ℕ → ℕ → ℕ → ℕ → Result (HeaderState × Option Scan) MarkerFault
 given p maxval t1 t2 t3 reset rows = Ok (
   record { frame = Some (record { precision = 8; width = 1; height = 10; ids = 1 ∷ [] }); preset = p; restart_interval = rows; scans = 1 },
-  Some (record { components = 0 ∷ []; params = record { precision = 8; maxval = maxval; t1 = t1; t2 = t2; t3 = t3; reset = reset }; width = 1; height = 10; restart_interval = rows }),
+  Some (record {
+    components = 0 ∷ [];
+    params = record { precision = 8; maxval = maxval; t1 = t1; t2 = t2; t3 = t3; reset = reset };
+    width =
+        1;
+    height = 10;
+    restart_interval = rows;
+  }),
 )
 
 abbrev with_defaults : ℕ → Result (HeaderState × Option Scan) MarkerFault
@@ -93,10 +100,30 @@ unfolding index_of
 taken_away = refl
 
 -- the sixteenth scan begins
-sixteenth : following (sos ∷ []) (Ok (record { frame = Some (record { precision = 8; width = 1; height = 10; ids = 1 ∷ [] }); preset = no_presets; restart_interval = 0; scans = 15 }, None))
+sixteenth : following (sos ∷ [])
+    (Ok (
+      record {
+        frame = Some (record { precision = 8; width = 1; height = 10; ids = 1 ∷ [] });
+        preset = no_presets;
+        restart_interval = 0;
+        scans = 15;
+      },
+      None,
+    ))
     ≡ Ok (
-      record { frame = Some (record { precision = 8; width = 1; height = 10; ids = 1 ∷ [] }); preset = no_presets; restart_interval = 0; scans = 16 },
-      Some (record { components = 0 ∷ []; params = record { precision = 8; maxval = 255; t1 = 3; t2 = 7; t3 = 21; reset = 64 }; width = 1; height = 10; restart_interval = 0 }),
+      record {
+        frame = Some (record { precision = 8; width = 1; height = 10; ids = 1 ∷ [] });
+        preset = no_presets;
+        restart_interval = 0;
+        scans = 16;
+      },
+      Some (record {
+        components = 0 ∷ [];
+        params = record { precision = 8; maxval = 255; t1 = 3; t2 = 7; t3 = 21; reset = 64 };
+        width = 1;
+        height = 10;
+        restart_interval = 0;
+      }),
     )
 unfolding index_of
 sixteenth = refl
@@ -116,6 +143,7 @@ four_bytes = refl
 
 -- all codes that have a segment here: SOS, DRI, APP0 to APP15, SOF55, LSE and COM (T.81, table B.1; T.87, C.1.1)
 codes : filter has_segment (range_with_len 0 256)
-    ≡ 0xDA ∷ 0xDD ∷ 0xE0 ∷ 0xE1 ∷ 0xE2 ∷ 0xE3 ∷ 0xE4 ∷ 0xE5 ∷ 0xE6 ∷ 0xE7 ∷ 0xE8 ∷ 0xE9 ∷ 0xEA ∷ 0xEB ∷ 0xEC ∷ 0xED ∷ 0xEE ∷ 0xEF ∷ 0xF7 ∷ 0xF8 ∷ 0xFE ∷ []
+    ≡ 0xDA ∷ 0xDD ∷ 0xE0 ∷ 0xE1 ∷ 0xE2 ∷ 0xE3 ∷ 0xE4 ∷ 0xE5 ∷ 0xE6 ∷ 0xE7 ∷ 0xE8 ∷ 0xE9 ∷ 0xEA ∷ 0xEB ∷ 0xEC ∷ 0xED ∷ 0xEE ∷ 0xEF ∷ 0xF7
+    ∷ 0xF8 ∷ 0xFE ∷ []
 unfolding has_segment
 codes = refl

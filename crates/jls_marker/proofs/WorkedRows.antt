@@ -19,10 +19,12 @@ column = record { precision = 8; width = 1; height = 10; ids = 1 ∷ [] }
 frame : segment_of 0xF7 (8 ∷ 0 ∷ 10 ∷ 0 ∷ 1 ∷ 1 ∷ 1 ∷ 0x11 ∷ 0 ∷ []) ≡ Ok (segment.Frame column)
 frame = refl
 
-two : segment_of 0xF7 (8 ∷ 0 ∷ 1 ∷ 0 ∷ 1 ∷ 2 ∷ 1 ∷ 0x11 ∷ 0 ∷ 2 ∷ 0x11 ∷ 0 ∷ []) ≡ Ok (segment.Frame (record { precision = 8; width = 1; height = 1; ids = 1 ∷ 2 ∷ [] }))
+two : segment_of 0xF7 (8 ∷ 0 ∷ 1 ∷ 0 ∷ 1 ∷ 2 ∷ 1 ∷ 0x11 ∷ 0 ∷ 2 ∷ 0x11 ∷ 0 ∷ [])
+    ≡ Ok (segment.Frame (record { precision = 8; width = 1; height = 1; ids = 1 ∷ 2 ∷ [] }))
 two = refl
 
-written_frame : segment_bytes (code_of (segment.Frame column)) (payload_of (segment.Frame column)) ≡ 0xFF ∷ 0xF7 ∷ 0 ∷ 0x0B ∷ 8 ∷ 0 ∷ 10 ∷ 0 ∷ 1 ∷ 1 ∷ 1 ∷ 0x11 ∷ 0 ∷ []
+written_frame : segment_bytes (code_of (segment.Frame column)) (payload_of (segment.Frame column)) ≡ 0xFF ∷ 0xF7 ∷ 0 ∷ 0x0B ∷ 8 ∷ 0 ∷ 10 ∷ 0
+    ∷ 1 ∷ 1 ∷ 1 ∷ 0x11 ∷ 0 ∷ []
 written_frame = refl
 
 -- a precision of 1 and a sampling of 2 by 1: the shape is judged first; a component too few is judged before both
@@ -42,7 +44,8 @@ one = refl
 by_line : segment_of 0xDA (2 ∷ 1 ∷ 0 ∷ 2 ∷ 0 ∷ 0 ∷ 1 ∷ 0 ∷ []) ≡ Ok (segment.Scan (record { ids = 1 ∷ 2 ∷ []; line = true }))
 by_line = refl
 
-written_scan : segment_bytes 0xDA (payload_of (segment.Scan (record { ids = 1 ∷ 2 ∷ []; line = true }))) ≡ 0xFF ∷ 0xDA ∷ 0 ∷ 0x0A ∷ 2 ∷ 1 ∷ 0 ∷ 2 ∷ 0 ∷ 0 ∷ 1 ∷ 0 ∷ []
+written_scan : segment_bytes 0xDA (payload_of (segment.Scan (record { ids = 1 ∷ 2 ∷ []; line = true }))) ≡ 0xFF ∷ 0xDA ∷ 0 ∷ 0x0A ∷ 2 ∷ 1
+    ∷ 0 ∷ 2 ∷ 0 ∷ 0 ∷ 1 ∷ 0 ∷ []
 written_scan = refl
 
 -- all faults in one header, taken away one by one; Ah is free
@@ -71,7 +74,8 @@ free = refl
 preset : segment_of 0xF8 (1 ∷ 0 ∷ 15 ∷ 0 ∷ 0 ∷ 0 ∷ 0 ∷ 0 ∷ 0 ∷ 0 ∷ 0 ∷ []) ≡ Ok (segment.Preset 15 0 0 0 0)
 preset = refl
 
-written_preset : segment_bytes 0xF8 (payload_of (segment.Preset 15 2 3 4 64)) ≡ 0xFF ∷ 0xF8 ∷ 0 ∷ 0x0D ∷ 1 ∷ 0 ∷ 0x0F ∷ 0 ∷ 2 ∷ 0 ∷ 3 ∷ 0 ∷ 4 ∷ 0 ∷ 0x40 ∷ []
+written_preset : segment_bytes 0xF8 (payload_of (segment.Preset 15 2 3 4 64)) ≡ 0xFF ∷ 0xF8 ∷ 0 ∷ 0x0D ∷ 1 ∷ 0 ∷ 0x0F ∷ 0 ∷ 2 ∷ 0 ∷ 3 ∷ 0
+    ∷ 4 ∷ 0 ∷ 0x40 ∷ []
 written_preset = refl
 
 no_id : segment_of 0xF8 [] ≡ Err fault.Length
@@ -121,7 +125,8 @@ apart = refl
 
 -- a frame of 65,535 by 65,535: too large without restart intervals, and with 4,096 rows not
 abbrev large : ℕ → HeaderState
-large rows = record no_headers { frame = Some (record { precision = 8; width = 65535; height = 65535; ids = 1 ∷ [] }); restart_interval = rows }
+large rows = record no_headers
+    { frame = Some (record { precision = 8; width = 65535; height = 65535; ids = 1 ∷ [] }); restart_interval = rows }
 
 too_large : accepted (large 0) (segment.Scan (record { ids = 1 ∷ []; line = false })) ≡ Err fault.IntervalTooLarge
 unfolding index_of
@@ -133,7 +138,8 @@ defaults = record { precision = 8; maxval = 255; t1 = 3; t2 = 7; t3 = 21; reset 
 abbrev large_scan : Scan
 large_scan = record { components = 0 ∷ []; params = defaults; width = 65535; height = 65535; restart_interval = 4096 }
 
-not_too_large : accepted (large 4096) (segment.Scan (record { ids = 1 ∷ []; line = false })) ≡ Ok (record (large 4096) { scans = 1 }, Some large_scan)
+not_too_large : accepted (large 4096) (segment.Scan (record { ids = 1 ∷ []; line = false }))
+    ≡ Ok (record (large 4096) { scans = 1 }, Some large_scan)
 unfolding index_of
 not_too_large = refl
 
@@ -154,7 +160,8 @@ unknown : accepted (large 0) (segment.Scan (record { ids = 2 ∷ []; line = fals
 unfolding index_of
 unknown = refl
 
-bad_params : accepted (record (large 0) { preset = record { maxval = 4095; t1 = 0; t2 = 0; t3 = 0; reset = 0 } }) (segment.Scan (record { ids = 1 ∷ []; line = false })) ≡ Err fault.BadParams
+bad_params : accepted (record (large 0) { preset = record { maxval = 4095; t1 = 0; t2 = 0; t3 = 0; reset = 0 } })
+    (segment.Scan (record { ids = 1 ∷ []; line = false })) ≡ Err fault.BadParams
 unfolding index_of
 bad_params = refl
 

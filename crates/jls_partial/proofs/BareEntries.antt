@@ -48,13 +48,15 @@ less_from_test Greater h = absurd h
 below_from_test : {K X : Type 0} (R : K → K → Ordering) (k : K) (es : List (K × X)) → T (sorted.below_all R k es)
     → AllByRecursion (λ y. R k y ≡ Less) (map (λ e. e.0) es)
 below_from_test R k [] h = tt
-below_from_test R k (e ∷ es) h = let p = both_hold (is_lt (R k e.0)) (sorted.below_all R k es) h in (less_from_test (R k e.0) p.0, below_from_test R k es p.1)
+below_from_test R k (e ∷ es) h = let p = both_hold (is_lt (R k e.0)) (sorted.below_all R k es) h in
+    (less_from_test (R k e.0) p.0, below_from_test R k es p.1)
 
 sorted_from_test : {K X : Type 0} (R : K → K → Ordering) (es : List (K × X)) → T (sorted.is_sorted R es)
     → IsStrictlySortedBy R (map (λ e. e.0) es)
 unfolding IsStrictlySortedBy
 sorted_from_test R [] h = tt
-sorted_from_test R (e ∷ es) h = let p = both_hold (sorted.below_all R e.0 es) (sorted.is_sorted R es) h in (below_from_test R e.0 es p.0, sorted_from_test R es p.1)
+sorted_from_test R (e ∷ es) h = let p = both_hold (sorted.below_all R e.0 es) (sorted.is_sorted R es) h in
+    (below_from_test R e.0 es p.0, sorted_from_test R es p.1)
 
 pub items_rise : {K : Type 0} {R : K → K → Ordering} (s : OrderedSet R) → IsStrictlySortedBy R (items s)
 items_rise {R = R} s = sorted_from_test R (fin.entries s) (fin.entries_sorted s)
@@ -63,7 +65,8 @@ items_rise {R = R} s = sorted_from_test R (fin.entries s) (fin.entries_sorted s)
 pub all_members : {K : Type 0} {R : K → K → Ordering} (o : IsTotalOrder R) (P : K → Type 0) (ks : List K)
     → ((q : K) → list_any (eq_by_cmp R q) ks ≡ true → P q) → AllByRecursion P ks
 all_members o P [] f = tt
-all_members {R = R} o P (k ∷ ks) f = (f k (or_left _ _ (ap is_eq (tied_itself o k))), all_members o P ks (λ q h. f q (or_right (eq_by_cmp R q k) _ h)))
+all_members {R = R} o P (k ∷ ks) f =
+    (f k (or_left _ _ (ap is_eq (tied_itself o k))), all_members o P ks (λ q h. f q (or_right (eq_by_cmp R q k) _ h)))
 
 -- ---- entries in order are the entries of their partial
 
@@ -73,7 +76,8 @@ block_places : (t : LinePlace → Bool) (p : LinePlace) (x : List ℕ) (xs : Lis
 block_places t p x [] = or_false (t p)
 block_places t p x (y ∷ ys) = ap (λ b. t p || b) (block_places t p y ys) ∙ or_itself (t p)
 
-some_block : (t : LinePlace → Bool) (p : LinePlace) (xs : List (List ℕ)) → 1 ≤ length xs → list_any t (map place_of (map (at_place p) xs)) ≡ t p
+some_block : (t : LinePlace → Bool) (p : LinePlace) (xs : List (List ℕ)) → 1 ≤ length xs → list_any t (map place_of (map (at_place p) xs))
+    ≡ t p
 some_block t p [] h = absurd (omega arith)
 some_block t p (x ∷ xs) h = block_places t p x xs
 
@@ -90,9 +94,11 @@ pub places_again : (shape : PictureShape) (es : List BareEntry) (p : PartialPict
     → from_list (readings_of_entries es) ≡ p.readings → places_held p ≡ map (λ e. e.0) es
 places_again shape es p kept is =
     ap (λ (s : OrderedSet reading_cmp). items (from_list {R = place_cmp} (map place_of (items s)))) (sym is)
-    ∙ ap (λ (rs : List Reading). items (from_list {R = place_cmp} (map place_of rs))) (items-from_list reading_total (readings_of_entries es) (sorted-entries shape es kept.sorted kept.each))
+    ∙ ap (λ (rs : List Reading). items (from_list {R = place_cmp} (map place_of rs)))
+    (items-from_list reading_total (readings_of_entries es) (sorted-entries shape es kept.sorted kept.each))
     ∙ ap items (same_set place_total place_exact (from_list (map place_of (readings_of_entries es))) (from_list (map (λ e. e.0) es))
-    (λ q. contains-from_list place_total (map place_of (readings_of_entries es)) q ∙ same_places shape (eq_by_cmp place_cmp q) es kept.each ∙ sym (contains-from_list place_total (map (λ e. e.0) es) q)))
+    (λ q. contains-from_list place_total (map place_of (readings_of_entries es)) q ∙ same_places shape (eq_by_cmp place_cmp q) es kept.each
+    ∙ sym (contains-from_list place_total (map (λ e. e.0) es) q)))
     ∙ items-from_list place_total (map (λ e. e.0) es) kept.sorted
 
 later : (p q : LinePlace) → place_cmp p q ≡ Less → is_at (place_cmp q) p ≡ false
@@ -108,8 +114,10 @@ found_after e es (f ∷ fs) h k =
 all_found : (es : List BareEntry) → IsStrictlySortedBy place_cmp (map (λ e. e.0) es) → AllByRecursion (λ e. samples_at es e.0 ≡ e.1) es
 unfolding IsStrictlySortedBy
 all_found [] h = tt
-all_found (e ∷ es) h =
-    (ap (λ b. unwrap_or (cond b (Some e.1) (lookup (is_at (place_cmp e.0)) es)) []) (ap is_eq (tied_itself place_total e.0)), found_after e es es h.0 (all_found es h.1))
+all_found (e ∷ es) h = (
+  ap (λ b. unwrap_or (cond b (Some e.1) (lookup (is_at (place_cmp e.0)) es)) []) (ap is_eq (tied_itself place_total e.0)),
+  found_after e es es h.0 (all_found es h.1),
+)
 
 made_again : (f : LinePlace → List (List ℕ)) (es : List BareEntry) → AllByRecursion (λ e. f e.0 ≡ e.1) es
     → map (λ at. (at, f at)) (map (λ e. e.0) es) ≡ es
@@ -126,39 +134,49 @@ pub bare_again : (shape : PictureShape) (es : List BareEntry) (p : PartialPictur
 bare_again shape es p kept is =
     ap (map (λ (at : LinePlace). (at, readings_at p at.component at.line))) (places_again shape es p kept is)
     ∙ made_again (λ at. readings_at p at.component at.line) es
-    (all_same (λ at. readings_at p at.component at.line) (samples_at es) es (λ at. readings_kept shape es p at.component at.line kept is) (all_found es kept.sorted))
+    (all_same (λ at. readings_at p at.component at.line) (samples_at es) es (λ at. readings_kept shape es p at.component at.line kept is)
+    (all_found es kept.sorted))
 
 -- ---- the entries of a partial hold its readings
 
-places_of_entries : (f : LinePlace → List (List ℕ)) (ps : List LinePlace) → map (λ (e : BareEntry). e.0) (map (λ (at : LinePlace). (at, f at)) ps) ≡ ps
+places_of_entries : (f : LinePlace → List (List ℕ)) (ps : List LinePlace)
+    → map (λ (e : BareEntry). e.0) (map (λ (at : LinePlace). (at, f at)) ps) ≡ ps
 places_of_entries f [] = refl
 places_of_entries f (p ∷ ps) = ap (λ (t : List LinePlace). p ∷ t) (places_of_entries f ps)
 
 pub entries_rise : (p : PartialPicture) → IsStrictlySortedBy place_cmp (map (λ e. e.0) (bare_entries p))
-entries_rise p = subst (IsStrictlySortedBy place_cmp) (sym (places_of_entries (λ at. readings_at p at.component at.line) (places_held p))) (items_rise (from_list {R = place_cmp} (map place_of (items p.readings))))
+entries_rise p = subst (IsStrictlySortedBy place_cmp) (sym (places_of_entries (λ at. readings_at p at.component at.line) (places_held p)))
+    (items_rise (from_list {R = place_cmp} (map place_of (items p.readings))))
 
 -- what stands at a place that is looked up among made entries
 lookup_made : (f : LinePlace → List (List ℕ)) (q : LinePlace) (ps : List LinePlace)
     → lookup (is_at (place_cmp q)) (map (λ at. (at, f at)) ps) ≡ cond (list_any (eq_by_cmp place_cmp q) ps) (Some (f q)) None
 lookup_made f q [] = refl
 lookup_made f q (p ∷ ps) =
-    elim (eq_by_cmp place_cmp q p) as (λ b. eq_by_cmp place_cmp q p ≡ b → cond b (Some (f p)) (lookup (is_at (place_cmp q)) (map (λ at. (at, f at)) ps)) ≡ cond (b || list_any (eq_by_cmp place_cmp q) ps) (Some (f q)) None) [
+    elim (eq_by_cmp place_cmp q p) as (λ b. eq_by_cmp place_cmp q p ≡ b
+    → cond b (Some (f p)) (lookup (is_at (place_cmp q)) (map (λ at. (at, f at)) ps))
+    ≡ cond (b || list_any (eq_by_cmp place_cmp q) ps) (Some (f q)) None) [
       | true ↦ λ e. ap (λ (z : LinePlace). Some (f z)) (sym (same_place q p e))
       | false ↦ λ e. lookup_made f q ps
     ] refl
 
 -- a reading is there exactly if its samples are among those of its line
 same_line : (r x : Reading) → eq_by_cmp reading_cmp r x ≡ (is_there r.component r.line x && eq_by_cmp S r.samples x.samples)
-same_line r x = eq_reading r (place_of x) x.samples ∙ ap (λ b. b && eq_by_cmp S r.samples x.samples) (sym (eq_there r.component r.line (place_of x)))
+same_line r x = eq_reading r (place_of x) x.samples
+    ∙ ap (λ b. b && eq_by_cmp S r.samples x.samples) (sym (eq_there r.component r.line (place_of x)))
 
 any_there : (r : Reading) (rs : List Reading)
-    → list_any (eq_by_cmp S r.samples) (map (λ x. x.samples) (filter (is_there r.component r.line) rs)) ≡ list_any (eq_by_cmp reading_cmp r) rs
+    → list_any (eq_by_cmp S r.samples) (map (λ x. x.samples) (filter (is_there r.component r.line) rs))
+    ≡ list_any (eq_by_cmp reading_cmp r) rs
 any_there r [] = refl
 any_there r (x ∷ rs) =
     elim (is_there r.component r.line x) as (λ b. is_there r.component r.line x ≡ b →
-    list_any (eq_by_cmp S r.samples) (map (λ x. x.samples) (cond b (x ∷ filter (is_there r.component r.line) rs) (filter (is_there r.component r.line) rs))) ≡ (eq_by_cmp reading_cmp r x || list_any (eq_by_cmp reading_cmp r) rs)) [
+    list_any (eq_by_cmp S r.samples)
+    (map (λ x. x.samples) (cond b (x ∷ filter (is_there r.component r.line) rs) (filter (is_there r.component r.line) rs)))
+    ≡ (eq_by_cmp reading_cmp r x || list_any (eq_by_cmp reading_cmp r) rs)) [
       | true ↦ λ e. λ i. (sym (same_line r x ∙ ap (λ b. b && eq_by_cmp S r.samples x.samples) e)) i || any_there r rs i
-      | false ↦ λ e. any_there r rs ∙ ap (λ b. b || list_any (eq_by_cmp reading_cmp r) rs) (sym (same_line r x ∙ ap (λ b. b && eq_by_cmp S r.samples x.samples) e))
+      | false ↦ λ e. any_there r rs ∙ ap (λ b. b || list_any (eq_by_cmp reading_cmp r) rs)
+          (sym (same_line r x ∙ ap (λ b. b && eq_by_cmp S r.samples x.samples) e))
     ] refl
 
 first_part : (r s t : Ordering) → is_eq (ordering_then r s) ≡ false → is_eq (ordering_then r (ordering_then s t)) ≡ false
@@ -178,20 +196,27 @@ none_there r (x ∷ rs) e =
 pub set_again : (p : PartialPicture) → from_list {R = reading_cmp} (readings_of_entries (bare_entries p)) ≡ p.readings
 set_again p = same_set reading_total reading_exact (from_list (readings_of_entries (bare_entries p))) p.readings (λ r.
     contains-from_list reading_total (readings_of_entries (bare_entries p)) r ∙ any-entries (bare_entries p) r (entries_rise p)
-    ∙ ap (λ (o : Option (List (List ℕ))). list_any (eq_by_cmp S r.samples) (unwrap_or o [])) (lookup_made (λ at. readings_at p at.component at.line) (place_of r) (places_held p))
+    ∙ ap (λ (o : Option (List (List ℕ))). list_any (eq_by_cmp S r.samples) (unwrap_or o []))
+    (lookup_made (λ at. readings_at p at.component at.line) (place_of r) (places_held p))
     ∙ ap (λ b. list_any (eq_by_cmp S r.samples) (unwrap_or (cond b (Some (readings_at p r.component r.line)) None) [])) (held_place r)
     ∙ step r
     ∙ sym (contains-items p.readings r))
   where
     held_place : (r : Reading)
-        → list_any (eq_by_cmp place_cmp (place_of r)) (places_held p) ≡ list_any (eq_by_cmp place_cmp (place_of r)) (map place_of (items p.readings))
-    held_place r = sym (contains-items (from_list {R = place_cmp} (map place_of (items p.readings))) (place_of r)) ∙ contains-from_list place_total (map place_of (items p.readings)) (place_of r)
+        → list_any (eq_by_cmp place_cmp (place_of r)) (places_held p)
+        ≡ list_any (eq_by_cmp place_cmp (place_of r)) (map place_of (items p.readings))
+    held_place r = sym (contains-items (from_list {R = place_cmp} (map place_of (items p.readings))) (place_of r))
+        ∙ contains-from_list place_total (map place_of (items p.readings)) (place_of r)
 
     step : (r : Reading)
-        → list_any (eq_by_cmp S r.samples) (unwrap_or (cond (list_any (eq_by_cmp place_cmp (place_of r)) (map place_of (items p.readings))) (Some (readings_at p r.component r.line)) None) []) ≡ list_any (eq_by_cmp reading_cmp r) (items p.readings)
+        → list_any (eq_by_cmp S r.samples)
+        (unwrap_or (cond (list_any (eq_by_cmp place_cmp (place_of r)) (map place_of (items p.readings)))
+        (Some (readings_at p r.component r.line)) None) []) ≡ list_any (eq_by_cmp reading_cmp r) (items p.readings)
     step r =
-        elim (list_any (eq_by_cmp place_cmp (place_of r)) (map place_of (items p.readings))) as (λ b. list_any (eq_by_cmp place_cmp (place_of r)) (map place_of (items p.readings)) ≡ b →
-        list_any (eq_by_cmp S r.samples) (unwrap_or (cond b (Some (readings_at p r.component r.line)) None) []) ≡ list_any (eq_by_cmp reading_cmp r) (items p.readings)) [
+        elim (list_any (eq_by_cmp place_cmp (place_of r)) (map place_of (items p.readings))) as (λ b. list_any
+        (eq_by_cmp place_cmp (place_of r)) (map place_of (items p.readings)) ≡ b →
+        list_any (eq_by_cmp S r.samples) (unwrap_or (cond b (Some (readings_at p r.component r.line)) None) [])
+        ≡ list_any (eq_by_cmp reading_cmp r) (items p.readings)) [
           | true ↦ λ e. any_there r (items p.readings)
           | false ↦ λ e. sym (none_there r (items p.readings) e)
         ] refl
@@ -213,7 +238,9 @@ below_there : (c l : ℕ) (x : Reading) (rs : List Reading) → is_there c l x �
     → AllByRecursion (λ y. S x.samples y ≡ Less) (map (λ r. r.samples) (filter (is_there c l) rs))
 below_there c l x [] t h = tt
 below_there c l x (y ∷ rs) t h =
-    elim (is_there c l y) as (λ b. is_there c l y ≡ b → AllByRecursion (λ z. S x.samples z ≡ Less) (map (λ r. r.samples) (cond b (y ∷ filter (is_there c l) rs) (filter (is_there c l) rs)))) [
+    elim (is_there c l y) as (λ b. is_there c l y ≡ b
+    → AllByRecursion (λ z. S x.samples z ≡ Less)
+    (map (λ r. r.samples) (cond b (y ∷ filter (is_there c l) rs) (filter (is_there c l) rs)))) [
       | true ↦ λ e. (sym (same_line_cmp c l x y t e) ∙ h.0, below_there c l x rs t h.1)
       | false ↦ λ e. below_there c l x rs t h.1
     ] refl
@@ -223,7 +250,8 @@ sorted_there : (c l : ℕ) (rs : List Reading) → IsStrictlySortedBy reading_cm
 unfolding IsStrictlySortedBy
 sorted_there c l [] h = tt
 sorted_there c l (x ∷ rs) h =
-    elim (is_there c l x) as (λ b. is_there c l x ≡ b → IsStrictlySortedBy S (map (λ r. r.samples) (cond b (x ∷ filter (is_there c l) rs) (filter (is_there c l) rs)))) [
+    elim (is_there c l x) as (λ b. is_there c l x ≡ b
+    → IsStrictlySortedBy S (map (λ r. r.samples) (cond b (x ∷ filter (is_there c l) rs) (filter (is_there c l) rs)))) [
       | true ↦ λ e. (below_there c l x rs e h.0, sorted_there c l rs h.1)
       | false ↦ λ e. sorted_there c l rs h.1
     ] refl
@@ -232,9 +260,11 @@ some_there : (c l : ℕ) (rs : List Reading) → list_any (eq_by_cmp place_cmp (
     → 1 ≤ length (map (λ r. r.samples) (filter (is_there c l) rs))
 some_there c l [] h = absurd cc
 some_there c l (x ∷ rs) h =
-    elim (is_there c l x) as (λ b. is_there c l x ≡ b → 1 ≤ length (map (λ r. r.samples) (cond b (x ∷ filter (is_there c l) rs) (filter (is_there c l) rs)))) [
+    elim (is_there c l x) as (λ b. is_there c l x ≡ b → 1
+    ≤ length (map (λ r. r.samples) (cond b (x ∷ filter (is_there c l) rs) (filter (is_there c l) rs)))) [
       | true ↦ λ e. omega arith
-      | false ↦ λ e. some_there c l rs (ap (λ b. b || list_any (eq_by_cmp place_cmp (place c l)) (map place_of rs)) (sym e ∙ eq_there c l (place_of x)) ∙ h)
+      | false ↦ λ e. some_there c l rs
+          (ap (λ b. b || list_any (eq_by_cmp place_cmp (place c l)) (map place_of rs)) (sym e ∙ eq_there c l (place_of x)) ∙ h)
     ] refl
 
 fit_there : (shape : PictureShape) (c l : ℕ) (rs : List Reading)
@@ -242,9 +272,14 @@ fit_there : (shape : PictureShape) (c l : ℕ) (rs : List Reading)
     → AllByRecursion (λ x. reading_fault shape c l x ≡ None) (map (λ r. r.samples) (filter (is_there c l) rs))
 fit_there shape c l [] h = tt
 fit_there shape c l (x ∷ rs) h =
-    elim (is_there c l x) as (λ b. is_there c l x ≡ b → AllByRecursion (λ x. reading_fault shape c l x ≡ None) (map (λ r. r.samples) (cond b (x ∷ filter (is_there c l) rs) (filter (is_there c l) rs)))) [
-      | true ↦ λ e. let p = and_parts (x.component == c) (x.line == l) e in
-          (ap (λ (n : ℕ). reading_fault shape n l x.samples) (sym (eqb-true x.component c p.0)) ∙ ap (λ (n : ℕ). reading_fault shape x.component n x.samples) (sym (eqb-true x.line l p.1)) ∙ h.0, fit_there shape c l rs h.1)
+    elim (is_there c l x) as (λ b. is_there c l x ≡ b
+    → AllByRecursion (λ x. reading_fault shape c l x ≡ None)
+    (map (λ r. r.samples) (cond b (x ∷ filter (is_there c l) rs) (filter (is_there c l) rs)))) [
+      | true ↦ λ e. let p = and_parts (x.component == c) (x.line == l) e in (
+        ap (λ (n : ℕ). reading_fault shape n l x.samples) (sym (eqb-true x.component c p.0))
+            ∙ ap (λ (n : ℕ). reading_fault shape x.component n x.samples) (sym (eqb-true x.line l p.1)) ∙ h.0,
+        fit_there shape c l rs h.1,
+      )
       | false ↦ λ e. fit_there shape c l rs h.1
     ] refl
 
@@ -256,15 +291,19 @@ each_made P f (p ∷ ps) h = (h.0, each_made P f ps h.1)
 pub entries_are : (p : PartialPicture) → IsPartial p → AreEntries p.shape (bare_entries p)
 entries_are p is = record {
   sorted = entries_rise p;
-  each = each_made (IsEntry p.shape) (λ at. readings_at p at.component at.line) (places_held p) (all_members place_total (λ at. IsEntry p.shape (at, readings_at p at.component at.line)) (places_held p) (λ at h. one at (sym (held_place at) ∙ h)));
+  each = each_made (IsEntry p.shape) (λ at. readings_at p at.component at.line) (places_held p)
+      (all_members place_total (λ at. IsEntry p.shape (at, readings_at p at.component at.line)) (places_held p)
+      (λ at h. one at (sym (held_place at) ∙ h)));
 }
   where
     held_place : (q : LinePlace)
         → list_any (eq_by_cmp place_cmp q) (places_held p) ≡ list_any (eq_by_cmp place_cmp q) (map place_of (items p.readings))
-    held_place q = sym (contains-items (from_list {R = place_cmp} (map place_of (items p.readings))) q) ∙ contains-from_list place_total (map place_of (items p.readings)) q
+    held_place q = sym (contains-items (from_list {R = place_cmp} (map place_of (items p.readings))) q)
+        ∙ contains-from_list place_total (map place_of (items p.readings)) q
 
     fit : AllByRecursion (λ (r : Reading). reading_fault p.shape r.component r.line r.samples ≡ None) (items p.readings)
-    fit = all_members reading_total (λ (r : Reading). reading_fault p.shape r.component r.line r.samples ≡ None) (items p.readings) (λ r h. is.fitting r.component r.line r.samples (contains-items p.readings r ∙ h))
+    fit = all_members reading_total (λ (r : Reading). reading_fault p.shape r.component r.line r.samples ≡ None) (items p.readings)
+        (λ r h. is.fitting r.component r.line r.samples (contains-items p.readings r ∙ h))
 
     one : (at : LinePlace) → list_any (eq_by_cmp place_cmp at) (map place_of (items p.readings)) ≡ true
         → IsEntry p.shape (at, readings_at p at.component at.line)
@@ -302,9 +341,11 @@ rank p = p.component * 2 ^ 16 + p.line
 
 rank_rises : (p q : LinePlace) → p.line < 2 ^ 16 → place_cmp p q ≡ Less → rank p < rank q
 rank_rises p q lt e =
-    elim (nat_cmp p.component q.component) as (λ r. nat_cmp p.component q.component ≡ r → ordering_then r (nat_cmp p.line q.line) ≡ Less → rank p < rank q) [
+    elim (nat_cmp p.component q.component) as (λ r. nat_cmp p.component q.component ≡ r → ordering_then r (nat_cmp p.line q.line) ≡ Less
+    → rank p < rank q) [
       | Less ↦ λ i h. let c = ranked p.component q.component Less (sym i) in omega (arith, c, lt)
-      | Equal ↦ λ i h. let c = ranked p.component q.component Equal (sym i) in let d = ranked p.line q.line Less (sym h) in omega (arith, c, d)
+      | Equal ↦ λ i h. let c = ranked p.component q.component Equal (sym i) in let d = ranked p.line q.line Less (sym h) in
+          omega (arith, c, d)
       | Greater ↦ λ i h. absurd cc
     ] refl e
 
@@ -318,7 +359,8 @@ few_between : (n low : ℕ) (ps : List LinePlace) → low ≤ n → IsStrictlySo
 unfolding IsStrictlySortedBy
 few_between n low [] le s h k = omega arith
 few_between n low (p ∷ ps) le s h k =
-    let rest : length ps + (rank p + 1) ≤ n = few_between n (rank p + 1) ps (let r = k.0.1 in omega (arith, r)) s.1 (above_all p ps k.0.0 s.0) k.1 in
+    let rest : length ps + (rank p + 1) ≤ n =
+    few_between n (rank p + 1) ps (let r = k.0.1 in omega (arith, r)) s.1 (above_all p ps k.0.0 s.0) k.1 in
     let first : low ≤ rank p = h.0 in
     omega (arith, rest, first)
 
@@ -339,5 +381,7 @@ lines_below shape (e ∷ es) is h =
 
 pub few_entries : (shape : PictureShape) (es : List BareEntry) → IsShape shape → AreEntries shape es → length es < 2 ^ 32
 few_entries shape es is kept =
-    let few : length (map (λ (e : BareEntry). e.0) es) + 0 ≤ 4 * 2 ^ 16 = few_between (4 * 2 ^ 16) 0 (map (λ (e : BareEntry). e.0) es) (omega arith) kept.sorted (all_low (map (λ (e : BareEntry). e.0) es)) (lines_below shape es is kept.each) in
+    let few : length (map (λ (e : BareEntry). e.0) es) + 0 ≤ 4 * 2 ^ 16 =
+    few_between (4 * 2 ^ 16) 0 (map (λ (e : BareEntry). e.0) es) (omega arith) kept.sorted (all_low (map (λ (e : BareEntry). e.0) es))
+    (lines_below shape es is kept.each) in
     omega (arith, few, length-map es (λ (e : BareEntry). e.0))

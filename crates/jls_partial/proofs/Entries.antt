@@ -42,7 +42,8 @@ any-at_place r p [] = none (eq_by_cmp place_cmp (place_of r) p)
     none true = refl
     none false = refl
 any-at_place r p (x ∷ xs) =
-    (λ i. eq_reading r p x i || any-at_place r p xs i) ∙ both (eq_by_cmp place_cmp (place_of r) p) (eq_by_cmp S r.samples x) (list_any (eq_by_cmp S r.samples) xs)
+    (λ i. eq_reading r p x i || any-at_place r p xs i)
+    ∙ both (eq_by_cmp place_cmp (place_of r) p) (eq_by_cmp S r.samples x) (list_any (eq_by_cmp S r.samples) xs)
   where
     both : (b c d : Bool) → ((b && c) || (b && d)) ≡ (b && (c || d))
     both true c d = refl
@@ -65,7 +66,8 @@ any-entries (e ∷ es) r h =
     ∙ elim (eq_by_cmp place_cmp (place_of r) e.0) as (λ b. eq_by_cmp place_cmp (place_of r) e.0 ≡ b →
     ((b && list_any (eq_by_cmp S r.samples) e.1) || list_any (eq_by_cmp S r.samples) (samples_at es (place_of r)))
     ≡ list_any (eq_by_cmp S r.samples) (unwrap_or (cond b (Some e.1) (lookup (is_at (place_cmp (place_of r))) es)) [])) [
-      | true ↦ λ t. ap (λ (o : Option (List (List ℕ))). list_any (eq_by_cmp S r.samples) e.1 || list_any (eq_by_cmp S r.samples) (unwrap_or o [])) (none_kept (place_of r) e.0 es t h.0) ∙ or_false (list_any (eq_by_cmp S r.samples) e.1)
+      | true ↦ λ t. ap (λ (o : Option (List (List ℕ))). list_any (eq_by_cmp S r.samples) e.1 || list_any (eq_by_cmp S r.samples)
+          (unwrap_or o [])) (none_kept (place_of r) e.0 es t h.0) ∙ or_false (list_any (eq_by_cmp S r.samples) e.1)
       | false ↦ λ t. refl
     ] refl
   where
@@ -74,7 +76,8 @@ any-entries (e ∷ es) r h =
     or_false false = refl
 
 -- what holds at each place that is kept
-pub each_from_lookup : {X : Type 0} (P : LinePlace × X → Type 0) (es : List (LinePlace × X)) → IsStrictlySortedBy place_cmp (map (λ e. e.0) es)
+pub each_from_lookup : {X : Type 0} (P : LinePlace × X → Type 0) (es : List (LinePlace × X))
+    → IsStrictlySortedBy place_cmp (map (λ e. e.0) es)
     → ((q : LinePlace) → IfSome (lookup (is_at (place_cmp q)) es) (λ xs. P (q, xs))) → AllByRecursion P es
 each_from_lookup P es h f = each_by place_total same_place P es h f
 
@@ -93,12 +96,15 @@ any_all P x (y ∷ xs) h e =
 pub holds_kept : (shape : PictureShape) (es : List BareEntry) (p : PartialPicture) (c l : ℕ) (x : List ℕ) → AreEntries shape es
     → from_list (readings_of_entries es) ≡ p.readings → holds p c l x ≡ list_any (eq_by_cmp S x) (samples_at es (place c l))
 holds_kept shape es p c l x kept is =
-    ap (λ (s : OrderedSet reading_cmp). contains s (at_place (place c l) x)) (sym is) ∙ contains-from_list reading_total (readings_of_entries es) (at_place (place c l) x) ∙ any-entries es (at_place (place c l) x) kept.sorted
+    ap (λ (s : OrderedSet reading_cmp). contains s (at_place (place c l) x)) (sym is)
+    ∙ contains-from_list reading_total (readings_of_entries es) (at_place (place c l) x)
+    ∙ any-entries es (at_place (place c l) x) kept.sorted
 
 pub fits_kept : (shape : PictureShape) (es : List BareEntry) (c l : ℕ) (x : List ℕ) → AreEntries shape es
     → list_any (eq_by_cmp S x) (samples_at es (place c l)) ≡ true → reading_fault shape c l x ≡ None
 fits_kept shape es c l x kept e =
-    elim (lookup (is_at (place_cmp (place c l))) es) as (λ (o : Option (List (List ℕ))). IfSome o (λ xs. IsEntry shape (place c l, xs)) → list_any (eq_by_cmp S x) (unwrap_or o []) ≡ true → reading_fault shape c l x ≡ None) [
+    elim (lookup (is_at (place_cmp (place c l))) es) as (λ (o : Option (List (List ℕ))). IfSome o (λ xs. IsEntry shape (place c l, xs))
+    → list_any (eq_by_cmp S x) (unwrap_or o []) ≡ true → reading_fault shape c l x ≡ None) [
       | None ↦ λ k f. absurd cc
       | Some xs ↦ λ k f. any_all (λ y. reading_fault shape c l y ≡ None) x xs k.fitting f
     ] (lookup_from_each (IsEntry shape) es (place c l) kept.each) e
@@ -117,7 +123,8 @@ held_same s r h = same_set reading_total reading_exact _ _ (λ q. contains-inser
 -- what is kept at a place can be counted
 pub countable_at : (shape : PictureShape) (es : List BareEntry) (q : LinePlace) → AreEntries shape es → length (samples_at es q) < 2 ^ 64
 countable_at shape es q kept =
-    elim (lookup (is_at (place_cmp q)) es) as (λ (o : Option (List (List ℕ))). IfSome o (λ xs. IsEntry shape (q, xs)) → length (unwrap_or o []) < 2 ^ 64) [
+    elim (lookup (is_at (place_cmp q)) es) as (λ (o : Option (List (List ℕ))). IfSome o (λ xs. IsEntry shape (q, xs))
+    → length (unwrap_or o []) < 2 ^ 64) [
       | None ↦ λ k. omega arith
       | Some xs ↦ λ k. k.countable
     ] (lookup_from_each (IsEntry shape) es q kept.each)

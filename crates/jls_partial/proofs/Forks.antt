@@ -23,7 +23,8 @@ module _ {X : Type 0} where
   read_right (y ∷ l) m r (suc i) k d e = read_right l m r i k d (omega arith)
 
   -- what is put after the middle
-  pub insert_right : (l : List X) (m : X) (r : List X) (i k : ℕ) (x : X) → i ≡ length l + 1 + k → insert (l ++ m ∷ r) i x ≡ l ++ m ∷ insert r k x
+  pub insert_right : (l : List X) (m : X) (r : List X) (i k : ℕ) (x : X) → i ≡ length l + 1 + k → insert (l ++ m ∷ r) i x ≡ l ++ m
+      ∷ insert r k x
   insert_right [] m r zero k x e = absurd (omega arith)
   insert_right [] m r (suc i) k x e = let same : i ≡ k = omega arith in ap (λ (n : ℕ). m ∷ insert r n x) same
   insert_right (y ∷ l) m r zero k x e = absurd (omega arith)
@@ -59,7 +60,8 @@ length_sources (s ∷ slots) (suc i) ss = ap suc (length_sources slots i ss)
 pub sources_set : (slots : List Slot) (i : ℕ) (s : Slot) (ss : List ℕ) → i < length slots → s ≡ get_or slots i s
     → with_sources_at slots i ss ≡ set slots i (record { start = s.start; sources = sets.insert_all s.sources ss })
 sources_set [] i s ss lt is = absurd (omega arith)
-sources_set (t ∷ slots) zero s ss lt is = λ j. (record { start = (sym is j).start; sources = sets.insert_all (sym is j).sources ss }) ∷ slots
+sources_set (t ∷ slots) zero s ss lt is = λ j. (record { start = (sym is j).start; sources = sets.insert_all (sym is j).sources ss })
+    ∷ slots
 sources_set (t ∷ slots) (suc i) s ss lt is = ap (λ u. t ∷ u) (sources_set slots i s ss (omega arith) is)
 
 pub ruleset fork_reads = (get_or_append_left, read_middle, read_right)

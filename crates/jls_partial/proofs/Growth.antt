@@ -26,14 +26,16 @@ use Rattle.jls_partial.proofs.MarkSets.{any_items, any_marks, prefix_above, mark
 pub with_all-append : (p : PartialPicture) (xs ys : List (Reading × List ℕ)) → with_all p (xs ++ ys) ≡ with_all (with_all p xs) ys
 with_all-append p xs ys = λ i. record {
   shape = p.shape;
-  readings = (ap (set.insert_all p.readings) (map-append (λ (k : Reading × List ℕ). k.0) xs ys) ∙ insert_all-append p.readings (map (λ (k : Reading × List ℕ). k.0) xs) (map (λ (k : Reading × List ℕ). k.0) ys)) i;
+  readings = (ap (set.insert_all p.readings) (map-append (λ (k : Reading × List ℕ). k.0) xs ys)
+      ∙ insert_all-append p.readings (map (λ (k : Reading × List ℕ). k.0) xs) (map (λ (k : Reading × List ℕ). k.0) ys)) i;
   marks = (ap (set.insert_all p.marks) (marks_of-append xs ys) ∙ insert_all-append p.marks (marks_of xs) (marks_of ys)) i;
 }
 
 -- ---- the readings of a line
 
 -- the next of them
-module _ (L : PictureLines) (i : ℕ) (x ss : List ℕ) (lt : i < length (set.items L.lines)) (value : slice_get (set.items L.lines) i ≡ Some x) (own : IfSome (slice_get (set.items L.lines) i) (λ samples. ss ≡ line_sources L samples)) where
+module _ (L : PictureLines) (i : ℕ) (x ss : List ℕ) (lt : i < length (set.items L.lines)) (value : slice_get (set.items L.lines) i ≡ Some x)
+    (own : IfSome (slice_get (set.items L.lines) i) (λ samples. ss ≡ line_sources L samples)) where
   abbrev kept : List ℕ → Kept
   kept y = (y, line_sources L y)
 
@@ -45,7 +47,8 @@ module _ (L : PictureLines) (i : ℕ) (x ss : List ℕ) (lt : i < length (set.it
   here : get_or (kept_lines L) i (kept x) ≡ (x, ss)
   here =
       let sources : ss ≡ line_sources L x = subst (λ (o : Option (List ℕ)). IfSome o (λ samples. ss ≡ line_sources L samples)) value own in
-      get_or-map kept (set.items L.lines) i x (kept x) lt ∙ ap kept (read (set.items L.lines) i value) ∙ ap (λ (ts : List ℕ). (x, ts)) (sym sources)
+      get_or-map kept (set.items L.lines) i x (kept x) lt ∙ ap kept (read (set.items L.lines) i value)
+      ∙ ap (λ (ts : List ℕ). (x, ts)) (sym sources)
 
   below : i < length (kept_lines L)
   below = omega (arith, lt, length-map (set.items L.lines) kept)
@@ -79,7 +82,8 @@ pub prefix_so_far : (p q r : PartialPicture) (all ks left : List (Reading × Lis
 prefix_so_far p q r all ks left h f = record {
   taken = h.taken ++ f.taken;
   left = f.left ++ left;
-  parts = h.parts ∙ ap (λ t. h.taken ++ t) (ap (λ t. t ++ left) f.parts ∙ append_assoc f.taken f.left left) ∙ sym (append_assoc h.taken f.taken (f.left ++ left));
+  parts = h.parts ∙ ap (λ t. h.taken ++ t) (ap (λ t. t ++ left) f.parts ∙ append_assoc f.taken f.left left)
+      ∙ sym (append_assoc h.taken f.taken (f.left ++ left));
   new_is = f.new_is ∙ ap (λ (z : PartialPicture). with_all z f.taken) h.new_is ∙ sym (with_all-append p h.taken f.taken);
 }
 
@@ -91,10 +95,12 @@ next_entry e es = flat_map-cons (λ (e : Entry). map (kept_at_place e.0) e.1) (k
 -- ---- the union
 
 -- the readings of entries make the union with their picture
-pub entries_union : (p : PartialPicture) (shape : PictureShape) (es : List Entry) → with_all p (kept_readings es) ≡ union p (partial_of shape es)
+pub entries_union : (p : PartialPicture) (shape : PictureShape) (es : List Entry) → with_all p (kept_readings es)
+    ≡ union p (partial_of shape es)
 entries_union p shape es = λ i. record {
   shape = p.shape;
-  readings = same_set reading_total reading_exact (set.insert_all p.readings (map (λ k. k.0) ks)) (set.union p.readings (partial_of shape es).readings) (λ r.
+  readings = same_set reading_total reading_exact (set.insert_all p.readings (map (λ k. k.0) ks))
+      (set.union p.readings (partial_of shape es).readings) (λ r.
       contains-insert_all reading_total p.readings (map (λ k. k.0) ks) r
       ∙ ap (λ b. set.contains p.readings r || b) (any_items reading_cmp r ks ∙ sym (holds_reading shape es r))
       ∙ sym (contains-union reading_total p.readings (partial_of shape es).readings r)) i;
@@ -129,5 +135,6 @@ between_of p r high all is f =
       subst (λ (z : PartialPicture). IsBelow union (with_all p f.taken) z) whole (above_old (with_all p f.taken) f.left),
     )
 
-pub prefix_between : (p q r : PartialPicture) → AreMarksHeld q → TakesPrefix p r (kept_readings (entries q)) → IsBetween union p r (union p q)
+pub prefix_between : (p q r : PartialPicture) → AreMarksHeld q → TakesPrefix p r (kept_readings (entries q))
+    → IsBetween union p r (union p q)
 prefix_between p q r held f = between_of p r (union p q) (kept_readings (entries q)) (all_is_union p q held) f

@@ -46,11 +46,13 @@ bare_readings (e ∷ es) =
 -- to insert all into the empty set is to make the set of all
 set_of_all : (rs : List Reading) → set.insert_all (set.empty {R = reading_cmp}) rs ≡ set.from_list rs
 set_of_all rs = same_set reading_total reading_exact (set.insert_all set.empty rs) (set.from_list rs) (λ q.
-    contains-insert_all reading_total set.empty rs q ∙ ap (λ b. b || list_any (eq_by_cmp reading_cmp q) rs) (contains-empty reading_cmp q) ∙ sym (contains-from_list reading_total rs q))
+    contains-insert_all reading_total set.empty rs q ∙ ap (λ b. b || list_any (eq_by_cmp reading_cmp q) rs) (contains-empty reading_cmp q)
+    ∙ sym (contains-from_list reading_total rs q))
 
 pub readings_are : (shape : PictureShape) (es : List Entry)
     → set.from_list (readings_of_entries (map bare es)) ≡ (partial_of shape es).readings
-readings_are shape es = sym (ap (set.insert_all (set.empty {R = reading_cmp})) (bare_readings es) ∙ set_of_all (readings_of_entries (map bare es)))
+readings_are shape es = sym (ap (set.insert_all (set.empty {R = reading_cmp})) (bare_readings es)
+    ∙ set_of_all (readings_of_entries (map bare es)))
 
 -- ---- what the partial picture of entries holds
 
@@ -65,7 +67,8 @@ pub holds_mark : (shape : PictureShape) (es : List Entry) (r : Reading) (s : ℕ
     → set.contains (partial_of shape es).marks (r, s) ≡ has_mark reading_cmp r s (kept_readings es)
 holds_mark shape es r s =
     contains-insert_all marks_total set.empty (marks_of (kept_readings es)) (r, s)
-    ∙ ap (λ b. b || list_any (eq_by_cmp (mark_cmp reading_cmp) (r, s)) (marks_of (kept_readings es))) (contains-empty (mark_cmp reading_cmp) (r, s))
+    ∙ ap (λ b. b || list_any (eq_by_cmp (mark_cmp reading_cmp) (r, s)) (marks_of (kept_readings es)))
+    (contains-empty (mark_cmp reading_cmp) (r, s))
     ∙ any_marks reading_cmp r s (kept_readings es)
 
 -- what is kept at a place
@@ -80,7 +83,8 @@ has-at_place r g p [] = none (eq_by_cmp place_cmp (place_of r) p)
     none true = refl
     none false = refl
 has-at_place r g p (k ∷ ks) =
-    (λ i. (eq_reading r p k.0 i && g k.1) || has-at_place r g p ks i) ∙ both (eq_by_cmp place_cmp (place_of r) p) (eq_by_cmp S r.samples k.0) (g k.1) (has_item S r.samples g ks)
+    (λ i. (eq_reading r p k.0 i && g k.1) || has-at_place r g p ks i)
+    ∙ both (eq_by_cmp place_cmp (place_of r) p) (eq_by_cmp S r.samples k.0) (g k.1) (has_item S r.samples g ks)
   where
     both : (b c e d : Bool) → (((b && c) && e) || (b && d)) ≡ (b && ((c && e) || d))
     both true c e d = refl
@@ -99,7 +103,8 @@ has-entries (e ∷ es) r g h =
     ∙ elim (eq_by_cmp place_cmp (place_of r) e.0) as (λ b. eq_by_cmp place_cmp (place_of r) e.0 ≡ b →
     ((b && has_item S r.samples g e.1) || has_item S r.samples g (kept_at es (place_of r)))
     ≡ has_item S r.samples g (unwrap_or (cond b (Some e.1) (lookup (is_at (place_cmp (place_of r))) es)) [])) [
-      | true ↦ λ t. ap (λ (o : Option (List Kept)). has_item S r.samples g e.1 || has_item S r.samples g (unwrap_or o [])) (none_kept (place_of r) e.0 es t h.0) ∙ or_false (has_item S r.samples g e.1)
+      | true ↦ λ t. ap (λ (o : Option (List Kept)). has_item S r.samples g e.1 || has_item S r.samples g (unwrap_or o []))
+          (none_kept (place_of r) e.0 es t h.0) ∙ or_false (has_item S r.samples g e.1)
       | false ↦ λ t. refl
     ] refl
   where
@@ -118,7 +123,8 @@ all_of P [] ys h = (tt, h)
 all_of P (x ∷ xs) ys h = let r = all_of P xs ys h.1 in ((h.0, r.0), r.1)
 
 module _ (P : Reading × List ℕ → Type 0) where
-  all_there : (at : LinePlace) (ks : List Kept) → AllByRecursion P (map (kept_at_place at) ks) → AllByRecursion (λ k. P (kept_at_place at k)) ks
+  all_there : (at : LinePlace) (ks : List Kept) → AllByRecursion P (map (kept_at_place at) ks)
+      → AllByRecursion (λ k. P (kept_at_place at k)) ks
   all_there at [] h = tt
   all_there at (k ∷ ks) h = (h.0, all_there at ks h.1)
 
@@ -126,7 +132,8 @@ module _ (P : Reading × List ℕ → Type 0) where
       → AllByRecursion (λ e. AllByRecursion (λ k. P (kept_at_place e.0 k)) e.1) es
   by_entry [] h = tt
   by_entry (e ∷ es) h =
-      let parts = all_of P (map (kept_at_place e.0) e.1) (kept_readings es) (subst (AllByRecursion P) (flat_map-cons (λ (e : Entry). map (kept_at_place e.0) e.1) e es) h) in
+      let parts = all_of P (map (kept_at_place e.0) e.1) (kept_readings es)
+      (subst (AllByRecursion P) (flat_map-cons (λ (e : Entry). map (kept_at_place e.0) e.1) e es) h) in
       (all_there e.0 e.1 parts.0, by_entry es parts.1)
 
 kept_again : (f : List ℕ → List ℕ) (ks : List Kept) → AllByRecursion (λ k. f k.0 ≡ k.1) ks
@@ -141,7 +148,8 @@ own_again p at [] h own = tt
 own_again p at (k ∷ ks) h own = (sources_again reading_cmp p.marks (at_place at k.0) k.1 h.0 own.0, own_again p at ks h.1 own.1)
 
 each_again : (p : PartialPicture) (es : List Entry) → SourcesRise es
-    → AllByRecursion (λ e. AllByRecursion (λ k. (s : ℕ) → set.contains p.marks (at_place e.0 k.0, s) ≡ list_any (eq_by_cmp nat_cmp s) k.1) e.1) es
+    → AllByRecursion (λ e. AllByRecursion (λ k. (s : ℕ) → set.contains p.marks (at_place e.0 k.0, s) ≡ list_any (eq_by_cmp nat_cmp s) k.1)
+    e.1) es
     → map (with_own_sources p) (map bare es) ≡ es
 each_again p [] h own = refl
 each_again p (e ∷ es) h own =
@@ -151,7 +159,8 @@ pub entries_again : (shape : PictureShape) (es : List Entry) → AreEntries shap
     → entries (partial_of shape es) ≡ es
 entries_again shape es kept rise =
     let p = partial_of shape es in
-    let sorted = subst (IsStrictlySortedBy reading_cmp) (sym (bare_readings es)) (sorted-entries shape (map bare es) kept.sorted kept.each) in
+    let sorted = subst (IsStrictlySortedBy reading_cmp) (sym (bare_readings es))
+    (sorted-entries shape (map bare es) kept.sorted kept.each) in
     let own = moved (kept_readings es) (each_has_own reading_cmp reading_total (kept_readings es) sorted) in
     ap (map (with_own_sources p)) (bare_again shape (map bare es) p kept (readings_are shape es))
     ∙ each_again p es rise (by_entry (λ k. (s : ℕ) → set.contains p.marks (k.0, s) ≡ list_any (eq_by_cmp nat_cmp s) k.1) es own)
@@ -182,17 +191,25 @@ own_readings p (e ∷ es) =
     flat_map-cons (λ (e : Entry). map (kept_at_place e.0) e.1) (with_own_sources p e) (map (with_own_sources p) es)
     ∙ (λ i. there e.1 i ++ own_readings p es i)
     ∙ sym (map-append (λ (r : Reading). (r, sources_of reading_cmp p.marks r)) (map (at_place e.0) e.1) (readings_of_entries es))
-    ∙ ap (map (λ (r : Reading). (r, sources_of reading_cmp p.marks r))) (sym (flat_map-cons (λ (e : BareEntry). map (at_place e.0) e.1) e es))
+    ∙ ap (map (λ (r : Reading). (r, sources_of reading_cmp p.marks r)))
+    (sym (flat_map-cons (λ (e : BareEntry). map (at_place e.0) e.1) e es))
   where
     there : (xs : List (List ℕ))
-        → map (kept_at_place e.0) (map (λ x. (x, sources_at p e.0.component e.0.line x)) xs) ≡ map (λ r. (r, sources_of reading_cmp p.marks r)) (map (at_place e.0) xs)
+        → map (kept_at_place e.0) (map (λ x. (x, sources_at p e.0.component e.0.line x)) xs)
+        ≡ map (λ r. (r, sources_of reading_cmp p.marks r)) (map (at_place e.0) xs)
     there [] = refl
     there (x ∷ xs) = ap (λ t. (at_place e.0 x, sources_of reading_cmp p.marks (at_place e.0 x)) ∷ t) (there xs)
 
 pub partial_again : (p : PartialPicture) → AreMarksHeld p → partial_of p.shape (entries p) ≡ p
 partial_again p held =
-    let readings = sym (readings_are p.shape (entries p)) ∙ ap (λ es. set.from_list {R = reading_cmp} (readings_of_entries es)) (bare_entries_are p) ∙ set_again p in
-    λ i. record { shape = p.shape; readings = readings i; marks = same_set marks_total marks_exact (partial_of p.shape (entries p)).marks p.marks (λ m. marked m.0 m.1) i }
+    let readings = sym (readings_are p.shape (entries p))
+    ∙ ap (λ es. set.from_list {R = reading_cmp} (readings_of_entries es)) (bare_entries_are p) ∙ set_again p in
+    λ i. record {
+      shape = p.shape;
+      readings = readings i;
+      marks =
+          same_set marks_total marks_exact (partial_of p.shape (entries p)).marks p.marks (λ m. marked m.0 m.1) i;
+    }
   where
     implied : (a b : Bool) → (b ≡ true → a ≡ true) → (a && b) ≡ b
     implied true b f = refl
@@ -200,7 +217,8 @@ partial_again p held =
     implied false false f = refl
 
     is_held : (r : Reading) → list_any (eq_by_cmp reading_cmp r) (readings_of_entries (bare_entries p)) ≡ set.contains p.readings r
-    is_held r = sym (contains-from_list reading_total (readings_of_entries (bare_entries p)) r) ∙ ap (λ (s : set.OrderedSet reading_cmp). set.contains s r) (set_again p)
+    is_held r = sym (contains-from_list reading_total (readings_of_entries (bare_entries p)) r)
+        ∙ ap (λ (s : set.OrderedSet reading_cmp). set.contains s r) (set_again p)
 
     marked : (r : Reading) (s : ℕ) → set.contains (partial_of p.shape (entries p)).marks (r, s) ≡ set.contains p.marks (r, s)
     marked r s =

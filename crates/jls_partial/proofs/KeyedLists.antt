@@ -17,7 +17,8 @@ module _ {K X Y : Type 0} (f : X → Y) where
   pub lookup-map : (t : K → Bool) (es : List (K × X)) → lookup t (map (λ e. (e.0, f e.1)) es) ≡ option_map f (lookup t es)
   lookup-map t [] = refl
   lookup-map t (e ∷ es) =
-      elim (t e.0) as (λ b. cond b (Some (f e.1)) (lookup t (map (λ e. (e.0, f e.1)) es)) ≡ option_map f (cond b (Some e.1) (lookup t es))) [
+      elim (t e.0) as (λ b. cond b (Some (f e.1)) (lookup t (map (λ e. (e.0, f e.1)) es))
+      ≡ option_map f (cond b (Some e.1) (lookup t es))) [
         | true ↦ refl
         | false ↦ lookup-map t es
       ]
@@ -26,7 +27,8 @@ module _ {K X Y : Type 0} (f : X → Y) where
 
 module _ {K : Type 0} {R : K → K → Ordering} (total : IsTotalOrder R) (same : (p q : K) → eq_by_cmp R p q ≡ true → p ≡ q) where
   -- a key that is below all others is none of them
-  none_later : {X : Type 0} (p : K) (es : List (K × X)) → AllByRecursion (λ q. R p q ≡ Less) (map (λ e. e.0) es) → lookup (is_at (R p)) es ≡ None
+  none_later : {X : Type 0} (p : K) (es : List (K × X)) → AllByRecursion (λ q. R p q ≡ Less) (map (λ e. e.0) es) → lookup (is_at (R p)) es
+      ≡ None
   none_later p [] h = refl
   none_later p (e ∷ es) h = rw h.0 (none_later p es h.1)
 
@@ -41,13 +43,15 @@ module _ {K : Type 0} {R : K → K → Ordering} (total : IsTotalOrder R) (same 
   each_by {X} P [] h f = tt
   each_by {X} P (e ∷ es) h f = (
     subst (λ b. IfSome (cond b (Some e.1) (lookup (is_at (R e.0)) es)) (λ xs. P (e.0, xs))) (ap is_eq (tied_itself total e.0)) (f e.0),
-    each_by P es h.1 (λ q. elim (is_at (R q) e.0) as (λ b. is_at (R q) e.0 ≡ b → IfSome (cond b (Some e.1) (lookup (is_at (R q)) es)) (λ xs. P (q, xs)) → IfSome (lookup (is_at (R q)) es) (λ xs. P (q, xs))) [
-      | true ↦ λ t g. subst (λ (o : Option X). IfSome o (λ xs. P (q, xs))) (sym (none_by q e.0 es t h.0)) tt
-      | false ↦ λ t g. g
-    ] refl (f q)),
+    each_by P es h.1 (λ q. elim (is_at (R q) e.0) as (λ b. is_at (R q) e.0 ≡ b
+        → IfSome (cond b (Some e.1) (lookup (is_at (R q)) es)) (λ xs. P (q, xs)) → IfSome (lookup (is_at (R q)) es) (λ xs. P (q, xs))) [
+          | true ↦ λ t g. subst (λ (o : Option X). IfSome o (λ xs. P (q, xs))) (sym (none_by q e.0 es t h.0)) tt
+          | false ↦ λ t g. g
+        ] refl (f q)),
   )
 
-  pub lookup_by : {X : Type 0} (P : K × X → Type 0) (es : List (K × X)) (q : K) → AllByRecursion P es → IfSome (lookup (is_at (R q)) es) (λ xs. P (q, xs))
+  pub lookup_by : {X : Type 0} (P : K × X → Type 0) (es : List (K × X)) (q : K) → AllByRecursion P es
+      → IfSome (lookup (is_at (R q)) es) (λ xs. P (q, xs))
   lookup_by P [] q h = tt
   lookup_by P (e ∷ es) q h =
       elim (is_at (R q) e.0) as (λ b. is_at (R q) e.0 ≡ b → IfSome (cond b (Some e.1) (lookup (is_at (R q)) es)) (λ xs. P (q, xs))) [

@@ -26,7 +26,8 @@ any_map_mark k l s [] = none (eq_by_cmp S k l)
     none true = refl
     none false = refl
 any_map_mark k l s (t ∷ ss) =
-    (λ i. eq_mark S k l s t i || any_map_mark k l s ss i) ∙ both (eq_by_cmp S k l) (eq_by_cmp nat_cmp s t) (list_any (eq_by_cmp nat_cmp s) ss)
+    (λ i. eq_mark S k l s t i || any_map_mark k l s ss i)
+    ∙ both (eq_by_cmp S k l) (eq_by_cmp nat_cmp s t) (list_any (eq_by_cmp nat_cmp s) ss)
   where
     both : (b c d : Bool) → ((b && c) || (b && d)) ≡ (b && (c || d))
     both true c d = refl
@@ -43,12 +44,14 @@ any_marks x s (k ∷ ks) =
     ∙ (λ i. any_map_mark x k.0 s k.1 i || any_marks x s ks i)
 
 -- what the set of the marks of a list contains
-pub marks_hold : (ks : List Kept) (x : List ℕ) (s : ℕ) → sets.contains (sets.from_list {R = mark_cmp S} (marks_of ks)) (x, s) ≡ has_mark x s ks
+pub marks_hold : (ks : List Kept) (x : List ℕ) (s : ℕ) → sets.contains (sets.from_list {R = mark_cmp S} (marks_of ks)) (x, s)
+    ≡ has_mark x s ks
 marks_hold ks x s = contains-from_list line_marks_total (marks_of ks) (x, s) ∙ any_marks x s ks
 
 -- a line put in with its sources
 pub marks-insert : (ks : List Kept) (i : ℕ) (x ss : List ℕ) → i ≤ length ks
-    → sets.from_list {R = mark_cmp S} (marks_of (insert ks i (x, ss))) ≡ sets.insert_all (sets.from_list {R = mark_cmp S} (marks_of ks)) (marks_of ((x, ss) ∷ []))
+    → sets.from_list {R = mark_cmp S} (marks_of (insert ks i (x, ss)))
+    ≡ sets.insert_all (sets.from_list {R = mark_cmp S} (marks_of ks)) (marks_of ((x, ss) ∷ []))
 marks-insert ks i x ss le = same_set line_marks_total line_marks_exact _ _ (λ m.
     marks_hold (insert ks i (x, ss)) m.0 m.1
     ∙ any-insert (λ k. eq_by_cmp S m.0 k.0 && list_any (eq_by_cmp nat_cmp m.1) k.1) ks i (x, ss) le
@@ -59,12 +62,14 @@ marks-insert ks i x ss le = same_set line_marks_total line_marks_exact _ _ (λ m
 
 -- a line whose sources became more
 has-set : (ks : List Kept) (i : ℕ) (x old new ss : List ℕ) (d : Kept) (y : List ℕ) (s : ℕ) → i < length ks → get_or ks i d ≡ (x, old)
-    → list_any (eq_by_cmp nat_cmp s) new ≡ (list_any (eq_by_cmp nat_cmp s) old || list_any (eq_by_cmp nat_cmp s) ss) → has_mark y s (set ks i (x, new)) ≡ (has_mark y s ks || (eq_by_cmp S y x && list_any (eq_by_cmp nat_cmp s) ss))
+    → list_any (eq_by_cmp nat_cmp s) new ≡ (list_any (eq_by_cmp nat_cmp s) old || list_any (eq_by_cmp nat_cmp s) ss)
+    → has_mark y s (set ks i (x, new)) ≡ (has_mark y s ks || (eq_by_cmp S y x && list_any (eq_by_cmp nat_cmp s) ss))
 has-set [] i x old new ss d y s lt is more = absurd (omega arith)
 has-set (k ∷ ks) zero x old new ss d y s lt is more =
     ap (λ b. (eq_by_cmp S y x && b) || has_mark y s ks) more
     ∙ spread (eq_by_cmp S y x) (list_any (eq_by_cmp nat_cmp s) old) (list_any (eq_by_cmp nat_cmp s) ss) (has_mark y s ks)
-    ∙ ap (λ (j : Kept). ((eq_by_cmp S y j.0 && list_any (eq_by_cmp nat_cmp s) j.1) || has_mark y s ks) || (eq_by_cmp S y x && list_any (eq_by_cmp nat_cmp s) ss)) (sym is)
+    ∙ ap (λ (j : Kept). ((eq_by_cmp S y j.0 && list_any (eq_by_cmp nat_cmp s) j.1) || has_mark y s ks)
+    || (eq_by_cmp S y x && list_any (eq_by_cmp nat_cmp s) ss)) (sym is)
   where
     spread : (a b c d : Bool) → ((a && (b || c)) || d) ≡ (((a && b) || d) || (a && c))
     spread true true true d = refl
@@ -77,7 +82,8 @@ has-set (k ∷ ks) zero x old new ss d y s lt is more =
     spread false b c false = refl
 has-set (k ∷ ks) (suc i) x old new ss d y s lt is more =
     ap (λ b. (eq_by_cmp S y k.0 && list_any (eq_by_cmp nat_cmp s) k.1) || b) (has-set ks i x old new ss d y s (omega arith) is more)
-    ∙ regroup (eq_by_cmp S y k.0 && list_any (eq_by_cmp nat_cmp s) k.1) (has_mark y s ks) (eq_by_cmp S y x && list_any (eq_by_cmp nat_cmp s) ss)
+    ∙ regroup (eq_by_cmp S y k.0 && list_any (eq_by_cmp nat_cmp s) k.1) (has_mark y s ks)
+    (eq_by_cmp S y x && list_any (eq_by_cmp nat_cmp s) ss)
   where
     regroup : (a b c : Bool) → (a || (b || c)) ≡ ((a || b) || c)
     regroup true b c = refl
@@ -85,11 +91,13 @@ has-set (k ∷ ks) (suc i) x old new ss d y s lt is more =
 
 pub marks-set : (ks : List Kept) (i : ℕ) (x : List ℕ) (old : sets.OrderedSet nat_cmp) (ss : List ℕ) (d : Kept) → i < length ks
     → get_or ks i d ≡ (x, sets.items old)
-    → sets.from_list {R = mark_cmp S} (marks_of (set ks i (x, sets.items (sets.insert_all old ss)))) ≡ sets.insert_all (sets.from_list {R = mark_cmp S} (marks_of ks)) (marks_of ((x, ss) ∷ []))
+    → sets.from_list {R = mark_cmp S} (marks_of (set ks i (x, sets.items (sets.insert_all old ss))))
+    ≡ sets.insert_all (sets.from_list {R = mark_cmp S} (marks_of ks)) (marks_of ((x, ss) ∷ []))
 marks-set ks i x old ss d lt is = same_set line_marks_total line_marks_exact _ _ (λ m.
     marks_hold (set ks i (x, sets.items (sets.insert_all old ss))) m.0 m.1
     ∙ has-set ks i x (sets.items old) (sets.items (sets.insert_all old ss)) ss d m.0 m.1 lt is
-    (sym (contains-items (sets.insert_all old ss) m.1) ∙ contains-insert_all nat_cmp_total old ss m.1 ∙ ap (λ b. b || list_any (eq_by_cmp nat_cmp m.1) ss) (contains-items old m.1))
+    (sym (contains-items (sets.insert_all old ss) m.1) ∙ contains-insert_all nat_cmp_total old ss m.1
+    ∙ ap (λ b. b || list_any (eq_by_cmp nat_cmp m.1) ss) (contains-items old m.1))
     ∙ (λ j. sym (marks_hold ks m.0 m.1) j || sym (or_false (eq_by_cmp S m.0 x && list_any (eq_by_cmp nat_cmp m.1) ss)) j)
     ∙ ap (λ b. sets.contains (sets.from_list {R = mark_cmp S} (marks_of ks)) m || b) (sym (any_marks m.0 m.1 ((x, ss) ∷ [])))
     ∙ sym (contains-insert_all line_marks_total (sets.from_list (marks_of ks)) (marks_of ((x, ss) ∷ [])) m))

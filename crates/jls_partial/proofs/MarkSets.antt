@@ -17,7 +17,8 @@ use Rattle.jls_partial.specs.MarkLaws.{eq_mark, contains-sources_of}
 module _ {K : Type 0} where
   pub marks_of-append : (xs ys : List (K × List ℕ)) → marks_of (xs ++ ys) ≡ marks_of xs ++ marks_of ys
   marks_of-append [] ys = refl
-  marks_of-append (x ∷ xs) ys = ap (λ t. map (λ source. (x.0, source)) x.1 ++ t) (marks_of-append xs ys) ∙ sym (append_assoc (map (λ source. (x.0, source)) x.1) (marks_of xs) (marks_of ys))
+  marks_of-append (x ∷ xs) ys = ap (λ t. map (λ source. (x.0, source)) x.1 ++ t) (marks_of-append xs ys)
+      ∙ sym (append_assoc (map (λ source. (x.0, source)) x.1) (marks_of xs) (marks_of ys))
 
 module _ {K : Type 0} (R : K → K → Ordering) where
   -- whether a list of items with sources has an item whose sources pass a test
@@ -36,7 +37,8 @@ module _ {K : Type 0} (R : K → K → Ordering) where
       none true = refl
       none false = refl
   any_map_mark k l s (t ∷ ss) =
-      (λ i. eq_mark R k l s t i || any_map_mark k l s ss i) ∙ both (eq_by_cmp R k l) (eq_by_cmp nat_cmp s t) (list_any (eq_by_cmp nat_cmp s) ss)
+      (λ i. eq_mark R k l s t i || any_map_mark k l s ss i)
+      ∙ both (eq_by_cmp R k l) (eq_by_cmp nat_cmp s t) (list_any (eq_by_cmp nat_cmp s) ss)
     where
       both : (b c d : Bool) → ((b && c) || (b && d)) ≡ (b && (c || d))
       both true c d = refl
@@ -87,7 +89,8 @@ module _ {K : Type 0} (R : K → K → Ordering) where
     unfolding IsStrictlySortedBy
     each_has_own [] h = tt
     each_has_own (k ∷ ks) h = (
-      λ s. (λ i. (is_eq (tied_itself o k.0 i) && list_any (eq_by_cmp nat_cmp s) k.1) || not_above k.0 (list_any (eq_by_cmp nat_cmp s)) ks h.0 i) ∙ or_false (list_any (eq_by_cmp nat_cmp s) k.1),
+      λ s. (λ i. (is_eq (tied_itself o k.0 i) && list_any (eq_by_cmp nat_cmp s) k.1) || not_above k.0 (list_any (eq_by_cmp nat_cmp s)) ks
+          h.0 i) ∙ or_false (list_any (eq_by_cmp nat_cmp s) k.1),
       following k ks ks h.0 (each_has_own ks h.1),
     )
 
@@ -96,10 +99,13 @@ module _ {K : Type 0} (R : K → K → Ordering) where
         → has_mark y s (map (λ x. (x, sources_of R marks x)) xs) ≡ (list_any (eq_by_cmp R y) xs && set.contains marks (y, s))
     has_given exact marks y s [] = refl
     has_given exact marks y s (x ∷ xs) =
-        elim (eq_by_cmp R y x) as (λ b. eq_by_cmp R y x ≡ b → ((b && list_any (eq_by_cmp nat_cmp s) (sources_of R marks x)) || has_mark y s (map (λ x. (x, sources_of R marks x)) xs)) ≡ ((b || list_any (eq_by_cmp R y) xs) && set.contains marks (y, s))) [
+        elim (eq_by_cmp R y x) as (λ b. eq_by_cmp R y x ≡ b
+        → ((b && list_any (eq_by_cmp nat_cmp s) (sources_of R marks x)) || has_mark y s (map (λ x. (x, sources_of R marks x)) xs))
+        ≡ ((b || list_any (eq_by_cmp R y) xs) && set.contains marks (y, s))) [
           | true ↦ λ e.
               let same : y ≡ x = exact y x (tied (R y x) e) in
-              let own : list_any (eq_by_cmp nat_cmp s) (sources_of R marks x) ≡ set.contains marks (y, s) = any_sources marks x s ∙ ap (λ (z : K). set.contains marks (z, s)) (sym same) in
+              let own : list_any (eq_by_cmp nat_cmp s) (sources_of R marks x) ≡ set.contains marks (y, s) = any_sources marks x s
+              ∙ ap (λ (z : K). set.contains marks (z, s)) (sym same) in
               (λ i. own i || has_given exact marks y s xs i) ∙ absorb (set.contains marks (y, s)) (list_any (eq_by_cmp R y) xs)
           | false ↦ λ e. has_given exact marks y s xs
         ] refl
@@ -118,7 +124,8 @@ module _ {K : Type 0} (R : K → K → Ordering) where
 pub sources_again : {K : Type 0} (R : K → K → Ordering) (marks : set.OrderedSet (mark_cmp R)) (x : K) (ss : List ℕ)
     → IsStrictlySortedBy nat_cmp ss → ((s : ℕ) → set.contains marks (x, s) ≡ list_any (eq_by_cmp nat_cmp s) ss) → sources_of R marks x ≡ ss
 sources_again R marks x ss rises same =
-    ap set.items (same_set nat_cmp_total exact_unsigned _ (set.from_list ss) (λ s. contains-sources_of R marks x s ∙ same s ∙ sym (contains-list s))) ∙ items-from_list nat_cmp_total ss rises
+    ap set.items (same_set nat_cmp_total exact_unsigned _ (set.from_list ss)
+    (λ s. contains-sources_of R marks x s ∙ same s ∙ sym (contains-list s))) ∙ items-from_list nat_cmp_total ss rises
   where
     contains-list : (s : ℕ) → set.contains (set.from_list {R = nat_cmp} ss) s ≡ list_any (eq_by_cmp nat_cmp s) ss
     contains-list s = contains-items (set.from_list ss) s ∙ ap (list_any (eq_by_cmp nat_cmp s)) (items-from_list nat_cmp_total ss rises)

@@ -29,7 +29,8 @@ pub with_marks-append : (p : PartialPicture) (s : ℕ) (xs ys : List Reading)
     → with_marks p s (xs ++ ys) ≡ with_marks (with_marks p s xs) s ys
 with_marks-append p s xs ys =
     ap (λ ms. record { shape = p.shape; readings = p.readings; marks = ms })
-    (ap (set.insert_all p.marks) (map-append (λ (r : Reading). (r, s)) xs ys) ∙ insert_all-append p.marks (map (λ (r : Reading). (r, s)) xs) (map (λ (r : Reading). (r, s)) ys))
+    (ap (set.insert_all p.marks) (map-append (λ (r : Reading). (r, s)) xs ys)
+    ∙ insert_all-append p.marks (map (λ (r : Reading). (r, s)) xs) (map (λ (r : Reading). (r, s)) ys))
 
 -- to take a reading that is held with a source is to mark it
 pub taken_is_marked : (p : PartialPicture) (r : Reading) (s : ℕ) → set.contains p.readings r ≡ true
@@ -49,7 +50,8 @@ pub marks_then : (p q r : PartialPicture) (s : ℕ) (xs : List Reading) → q �
     → AllByRecursion (λ r. set.contains p.readings r ≡ true) xs → MarksSome q s r → MarksSome p s r
 marks_then p q r s xs is held m = record {
   marked = xs ++ m.marked;
-  held = all-append (λ r. set.contains p.readings r ≡ true) xs m.marked held (subst (λ (z : PartialPicture). AllByRecursion (λ r. set.contains z.readings r ≡ true) m.marked) is m.held);
+  held = all-append (λ r. set.contains p.readings r ≡ true) xs m.marked held
+      (subst (λ (z : PartialPicture). AllByRecursion (λ r. set.contains z.readings r ≡ true) m.marked) is m.held);
   new_is = m.new_is ∙ ap (λ (z : PartialPicture). with_marks z s m.marked) is ∙ sym (with_marks-append p s xs m.marked);
 }
 
@@ -57,7 +59,10 @@ marks_then p q r s xs is held m = record {
 all_of : (P : Reading → Type 0) (xs : List Reading) → ((r : Reading) → list_any (eq_by_cmp reading_cmp r) xs ≡ true → P r)
     → AllByRecursion P xs
 all_of P [] f = tt
-all_of P (x ∷ xs) f = (f x (or_left _ _ (ap is_eq (tied_itself reading_total x))), all_of P xs (λ r h. f r (or_right (eq_by_cmp reading_cmp r x) _ h)))
+all_of P (x ∷ xs) f = (
+  f x (or_left _ _ (ap is_eq (tied_itself reading_total x))),
+  all_of P xs (λ r h. f r (or_right (eq_by_cmp reading_cmp r x) _ h)),
+)
 
 pub lines_held : (p : PartialPicture) (c n : ℕ) → AllByRecursion (λ r. set.contains p.readings r ≡ true) (readings_of_lines p c n)
 lines_held p c n = all_of (λ r. set.contains p.readings r ≡ true) (readings_of_lines p c n) (λ r h. held_from_lines p r c n h)
@@ -67,9 +72,11 @@ components_held p n = all_of (λ r. set.contains p.readings r ≡ true) (reading
 
 -- the marks with one source of readings
 any_source : (r : Reading) (t s : ℕ) (rs : List Reading)
-    → list_any (eq_by_cmp (mark_cmp reading_cmp) (r, t)) (map (λ r. (r, s)) rs) ≡ (list_any (eq_by_cmp reading_cmp r) rs && eq_by_cmp nat_cmp t s)
+    → list_any (eq_by_cmp (mark_cmp reading_cmp) (r, t)) (map (λ r. (r, s)) rs)
+    ≡ (list_any (eq_by_cmp reading_cmp r) rs && eq_by_cmp nat_cmp t s)
 any_source r t s [] = refl
-any_source r t s (x ∷ rs) = (λ i. eq_mark reading_cmp r x t s i || any_source r t s rs i) ∙ spread (eq_by_cmp reading_cmp r x) (list_any (eq_by_cmp reading_cmp r) rs) (eq_by_cmp nat_cmp t s)
+any_source r t s (x ∷ rs) = (λ i. eq_mark reading_cmp r x t s i || any_source r t s rs i)
+    ∙ spread (eq_by_cmp reading_cmp r x) (list_any (eq_by_cmp reading_cmp r) rs) (eq_by_cmp nat_cmp t s)
   where
     spread : (a b c : Bool) → ((a && c) || (b && c)) ≡ ((a || b) && c)
     spread true true true = refl
@@ -85,7 +92,8 @@ same_marks : (p : PartialPicture) (s : ℕ) (xs ys : List Reading)
 same_marks p s xs ys same =
     ap (λ ms. record { shape = p.shape; readings = p.readings; marks = ms }) (same_set marks_total marks_exact _ _ (λ m.
     contains-insert_all marks_total p.marks (map (λ r. (r, s)) xs) m
-    ∙ ap (λ b. set.contains p.marks m || b) (any_source m.0 m.1 s xs ∙ ap (λ b. b && eq_by_cmp nat_cmp m.1 s) (same m.0) ∙ sym (any_source m.0 m.1 s ys))
+    ∙ ap (λ b. set.contains p.marks m || b)
+    (any_source m.0 m.1 s xs ∙ ap (λ b. b && eq_by_cmp nat_cmp m.1 s) (same m.0) ∙ sym (any_source m.0 m.1 s ys))
     ∙ sym (contains-insert_all marks_total p.marks (map (λ r. (r, s)) ys) m)))
 
 -- all readings line by line
@@ -108,7 +116,8 @@ completed p q s m =
         → list_any (eq_by_cmp reading_cmp r) (xs ++ set.items p.readings) ≡ list_any (eq_by_cmp reading_cmp r) (set.items p.readings)
     absorbed r [] h = refl
     absorbed r (x ∷ xs) h =
-        absorb (eq_by_cmp reading_cmp r x) _ _ (λ e. sym (contains-items p.readings r) ∙ ap (set.contains p.readings) (same_reading r x e) ∙ h.0) (absorbed r xs h.1)
+        absorb (eq_by_cmp reading_cmp r x) _ _
+        (λ e. sym (contains-items p.readings r) ∙ ap (set.contains p.readings) (same_reading r x e) ∙ h.0) (absorbed r xs h.1)
 
 -- ---- one reading more of a line
 
@@ -116,7 +125,8 @@ completed p q s m =
 some_at : (xs : List (List ℕ)) (i : ℕ) → i < length xs → (x : List ℕ) × (slice_get xs i ≡ Some x) × (take (i + 1) xs ≡ take i xs ++ x ∷ [])
 some_at [] i lt = absurd (omega arith)
 some_at (y ∷ xs) zero lt = (y, refl, refl)
-some_at (y ∷ xs) (suc i) lt = let rest = some_at xs i (omega arith) in let e : suc i + 1 ≡ suc (i + 1) = omega arith in (rest.0, rest.1, ap (λ (n : ℕ). take n (y ∷ xs)) e ∙ ap (λ (t : List (List ℕ)). y ∷ t) rest.2)
+some_at (y ∷ xs) (suc i) lt = let rest = some_at xs i (omega arith) in let e : suc i + 1 ≡ suc (i + 1) = omega arith in
+    (rest.0, rest.1, ap (λ (n : ℕ). take n (y ∷ xs)) e ∙ ap (λ (t : List (List ℕ)). y ∷ t) rest.2)
 
 -- what is got from the readings of a line is held
 pub got_held : (p : PartialPicture) (c l i : ℕ) (x : List ℕ) → slice_get (readings_at p c l) i ≡ Some x
@@ -127,18 +137,22 @@ got_held p c l i x e = held_in_line p (reading_of c l x) c l (got (readings_at p
         → list_any (eq_by_cmp reading_cmp (reading_of c l x)) (map (reading_of c l) xs) ≡ true
     got [] i e = absurd cc
     got (y ∷ xs) zero e = let same : y ≡ x = cc in
-        or_left _ _ (ap (λ (z : List ℕ). eq_by_cmp reading_cmp (reading_of c l x) (reading_of c l z)) same ∙ ap is_eq (tied_itself reading_total (reading_of c l x)))
+        or_left _ _ (ap (λ (z : List ℕ). eq_by_cmp reading_cmp (reading_of c l x) (reading_of c l z)) same
+        ∙ ap is_eq (tied_itself reading_total (reading_of c l x)))
     got (y ∷ xs) (suc i) e = or_right (eq_by_cmp reading_cmp (reading_of c l x) (reading_of c l y)) _ (got xs i e)
 
 pub marked_more : (old now new : PartialPicture) (s c l i : ℕ)
     → now ≡ with_marks old s (map (reading_of c l) (take i (readings_at old c l))) → i < length (readings_at old c l)
-    → IfSome (slice_get (readings_at now c l) i) (λ x. new ≡ with_marks now s (reading_of c l x ∷ [])) → new ≡ with_marks old s (map (reading_of c l) (take (i + 1) (readings_at old c l)))
+    → IfSome (slice_get (readings_at now c l) i) (λ x. new ≡ with_marks now s (reading_of c l x ∷ [])) → new
+    ≡ with_marks old s (map (reading_of c l) (take (i + 1) (readings_at old c l)))
 marked_more old now new s c l i is lt more =
     let f = reading_of c l in
     let xs = readings_at old c l in
     let at = some_at xs i lt in
     let stays : readings_at now c l ≡ xs = ap (λ (z : PartialPicture). readings_at z c l) is in
-    let one : new ≡ with_marks now s (f at.0 ∷ []) = subst (λ (o : Option (List ℕ)). IfSome o (λ x. new ≡ with_marks now s (f x ∷ []))) (ap (λ (ys : List (List ℕ)). slice_get ys i) stays ∙ at.1) more in
+    let one : new ≡ with_marks now s (f at.0 ∷ []) =
+    subst (λ (o : Option (List ℕ)). IfSome o (λ x. new ≡ with_marks now s (f x ∷ [])))
+    (ap (λ (ys : List (List ℕ)). slice_get ys i) stays ∙ at.1) more in
     one ∙ ap (λ (z : PartialPicture). with_marks z s (f at.0 ∷ [])) is ∙ sym (with_marks-append old s (map f (take i xs)) (f at.0 ∷ []))
     ∙ ap (with_marks old s) (sym (ap (map f) at.2 ∙ map-append f (take i xs) (at.0 ∷ [])))
 
@@ -146,5 +160,8 @@ marked_more old now new s c l i is lt more =
 pub prefix_held : (p : PartialPicture) (c l i : ℕ)
     → AllByRecursion (λ r. set.contains p.readings r ≡ true) (map (reading_of c l) (take i (readings_at p c l)))
 prefix_held p c l i = all_of (λ r. set.contains p.readings r ≡ true) (map (reading_of c l) (take i (readings_at p c l))) (λ r h.
-    held_in_line p r c l (ap (list_any (eq_by_cmp reading_cmp r)) (ap (map (reading_of c l)) (sym (take-append-drop i (readings_at p c l))) ∙ map-append (reading_of c l) (take i (readings_at p c l)) (drop i (readings_at p c l)))
-    ∙ list_any-append (eq_by_cmp reading_cmp r) (map (reading_of c l) (take i (readings_at p c l))) (map (reading_of c l) (drop i (readings_at p c l))) ∙ or_left _ _ h))
+    held_in_line p r c l (ap (list_any (eq_by_cmp reading_cmp r))
+    (ap (map (reading_of c l)) (sym (take-append-drop i (readings_at p c l)))
+    ∙ map-append (reading_of c l) (take i (readings_at p c l)) (drop i (readings_at p c l)))
+    ∙ list_any-append (eq_by_cmp reading_cmp r) (map (reading_of c l) (take i (readings_at p c l)))
+    (map (reading_of c l) (drop i (readings_at p c l))) ∙ or_left _ _ h))

@@ -36,7 +36,8 @@ module _ (lines : List (List ℕ)) (sorted : IsStrictlySortedBy S lines) (x : Li
   pub all_below : S (get_or lines middle x) x ≡ Less → (k : ℕ) → k < middle + 1 → S (get_or lines k x) x ≡ Less
   all_below here k lt =
       elim (cases_lt k middle) [
-        | inl before ↦ nat_list_cmp_total.trans (get_or lines k x) (get_or lines middle x) x (Less-from_sorted S lines k middle x sorted before inside) here
+        | inl before ↦ nat_list_cmp_total.trans (get_or lines k x) (get_or lines middle x) x
+            (Less-from_sorted S lines k middle x sorted before inside) here
         | inr after ↦ let same : k ≡ middle = omega arith in subst (λ (j : ℕ). S (get_or lines j x) x ≡ Less) (sym same) here
       ]
 
@@ -45,7 +46,8 @@ module _ (lines : List (List ℕ)) (sorted : IsStrictlySortedBy S lines) (x : Li
   all_above here k le lt =
       let first = turned_greater nat_list_cmp_total (get_or lines middle x) x here in
       elim (cases_lt middle k) [
-        | inl following ↦ nat_list_cmp_total.trans x (get_or lines middle x) (get_or lines k x) first (Less-from_sorted S lines middle k x sorted following lt)
+        | inl following ↦ nat_list_cmp_total.trans x (get_or lines middle x) (get_or lines k x) first
+            (Less-from_sorted S lines middle k x sorted following lt)
         | inr at ↦ let same : k ≡ middle = omega arith in subst (λ (j : ℕ). S x (get_or lines j x) ≡ Less) (sym same) first
       ]
 
@@ -59,11 +61,13 @@ each P (s ∷ slots) (suc i) d h lt = each P slots i d h.1 (omega arith)
 pub inside_at : (width : ℕ) (packed : List ℕ) (slots : List Slot) (i : ℕ) (s : Slot)
     → AllByRecursion (λ t. t.start + width ≤ length packed) slots → i < length slots → s ≡ get_or slots i s
     → s.start + width ≤ length packed
-inside_at width packed slots i s h lt is = subst (λ (t : Slot). t.start + width ≤ length packed) (sym is) (each (λ t. t.start + width ≤ length packed) slots i s h lt)
+inside_at width packed slots i s h lt is =
+    subst (λ (t : Slot). t.start + width ≤ length packed) (sym is) (each (λ t. t.start + width ≤ length packed) slots i s h lt)
 
 pub line_at : (width : ℕ) (packed : List ℕ) (slots : List Slot) (i : ℕ) (s : Slot) (x : List ℕ) → i < length slots → s ≡ get_or slots i s
     → get_or (lines_of width packed slots) i x ≡ take width (drop s.start packed)
-line_at width packed slots i s x lt is = get_or-map (λ (t : Slot). take width (drop t.start packed)) slots i s x lt ∙ ap (λ (t : Slot). take width (drop t.start packed)) (sym is)
+line_at width packed slots i s x lt is = get_or-map (λ (t : Slot). take width (drop t.start packed)) slots i s x lt
+    ∙ ap (λ (t : Slot). take width (drop t.start packed)) (sym is)
 
 pub map-insert : {A B : Type 0} (f : A → B) (xs : List A) (i : ℕ) (x : A) → i ≤ length xs
     → map f (insert xs i x) ≡ insert (map f xs) i (f x)
@@ -105,8 +109,10 @@ module _ {K : Type 0} {R : K → K → Ordering} (o : IsTotalOrder R) (exact : C
   unfolding IsStrictlySortedBy
   sorted-insert xs zero x g h = (above_each x xs (λ k lt. g.above k (omega arith) lt), h)
   sorted-insert [] (suc i) x g h = absurd (omega (arith, g.within))
-  sorted-insert (y ∷ xs) (suc i) x g h =
-      (all-insert (λ z. R y z ≡ Less) xs i x (omega (arith, g.within)) h.0 (g.below 0 (omega arith)), sorted-insert xs i x (next y xs i x g) h.1)
+  sorted-insert (y ∷ xs) (suc i) x g h = (
+    all-insert (λ z. R y z ≡ Less) xs i x (omega (arith, g.within)) h.0 (g.below 0 (omega arith)),
+    sorted-insert xs i x (next y xs i x g) h.1,
+  )
 
   -- an item that has a gap is not in the set
   pub gap-new : (xs : List K) (i : ℕ) (x : K) → IsGap R xs i x → set.contains (set.from_list {R = R} xs) x ≡ false
@@ -116,7 +122,12 @@ module _ {K : Type 0} {R : K → K → Ordering} (o : IsTotalOrder R) (exact : C
       none [] i g = refl
       none (y ∷ xs) zero g =
           ap (λ b. b || list_any (eq_by_cmp R x) xs) (ap is_eq (g.above 0 (omega arith) (omega arith)))
-          ∙ none xs zero (record { within = omega arith; below = λ k lt. absurd (omega arith); above = λ k le lt. g.above (suc k) (omega arith) (omega arith) })
+          ∙ none xs zero (record {
+            within = omega arith;
+            below = λ k lt. absurd (omega arith);
+            above =
+                λ k le lt. g.above (suc k) (omega arith) (omega arith);
+          })
       none (y ∷ xs) (suc i) g =
           ap (λ b. b || list_any (eq_by_cmp R x) xs) (ap is_eq (o.antisymm x y ∙ ap ordering_reverse (g.below 0 (omega arith))))
           ∙ none xs i (next y xs i x g)
@@ -135,7 +146,8 @@ module _ {K : Type 0} {R : K → K → Ordering} (o : IsTotalOrder R) (exact : C
       stands (y ∷ xs) (suc i) lt is = ap (λ b. eq_by_cmp R x y || b) (stands xs i (omega arith) is) ∙ or_true (eq_by_cmp R x y)
 
   -- one item more in the list is one more in the set
-  pub from_list-insert : (xs : List K) (i : ℕ) (x : K) → i ≤ length xs → set.from_list {R = R} (insert xs i x) ≡ set.insert (set.from_list {R = R} xs) x
+  pub from_list-insert : (xs : List K) (i : ℕ) (x : K) → i ≤ length xs → set.from_list {R = R} (insert xs i x)
+      ≡ set.insert (set.from_list {R = R} xs) x
   from_list-insert xs i x le = same_set o exact _ _ (λ q.
       contains-from_list o (insert xs i x) q ∙ any-insert (eq_by_cmp R q) xs i x le
       ∙ ap (λ b. eq_by_cmp R q x || b) (sym (contains-from_list o xs q))
@@ -148,18 +160,21 @@ lines_stay width packed more [] h = refl
 lines_stay width packed more (s ∷ slots) h =
     let first : s.start + width ≤ length packed = h.0 in
     let stays : take width (drop s.start (packed ++ more)) ≡ take width (drop s.start packed) =
-    ap (take width) (drop-append-le s.start packed more (omega (arith, first))) ∙ take-append-le width (drop s.start packed) more (omega (arith, first, length-drop s.start packed)) in
+    ap (take width) (drop-append-le s.start packed more (omega (arith, first)))
+    ∙ take-append-le width (drop s.start packed) more (omega (arith, first, length-drop s.start packed)) in
     λ i. (stays i, set.items s.sources) ∷ lines_stay width packed more slots h.1 i
 
 -- and what was appended is read after them
 pub line_appended : (width : ℕ) (packed samples : List ℕ) → length samples ≡ width
     → take width (drop (length packed) (packed ++ samples)) ≡ samples
-line_appended width packed samples len = ap (take width) (drop-append_seam packed samples ∙ sym (append-nil samples)) ∙ take_at samples [] width len
+line_appended width packed samples len = ap (take width) (drop-append_seam packed samples ∙ sym (append-nil samples))
+    ∙ take_at samples [] width len
 
 pub inside_more : (width n m : ℕ) (slots : List Slot) → n ≤ m → AllByRecursion (λ s. s.start + width ≤ n) slots
     → AllByRecursion (λ s. s.start + width ≤ m) slots
 inside_more width n m [] le h = tt
-inside_more width n m (s ∷ slots) le h = (let first : s.start + width ≤ n = h.0 in omega (arith, first, le), inside_more width n m slots le h.1)
+inside_more width n m (s ∷ slots) le h =
+    (let first : s.start + width ≤ n = h.0 in omega (arith, first, le), inside_more width n m slots le h.1)
 
 lines-kept : (width : ℕ) (packed : List ℕ) (slots : List Slot) → map (λ k. k.0) (kept_of width packed slots) ≡ lines_of width packed slots
 lines-kept width packed [] = refl
@@ -173,11 +188,13 @@ pub kept_lines : (width : ℕ) (packed : List ℕ) (slots : List Slot)
     → map (λ k. k.0) (kept_of width packed slots) ≡ lines_of width packed slots
 kept_lines = lines-kept
 
-module _ (width : ℕ) (packed samples : List ℕ) (slots : List Slot) (i : ℕ) (sources : set.OrderedSet nat_cmp) (len : length samples ≡ width) (le : i ≤ length slots) (inside : AllByRecursion (λ s. s.start + width ≤ length packed) slots) where
+module _ (width : ℕ) (packed samples : List ℕ) (slots : List Slot) (i : ℕ) (sources : set.OrderedSet nat_cmp) (len : length samples ≡ width)
+    (le : i ≤ length slots) (inside : AllByRecursion (λ s. s.start + width ≤ length packed) slots) where
   abbrev added : Slot
   added = record { start = length packed; sources = sources }
 
-  pub kept_more : kept_of width (packed ++ samples) (insert slots i added) ≡ insert (kept_of width packed slots) i (samples, set.items sources)
+  pub kept_more : kept_of width (packed ++ samples) (insert slots i added)
+      ≡ insert (kept_of width packed slots) i (samples, set.items sources)
   kept_more =
       map-insert (λ (s : Slot). (take width (drop s.start (packed ++ samples)), set.items s.sources)) slots i added le
       ∙ (λ j. insert (lines_stay width packed samples slots inside j) i (line_appended width packed samples len j, set.items sources))
@@ -185,7 +202,8 @@ module _ (width : ℕ) (packed samples : List ℕ) (slots : List Slot) (i : ℕ)
   pub lines_more : lines_of width (packed ++ samples) (insert slots i added) ≡ insert (lines_of width packed slots) i samples
   lines_more =
       sym (lines-kept width (packed ++ samples) (insert slots i added)) ∙ ap (map (λ (k : Kept). k.0)) kept_more
-      ∙ map-insert (λ (k : Kept). k.0) (kept_of width packed slots) i (samples, set.items sources) (let many : length (kept_of width packed slots) ≡ length slots = length-kept width packed slots in omega (arith, le, many))
+      ∙ map-insert (λ (k : Kept). k.0) (kept_of width packed slots) i (samples, set.items sources)
+      (let many : length (kept_of width packed slots) ≡ length slots = length-kept width packed slots in omega (arith, le, many))
       ∙ ap (λ (ls : List (List ℕ)). insert ls i samples) (lines-kept width packed slots)
 
   pub packed_more : 1 ≤ width → IsPacked width packed slots → IsGap S (lines_of width packed slots) i samples
@@ -193,7 +211,10 @@ module _ (width : ℕ) (packed samples : List ℕ) (slots : List Slot) (i : ℕ)
   packed_more wide is gap =
       let longer = length-append packed samples in
       record {
-        inside = all-insert (λ s. s.start + width ≤ length (packed ++ samples)) slots i added le (inside_more width (length packed) (length (packed ++ samples)) slots (omega (arith, longer)) inside) (omega (arith, longer, len));
+        inside = all-insert (λ s. s.start + width ≤ length (packed ++ samples)) slots i added le
+            (inside_more width (length packed) (length (packed ++ samples)) slots (omega (arith, longer)) inside)
+            (omega (arith, longer, len));
         few = let more = length-insert slots i added le in let before = is.few in omega (arith, longer, more, before, len, wide);
-        sorted = subst (IsStrictlySortedBy S) (sym lines_more) (sorted-insert nat_list_cmp_total lines_exact (lines_of width packed slots) i samples gap is.sorted);
+        sorted = subst (IsStrictlySortedBy S) (sym lines_more)
+            (sorted-insert nat_list_cmp_total lines_exact (lines_of width packed slots) i samples gap is.sorted);
       }

@@ -38,7 +38,8 @@ module _ (rows : List Row) (sorted : IsStrictlySortedBy place_cmp (map (λ r. r.
       let here : k < length rows = omega (arith, lt) in
       let next : k + 1 < length rows = omega (arith, lt) in
       let many : length (map (λ (r : Row). r.0) rows) ≡ length rows = length-map rows (λ (r : Row). r.0) in
-      let rise : place_cmp (get_or (map (λ r. r.0) rows) k d.0) (get_or (map (λ r. r.0) rows) (k + 1) d.0) ≡ Less = Less-from_sorted place_cmp (map (λ r. r.0) rows) k (k + 1) d.0 sorted (omega arith) (omega (arith, many, next)) in
+      let rise : place_cmp (get_or (map (λ r. r.0) rows) k d.0) (get_or (map (λ r. r.0) rows) (k + 1) d.0) ≡ Less =
+      Less-from_sorted place_cmp (map (λ r. r.0) rows) k (k + 1) d.0 sorted (omega arith) (omega (arith, many, next)) in
       ap is_lt (place_total.antisymm (get_or rows (k + 1) d).0 (get_or rows k d).0
       ∙ ap ordering_reverse ((λ i. place_cmp (sym (place_at rows k d d.0 here) i) (sym (place_at rows (k + 1) d d.0 next) i)) ∙ rise)))
 
@@ -50,7 +51,8 @@ module _ (rows : List Row) (sorted : IsStrictlySortedBy place_cmp (map (λ r. r.
         tt,
         record {
           within = omega (arith, le, many);
-          below = λ k lt. ap (λ (z : LinePlace). place_cmp z at) (place_at rows k (at, Empty) at (omega (arith, le, lt))) ∙ (parted comparisons_rise).0 k (at, Empty) (omega arith) lt;
+          below = λ k lt. ap (λ (z : LinePlace). place_cmp z at) (place_at rows k (at, Empty) at (omega (arith, le, lt)))
+              ∙ (parted comparisons_rise).0 k (at, Empty) (omega arith) lt;
           above = λ k ge lt.
               let inside : k < length rows = omega (arith, lt, many) in
               ap (place_cmp at) (place_at rows k (at, Empty) at inside)
@@ -73,7 +75,8 @@ later : (at k : LinePlace) (rows : List Row) (i : ℕ) → AllByRecursion (λ y.
     → get_or (map (λ r. r.0) rows) i at ≡ at → is_at (place_cmp at) k ≡ false
 later at k rows i above lt is =
     let many : length (map (λ (r : Row). r.0) rows) ≡ length rows = length-map rows (λ (r : Row). r.0) in
-    let below : place_cmp k at ≡ Less = ap (place_cmp k) (sym is) ∙ all_at (λ y. place_cmp k y ≡ Less) (map (λ r. r.0) rows) i at above (omega (arith, lt, many)) in
+    let below : place_cmp k at ≡ Less = ap (place_cmp k) (sym is)
+    ∙ all_at (λ y. place_cmp k y ≡ Less) (map (λ r. r.0) rows) i at above (omega (arith, lt, many)) in
     ap is_eq (place_total.antisymm at k ∙ ap ordering_reverse below)
 
 pub row_found : (rows : List Row) (at : LinePlace) (i : ℕ) (x : Row) → IsStrictlySortedBy place_cmp (map (λ r. r.0) rows) → i < length rows
@@ -87,12 +90,14 @@ row_found (r ∷ rows) at (suc i) x sorted lt is read =
     ∙ row_found rows at i x sorted.1 (omega arith) is read
 
 -- a row that is written over is the value at its place
-pub row_set : (rows : List Row) (at : LinePlace) (i : ℕ) (x : Row) (y : Slots) → IsStrictlySortedBy place_cmp (map (λ r. r.0) rows) → i < length rows
+pub row_set : (rows : List Row) (at : LinePlace) (i : ℕ) (x : Row) (y : Slots) → IsStrictlySortedBy place_cmp (map (λ r. r.0) rows) → i
+    < length rows
     → get_or (map (λ r. r.0) rows) i at ≡ at → x ≡ get_or rows i x → set rows i (x.0, y) ≡ set_value (is_at (place_cmp at)) rows y
 unfolding IsStrictlySortedBy
 row_set [] at i x y sorted lt is read = absurd (omega arith)
 row_set (r ∷ rows) at zero x y sorted lt is read =
-    ap (λ (z : Row). (z.0, y) ∷ rows) read ∙ sym (ap (λ b. cond b ((r.0, y) ∷ rows) (r ∷ set_value (is_at (place_cmp at)) rows y)) (at_itself at r.0 is))
+    ap (λ (z : Row). (z.0, y) ∷ rows) read
+    ∙ sym (ap (λ b. cond b ((r.0, y) ∷ rows) (r ∷ set_value (is_at (place_cmp at)) rows y)) (at_itself at r.0 is))
 row_set (r ∷ rows) at (suc i) x y sorted lt is read =
     ap (λ t. r ∷ t) (row_set rows at i x y sorted.1 (omega arith) is read)
     ∙ sym (ap (λ b. cond b ((r.0, y) ∷ rows) (r ∷ set_value (is_at (place_cmp at)) rows y)) (later at r.0 rows i sorted.0 (omega arith) is))
@@ -101,7 +106,8 @@ row_set (r ∷ rows) at (suc i) x y sorted lt is read =
 pub set_updates : (rows : List Row) (at : LinePlace) (y : Slots) → IsSome (lookup (is_at (place_cmp at)) rows)
     → Updated rows at y (set_value (is_at (place_cmp at)) rows y)
 set_updates rows at y some q =
-    lookup-set_value (eq_by_cmp_equiv place_total) (is_at (place_cmp at)) (λ a b e. ap (λ (z : LinePlace). eq_by_cmp place_cmp z b) (same_place at a e)) q y rows some
+    lookup-set_value (eq_by_cmp_equiv place_total) (is_at (place_cmp at))
+    (λ a b e. ap (λ (z : LinePlace). eq_by_cmp place_cmp z b) (same_place at a e)) q y rows some
 
 -- of a row that is found and written over
 pub record IsWritten (rows : List Row) (at : LinePlace) (x y : Slots) (fs : List Row) : Type 0 where
@@ -109,11 +115,13 @@ pub record IsWritten (rows : List Row) (at : LinePlace) (x y : Slots) (fs : List
   pub is : fs ≡ set_value (is_at (place_cmp at)) rows y
   pub updated : Updated rows at y fs
 
-pub written : (rows searched : List Row) (at : LinePlace) (i : ℕ) (x : Row) (y : Slots) → searched ≡ rows → IsStrictlySortedBy place_cmp (map (λ r. r.0) rows)
+pub written : (rows searched : List Row) (at : LinePlace) (i : ℕ) (x : Row) (y : Slots) → searched ≡ rows
+    → IsStrictlySortedBy place_cmp (map (λ r. r.0) rows)
     → i < length searched → get_or (map (λ r. r.0) searched) i at ≡ at → x ≡ get_or rows i x → IsWritten rows at x.1 y (set rows i (x.0, y))
 written rows searched at i x y same_rows sorted lt is read =
     let below : i < length rows = subst (λ (rs : List Row). i < length rs) same_rows lt in
-    let same : get_or (map (λ r. r.0) rows) i at ≡ at = subst (λ (rs : List Row). get_or (map (λ (r : Row). r.0) rs) i at ≡ at) same_rows is in
+    let same : get_or (map (λ r. r.0) rows) i at ≡ at =
+    subst (λ (rs : List Row). get_or (map (λ (r : Row). r.0) rs) i at ≡ at) same_rows is in
     let found = row_found rows at i x sorted below same read in
     let here = row_set rows at i x y sorted below same read in
     record { found = found; is = here; updated = subst (Updated rows at y) (sym here) (set_updates rows at y (ap is_some found)) }
@@ -127,7 +135,8 @@ own_set page t (r ∷ rows) y h =
       | false ↦ (h.0, own_set page t rows y h.1)
     ]
 
-pub set_page : (page : PageNumber) (rows : List Row) (t : LinePlace → Bool) (y : Slots) → IsPage page rows → IsPage page (set_value t rows y)
+pub set_page : (page : PageNumber) (rows : List Row) (t : LinePlace → Bool) (y : Slots) → IsPage page rows
+    → IsPage page (set_value t rows y)
 set_page page rows t y is = record {
   some = let many = length-set_value t rows y in let before = is.some in omega (arith, many, before);
   sorted = subst (IsStrictlySortedBy place_cmp) (sym (keys-set_value t rows y)) is.sorted;
@@ -144,7 +153,8 @@ none_any t (r ∷ rows) h =
       | false ↦ λ e. none_any t rows e
     ] h
 
-pub row_missing : (rows : List Row) (at : LinePlace) (i : ℕ) → IsGap place_cmp (map (λ r. r.0) rows) i at → lookup (is_at (place_cmp at)) rows ≡ None
+pub row_missing : (rows : List Row) (at : LinePlace) (i : ℕ) → IsGap place_cmp (map (λ r. r.0) rows) i at
+    → lookup (is_at (place_cmp at)) rows ≡ None
 row_missing rows at i gap =
     none_any (is_at (place_cmp at)) rows
     (sym (contains-from_list place_total (map (λ r. r.0) rows) at) ∙ gap-new place_total place_exact (map (λ r. r.0) rows) i at gap)
@@ -152,9 +162,11 @@ row_missing rows at i gap =
 pub insert_updates : (rows : List Row) (at : LinePlace) (i : ℕ) (y : Slots) → IsGap place_cmp (map (λ r. r.0) rows) i at
     → Updated rows at y (insert rows i (at, y))
 insert_updates rows at i y gap q =
-    lookup-insert (eq_by_cmp_equiv place_total) at y q rows i (none_passes_from_lookup (is_at (place_cmp at)) rows (row_missing rows at i gap))
+    lookup-insert (eq_by_cmp_equiv place_total) at y q rows i
+    (none_passes_from_lookup (is_at (place_cmp at)) rows (row_missing rows at i gap))
 
-pub insert_page : (rows : List Row) (at : LinePlace) (i : ℕ) (y : Slots) → IsPage (page_of at) rows → IsGap place_cmp (map (λ r. r.0) rows) i at
+pub insert_page : (rows : List Row) (at : LinePlace) (i : ℕ) (y : Slots) → IsPage (page_of at) rows
+    → IsGap place_cmp (map (λ r. r.0) rows) i at
     → IsPage (page_of at) (insert rows i (at, y))
 insert_page rows at i y is gap =
     let many : length (map (λ (r : Row). r.0) rows) ≡ length rows = length-map rows (λ (r : Row). r.0) in

@@ -55,7 +55,8 @@ lines_apart m n h =
 -- lines of pages that rise rise
 pub pages_apart : (a b : LinePlace) → page_cmp (page_of a) (page_of b) ≡ Less → place_cmp a b ≡ Less
 pages_apart a b =
-    elim (nat_cmp a.component b.component) as (λ o. ordering_then o (nat_cmp (a.line / 64) (b.line / 64)) ≡ Less → ordering_then o (nat_cmp a.line b.line) ≡ Less) [
+    elim (nat_cmp a.component b.component) as (λ o. ordering_then o (nat_cmp (a.line / 64) (b.line / 64)) ≡ Less
+    → ordering_then o (nat_cmp a.line b.line) ≡ Less) [
       | Less ↦ λ h. refl
       | Equal ↦ λ h. lines_apart a.line b.line h
       | Greater ↦ λ h. absurd cc
@@ -70,7 +71,8 @@ other_line at q h =
     elim (is_at (place_cmp at) q) as (λ b. is_at (place_cmp at) q ≡ b → b ≡ false) [
       | false ↦ λ e. refl
       | true ↦ λ e.
-          let same : is_at (page_cmp (page_of at)) (page_of q) ≡ true = ap (λ (z : LinePlace). is_at (page_cmp (page_of at)) (page_of z)) (sym (same_place at q e)) ∙ page_itself (page_of at) in
+          let same : is_at (page_cmp (page_of at)) (page_of q) ≡ true =
+          ap (λ (z : LinePlace). is_at (page_cmp (page_of at)) (page_of z)) (sym (same_place at q e)) ∙ page_itself (page_of at) in
           let bad : true ≡ false = sym same ∙ h in
           absurd cc
     ] refl
@@ -85,7 +87,8 @@ items_or (Some rows) = rows.items
 abbrev pub rows_at : Pages → LinePlace → List Row
 rows_at ps q = items_or (lookup (is_at (page_cmp (page_of q))) ps)
 
-pub rows_there : (ps : Pages) (at : LinePlace) (v : Vec Row Global) → lookup (is_at (page_cmp (page_of at))) ps ≡ Some v → rows_at ps at ≡ v.items
+pub rows_there : (ps : Pages) (at : LinePlace) (v : Vec Row Global) → lookup (is_at (page_cmp (page_of at))) ps ≡ Some v → rows_at ps at
+    ≡ v.items
 rows_there ps at v found = ap items_or found
 
 pub rows_missing : (ps : Pages) (at : LinePlace) → lookup (is_at (page_cmp (page_of at))) ps ≡ None → rows_at ps at ≡ []
@@ -106,7 +109,8 @@ none_second t [] ys h = h
 none_second t (x ∷ xs) ys h = ap (λ o. cond (t x.0) (Some x.1) o) (none_second t xs ys h)
 
 -- a line has no row in another page
-none_elsewhere : (q : LinePlace) (page : PageNumber) (rows : List Row) → is_at (page_cmp (page_of q)) page ≡ false → AllByRecursion (λ r. page_of r.0 ≡ page) rows
+none_elsewhere : (q : LinePlace) (page : PageNumber) (rows : List Row) → is_at (page_cmp (page_of q)) page ≡ false
+    → AllByRecursion (λ r. page_of r.0 ≡ page) rows
     → lookup (is_at (place_cmp q)) rows ≡ None
 none_elsewhere q page [] h own = refl
 none_elsewhere q page (r ∷ rows) h own =
@@ -125,23 +129,27 @@ none_after q page (p ∷ ps) h above each =
     ∙ none_after q page ps h above.1 each.1
 
 -- what is found of a line among all rows is found in its page
-found_in_page : (ps : Pages) (q : LinePlace) → IsStrictlySortedBy page_cmp (map (λ p. p.0) ps) → AllByRecursion (λ p. IsPage p.0 p.1.items) ps
+found_in_page : (ps : Pages) (q : LinePlace) → IsStrictlySortedBy page_cmp (map (λ p. p.0) ps)
+    → AllByRecursion (λ p. IsPage p.0 p.1.items) ps
     → lookup (is_at (place_cmp q)) (rows_of ps) ≡ lookup (is_at (place_cmp q)) (rows_at ps q)
 unfolding IsStrictlySortedBy
 found_in_page [] q sorted each = refl
 found_in_page (p ∷ ps) q sorted each =
     let t = is_at (place_cmp q) in
-    elim (is_at (page_cmp (page_of q)) p.0) as (λ b. is_at (page_cmp (page_of q)) p.0 ≡ b → lookup t (p.1.items ++ rows_of ps) ≡ lookup t (items_or (cond b (Some p.1) (lookup (is_at (page_cmp (page_of q))) ps)))) [
+    elim (is_at (page_cmp (page_of q)) p.0) as (λ b. is_at (page_cmp (page_of q)) p.0 ≡ b → lookup t (p.1.items ++ rows_of ps)
+    ≡ lookup t (items_or (cond b (Some p.1) (lookup (is_at (page_cmp (page_of q))) ps)))) [
       | true ↦ λ e. none_second t p.1.items (rows_of ps) (none_after q p.0 ps e sorted.0 each.1)
       | false ↦ λ e. none_first t p.1.items (rows_of ps) (none_elsewhere q p.0 p.1.items e each.0.own) ∙ found_in_page ps q sorted.1 each.1
     ] refl
 
-pub page_found : (ps : Pages) (q : LinePlace) → ArePages ps → lookup (is_at (place_cmp q)) (rows_of ps) ≡ lookup (is_at (place_cmp q)) (rows_at ps q)
+pub page_found : (ps : Pages) (q : LinePlace) → ArePages ps → lookup (is_at (place_cmp q)) (rows_of ps)
+    ≡ lookup (is_at (place_cmp q)) (rows_at ps q)
 page_found ps q are = found_in_page ps q are.sorted are.each
 
 -- ---- all rows rise
 
-rows_above : (x : LinePlace) (page : PageNumber) (rows : List Row) → page_cmp (page_of x) page ≡ Less → AllByRecursion (λ r. page_of r.0 ≡ page) rows
+rows_above : (x : LinePlace) (page : PageNumber) (rows : List Row) → page_cmp (page_of x) page ≡ Less
+    → AllByRecursion (λ r. page_of r.0 ≡ page) rows
     → AllByRecursion (λ y. place_cmp x y ≡ Less) (map (λ r. r.0) rows)
 rows_above x page [] h own = tt
 rows_above x page (r ∷ rows) h own = (pages_apart x r.0 (ap (page_cmp (page_of x)) own.0 ∙ h), rows_above x page rows h own.1)
@@ -151,7 +159,8 @@ pages_above : (x : LinePlace) (ps : Pages) → AllByRecursion (λ k. page_cmp (p
 pages_above x [] above each = tt
 pages_above x (p ∷ ps) above each =
     subst (AllByRecursion (λ y. place_cmp x y ≡ Less)) (sym (map-append (λ (r : Row). r.0) p.1.items (rows_of ps)))
-    (all_append (λ y. place_cmp x y ≡ Less) (map (λ r. r.0) p.1.items) (map (λ r. r.0) (rows_of ps)) (rows_above x p.0 p.1.items above.0 each.0.own) (pages_above x ps above.1 each.1))
+    (all_append (λ y. place_cmp x y ≡ Less) (map (λ r. r.0) p.1.items) (map (λ r. r.0) (rows_of ps))
+    (rows_above x p.0 p.1.items above.0 each.0.own) (pages_above x ps above.1 each.1))
 
 each_above : (page : PageNumber) (rows : List Row) (ps : Pages) → AllByRecursion (λ r. page_of r.0 ≡ page) rows
     → AllByRecursion (λ k. page_cmp page k ≡ Less) (map (λ p. p.0) ps) → AllByRecursion (λ p. IsPage p.0 p.1.items) ps
@@ -168,14 +177,16 @@ unfolding IsStrictlySortedBy
 rows_rise [] sorted each = tt
 rows_rise (p ∷ ps) sorted each =
     subst (IsStrictlySortedBy place_cmp) (sym (map-append (λ (r : Row). r.0) p.1.items (rows_of ps)))
-    (sorted-append place_total (map (λ r. r.0) p.1.items) (map (λ r. r.0) (rows_of ps)) each.0.sorted (rows_rise ps sorted.1 each.1) (each_above p.0 p.1.items ps each.0.own sorted.0 each.1))
+    (sorted-append place_total (map (λ r. r.0) p.1.items) (map (λ r. r.0) (rows_of ps)) each.0.sorted (rows_rise ps sorted.1 each.1)
+    (each_above p.0 p.1.items ps each.0.own sorted.0 each.1))
 
 pub all_rise : (ps : Pages) → ArePages ps → IsStrictlySortedBy place_cmp (map (λ r. r.0) (rows_of ps))
 all_rise ps are = rows_rise ps are.sorted are.each
 
 -- ---- a page
 
-pub page_here : (ps : Pages) (at : LinePlace) (v : Vec Row Global) → ArePages ps → lookup (is_at (page_cmp (page_of at))) ps ≡ Some v → IsPage (page_of at) v.items
+pub page_here : (ps : Pages) (at : LinePlace) (v : Vec Row Global) → ArePages ps → lookup (is_at (page_cmp (page_of at))) ps ≡ Some v
+    → IsPage (page_of at) v.items
 page_here ps at v are found = subst (λ (o : Option (Vec Row Global)). IfSome o (λ w. IsPage (page_of at) w.items)) found
     (lookup_by page_total same_page (λ p. IsPage p.0 p.1.items) ps (page_of at) are.each)
 
@@ -184,8 +195,10 @@ pub pages_more : (es fs : Pages) (page : PageNumber) (v : Vec Row Global) → Ar
     → IsStrictlySortedBy page_cmp (map (λ p. p.0) fs) → IsPage page v.items → ArePages fs
 pages_more es fs page v are u order is = record {
   sorted = order;
-  each = each_by page_total same_page (λ p. IsPage p.0 p.1.items) fs order (λ q. subst (λ (o : Option (Vec Row Global)). IfSome o (λ w. IsPage q w.items)) (sym (u q))
-      (elim (is_at (page_cmp page) q) as (λ b. is_at (page_cmp page) q ≡ b → IfSome (cond b (Some v) (lookup (is_at (page_cmp q)) es)) (λ w. IsPage q w.items)) [
+  each = each_by page_total same_page (λ p. IsPage p.0 p.1.items) fs order
+      (λ q. subst (λ (o : Option (Vec Row Global)). IfSome o (λ w. IsPage q w.items)) (sym (u q))
+      (elim (is_at (page_cmp page) q) as (λ b. is_at (page_cmp page) q ≡ b
+      → IfSome (cond b (Some v) (lookup (is_at (page_cmp q)) es)) (λ w. IsPage q w.items)) [
         | true ↦ λ e. subst (λ (z : PageNumber). IsPage z v.items) (same_page page q e) is
         | false ↦ λ e. lookup_by page_total same_page (λ p. IsPage p.0 p.1.items) es q are.each
       ] refl));
@@ -199,10 +212,12 @@ pub record IsPageWritten (es : Pages) (at : LinePlace) (w v : Vec Row Global) (f
   pub are : ArePages fs
 
 pub page_written : (es fs : Pages) (at : LinePlace) (page : PageNumber) (w v : Vec Row Global) → page ≡ page_of at → ArePages es
-    → Some w ≡ lookup (is_at (page_cmp page)) es → fs ≡ set_value (is_at (page_cmp page)) es v → (IsSome (lookup (is_at (page_cmp page)) es) → UpdatedBy page_cmp es page v fs)
+    → Some w ≡ lookup (is_at (page_cmp page)) es → fs ≡ set_value (is_at (page_cmp page)) es v
+    → (IsSome (lookup (is_at (page_cmp page)) es) → UpdatedBy page_cmp es page v fs)
     → IsStrictlySortedBy page_cmp (map (λ p. p.0) fs) → IsPage (page_of at) v.items → IsPageWritten es at w v fs
 page_written es fs at page w v named are found is u order kept =
-    let updated : UpdatedBy page_cmp es (page_of at) v fs = subst (λ (z : PageNumber). UpdatedBy page_cmp es z v fs) named (u (subst (λ (o : Option (Vec Row Global)). IsSome o) found refl)) in
+    let updated : UpdatedBy page_cmp es (page_of at) v fs =
+    subst (λ (z : PageNumber). UpdatedBy page_cmp es z v fs) named (u (subst (λ (o : Option (Vec Row Global)). IsSome o) found refl)) in
     record {
       found = ap (λ (z : PageNumber). lookup (is_at (page_cmp z)) es) (sym named) ∙ sym found;
       is = is ∙ ap (λ (z : PageNumber). set_value (is_at (page_cmp z)) es v) named;
@@ -221,9 +236,11 @@ seen_page packed ps q are =
 -- the lines of a place are those of its page
 pub lines_of_page : (packed : PackedLines) (ps : Pages) (at : LinePlace) → ArePages ps
     → stored_at (pages_seen packed ps) at ≡ stored_at (rows_seen packed (rows_at ps at)) at
-lines_of_page packed ps at are = ap (λ (o : Option PictureLines). unwrap_or o (no_lines packed.precision packed.width)) (seen_page packed ps at are)
+lines_of_page packed ps at are =
+    ap (λ (o : Option PictureLines). unwrap_or o (no_lines packed.precision packed.width)) (seen_page packed ps at are)
 
-pub lines_there : (packed : PackedLines) (ps : Pages) (at : LinePlace) (v : Vec Row Global) → ArePages ps → lookup (is_at (page_cmp (page_of at))) ps ≡ Some v
+pub lines_there : (packed : PackedLines) (ps : Pages) (at : LinePlace) (v : Vec Row Global) → ArePages ps
+    → lookup (is_at (page_cmp (page_of at))) ps ≡ Some v
     → stored_at (pages_seen packed ps) at ≡ stored_at (rows_seen packed v.items) at
 lines_there packed ps at v are found =
     lines_of_page packed ps at are ∙ ap (λ (rows : List Row). stored_at (rows_seen packed rows) at) (rows_there ps at v found)
@@ -253,10 +270,12 @@ page_packed packed ps page v rows_packed found = record {
   precision_at_most = rows_packed.precision_at_most;
   width_at_least = rows_packed.width_at_least;
   each = subst (λ (o : Option (Vec Row Global)). IfSome o (λ w. AllByRecursion (P packed) (slots_of_entries w.items))) found
-      (lookup_by page_total same_page (λ p. AllByRecursion (P packed) (slots_of_entries p.1.items)) ps page (each_page packed ps rows_packed.each));
+      (lookup_by page_total same_page (λ p. AllByRecursion (P packed) (slots_of_entries p.1.items)) ps page
+      (each_page packed ps rows_packed.each));
 }
 
-pub rows_here : (packed : PackedLines) (ps : Pages) (at : LinePlace) (v : Vec Row Global) → ArePagesOf packed ps → lookup (is_at (page_cmp (page_of at))) ps ≡ Some v
+pub rows_here : (packed : PackedLines) (ps : Pages) (at : LinePlace) (v : Vec Row Global) → ArePagesOf packed ps
+    → lookup (is_at (page_cmp (page_of at))) ps ≡ Some v
     → IsPageOf packed (page_of at) v.items
 rows_here packed ps at v are found = record {
   page = page_here ps at v are.pages found;
@@ -265,15 +284,22 @@ rows_here packed ps at v are found = record {
 
 -- ---- a page that is changed, or made
 
-module _ (old new : PackedLines) (longer : Extends old new) (es fs : Pages) (at : LinePlace) (v : Vec Row Global) (pages : ArePagesOf old es) (are_new : ArePages fs) (u : UpdatedBy page_cmp es (page_of at) v fs) where
+module _ (old new : PackedLines) (longer : Extends old new) (es fs : Pages) (at : LinePlace) (v : Vec Row Global)
+    (pages : ArePagesOf old es) (are_new : ArePages fs) (u : UpdatedBy page_cmp es (page_of at) v fs) where
   -- a line of that page, or of another
-  by_page : (G : Option PictureLines → Type 0) (q : LinePlace) → (page_of at ≡ page_of q → G (lookup (is_at (place_cmp q)) (entries_in new v.items)))
-      → (is_at (place_cmp at) q ≡ false → G (lookup (is_at (place_cmp q)) (entries_in old (rows_of es)))) → G (lookup (is_at (place_cmp q)) (entries_in new (rows_of fs)))
+  by_page : (G : Option PictureLines → Type 0) (q : LinePlace)
+      → (page_of at ≡ page_of q → G (lookup (is_at (place_cmp q)) (entries_in new v.items)))
+      → (is_at (place_cmp at) q ≡ false → G (lookup (is_at (place_cmp q)) (entries_in old (rows_of es))))
+      → G (lookup (is_at (place_cmp q)) (entries_in new (rows_of fs)))
   by_page G q here there =
-      subst G (sym (seen_page new fs q are_new ∙ ap (λ (o : Option (Vec Row Global)). lookup (is_at (place_cmp q)) (entries_in new (items_or o))) (u (page_of q))))
-      (elim (is_at (page_cmp (page_of at)) (page_of q)) as (λ b. is_at (page_cmp (page_of at)) (page_of q) ≡ b → G (lookup (is_at (place_cmp q)) (entries_in new (items_or (cond b (Some v) (lookup (is_at (page_cmp (page_of q))) es)))))) [
+      subst G (sym (seen_page new fs q are_new
+      ∙ ap (λ (o : Option (Vec Row Global)). lookup (is_at (place_cmp q)) (entries_in new (items_or o))) (u (page_of q))))
+      (elim (is_at (page_cmp (page_of at)) (page_of q)) as (λ b. is_at (page_cmp (page_of at)) (page_of q) ≡ b
+      → G (lookup (is_at (place_cmp q)) (entries_in new (items_or (cond b (Some v) (lookup (is_at (page_cmp (page_of q))) es)))))) [
         | true ↦ λ e. here (same_page (page_of at) (page_of q) e)
-        | false ↦ λ e. subst G (sym (sym (seen_page new es q pages.pages) ∙ ap (lookup (is_at (place_cmp q))) (all_stay old new longer (slots_of_entries (rows_of es)) pages.rows_packed))) (there (other_line at q e))
+        | false ↦ λ e. subst G (sym (sym (seen_page new es q pages.pages)
+            ∙ ap (lookup (is_at (place_cmp q))) (all_stay old new longer (slots_of_entries (rows_of es)) pages.rows_packed)))
+            (there (other_line at q e))
       ] refl)
 
   -- what has changed in the page has changed in the whole
@@ -290,7 +316,8 @@ module _ (old new : PackedLines) (longer : Extends old new) (es fs : Pages) (at 
         (λ apart. sym (ap (λ b. cond b (Some h.lines) (lookup (is_at (place_cmp q)) (entries_in old (rows_of es)))) apart));
   }
     where
-      was : (q : LinePlace) → page_of at ≡ page_of q → lookup (is_at (place_cmp q)) (entries_in old (rows_at es at)) ≡ lookup (is_at (place_cmp q)) (entries_in old (rows_of es))
+      was : (q : LinePlace) → page_of at ≡ page_of q → lookup (is_at (place_cmp q)) (entries_in old (rows_at es at))
+          ≡ lookup (is_at (place_cmp q)) (entries_in old (rows_of es))
       was q same =
           ap (λ (page : PageNumber). lookup (is_at (place_cmp q)) (entries_in old (items_or (lookup (is_at (page_cmp page)) es)))) same
           ∙ sym (seen_page old es q pages.pages)
@@ -304,20 +331,25 @@ module _ (old new : PackedLines) (longer : Extends old new) (es fs : Pages) (at 
         rows_packed = record {
           precision_at_most = still.precision_at_most;
           width_at_least = still.width_at_least;
-          each = all_pages fs (each_by page_total same_page (λ p. AllByRecursion (P new) (slots_of_entries p.1.items)) fs are_new.sorted (λ q.
+          each = all_pages fs (each_by page_total same_page (λ p. AllByRecursion (P new) (slots_of_entries p.1.items)) fs are_new.sorted
+              (λ q.
               subst (λ (o : Option (Vec Row Global)). IfSome o (λ w. AllByRecursion (P new) (slots_of_entries w.items))) (sym (u q))
-              (elim (is_at (page_cmp (page_of at)) q) as (λ b. IfSome (cond b (Some v) (lookup (is_at (page_cmp q)) es)) (λ w. AllByRecursion (P new) (slots_of_entries w.items))) [
+              (elim (is_at (page_cmp (page_of at)) q) as (λ b. IfSome (cond b (Some v) (lookup (is_at (page_cmp q)) es))
+              (λ w. AllByRecursion (P new) (slots_of_entries w.items))) [
                 | true ↦ page.rows_packed.each
-                | false ↦ lookup_by page_total same_page (λ p. AllByRecursion (P new) (slots_of_entries p.1.items)) es q (each_page new es still.each)
+                | false ↦ lookup_by page_total same_page (λ p. AllByRecursion (P new) (slots_of_entries p.1.items)) es q
+                    (each_page new es still.each)
               ])));
         };
       }
     where
-      joined : (xs ys : List Row) → AllByRecursion (P new) (slots_of_entries xs) → AllByRecursion (P new) (slots_of_entries ys) → AllByRecursion (P new) (slots_of_entries (xs ++ ys))
+      joined : (xs ys : List Row) → AllByRecursion (P new) (slots_of_entries xs) → AllByRecursion (P new) (slots_of_entries ys)
+          → AllByRecursion (P new) (slots_of_entries (xs ++ ys))
       joined [] ys h k = k
       joined (x ∷ xs) ys h k = (h.0, joined xs ys h.1 k)
 
-      all_pages : (ps : Pages) → AllByRecursion (λ p. AllByRecursion (P new) (slots_of_entries p.1.items)) ps → AllByRecursion (P new) (slots_of_entries (rows_of ps))
+      all_pages : (ps : Pages) → AllByRecursion (λ p. AllByRecursion (P new) (slots_of_entries p.1.items)) ps
+          → AllByRecursion (P new) (slots_of_entries (rows_of ps))
       all_pages [] h = tt
       all_pages (p ∷ ps) h = joined p.1.items (rows_of ps) h.0 (all_pages ps h.1)
 
@@ -328,16 +360,21 @@ seen-append packed [] ys = refl
 seen-append packed (x ∷ xs) ys = ap (λ t. (x.0, lines_in packed x.1) ∷ t) (seen-append packed xs ys)
 
 same_seen : (packed : PackedLines) (t : PageNumber → Bool) (ps : Pages) (v : Vec Row Global)
-    → IfSome (lookup t ps) (λ w. entries_in packed v.items ≡ entries_in packed w.items) → entries_in packed (rows_of (set_value t ps v)) ≡ entries_in packed (rows_of ps)
+    → IfSome (lookup t ps) (λ w. entries_in packed v.items ≡ entries_in packed w.items) → entries_in packed (rows_of (set_value t ps v))
+    ≡ entries_in packed (rows_of ps)
 same_seen packed t [] v h = refl
 same_seen packed t (p ∷ ps) v h =
-    elim (t p.0) as (λ b. IfSome (cond b (Some p.1) (lookup t ps)) (λ w. entries_in packed v.items ≡ entries_in packed w.items) → entries_in packed (rows_of (cond b ((p.0, v) ∷ ps) (p ∷ set_value t ps v))) ≡ entries_in packed (p.1.items ++ rows_of ps)) [
-      | true ↦ λ e. seen-append packed v.items (rows_of ps) ∙ ap (λ t. t ++ entries_in packed (rows_of ps)) e ∙ sym (seen-append packed p.1.items (rows_of ps))
-      | false ↦ λ e. seen-append packed p.1.items (rows_of (set_value t ps v)) ∙ ap (λ t. entries_in packed p.1.items ++ t) (same_seen packed t ps v e) ∙ sym (seen-append packed p.1.items (rows_of ps))
+    elim (t p.0) as (λ b. IfSome (cond b (Some p.1) (lookup t ps)) (λ w. entries_in packed v.items ≡ entries_in packed w.items)
+    → entries_in packed (rows_of (cond b ((p.0, v) ∷ ps) (p ∷ set_value t ps v))) ≡ entries_in packed (p.1.items ++ rows_of ps)) [
+      | true ↦ λ e. seen-append packed v.items (rows_of ps) ∙ ap (λ t. t ++ entries_in packed (rows_of ps)) e
+          ∙ sym (seen-append packed p.1.items (rows_of ps))
+      | false ↦ λ e. seen-append packed p.1.items (rows_of (set_value t ps v))
+          ∙ ap (λ t. entries_in packed p.1.items ++ t) (same_seen packed t ps v e) ∙ sym (seen-append packed p.1.items (rows_of ps))
     ] h
 
 -- such a page changes nothing
-pub page_same : (old new : PackedLines) → Extends old new → (es fs : Pages) (at : LinePlace) (w v : Vec Row Global) → AreRowsOf old (rows_of es)
+pub page_same : (old new : PackedLines) → Extends old new → (es fs : Pages) (at : LinePlace) (w v : Vec Row Global)
+    → AreRowsOf old (rows_of es)
     → lookup (is_at (page_cmp (page_of at))) es ≡ Some w → fs ≡ set_value (is_at (page_cmp (page_of at))) es v
     → rows_seen new v.items ≡ rows_seen old w.items → pages_seen new fs ≡ pages_seen old es
 page_same old new longer es fs at w v rows_packed found is same =
@@ -345,6 +382,7 @@ page_same old new longer es fs at w v rows_packed found is same =
     let before = all_stay old new longer (slots_of_entries w.items) (page_packed old es (page_of at) w rows_packed found) in
     let entries =
     ap (λ (ps : Pages). entries_in new (rows_of ps)) is
-    ∙ same_seen new t es v (subst (λ (o : Option (Vec Row Global)). IfSome o (λ w. entries_in new v.items ≡ entries_in new w.items)) (sym found) (ap (λ (s : StoredLines). s.entries) same ∙ sym before))
+    ∙ same_seen new t es v (subst (λ (o : Option (Vec Row Global)). IfSome o (λ w. entries_in new v.items ≡ entries_in new w.items))
+    (sym found) (ap (λ (s : StoredLines). s.entries) same ∙ sym before))
     ∙ all_stay old new longer (slots_of_entries (rows_of es)) rows_packed in
     λ i. record { precision = longer.precision i; width = longer.width i; entries = entries i }

@@ -62,10 +62,12 @@ unfolding IsStrictlySortedBy
 rises = ((refl, tt), (tt, tt))
 
 three_before_five : readings_at both 0 0 ≡ (3 ∷ []) ∷ (5 ∷ []) ∷ []
-three_before_five = ap (λ (rs : List Reading). map (λ r. r.samples) (filter (λ r. r.component == 0 && r.line == 0) rs)) (items-from_list reading_total in_order rises)
+three_before_five = ap (λ (rs : List Reading). map (λ r. r.samples) (filter (λ r. r.component == 0 && r.line == 0) rs))
+    (items-from_list reading_total in_order rises)
 
 none_of_the_next : readings_at both 0 1 ≡ []
-none_of_the_next = ap (λ (rs : List Reading). map (λ r. r.samples) (filter (λ r. r.component == 0 && r.line == 1) rs)) (items-from_list reading_total in_order rises)
+none_of_the_next = ap (λ (rs : List Reading). map (λ r. r.samples) (filter (λ r. r.component == 0 && r.line == 1) rs))
+    (items-from_list reading_total in_order rises)
 
 disputed : status_of (readings_at both 0 0) ≡ Disputed
 disputed = ap status_of three_before_five

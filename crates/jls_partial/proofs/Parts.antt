@@ -47,7 +47,8 @@ first_held first (q ∷ qs) r h = first_held (union first q) qs r (left_kept fir
 -- and so is each member
 member_held : (first : PartialPicture) (others : List PartialPicture) (p : PartialPicture) (r : Reading) → Contains (first ∷ others) p
     → contains p.readings r ≡ true → contains (join_all union first others).readings r ≡ true
-member_held first others p r (zero, lt, e) h = first_held first others r (subst (λ (q : PartialPicture). contains q.readings r ≡ true) (sym e) h)
+member_held first others p r (zero, lt, e) h =
+    first_held first others r (subst (λ (q : PartialPicture). contains q.readings r ≡ true) (sym e) h)
 member_held first [] p r (suc k, lt, e) h = absurd (omega (arith, lt))
 member_held first (q ∷ qs) p r (suc zero, lt, e) h =
     first_held (union first q) qs r (right_kept first q r (subst (λ (s : PartialPicture). contains s.readings r ≡ true) (sym e) h))
@@ -84,7 +85,8 @@ no_marks = items-from_list marks_total [] tt
 
 pub marks_of_join : JoinsHoldAllMarks
 marks_of_join first [] = sym (ap (set.insert_all first.marks) no_marks)
-marks_of_join first (q ∷ qs) = marks_of_join (union first q) qs ∙ union-associative marks_total marks_exact first.marks q.marks (all_marks qs)
+marks_of_join first (q ∷ qs) = marks_of_join (union first q) qs
+    ∙ union-associative marks_total marks_exact first.marks q.marks (all_marks qs)
 
 -- ---- the parts of one picture
 
@@ -95,7 +97,8 @@ shape_of_join first (q ∷ qs) = shape_of_join (union first q) qs
 
 -- of a line with one reading, each reading is that one
 only_reading : (readings : List (List ℕ)) (c l : ℕ) (r s : Reading) → status_of readings ≡ Settled
-    → list_any (eq_by_cmp reading_cmp r) (map (reading_of c l) readings) ≡ true → list_any (eq_by_cmp reading_cmp s) (map (reading_of c l) readings) ≡ true → r ≡ s
+    → list_any (eq_by_cmp reading_cmp r) (map (reading_of c l) readings) ≡ true
+    → list_any (eq_by_cmp reading_cmp s) (map (reading_of c l) readings) ≡ true → r ≡ s
 only_reading [] c l r s settled h g = absurd cc
 only_reading (x ∷ []) c l r s settled h g =
     same_reading r (reading_of c l x) (sym (or_false (eq_by_cmp reading_cmp r (reading_of c l x))) ∙ h)
@@ -109,7 +112,8 @@ a_reading p c l [] e some = absurd (some refl)
 a_reading p c l (x ∷ xs) e some = (
   x,
   held_in_line p (reading_of c l x) c l
-      (ap (λ (ys : List (List ℕ)). list_any (eq_by_cmp reading_cmp (reading_of c l x)) (map (reading_of c l) ys)) e ∙ rw (ap is_eq (tied_itself reading_total (reading_of c l x))) refl),
+      (ap (λ (ys : List (List ℕ)). list_any (eq_by_cmp reading_cmp (reading_of c l x)) (map (reading_of c l) ys)) e
+      ∙ rw (ap is_eq (tied_itself reading_total (reading_of c l x))) refl),
 )
 
 module _ (picture first : PartialPicture) (others : List PartialPicture) (are : All (IsPartOf picture) (first ∷ others)) where
@@ -130,8 +134,10 @@ module _ (picture first : PartialPicture) (others : List PartialPicture) (are : 
       let same = reading_of r.component r.line x.0 in
       let held = (part_of s.0 s.1).readings r.component r.line x.0 x.1 in
       let one : r ≡ same =
-      only_reading (readings_at picture r.component r.line) r.component r.line r same (settled r.component inside.0 r.line inside.1) (in_its_line picture r h) (in_its_line picture same held) in
-      subst (λ (q : Reading). contains (join_all union first others).readings q ≡ true) (sym one) (member_held first others s.0 same s.1 x.1)
+      only_reading (readings_at picture r.component r.line) r.component r.line r same (settled r.component inside.0 r.line inside.1)
+      (in_its_line picture r h) (in_its_line picture same held) in
+      subst (λ (q : Reading). contains (join_all union first others).readings q ≡ true) (sym one)
+      (member_held first others s.0 same s.1 x.1)
 
 pub parts_join : PartsGiveThePicture
 parts_join picture fitting settled first others are each =

@@ -30,7 +30,8 @@ use Rattle.jls_values.specs.OrderedSetLaws.{items-from_list, sorted-append}
 reading_below_block : (p : LinePlace) (x : List ℕ) (xs : List (List ℕ)) → AllByRecursion (λ y. S x y ≡ Less) xs
     → AllByRecursion (λ r. reading_cmp (at_place p x) r ≡ Less) (map (at_place p) xs)
 reading_below_block p x [] h = tt
-reading_below_block p x (y ∷ xs) h = (rw (tied_itself nat_cmp_total p.component, tied_itself nat_cmp_total p.line) h.0, reading_below_block p x xs h.1)
+reading_below_block p x (y ∷ xs) h =
+    (rw (tied_itself nat_cmp_total p.component, tied_itself nat_cmp_total p.line) h.0, reading_below_block p x xs h.1)
 
 sorted-at_place : (p : LinePlace) (xs : List (List ℕ)) → IsStrictlySortedBy S xs → IsStrictlySortedBy reading_cmp (map (at_place p) xs)
 unfolding IsStrictlySortedBy
@@ -47,7 +48,8 @@ first_less Greater s t h = absurd cc
 below-at_place : (r : Reading) (p : LinePlace) (xs : List (List ℕ)) → place_cmp (place_of r) p ≡ Less
     → AllByRecursion (λ s. reading_cmp r s ≡ Less) (map (at_place p) xs)
 below-at_place r p [] h = tt
-below-at_place r p (x ∷ xs) h = (first_less (nat_cmp r.component p.component) (nat_cmp r.line p.line) (S r.samples x) h, below-at_place r p xs h)
+below-at_place r p (x ∷ xs) h =
+    (first_less (nat_cmp r.component p.component) (nat_cmp r.line p.line) (S r.samples x) h, below-at_place r p xs h)
 
 all-append : (P : Reading → Type 0) (xs ys : List Reading) → AllByRecursion P xs → AllByRecursion P ys → AllByRecursion P (xs ++ ys)
 all-append P [] ys p q = q
@@ -58,7 +60,8 @@ below-entries : (r : Reading) (es : List BareEntry) → AllByRecursion (λ q. pl
 below-entries r [] h = tt
 below-entries r (e ∷ es) h =
     subst (AllByRecursion (λ s. reading_cmp r s ≡ Less)) (sym (flat_map-cons (λ (e : BareEntry). map (at_place e.0) e.1) e es))
-    (all-append (λ s. reading_cmp r s ≡ Less) (map (at_place e.0) e.1) (readings_of_entries es) (below-at_place r e.0 e.1 h.0) (below-entries r es h.1))
+    (all-append (λ s. reading_cmp r s ≡ Less) (map (at_place e.0) e.1) (readings_of_entries es) (below-at_place r e.0 e.1 h.0)
+    (below-entries r es h.1))
 
 at_place_below_entries : (p : LinePlace) (xs : List (List ℕ)) (es : List BareEntry)
     → AllByRecursion (λ q. place_cmp p q ≡ Less) (map (λ e. e.0) es)
@@ -72,7 +75,8 @@ unfolding IsStrictlySortedBy
 sorted-entries shape [] h k = tt
 sorted-entries shape (e ∷ es) h k =
     subst (IsStrictlySortedBy reading_cmp) (sym (flat_map-cons (λ (e : BareEntry). map (at_place e.0) e.1) e es))
-    (sorted-append reading_total (map (at_place e.0) e.1) (readings_of_entries es) (sorted-at_place e.0 e.1 k.0.sorted) (sorted-entries shape es h.1 k.1) (at_place_below_entries e.0 e.1 es h.0))
+    (sorted-append reading_total (map (at_place e.0) e.1) (readings_of_entries es) (sorted-at_place e.0 e.1 k.0.sorted)
+    (sorted-entries shape es h.1 k.1) (at_place_below_entries e.0 e.1 es h.0))
 
 -- ---- the readings of one line
 
@@ -82,7 +86,8 @@ is_there c l r = r.component == c && r.line == l
 
 pub eq_there : (c l : ℕ) (p : LinePlace) → (p.component == c && p.line == l) ≡ is_at (place_cmp (place c l)) p
 eq_there c l p =
-    (λ i. (nat_eq_equiv.symm p.component c ∙ sym (unsigned_tied c p.component)) i && (nat_eq_equiv.symm p.line l ∙ sym (unsigned_tied l p.line)) i)
+    (λ i. (nat_eq_equiv.symm p.component c ∙ sym (unsigned_tied c p.component)) i
+    && (nat_eq_equiv.symm p.line l ∙ sym (unsigned_tied l p.line)) i)
     ∙ both (nat_cmp c p.component) (nat_cmp l p.line)
   where
     both : (r s : Ordering) → (is_eq r && is_eq s) ≡ is_eq (ordering_then r s)
@@ -105,7 +110,8 @@ nothing_there : (c l : ℕ) (es : List BareEntry) → AllByRecursion (λ q. plac
     → filter (is_there c l) (readings_of_entries es) ≡ []
 nothing_there c l [] h = refl
 nothing_there c l (e ∷ es) h =
-    ap (filter (is_there c l)) (flat_map-cons (λ (e : BareEntry). map (at_place e.0) e.1) e es) ∙ filter-append (is_there c l) (map (at_place e.0) e.1) (readings_of_entries es)
+    ap (filter (is_there c l)) (flat_map-cons (λ (e : BareEntry). map (at_place e.0) e.1) e es)
+    ∙ filter-append (is_there c l) (map (at_place e.0) e.1) (readings_of_entries es)
     ∙ (λ i. there_false c l e.0 e.1 (eq_there c l e.0 ∙ ap is_eq h.0) i ++ nothing_there c l es h.1 i)
 
 pub kept_there : (c l : ℕ) (es : List BareEntry) → IsStrictlySortedBy place_cmp (map (λ e. e.0) es)
@@ -113,12 +119,18 @@ pub kept_there : (c l : ℕ) (es : List BareEntry) → IsStrictlySortedBy place_
 unfolding IsStrictlySortedBy
 kept_there c l [] h = refl
 kept_there c l (e ∷ es) h =
-    ap (λ (t : List Reading). map (λ r. r.samples) t) (ap (filter (is_there c l)) (flat_map-cons (λ (e : BareEntry). map (at_place e.0) e.1) e es) ∙ filter-append (is_there c l) (map (at_place e.0) e.1) (readings_of_entries es))
-    ∙ map-append (λ (r : Reading). r.samples) (filter (is_there c l) (map (at_place e.0) e.1)) (filter (is_there c l) (readings_of_entries es))
+    ap (λ (t : List Reading). map (λ r. r.samples) t)
+    (ap (filter (is_there c l)) (flat_map-cons (λ (e : BareEntry). map (at_place e.0) e.1) e es)
+    ∙ filter-append (is_there c l) (map (at_place e.0) e.1) (readings_of_entries es))
+    ∙ map-append (λ (r : Reading). r.samples) (filter (is_there c l) (map (at_place e.0) e.1))
+    (filter (is_there c l) (readings_of_entries es))
     ∙ elim (is_at (place_cmp (place c l)) e.0) as (λ b. is_at (place_cmp (place c l)) e.0 ≡ b →
-    (map (λ r. r.samples) (filter (is_there c l) (map (at_place e.0) e.1)) ++ map (λ r. r.samples) (filter (is_there c l) (readings_of_entries es))) ≡ unwrap_or (cond b (Some e.1) (lookup (is_at (place_cmp (place c l))) es)) []) [
+    (map (λ r. r.samples) (filter (is_there c l) (map (at_place e.0) e.1))
+    ++ map (λ r. r.samples) (filter (is_there c l) (readings_of_entries es)))
+    ≡ unwrap_or (cond b (Some e.1) (lookup (is_at (place_cmp (place c l))) es)) []) [
       | true ↦ λ t.
-          let later = subst (λ (z : LinePlace). AllByRecursion (λ q. place_cmp z q ≡ Less) (map (λ e. e.0) es)) (sym (same_place (place c l) e.0 t)) h.0 in
+          let later = subst (λ (z : LinePlace). AllByRecursion (λ q. place_cmp z q ≡ Less) (map (λ e. e.0) es))
+          (sym (same_place (place c l) e.0 t)) h.0 in
           (λ i. there_true c l e.0 e.1 (eq_there c l e.0 ∙ t) i ++ map (λ r. r.samples) (nothing_there c l es later i)) ∙ append-nil e.1
       | false ↦ λ f.
           (λ i. map (λ r. r.samples) (there_false c l e.0 e.1 (eq_there c l e.0 ∙ f) i) ++ kept_there c l es h.1 i)
@@ -129,5 +141,6 @@ pub readings_kept : (shape : PictureShape) (es : List BareEntry) (p : PartialPic
     → from_list (readings_of_entries es) ≡ p.readings → readings_at p c l ≡ samples_at es (place c l)
 readings_kept shape es p c l kept is =
     ap (λ (s : OrderedSet reading_cmp). map (λ r. r.samples) (filter (is_there c l) (items s))) (sym is)
-    ∙ ap (λ (rs : List Reading). map (λ r. r.samples) (filter (is_there c l) rs)) (items-from_list reading_total (readings_of_entries es) (sorted-entries shape es kept.sorted kept.each))
+    ∙ ap (λ (rs : List Reading). map (λ r. r.samples) (filter (is_there c l) rs))
+    (items-from_list reading_total (readings_of_entries es) (sorted-entries shape es kept.sorted kept.each))
     ∙ kept_there c l es kept.sorted

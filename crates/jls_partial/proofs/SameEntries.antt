@@ -33,7 +33,8 @@ one_done one other it left x y xs ys g p q same = record {
 pub same_next : {X : Type 0} (one other it left : List X) (x y : X) (xs ys : List X) → GoAlong one other it left → it ≡ x ∷ xs
     → left ≡ y ∷ ys → one ≡ other → x ≡ y
 same_next {X} one other it left x y xs ys g p q same =
-    ap first_of_all (append_cancel_left g.done (x ∷ xs) (y ∷ ys) (ap (λ t. g.done ++ t) (sym p) ∙ sym g.one_is ∙ same ∙ g.other_is ∙ ap (λ t. g.done ++ t) q))
+    ap first_of_all (append_cancel_left g.done (x ∷ xs) (y ∷ ys)
+    (ap (λ t. g.done ++ t) (sym p) ∙ sym g.one_is ∙ same ∙ g.other_is ∙ ap (λ t. g.done ++ t) q))
   where
     first_of_all : List X → X
     first_of_all [] = x
@@ -43,7 +44,8 @@ same_next {X} one other it left x y xs ys g p q same =
 pub ends_apart : {X : Type 0} (one other it left : List X) (x : X) (xs : List X) → GoAlong one other it left → it ≡ [] → left ≡ x ∷ xs
     → one ≡ other → ⊥
 ends_apart one other it left x xs g p q same =
-    let bad : [] ≡ x ∷ xs = append_cancel_left g.done [] (x ∷ xs) (ap (λ t. g.done ++ t) (sym p) ∙ sym g.one_is ∙ same ∙ g.other_is ∙ ap (λ t. g.done ++ t) q) in
+    let bad : [] ≡ x ∷ xs = append_cancel_left g.done [] (x ∷ xs)
+    (ap (λ t. g.done ++ t) (sym p) ∙ sym g.one_is ∙ same ∙ g.other_is ∙ ap (λ t. g.done ++ t) q) in
     absurd cc
 
 -- where both end, they are one
@@ -54,7 +56,8 @@ both_end one other it left g p q = g.one_is ∙ ap (λ t. g.done ++ t) (p ∙ sy
 pub along_end : {A L X : Type 0} (shows : A → L) (f : L → X) (one other it : List X) (r : Option A) (left rest : List L) (ended : Bool)
     → is_some r ≡ not ended → MatchOption r ((left ≡ []) × (rest ≡ [])) (λ x. left ≡ shows x ∷ rest)
     → it ≡ [] → GoAlong one other it (map f left) → (ended ≡ true) ↔ (one ≡ other)
-along_end shows f one other it None left rest ended n step none g = (λ _. both_end one other it (map f left) g none (ap (map f) step.0), λ _. true_from ended n)
+along_end shows f one other it None left rest ended n step none g =
+    (λ _. both_end one other it (map f left) g none (ap (map f) step.0), λ _. true_from ended n)
   where
     true_from : (b : Bool) → false ≡ not b → b ≡ true
     true_from true e = refl
@@ -95,7 +98,8 @@ pub shapes_from_test : (s t : PictureShape) (differ : Bool)
     → differ ≡ not (s.precision == t.precision && (s.width == t.width && (s.height == t.height && pointwise nat_eq s.ids t.ids)))
     → differ ≡ false → s ≡ t
 shapes_from_test s t differ is same =
-    one_shape s t (four (s.precision == t.precision) (s.width == t.width) (s.height == t.height) (pointwise nat_eq s.ids t.ids) (sym is ∙ same))
+    one_shape s t (four (s.precision == t.precision) (s.width == t.width) (s.height == t.height) (pointwise nat_eq s.ids t.ids)
+    (sym is ∙ same))
   where
     four : (a b c d : Bool) → not (a && (b && (c && d))) ≡ false → (a && b && c && d) ≡ true
     four true true true true e = refl
@@ -108,7 +112,8 @@ shapes_from_test s t differ is same =
 pub shapes_differ : (s t : PictureShape) (differ : Bool)
     → differ ≡ not (s.precision == t.precision && (s.width == t.width && (s.height == t.height && pointwise nat_eq s.ids t.ids)))
     → differ ≡ true → same_shape s t ≡ false
-shapes_differ s t differ is other = four (s.precision == t.precision) (s.width == t.width) (s.height == t.height) (pointwise nat_eq s.ids t.ids) (sym is ∙ other)
+shapes_differ s t differ is other =
+    four (s.precision == t.precision) (s.width == t.width) (s.height == t.height) (pointwise nat_eq s.ids t.ids) (sym is ∙ other)
   where
     four : (a b c d : Bool) → not (a && (b && (c && d))) ≡ true → (a && b && c && d) ≡ false
     four true true true true e = absurd cc
@@ -130,7 +135,8 @@ samples_same L M i x y v v' same =
 -- and the same sources
 pub sources_same : (L M : PictureLines) (i : ℕ) (x y ss tt' : List ℕ) → i < length (items L.lines) → i < length (items M.lines)
     → slice_get (items L.lines) i ≡ Some x → slice_get (items M.lines) i ≡ Some y
-    → IfSome (slice_get (items L.lines) i) (λ samples. ss ≡ line_sources L samples) → IfSome (slice_get (items M.lines) i) (λ samples. tt' ≡ line_sources M samples) → kept_lines L ≡ kept_lines M → ss ≡ tt'
+    → IfSome (slice_get (items L.lines) i) (λ samples. ss ≡ line_sources L samples)
+    → IfSome (slice_get (items M.lines) i) (λ samples. tt' ≡ line_sources M samples) → kept_lines L ≡ kept_lines M → ss ≡ tt'
 sources_same L M i x y ss tt' lt lt' v v' own own' same =
     let k : Kept = (x, ss) in
     let k' : Kept = (y, tt') in

@@ -13,21 +13,27 @@ use Rattle.jls_partial.specs.PackedLines.{seen_lines, IsLineSet}
 use Rattle.jls_partial.proofs.Forks.{sources_set}
 use Rattle.jls_partial.proofs.LineSets.{set_kept, set_seen, fitting_length}
 
-module _ (precision width : ℕ) (packed samples : List ℕ) (slots : List Slot) (i : ℕ) (ss : List ℕ) (kept : IsLineSet precision width packed slots) (lt : i < length slots) (found : get_or (lines_of width packed slots) i samples ≡ samples) where
-  abbrev here : Slot
-  here = get_or slots i (record { start = 0; sources = sets.empty })
+module _ (precision width : ℕ) (packed samples : List ℕ) (slots : List Slot) (i : ℕ) (ss : List ℕ)
+    (kept : IsLineSet precision width packed slots) (lt : i < length slots)
+    (found : get_or (lines_of width packed slots) i samples ≡ samples)
+  where
+    abbrev here : Slot
+    here = get_or slots i (record { start = 0; sources = sets.empty })
 
-  here_is : here ≡ get_or slots i here
-  here_is = get_or_default slots i (record { start = 0; sources = sets.empty }) here lt
+    here_is : here ≡ get_or slots i here
+    here_is = get_or_default slots i (record { start = 0; sources = sets.empty }) here lt
 
-  is_set : with_sources_at slots i ss ≡ set slots i (record { start = here.start; sources = sets.insert_all here.sources ss })
-  is_set = sources_set slots i here ss lt here_is
+    is_set : with_sources_at slots i ss ≡ set slots i (record { start = here.start; sources = sets.insert_all here.sources ss })
+    is_set = sources_set slots i here ss lt here_is
 
-  pub sourced_kept : IsLineSet precision width packed (with_sources_at slots i ss)
-  sourced_kept = subst (IsLineSet precision width packed) (sym is_set) (set_kept precision width packed samples slots i here kept lt here_is found (sets.insert_all here.sources ss))
+    pub sourced_kept : IsLineSet precision width packed (with_sources_at slots i ss)
+    sourced_kept = subst (IsLineSet precision width packed) (sym is_set)
+        (set_kept precision width packed samples slots i here kept lt here_is found (sets.insert_all here.sources ss))
 
-  pub sourced_seen : seen_lines precision width packed (with_sources_at slots i ss) ≡ with_lines (seen_lines precision width packed slots) ((samples, ss) ∷ [])
-  sourced_seen = ap (seen_lines precision width packed) is_set ∙ set_seen precision width packed samples slots i here kept lt here_is found (sets.insert_all here.sources ss) ss refl
+    pub sourced_seen : seen_lines precision width packed (with_sources_at slots i ss)
+        ≡ with_lines (seen_lines precision width packed slots) ((samples, ss) ∷ [])
+    sourced_seen = ap (seen_lines precision width packed) is_set
+        ∙ set_seen precision width packed samples slots i here kept lt here_is found (sets.insert_all here.sources ss) ss refl
 
 -- a line of its place is found there
 pub line_found : (width : ℕ) (packed : List ℕ) (slots : List Slot) (i : ℕ) → i < length slots

@@ -37,7 +37,8 @@ use Rattle.jls_partial.proofs.PackedLines.{lines_stay, kept_lines, inside_more}
 module _ (p w : ℕ) (packed more : List ℕ) where
   lines_same : (slots : List Slot) → AllByRecursion (λ s. s.start + w ≤ length packed) slots
       → lines_of w (packed ++ more) slots ≡ lines_of w packed slots
-  lines_same slots inside = sym (kept_lines w (packed ++ more) slots) ∙ ap (map (λ (k : Kept). k.0)) (lines_stay w packed more slots inside) ∙ kept_lines w packed slots
+  lines_same slots inside = sym (kept_lines w (packed ++ more) slots) ∙ ap (map (λ (k : Kept). k.0)) (lines_stay w packed more slots inside)
+      ∙ kept_lines w packed slots
 
   seen_stays : (slots : List Slot) → IsLineSet p w packed slots → seen_lines p w (packed ++ more) slots ≡ seen_lines p w packed slots
   seen_stays slots kept = λ i. record {
@@ -68,7 +69,8 @@ module _ (p w : ℕ) (packed more : List ℕ) where
   entries_stay [] h = refl
   entries_stay (e ∷ es) h = λ i. (e.0, seen_stays e.1 h.0 i) ∷ entries_stay es h.1 i
 
-  each_stays : (es : List LineSlots) → AllByRecursion (λ e. IsLineSet p w packed e.1) es → AllByRecursion (λ e. IsLineSet p w (packed ++ more) e.1) es
+  each_stays : (es : List LineSlots) → AllByRecursion (λ e. IsLineSet p w packed e.1) es
+      → AllByRecursion (λ e. IsLineSet p w (packed ++ more) e.1) es
   each_stays [] h = tt
   each_stays (e ∷ es) h = (kept_stays e.1 h.0, each_stays es h.1)
 
@@ -114,7 +116,8 @@ module _ {X Y : Type 0} (f : X → Y) where
       → Updated (map (λ e. (e.0, f e.1)) es) at (f x) (map (λ e. (e.0, f e.1)) fs)
   updated-map es fs at x u q =
       lookup-map f (is_at (place_cmp q)) fs ∙ ap (option_map f) (u q)
-      ∙ elim (is_at (place_cmp at) q) as (λ b. option_map f (cond b (Some x) (lookup (is_at (place_cmp q)) es)) ≡ cond b (Some (f x)) (lookup (is_at (place_cmp q)) (map (λ e. (e.0, f e.1)) es))) [
+      ∙ elim (is_at (place_cmp at) q) as (λ b. option_map f (cond b (Some x) (lookup (is_at (place_cmp q)) es))
+      ≡ cond b (Some (f x)) (lookup (is_at (place_cmp q)) (map (λ e. (e.0, f e.1)) es))) [
         | true ↦ refl
         | false ↦ sym (lookup-map f (is_at (place_cmp q)) es)
       ]
@@ -123,21 +126,26 @@ module _ {X Y : Type 0} (f : X → Y) where
       → map (λ e. (e.0, f e.1)) (set_value t es x) ≡ set_value t (map (λ e. (e.0, f e.1)) es) (f x)
   set_value-map t [] x = refl
   set_value-map t (e ∷ es) x =
-      elim (t e.0) as (λ b. map (λ (e : LinePlace × X). (e.0, f e.1)) (cond b ((e.0, x) ∷ es) (e ∷ set_value t es x)) ≡ cond b ((e.0, f x) ∷ map (λ (e : LinePlace × X). (e.0, f e.1)) es) ((e.0, f e.1) ∷ set_value t (map (λ (e : LinePlace × X). (e.0, f e.1)) es) (f x))) [
+      elim (t e.0) as (λ b. map (λ (e : LinePlace × X). (e.0, f e.1)) (cond b ((e.0, x) ∷ es) (e ∷ set_value t es x))
+      ≡ cond b ((e.0, f x) ∷ map (λ (e : LinePlace × X). (e.0, f e.1)) es)
+      ((e.0, f e.1) ∷ set_value t (map (λ (e : LinePlace × X). (e.0, f e.1)) es) (f x))) [
         | true ↦ refl
         | false ↦ ap (λ t. (e.0, f e.1) ∷ t) (set_value-map t es x)
       ]
 
 -- the slots of a place are others now
-module _ (old new : PackedLines) (longer : Extends old new) (es fs : List LineSlots) (at : LinePlace) (slots : List Slot) (rows_packed : are_in old es) (u : Updated es at slots fs) where
+module _ (old new : PackedLines) (longer : Extends old new) (es fs : List LineSlots) (at : LinePlace) (slots : List Slot)
+    (rows_packed : are_in old es) (u : Updated es at slots fs) where
   puts_at : PutsAt (seen_in old es) at (seen_lines new.precision new.width new.samples.items slots) (seen_in new fs)
   puts_at = λ q.
       updated-map (seen_lines new.precision new.width new.samples.items) es fs at slots u q
-      ∙ ap (λ (xs : List LineEntry). cond (is_at (place_cmp at) q) (Some (seen_lines new.precision new.width new.samples.items slots)) (lookup (is_at (place_cmp q)) xs))
+      ∙ ap (λ (xs : List LineEntry). cond (is_at (place_cmp at) q) (Some (seen_lines new.precision new.width new.samples.items slots))
+      (lookup (is_at (place_cmp q)) xs))
       (all_stay old new longer es rows_packed)
 
   -- so its lines have changed, and nothing elsewhere
-  pub changes_at : (C : PictureLines → PictureLines → Type 0) → C (stored_at (stored old (seen_in old es)) at) (seen_lines new.precision new.width new.samples.items slots)
+  pub changes_at : (C : PictureLines → PictureLines → Type 0)
+      → C (stored_at (stored old (seen_in old es)) at) (seen_lines new.precision new.width new.samples.items slots)
       → ChangesAt (stored old (seen_in old es)) at C (stored new (seen_in new fs))
   changes_at C changed = record {
     precision = longer.precision;
@@ -147,7 +155,8 @@ module _ (old new : PackedLines) (longer : Extends old new) (es fs : List LineSl
     puts = puts_at;
   }
 
-  pub more_packed : IsLineSet new.precision new.width new.samples.items slots → IsStrictlySortedBy place_cmp (map (λ e. e.0) fs) → are_in new fs
+  pub more_packed : IsLineSet new.precision new.width new.samples.items slots → IsStrictlySortedBy place_cmp (map (λ e. e.0) fs)
+      → are_in new fs
   more_packed kept order =
       let P : LineSlots → Type 0 = λ e. IsLineSet new.precision new.width new.samples.items e.1 in
       let still = still_packed old new longer es rows_packed in
@@ -169,16 +178,20 @@ ordered_slots es order = subst (IsStrictlySortedBy place_cmp) (sym (keys-map slo
 pub ordered_seen : (packed : PackedLines) (es : List (LinePlace × Slots)) → IsStrictlySortedBy place_cmp (map (λ e. e.0) es)
     → IsStrictlySortedBy place_cmp (map (λ e. e.0) (seen_in packed (slots_of_entries es)))
 ordered_seen packed es order =
-    subst (IsStrictlySortedBy place_cmp) (sym (keys-map (seen_lines packed.precision packed.width packed.samples.items) (slots_of_entries es)))
+    subst (IsStrictlySortedBy place_cmp)
+    (sym (keys-map (seen_lines packed.precision packed.width packed.samples.items) (slots_of_entries es)))
     (ordered_slots es order)
 
 -- the lines of a place
-pub lookup_seen : (packed : PackedLines) (es : List (LinePlace × Slots)) (at : LinePlace) (o : Option Slots) → lookup (is_at (place_cmp at)) es ≡ o
+pub lookup_seen : (packed : PackedLines) (es : List (LinePlace × Slots)) (at : LinePlace) (o : Option Slots)
+    → lookup (is_at (place_cmp at)) es ≡ o
     → lookup (is_at (place_cmp at)) (seen_in packed (slots_of_entries es)) ≡ option_map (λ slots. lines_in packed slots) o
 lookup_seen packed es at o found =
     lookup-map (seen_lines packed.precision packed.width packed.samples.items) (is_at (place_cmp at)) (slots_of_entries es)
-    ∙ ap (option_map (seen_lines packed.precision packed.width packed.samples.items)) (lookup-map slots_of (is_at (place_cmp at)) es ∙ ap (option_map slots_of) found)
-    ∙ elim o as (λ o. option_map (seen_lines packed.precision packed.width packed.samples.items) (option_map slots_of o) ≡ option_map (λ slots. lines_in packed slots) o) [
+    ∙ ap (option_map (seen_lines packed.precision packed.width packed.samples.items))
+    (lookup-map slots_of (is_at (place_cmp at)) es ∙ ap (option_map slots_of) found)
+    ∙ elim o as (λ o. option_map (seen_lines packed.precision packed.width packed.samples.items) (option_map slots_of o)
+    ≡ option_map (λ slots. lines_in packed slots) o) [
       | None ↦ refl
       | Some slots ↦ refl
     ]
@@ -192,11 +205,13 @@ pub lines_missing : (packed : PackedLines) (es : List (LinePlace × Slots)) (at 
 lines_missing packed es at none missing = ap (λ (o : Option PictureLines). unwrap_or o none) (lookup_seen packed es at None missing)
 
 -- the slots of such a place
-pub slots_found : (packed : PackedLines) (es : List (LinePlace × Slots)) (at : LinePlace) (slots : Slots) → are_in packed (slots_of_entries es)
+pub slots_found : (packed : PackedLines) (es : List (LinePlace × Slots)) (at : LinePlace) (slots : Slots)
+    → are_in packed (slots_of_entries es)
     → lookup (is_at (place_cmp at)) es ≡ Some slots → IsLineSet packed.precision packed.width packed.samples.items (slots_of slots)
 slots_found packed es at slots rows_packed found =
     let P : LineSlots → Type 0 = λ e. IsLineSet packed.precision packed.width packed.samples.items e.1 in
-    subst (λ (o : Option (List Slot)). IfSome o (λ ss. P (at, ss))) (lookup-map slots_of (is_at (place_cmp at)) es ∙ ap (option_map slots_of) found)
+    subst (λ (o : Option (List Slot)). IfSome o (λ ss. P (at, ss)))
+    (lookup-map slots_of (is_at (place_cmp at)) es ∙ ap (option_map slots_of) found)
     (lookup_by place_total same_place P (slots_of_entries es) at rows_packed.each)
 
 -- an slots that is seen as the one before changes nothing
@@ -223,12 +238,14 @@ puts_line L0 x ss packed slots kept small puts =
     }
 
 -- the first line of a place
-module _ (p w : ℕ) (packed x ss : List ℕ) (slots : List Slot) (narrow : p ≤ 16) (wide : 1 ≤ w) (fits : samples_fault p w x ≡ None) (is : slots ≡ record { start = length packed; sources = set.insert_all set.empty ss } ∷ []) where
+module _ (p w : ℕ) (packed x ss : List ℕ) (slots : List Slot) (narrow : p ≤ 16) (wide : 1 ≤ w) (fits : samples_fault p w x ≡ None)
+    (is : slots ≡ record { start = length packed; sources = set.insert_all set.empty ss } ∷ []) where
   gap : IsGap (slice_cmp nat_cmp) [] 0 x
   gap = record { within = omega arith; below = λ k lt. absurd (omega arith); above = λ k le lt. absurd (omega arith) }
 
   first_kept : IsLineSet p w (packed ++ x) slots
-  first_kept = subst (IsLineSet p w (packed ++ x)) (sym is) (put_kept p w packed x [] 0 (none_kept p w packed narrow wide) gap fits (fitting_length p w x fits) (set.insert_all set.empty ss))
+  first_kept = subst (IsLineSet p w (packed ++ x)) (sym is)
+      (put_kept p w packed x [] 0 (none_kept p w packed narrow wide) gap fits (fitting_length p w x fits) (set.insert_all set.empty ss))
 
   first_seen : seen_lines p w (packed ++ x) slots ≡ with_lines (no_lines p w) ((x, ss) ∷ [])
   first_seen =
@@ -242,7 +259,8 @@ pub record IsFirst (old new : PackedLines) (x ss : List ℕ) (slots : List Slot)
   pub kept : IsLineSet new.precision new.width new.samples.items slots
   pub puts : PutsLine (no_lines old.precision old.width) x ss (seen_lines new.precision new.width new.samples.items slots)
 
-pub first_line : (old new : PackedLines) (x ss : List ℕ) (slots : List Slot) (es : List LineSlots) → are_in old es → samples_fault old.precision old.width x ≡ None
+pub first_line : (old new : PackedLines) (x ss : List ℕ) (slots : List Slot) (es : List LineSlots) → are_in old es
+    → samples_fault old.precision old.width x ≡ None
     → slots ≡ record { start = length old.samples.items; sources = set.insert_all set.empty ss } ∷ []
     → new.precision ≡ old.precision → new.width ≡ old.width → new.samples.items ≡ old.samples.items ++ x → IsFirst old new x ss slots
 first_line old new x ss slots es rows_packed fits is precision width samples =
@@ -256,8 +274,10 @@ first_line old new x ss slots es rows_packed fits is precision width samples =
     record {
       longer = record { precision = precision; width = width; more = x; samples = samples };
       kept = kept;
-      puts = puts_line (no_lines old.precision old.width) x ss new slots kept (subst (λ (ts : List Slot). length ts < 2 ^ 64) (sym is) (omega arith))
-          ((λ i. seen_lines (precision i) (width i) (samples i) slots) ∙ first_seen old.precision old.width old.samples.items x ss slots narrow wide fits is);
+      puts = puts_line (no_lines old.precision old.width) x ss new slots kept
+          (subst (λ (ts : List Slot). length ts < 2 ^ 64) (sym is) (omega arith))
+          ((λ i. seen_lines (precision i) (width i) (samples i) slots)
+          ∙ first_seen old.precision old.width old.samples.items x ss slots narrow wide fits is);
     }
 
 -- what is packed has its own samples

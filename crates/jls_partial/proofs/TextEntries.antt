@@ -36,14 +36,16 @@ abbrev place_text : LinePlace → List ℕ
 place_text at = at.component ∷ to_be_bytes w16 at.line
 
 abbrev followed : ℕ → PictureShape → Option LinePlace → List ℕ → ℕ → ℕ × List ℕ → Result (LinePlace × List ℕ) TextFault
-followed size shape before bytes component line = cond (may_follow shape before (place component line.0)) (Ok (place component line.0, line.1)) (Err (fault.Place (offset size bytes)))
+followed size shape before bytes component line =
+    cond (may_follow shape before (place component line.0)) (Ok (place component line.0, line.1)) (Err (fault.Place (offset size bytes)))
 
 place_takes : (size : ℕ) (shape : PictureShape) (before : Option LinePlace) (bytes : List ℕ) (x : LinePlace × List ℕ) → IsBytes bytes
     → place_fields size shape before bytes ≡ Ok x
     → Takes bytes (place_text x.0) x.1 × (may_follow shape before x.0 ≡ true)
 unfolding place_fields
 place_takes size shape before bytes x fits e =
-    let c = bind_ok (byte_field size bytes) (λ component. number_field size w16 component.1 >>= followed size shape before bytes component.0) x e in
+    let c = bind_ok (byte_field size bytes)
+    (λ component. number_field size w16 component.1 >>= followed size shape before bytes component.0) x e in
     let l = bind_ok (number_field size w16 c.0.1) (followed size shape before bytes c.0.0) x c.2 in
     let g = passed_ok (may_follow shape before (place c.0.0 l.0.0)) (fault.Place (offset size bytes)) (place c.0.0 l.0.0, l.0.1) x l.2 in
     let t0 = byte_takes size bytes c.0.0 c.0.1 fits c.1 in
@@ -95,10 +97,12 @@ pub place_inside : (size : ℕ) (shape : PictureShape) (before : Option LinePlac
     → place_fields size shape before bytes ≡ Ok x → (x.0.component < length shape.ids) × (x.0.line < shape.height)
 unfolding place_fields
 place_inside size shape before bytes x e =
-    let c = bind_ok (byte_field size bytes) (λ component. number_field size w16 component.1 >>= followed size shape before bytes component.0) x e in
+    let c = bind_ok (byte_field size bytes)
+    (λ component. number_field size w16 component.1 >>= followed size shape before bytes component.0) x e in
     let l = bind_ok (number_field size w16 c.0.1) (followed size shape before bytes c.0.0) x c.2 in
     let g = passed_ok (may_follow shape before (place c.0.0 l.0.0)) (fault.Place (offset size bytes)) (place c.0.0 l.0.0, l.0.1) x l.2 in
-    subst (λ (y : LinePlace × List ℕ). (y.0.component < length shape.ids) × (y.0.line < shape.height)) g.1 (in_picture shape before (place c.0.0 l.0.0) g.0)
+    subst (λ (y : LinePlace × List ℕ). (y.0.component < length shape.ids) × (y.0.line < shape.height)) g.1
+    (in_picture shape before (place c.0.0 l.0.0) g.0)
 
 pub fits_there : (shape : PictureShape) (c l : ℕ) (xs : List ℕ) → c < length shape.ids → l < shape.height
     → samples_fault shape.precision shape.width xs ≡ None → reading_fault shape c l xs ≡ None
@@ -127,8 +131,11 @@ entry_takes : (size : ℕ) (version : Version) (shape : PictureShape) (before : 
     → Takes bytes (entry_text version x.0) x.1 × (may_follow shape before x.0.0 ≡ true) × IsSaidEntry version shape x.0
 unfolding entry_fields
 entry_takes size version shape before bytes x fits e =
-    let p = bind_ok (place_fields size shape before bytes) (λ at. count_field size at.1 >>= λ count. readings_fields size version shape None count.0 count.1 >>= λ readings. Ok ((at.0, readings.0), readings.1)) x e in
-    let n = bind_ok (count_field size p.0.1) (λ count. readings_fields size version shape None count.0 count.1 >>= λ readings. Ok ((p.0.0, readings.0), readings.1)) x p.2 in
+    let p = bind_ok (place_fields size shape before bytes)
+    (λ at. count_field size at.1 >>= λ count. readings_fields size version shape None count.0 count.1 >>= λ readings. Ok
+    ((at.0, readings.0), readings.1)) x e in
+    let n = bind_ok (count_field size p.0.1)
+    (λ count. readings_fields size version shape None count.0 count.1 >>= λ readings. Ok ((p.0.0, readings.0), readings.1)) x p.2 in
     let r = bind_ok (readings_fields size version shape None n.0.0 n.0.1) (λ readings. Ok ((p.0.0, readings.0), readings.1)) x n.2 in
     let t0 = place_takes size shape before bytes p.0 fits p.1 in
     let t1 = count_takes size p.0.1 n.0 t0.0.rest_fits n.1 in
@@ -152,7 +159,8 @@ entry_takes size version shape before bytes x fits e =
     let whole : Takes bytes (entry_text version (p.0.0, r.0.0)) r.0.1 =
     subst (λ (t : List ℕ). Takes bytes t r.0.1) (sym (append_assoc (place_text p.0.0) (to_be_bytes w64 (length r.0.0)) body))
     (subst (λ (k : ℕ). Takes bytes (place_text p.0.0 ++ (to_be_bytes w64 k ++ body)) r.0.1) (sym count) e02) in
-    subst (λ (y : Entry × List ℕ). Takes bytes (entry_text version y.0) y.1 × (may_follow shape before y.0.0 ≡ true) × IsSaidEntry version shape y.0) (ok_is made x r.2) (whole, t0.1, (is, t2.4))
+    subst (λ (y : Entry × List ℕ). Takes bytes (entry_text version y.0) y.1 × (may_follow shape before y.0.0 ≡ true)
+    × IsSaidEntry version shape y.0) (ok_is made x r.2) (whole, t0.1, (is, t2.4))
 
 entry_again : (size : ℕ) (version : Version) (shape : PictureShape) (before : Option LinePlace) (e : Entry) (rest : List ℕ) → IsShape shape
     → may_follow shape before e.0 ≡ true → IsSaidEntry version shape e
@@ -164,7 +172,8 @@ entry_again size version shape before e rest is follows said =
     let bare_count : length samples ≡ length e.1 = length-map e.1 (λ (k : Kept). k.0) in
     let readings = flat_map (reading_text version) e.1 in
     let count = to_be_bytes w64 (length e.1) in
-    let regrouped : entry_text version e ++ rest ≡ place_text e.0 ++ (count ++ (readings ++ rest)) = append_assoc (place_text e.0 ++ count) readings rest ∙ append_assoc (place_text e.0) count (readings ++ rest) in
+    let regrouped : entry_text version e ++ rest ≡ place_text e.0 ++ (count ++ (readings ++ rest)) =
+    append_assoc (place_text e.0 ++ count) readings rest ∙ append_assoc (place_text e.0) count (readings ++ rest) in
     let inside = in_picture shape before e.0 follows in
     let line : e.0.line < shape.height = inside.1 in
     let high = is.height_below in
@@ -175,7 +184,8 @@ entry_again size version shape before e rest is follows said =
     ∙ rw (
       place_again size shape before e.0 (count ++ (readings ++ rest)) (omega (arith, line, high)) follows,
       count_again size (length e.1) (readings ++ rest) (omega (arith, bare_count, few)) (omega (arith, bare_count, some)),
-      readings_again size version shape None e.1 rest le (rise_from_sorted samples fits.sorted) (samples_of_fit shape e.0.component e.0.line samples fits.fitting) said.1,
+      readings_again size version shape None e.1 rest le (rise_from_sorted samples fits.sorted)
+          (samples_of_fit shape e.0.component e.0.line samples fits.fitting) said.1,
     ) refl
 
 -- ---- entries
@@ -223,22 +233,31 @@ unfolding IsStrictlySortedBy
 follow_from_sorted shape [] s is = tt
 follow_from_sorted shape (e ∷ es) s is = (inside_true shape e is.0, follow_after shape e.0 es s.0 s.1 is.1)
 
-pub entries_take : (size : ℕ) (version : Version) (shape : PictureShape) (before : Option LinePlace) (n : ℕ) (bytes : List ℕ) (x : List Entry × List ℕ)
+pub entries_take : (size : ℕ) (version : Version) (shape : PictureShape) (before : Option LinePlace) (n : ℕ) (bytes : List ℕ)
+    (x : List Entry × List ℕ)
     → IsBytes bytes → entries_fields size version shape before n bytes ≡ Ok x
-    → Takes bytes (flat_map (entry_text version) x.0) x.1 × (length x.0 ≡ n) × Follow shape before x.0 × AllByRecursion (IsSaidEntry version shape) x.0
+    → Takes bytes (flat_map (entry_text version) x.0) x.1 × (length x.0 ≡ n) × Follow shape before x.0
+    × AllByRecursion (IsSaidEntry version shape) x.0
 unfolding entries_fields
 entries_take size version shape before zero bytes x fits e =
-    subst (λ (y : List Entry × List ℕ). Takes bytes (flat_map (entry_text version) y.0) y.1 × (length y.0 ≡ 0) × Follow shape before y.0 × AllByRecursion (IsSaidEntry version shape) y.0) (ok_is ([], bytes) x e)
+    subst (λ (y : List Entry × List ℕ). Takes bytes (flat_map (entry_text version) y.0) y.1 × (length y.0 ≡ 0) × Follow shape before y.0
+    × AllByRecursion (IsSaidEntry version shape) y.0) (ok_is ([], bytes) x e)
     (record { parts = refl; rest_fits = fits }, refl, tt, tt)
 entries_take size version shape before (suc n) bytes x fits e =
-    let a = bind_ok (entry_fields size version shape before bytes) (λ first. entries_fields size version shape (Some first.0.0) n first.1 >>= λ others. Ok (first.0 ∷ others.0, others.1)) x e in
+    let a = bind_ok (entry_fields size version shape before bytes)
+    (λ first. entries_fields size version shape (Some first.0.0) n first.1 >>= λ others. Ok (first.0 ∷ others.0, others.1)) x e in
     let b = bind_ok (entries_fields size version shape (Some a.0.0.0) n a.0.1) (λ others. Ok (a.0.0 ∷ others.0, others.1)) x a.2 in
     let first = entry_takes size version shape before bytes a.0 fits a.1 in
     let second = entries_take size version shape (Some a.0.0.0) n a.0.1 b.0 first.0.rest_fits b.1 in
     let both = Takes-then bytes ((entry_text version a.0.0)) a.0.1 (flat_map (entry_text version) b.0.0) b.0.1 first.0 second.0 in
     let made : List Entry × List ℕ = (a.0.0 ∷ b.0.0, b.0.1) in
-    subst (λ (y : List Entry × List ℕ). Takes bytes (flat_map (entry_text version) y.0) y.1 × (length y.0 ≡ suc n) × Follow shape before y.0 × AllByRecursion (IsSaidEntry version shape) y.0) (ok_is made x b.2)
-    (subst (λ (t : List ℕ). Takes bytes t b.0.1) (sym (flat_map-cons (entry_text version) a.0.0 b.0.0)) both, ap suc second.1, (first.1, second.2), (first.2, second.3))
+    subst (λ (y : List Entry × List ℕ). Takes bytes (flat_map (entry_text version) y.0) y.1 × (length y.0 ≡ suc n) × Follow shape before y.0
+    × AllByRecursion (IsSaidEntry version shape) y.0) (ok_is made x b.2) (
+      subst (λ (t : List ℕ). Takes bytes t b.0.1) (sym (flat_map-cons (entry_text version) a.0.0 b.0.0)) both,
+      ap suc second.1,
+      (first.1, second.2),
+      (first.2, second.3),
+    )
 
 pub entries_read : (size : ℕ) (version : Version) (shape : PictureShape) (before : Option LinePlace) (es : List Entry) (rest : List ℕ)
     → IsShape shape → Follow shape before es → AllByRecursion (IsSaidEntry version shape) es
@@ -247,6 +266,10 @@ unfolding entries_fields
 entries_read size version shape before [] rest is follow fit = refl
 entries_read size version shape before (e ∷ es) rest is follow fit =
     let regrouped : flat_map (entry_text version) (e ∷ es) ++ rest ≡ entry_text version e ++ (flat_map (entry_text version) es ++ rest) =
-    ap (λ (t : List ℕ). t ++ rest) (flat_map-cons (entry_text version) e es) ∙ append_assoc (entry_text version e) (flat_map (entry_text version) es) rest in
+    ap (λ (t : List ℕ). t ++ rest) (flat_map-cons (entry_text version) e es)
+    ∙ append_assoc (entry_text version e) (flat_map (entry_text version) es) rest in
     ap (entries_fields size version shape before (suc (length es))) regrouped
-    ∙ rw (entry_again size version shape before e (flat_map (entry_text version) es ++ rest) is follow.0 fit.0, entries_read size version shape (Some e.0) es rest is follow.1 fit.1) refl
+    ∙ rw (
+      entry_again size version shape before e (flat_map (entry_text version) es ++ rest) is follow.0 fit.0,
+      entries_read size version shape (Some e.0) es rest is follow.1 fit.1,
+    ) refl

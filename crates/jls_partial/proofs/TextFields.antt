@@ -68,7 +68,11 @@ pub record Takes (bytes text rest : List ℕ) : Type 0 where
   pub rest_fits : IsBytes rest
 
 pub Takes-then : (a x b y c : List ℕ) → Takes a x b → Takes b y c → Takes a (x ++ y) c
-Takes-then a x b y c p q = record { parts = p.parts ∙ ap (λ (t : List ℕ). x ++ t) q.parts ∙ sym (append_assoc x y c); rest_fits = q.rest_fits }
+Takes-then a x b y c p q = record {
+  parts = p.parts ∙ ap (λ (t : List ℕ). x ++ t) q.parts ∙ sym (append_assoc x y c);
+  rest_fits =
+      q.rest_fits;
+}
 
 -- ---- numbers
 
@@ -105,18 +109,28 @@ wide64 = record {
 pub number_takes : (size : ℕ) (w : Width) (limit : ℕ) (wide : IsWide w limit) (bytes : List ℕ) (n : ℕ) (rest : List ℕ) → IsBytes bytes
     → number_field size w bytes ≡ Ok (n, rest) → Takes bytes (to_be_bytes w n) rest × (n < limit)
 number_takes size w limit wide bytes n rest fits e =
-    let g = guard_ok (ltb (length bytes) (byte_len w)) (fault.Truncated size) (from_be_bytes w (take (byte_len w) bytes), drop (byte_len w) bytes) (n, rest) e in
+    let g = guard_ok (ltb (length bytes) (byte_len w)) (fault.Truncated size)
+    (from_be_bytes w (take (byte_len w) bytes), drop (byte_len w) bytes) (n, rest) e in
     let long : byte_len w ≤ length bytes = ltb-false _ _ g.0 in
     let n-is : from_be_bytes w (take (byte_len w) bytes) ≡ n = ap (λ (p : ℕ × List ℕ). p.0) g.1 in
     let rest-is : drop (byte_len w) bytes ≡ rest = ap (λ (p : ℕ × List ℕ). p.1) g.1 in
-    let prefix : to_be_bytes w n ≡ take (byte_len w) bytes = rw (← n-is) (wide.back (take (byte_len w) bytes) (omega (arith, length-take (byte_len w) bytes)) (IsBytes-take (byte_len w) bytes fits)) in
-    (record { parts = rw (prefix, ← rest-is) (sym (take-append-drop (byte_len w) bytes)); rest_fits = rw (← rest-is) (IsBytes-drop (byte_len w) bytes fits) }, rw (← n-is) (wide.below (take (byte_len w) bytes) (IsBytes-take (byte_len w) bytes fits)))
+    let prefix : to_be_bytes w n ≡ take (byte_len w) bytes =
+    rw (← n-is) (wide.back (take (byte_len w) bytes) (omega (arith, length-take (byte_len w) bytes))
+    (IsBytes-take (byte_len w) bytes fits)) in (
+      record {
+        parts = rw (prefix, ← rest-is) (sym (take-append-drop (byte_len w) bytes));
+        rest_fits =
+            rw (← rest-is) (IsBytes-drop (byte_len w) bytes fits);
+      },
+      rw (← n-is) (wide.below (take (byte_len w) bytes) (IsBytes-take (byte_len w) bytes fits)),
+    )
 
 pub number_again : (size : ℕ) (w : Width) (limit : ℕ) (wide : IsWide w limit) (n : ℕ) (rest : List ℕ) → n < limit
     → number_field size w (to_be_bytes w n ++ rest) ≡ Ok (n, rest)
 number_again size w limit wide n rest lt =
     let len = wide.len n in
-    let long : ltb (length (to_be_bytes w n ++ rest)) (byte_len w) ≡ false = le-ltb _ _ (omega (arith, length-append (to_be_bytes w n) rest)) in
+    let long : ltb (length (to_be_bytes w n ++ rest)) (byte_len w) ≡ false =
+    le-ltb _ _ (omega (arith, length-append (to_be_bytes w n) rest)) in
     rw (long, take_at (to_be_bytes w n) rest (byte_len w) len, drop_at (to_be_bytes w n) rest (byte_len w) len, wide.again n lt) refl
 
 -- ---- bytes
@@ -126,7 +140,8 @@ pub byte_takes : (size : ℕ) (bytes : List ℕ) (b : ℕ) (rest : List ℕ) →
 unfolding byte_field
 byte_takes size [] b rest fits e = absurd cc
 byte_takes size (x ∷ bytes) b rest fits e =
-    subst (λ (y : ℕ × List ℕ). Takes (x ∷ bytes) (y.0 ∷ []) y.1 × (y.0 < 256)) (ok_is (x, bytes) (b, rest) e) (record { parts = refl; rest_fits = IsBytes-rest x bytes fits }, fits 0)
+    subst (λ (y : ℕ × List ℕ). Takes (x ∷ bytes) (y.0 ∷ []) y.1 × (y.0 < 256)) (ok_is (x, bytes) (b, rest) e)
+    (record { parts = refl; rest_fits = IsBytes-rest x bytes fits }, fits 0)
 
 pub byte_again : (size b : ℕ) (rest : List ℕ) → byte_field size (b ∷ rest) ≡ Ok (b, rest)
 unfolding byte_field
@@ -139,8 +154,11 @@ bytes_take size n bytes xs rest fits e =
     let g = guard_ok (ltb (length bytes) n) (fault.Truncated size) (take n bytes, drop n bytes) (xs, rest) e in
     let long : n ≤ length bytes = ltb-false _ _ g.0 in
     let len : length (take n bytes) ≡ n = omega (arith, length-take n bytes) in
-    subst (λ (y : List ℕ × List ℕ). Takes bytes y.0 y.1 × (length y.0 ≡ n) × AllByRecursion (λ b. b < 256) y.0) g.1
-    (record { parts = sym (take-append-drop n bytes); rest_fits = IsBytes-drop n bytes fits }, len, each_byte (take n bytes) (IsBytes-take n bytes fits))
+    subst (λ (y : List ℕ × List ℕ). Takes bytes y.0 y.1 × (length y.0 ≡ n) × AllByRecursion (λ b. b < 256) y.0) g.1 (
+      record { parts = sym (take-append-drop n bytes); rest_fits = IsBytes-drop n bytes fits },
+      len,
+      each_byte (take n bytes) (IsBytes-take n bytes fits),
+    )
 
 pub bytes_again : (size : ℕ) (xs rest : List ℕ) → bytes_field size (length xs) (xs ++ rest) ≡ Ok (xs, rest)
 unfolding bytes_field
@@ -150,7 +168,8 @@ bytes_again size xs rest =
 
 -- what is read after a byte of the magic
 abbrev pub magic_then : ℕ → ℕ → List ℕ → List ℕ → ℕ × List ℕ → Result (List ℕ) TextFault
-magic_then size wanted others bytes first = cond (eqb first.0 wanted) (magic_field size others first.1) (Err (fault.Magic (offset size bytes)))
+magic_then size wanted others bytes first =
+    cond (eqb first.0 wanted) (magic_field size others first.1) (Err (fault.Magic (offset size bytes)))
 
 -- the test of a byte of the magic did not fail
 wanted_ok : (b : Bool) (read : Result (List ℕ) TextFault) (d : TextFault) (rest : List ℕ) → cond b read (Err d) ≡ Ok rest
@@ -161,13 +180,15 @@ wanted_ok false read d rest e = absurd cc
 pub magic_takes : (size : ℕ) (wanted bytes rest : List ℕ) → IsBytes bytes → magic_field size wanted bytes ≡ Ok rest
     → Takes bytes wanted rest
 unfolding magic_field
-magic_takes size [] bytes rest fits e = subst (λ (y : List ℕ). Takes bytes [] y) (ok_is bytes rest e) (record { parts = refl; rest_fits = fits })
+magic_takes size [] bytes rest fits e =
+    subst (λ (y : List ℕ). Takes bytes [] y) (ok_is bytes rest e) (record { parts = refl; rest_fits = fits })
 magic_takes size (wanted ∷ others) bytes rest fits e =
     let a = bind_ok (byte_field size bytes) (magic_then size wanted others bytes) rest e in
     let g = wanted_ok (eqb a.0.0 wanted) (magic_field size others a.0.1) (fault.Magic (offset size bytes)) rest a.2 in
     let first = byte_takes size bytes a.0.0 a.0.1 fits a.1 in
     let second = magic_takes size others a.0.1 rest first.0.rest_fits g.1 in
-    subst (λ (b : ℕ). Takes bytes (b ∷ others) rest) (eqb-true a.0.0 wanted g.0) (Takes-then bytes (a.0.0 ∷ []) a.0.1 others rest first.0 second)
+    subst (λ (b : ℕ). Takes bytes (b ∷ others) rest) (eqb-true a.0.0 wanted g.0)
+    (Takes-then bytes (a.0.0 ∷ []) a.0.1 others rest first.0 second)
 
 pub magic_again : (size : ℕ) (wanted rest : List ℕ) → magic_field size wanted (wanted ++ rest) ≡ Ok rest
 unfolding magic_field
@@ -190,7 +211,9 @@ pub version_takes : (size : ℕ) (bytes : List ℕ) (x : Version × List ℕ) �
     → Takes bytes (version_byte x.0 ∷ []) x.1
 unfolding version_field
 version_takes size bytes x fits e =
-    let b = bind_ok (byte_field size bytes) (λ byte. cond (eqb byte.0 1) (Ok (One, byte.1)) (cond (eqb byte.0 2) (Ok (Two, byte.1)) (Err (fault.Magic (offset size bytes))))) x e in
+    let b = bind_ok (byte_field size bytes)
+    (λ byte. cond (eqb byte.0 1) (Ok (One, byte.1)) (cond (eqb byte.0 2) (Ok (Two, byte.1)) (Err (fault.Magic (offset size bytes))))) x
+    e in
     let t = byte_takes size bytes b.0.0 b.0.1 fits b.1 in
     let v = version_takes_one b.0.0 (eqb b.0.0 1) (eqb b.0.0 2) (fault.Magic (offset size bytes)) b.0.1 x refl refl b.2 in
     subst (λ (n : ℕ). Takes bytes (n ∷ []) x.1) (sym v.0) (subst (λ (r : List ℕ). Takes bytes (b.0.0 ∷ []) r) v.1 t.0)
@@ -241,7 +264,8 @@ four p x y ids = record { precision = p; width = x; height = y; ids = ids }
 
 shape_made : (p x y : ℕ) (ids : List ℕ) (s : PictureShape) → shape_of p x y ids ≡ Ok s → (has_repeat ids ≡ false) × (four p x y ids ≡ s)
 shape_made p x y ids s e =
-    elim (size_fault p x y (length ids)) as (λ (o : Option ShapeFault). unless_fault o (cond (has_repeat ids) (Err RepeatedId) (Ok (four p x y ids))) ≡ Ok s → (has_repeat ids ≡ false) × (four p x y ids ≡ s)) [
+    elim (size_fault p x y (length ids)) as (λ (o : Option ShapeFault). unless_fault o
+    (cond (has_repeat ids) (Err RepeatedId) (Ok (four p x y ids))) ≡ Ok s → (has_repeat ids ≡ false) × (four p x y ids ≡ s)) [
       | None ↦ λ h. no_repeat (has_repeat ids) h
       | Some f ↦ λ h. absurd cc
     ] e
@@ -276,7 +300,8 @@ shape_takes size bytes shape rest fits e =
     let x = bind_ok (number_field size w16 p.0.1) (after_width size p.0.0) (shape, rest) p.2 in
     let y = bind_ok (number_field size w16 x.0.1) (after_height size p.0.0 x.0.0) (shape, rest) x.2 in
     let n = bind_ok (byte_field size y.0.1) (after_count size p.0.0 x.0.0 y.0.0) (shape, rest) y.2 in
-    let j = bind_ok (unless_bad_shape (size_fault p.0.0 x.0.0 y.0.0 n.0.0) n.0.1) (after_sizes size p.0.0 x.0.0 y.0.0 n.0.0) (shape, rest) n.2 in
+    let j = bind_ok (unless_bad_shape (size_fault p.0.0 x.0.0 y.0.0 n.0.0) n.0.1) (after_sizes size p.0.0 x.0.0 y.0.0 n.0.0) (shape, rest)
+    n.2 in
     let g = judged_ok (size_fault p.0.0 x.0.0 y.0.0 n.0.0) n.0.1 j.0 j.1 in
     let i = bind_ok (bytes_field size n.0.0 j.0) (after_ids p.0.0 x.0.0 y.0.0) (shape, rest) j.2 in
     let s = bind_ok (shape_or_fault (shape_of p.0.0 x.0.0 y.0.0 i.0.0)) (λ shape. Ok (shape, i.0.1)) (shape, rest) i.2 in
@@ -288,11 +313,14 @@ shape_takes size bytes shape rest fits e =
     let made = shape_made p.0.0 x.0.0 y.0.0 i.0.0 s.0 (made_ok (shape_of p.0.0 x.0.0 y.0.0 i.0.0) s.0 s.1) in
     let sizes = size_none p.0.0 x.0.0 y.0.0 n.0.0 g.0 in
     let count : length i.0.0 ≡ n.0.0 = t4.1 in
-    let e34 = Takes-then y.0.1 (n.0.0 ∷ []) n.0.1 i.0.0 i.0.1 t3.0 (subst (λ (b : List ℕ). Takes b i.0.0 i.0.1) {x = j.0} {y = n.0.1} (sym g.1) t4.0) in
+    let e34 = Takes-then y.0.1 (n.0.0 ∷ []) n.0.1 i.0.0 i.0.1 t3.0
+    (subst (λ (b : List ℕ). Takes b i.0.0 i.0.1) {x = j.0} {y = n.0.1} (sym g.1) t4.0) in
     let e24 = Takes-then x.0.1 (to_be_bytes w16 y.0.0) y.0.1 (n.0.0 ∷ i.0.0) i.0.1 t2.0 e34 in
     let e14 = Takes-then p.0.1 (to_be_bytes w16 x.0.0) x.0.1 (to_be_bytes w16 y.0.0 ++ n.0.0 ∷ i.0.0) i.0.1 t1.0 e24 in
     let e04 = Takes-then bytes (p.0.0 ∷ []) p.0.1 (to_be_bytes w16 x.0.0 ++ to_be_bytes w16 y.0.0 ++ n.0.0 ∷ i.0.0) i.0.1 t0.0 e14 in
-    let whole : Takes bytes (shape_text (four p.0.0 x.0.0 y.0.0 i.0.0)) i.0.1 = subst (λ (k : ℕ). Takes bytes (p.0.0 ∷ to_be_bytes w16 x.0.0 ++ to_be_bytes w16 y.0.0 ++ k ∷ i.0.0) i.0.1) {x = n.0.0} {y = length i.0.0} (sym count) e04 in
+    let whole : Takes bytes (shape_text (four p.0.0 x.0.0 y.0.0 i.0.0)) i.0.1 =
+    subst (λ (k : ℕ). Takes bytes (p.0.0 ∷ to_be_bytes w16 x.0.0 ++ to_be_bytes w16 y.0.0 ++ k ∷ i.0.0) i.0.1) {x = n.0.0}
+    {y = length i.0.0} (sym count) e04 in
     let is : IsShape (four p.0.0 x.0.0 y.0.0 i.0.0) = record {
       precision_at_least = sizes.0.0;
       precision_at_most = sizes.0.1;
@@ -305,8 +333,10 @@ shape_takes size bytes shape rest fits e =
       ids_are_bytes = t4.2;
       ids_differ = made.0;
     } in
-    subst (λ (y : PictureShape × List ℕ). Takes bytes (shape_text y.0) y.1 × IsShape y.0) {x = (s.0, i.0.1)} (ok_is (s.0, i.0.1) (shape, rest) s.2)
-    (subst (λ (z : PictureShape). Takes bytes (shape_text z) i.0.1 × IsShape z) {x = four p.0.0 x.0.0 y.0.0 i.0.0} {y = s.0} made.1 (whole, is))
+    subst (λ (y : PictureShape × List ℕ). Takes bytes (shape_text y.0) y.1 × IsShape y.0) {x = (s.0, i.0.1)}
+    (ok_is (s.0, i.0.1) (shape, rest) s.2)
+    (subst (λ (z : PictureShape). Takes bytes (shape_text z) i.0.1 × IsShape z) {x = four p.0.0 x.0.0 y.0.0 i.0.0} {y = s.0} made.1
+    (whole, is))
 
 pub shape_again : (size : ℕ) (shape : PictureShape) (rest : List ℕ) → IsShape shape
     → shape_fields size (shape_text shape ++ rest) ≡ Ok (shape, rest)
@@ -317,7 +347,8 @@ shape_again size shape rest is =
     let ids = length shape.ids ∷ shape.ids in
     let regrouped : shape_text shape ++ rest ≡ shape.precision ∷ (x ++ (y ++ (length shape.ids ∷ (shape.ids ++ rest)))) =
     ap (λ (t : List ℕ). shape.precision ∷ t) (append_assoc (x ++ y) ids rest ∙ append_assoc x y (ids ++ rest)) in
-    let none = none_from shape.precision shape.width shape.height (length shape.ids) is.precision_at_least is.precision_at_most is.width_at_least is.height_at_least is.ids_at_least is.ids_at_most in
+    let none = none_from shape.precision shape.width shape.height (length shape.ids) is.precision_at_least is.precision_at_most
+    is.width_at_least is.height_at_least is.ids_at_least is.ids_at_most in
     let differ = is.ids_differ in
     ap (shape_fields size) regrouped
     ∙ rw (

@@ -72,11 +72,18 @@ said_from_follow : (version : Version) (shape : PictureShape) (es : List Entry) 
     → AllByRecursion (IsSaidEntry version shape) es → AreSaid version shape es
 said_from_follow version shape es follow each =
     let parts = each_bare version shape es each in
-    record { entries = record { sorted = subst (IsStrictlySortedBy place_cmp) (sym (bare_places es)) (sorted_from_follow shape es follow); each = parts.0 }; said = parts.1 }
+    record {
+      entries = record {
+        sorted = subst (IsStrictlySortedBy place_cmp) (sym (bare_places es)) (sorted_from_follow shape es follow);
+        each = parts.0;
+      };
+      said = parts.1;
+    }
 
 -- all that a text is made of
 abbrev after_version : ℕ → Version × List ℕ → Result Parts TextFault
-after_version size version = shape_fields size version.1 >>= λ shape. number_field size w32 shape.1 >>= λ count. entries_fields size version.0 shape.0 None count.0 count.1 >>= λ es. Ok (shape.0, es.0, es.1)
+after_version size version = shape_fields size version.1 >>= λ shape. number_field size w32 shape.1 >>= λ count. entries_fields size
+    version.0 shape.0 None count.0 count.1 >>= λ es. Ok (shape.0, es.0, es.1)
 
 text_takes : (size : ℕ) (bytes : List ℕ) (x : Parts) → IsBytes bytes → text_fields size bytes ≡ Ok x
     → (version : Version) × (bytes ≡ text_of version x.0 x.1 ++ x.2) × IsShape x.0 × AreSaid version x.0 x.1
@@ -85,8 +92,11 @@ text_takes size bytes x fits e =
     let m = bind_ok (magic_field size magic bytes) (λ version_bytes. version_field size version_bytes >>= after_version size) x e in
     let v = bind_ok (version_field size m.0) (after_version size) x m.2 in
     let version = v.0.0 in
-    let s = bind_ok (shape_fields size v.0.1) (λ shape. number_field size w32 shape.1 >>= λ count. entries_fields size version shape.0 None count.0 count.1 >>= λ es. Ok (shape.0, es.0, es.1)) x v.2 in
-    let n = bind_ok (number_field size w32 s.0.1) (λ count. entries_fields size version s.0.0 None count.0 count.1 >>= λ es. Ok (s.0.0, es.0, es.1)) x s.2 in
+    let s = bind_ok (shape_fields size v.0.1)
+    (λ shape. number_field size w32 shape.1 >>= λ count. entries_fields size version shape.0 None count.0 count.1 >>= λ es. Ok
+    (shape.0, es.0, es.1)) x v.2 in
+    let n = bind_ok (number_field size w32 s.0.1)
+    (λ count. entries_fields size version s.0.0 None count.0 count.1 >>= λ es. Ok (s.0.0, es.0, es.1)) x s.2 in
     let r = bind_ok (entries_fields size version s.0.0 None n.0.0 n.0.1) (λ es. Ok (s.0.0, es.0, es.1)) x n.2 in
     let t0 = magic_takes size magic bytes m.0 fits m.1 in
     let tv = version_takes size m.0 v.0 t0.rest_fits v.1 in
@@ -99,9 +109,12 @@ text_takes size bytes x fits e =
     let e01 = Takes-then bytes magic m.0 (version_byte version ∷ shape_text shape) s.0.1 t0 ev1 in
     let e02 = Takes-then bytes (head_text version shape) s.0.1 (to_be_bytes w32 n.0.0) n.0.1 e01 t2.0 in
     let e03 = Takes-then bytes (head_text version shape ++ to_be_bytes w32 n.0.0) n.0.1 (flat_map (entry_text version) es) r.0.1 e02 t3.0 in
-    let whole : bytes ≡ text_of version shape es ++ r.0.1 = subst (λ (k : ℕ). bytes ≡ ((head_text version shape ++ to_be_bytes w32 k) ++ flat_map (entry_text version) es) ++ r.0.1) (sym t3.1) e03.parts in
+    let whole : bytes ≡ text_of version shape es ++ r.0.1 =
+    subst (λ (k : ℕ). bytes ≡ ((head_text version shape ++ to_be_bytes w32 k) ++ flat_map (entry_text version) es) ++ r.0.1) (sym t3.1)
+    e03.parts in
     let made : Parts = (shape, es, r.0.1) in
-    let said = subst (λ (y : Parts). (bytes ≡ text_of version y.0 y.1 ++ y.2) × IsShape y.0 × AreSaid version y.0 y.1) (ok_is made x r.2) (whole, t1.1, said_from_follow version shape es t3.2 t3.3) in
+    let said = subst (λ (y : Parts). (bytes ≡ text_of version y.0 y.1 ++ y.2) × IsShape y.0 × AreSaid version y.0 y.1) (ok_is made x r.2)
+    (whole, t1.1, said_from_follow version shape es t3.2 t3.3) in
     (version, said.0, said.1, said.2)
 
 text_again : (size : ℕ) (version : Version) (shape : PictureShape) (es : List Entry) → IsShape shape → AreSaid version shape es
@@ -114,14 +127,17 @@ text_again size version shape es is said =
     let few : length (map bare es) < 2 ^ 32 = few_entries shape (map bare es) is kept in
     let regrouped : text_of version shape es ≡ magic ++ (version_byte version ∷ (shape_text shape ++ (count ++ (body ++ [])))) =
     sym (append-nil (text_of version shape es))
-    ∙ append_assoc (head_text version shape ++ count) body [] ∙ append_assoc (head_text version shape) count (body ++ []) ∙ append_assoc magic (version_byte version ∷ shape_text shape) (count ++ (body ++ [])) in
+    ∙ append_assoc (head_text version shape ++ count) body [] ∙ append_assoc (head_text version shape) count (body ++ [])
+    ∙ append_assoc magic (version_byte version ∷ shape_text shape) (count ++ (body ++ [])) in
     ap (text_fields size) regrouped
     ∙ rw (
       magic_again size magic (version_byte version ∷ (shape_text shape ++ (count ++ (body ++ [])))),
       version_again size version (shape_text shape ++ (count ++ (body ++ []))),
       shape_again size shape (count ++ (body ++ [])) is,
       number_again size w32 (2 ^ 32) wide32 (length es) (body ++ []) (omega (arith, few, length-map es bare)),
-      entries_read size version shape None es [] is (follow_from_sorted shape es (subst (IsStrictlySortedBy place_cmp) (bare_places es) kept.sorted) kept.each) (each_said version shape es kept.each said.said),
+      entries_read size version shape None es [] is
+          (follow_from_sorted shape es (subst (IsStrictlySortedBy place_cmp) (bare_places es) kept.sorted) kept.each)
+          (each_said version shape es kept.each said.said),
     ) refl
 
 -- ---- partial pictures and their entries
@@ -145,8 +161,10 @@ partial_is version shape es is h =
     let p = partial_of shape es in
     record {
       shape = is;
-      fitting = λ c l x held. fits_kept shape bs c l x h.entries (sym (holds_kept shape bs p c l x h.entries (readings_are shape es)) ∙ held);
-      countable = λ c l. subst (λ (xs : List (List ℕ)). length xs < 2 ^ 64) (sym (readings_kept shape bs p c l h.entries (readings_are shape es))) (countable_at shape bs (place c l) h.entries);
+      fitting = λ c l x held. fits_kept shape bs c l x h.entries
+          (sym (holds_kept shape bs p c l x h.entries (readings_are shape es)) ∙ held);
+      countable = λ c l. subst (λ (xs : List (List ℕ)). length xs < 2 ^ 64)
+          (sym (readings_kept shape bs p c l h.entries (readings_are shape es))) (countable_at shape bs (place c l) h.entries);
       marks_held = λ r s held. holds_reading shape es r ∙ any_of (kept_readings es) r s (sym (holds_mark shape es r s) ∙ held);
       sources_small = λ r s held. small_of r s (kept_readings es) (all_small es h.said) (sym (holds_mark shape es r s) ∙ held);
     }
@@ -154,7 +172,8 @@ partial_is version shape es is h =
     any_of : (ks : List (Reading × List ℕ)) (r : Reading) (s : ℕ) → has_mark reading_cmp r s ks ≡ true
         → has_item reading_cmp r (λ _. true) ks ≡ true
     any_of [] r s e = absurd cc
-    any_of (k ∷ ks) r s e = first (eq_by_cmp reading_cmp r k.0) (list_any (eq_by_cmp nat_cmp s) k.1) (has_mark reading_cmp r s ks) (has_item reading_cmp r (λ _. true) ks) (any_of ks r s) e
+    any_of (k ∷ ks) r s e = first (eq_by_cmp reading_cmp r k.0) (list_any (eq_by_cmp nat_cmp s) k.1) (has_mark reading_cmp r s ks)
+        (has_item reading_cmp r (λ _. true) ks) (any_of ks r s) e
       where
         first : (a b c d : Bool) → (c ≡ true → d ≡ true) → ((a && b) || c) ≡ true → ((a && true) || d) ≡ true
         first true b c d f e = refl
@@ -174,7 +193,8 @@ partial_is version shape es is h =
 
     all_small : (es : List Entry) → AllByRecursion (λ e. AllByRecursion (IsSaid version) e.1) es → AllByRecursion IsSmall (kept_readings es)
     all_small [] h = tt
-    all_small (e ∷ es) h = subst (AllByRecursion IsSmall) (sym (flat_map-cons (λ (e : Entry). map (kept_at_place e.0) e.1) e es)) (all_then (map (kept_at_place e.0) e.1) (kept_readings es) (all_there e.0 e.1 h.0) (all_small es h.1))
+    all_small (e ∷ es) h = subst (AllByRecursion IsSmall) (sym (flat_map-cons (λ (e : Entry). map (kept_at_place e.0) e.1) e es))
+        (all_then (map (kept_at_place e.0) e.1) (kept_readings es) (all_there e.0 e.1 h.0) (all_small es h.1))
 
     small_of : (r : Reading) (s : ℕ) (ks : List (Reading × List ℕ)) → AllByRecursion IsSmall ks → has_mark reading_cmp r s ks ≡ true
         → s < 2 ^ 32
@@ -198,11 +218,13 @@ entries_said version p is says = record {
     own : (r : Reading) → IsSourceList (sources_of reading_cmp p.marks r)
     own r = record {
       sorted = items_rise _;
-      small = all_items nat_cmp_total (λ s. s < 2 ^ 32) _ (λ s h. is.sources_small r s (sym (contains-sources_of reading_cmp p.marks r s) ∙ h));
+      small = all_items nat_cmp_total (λ s. s < 2 ^ 32) _
+          (λ s h. is.sources_small r s (sym (contains-sources_of reading_cmp p.marks r s) ∙ h));
     }
 
     none : (v : Version) → SaysAll v p → (r : Reading) → SaysSources v (sources_of reading_cmp p.marks r)
-    none One e r = sources_again reading_cmp p.marks r [] no_order (λ s. ap (λ (m : set.OrderedSet (mark_cmp reading_cmp)). set.contains m (r, s)) e ∙ contains-empty (mark_cmp reading_cmp) (r, s))
+    none One e r = sources_again reading_cmp p.marks r [] no_order
+        (λ s. ap (λ (m : set.OrderedSet (mark_cmp reading_cmp)). set.contains m (r, s)) e ∙ contains-empty (mark_cmp reading_cmp) (r, s))
     none Two e r = tt
 
     line : (at : LinePlace) (xs : List (List ℕ)) → AllByRecursion (IsSaid version) (map (λ x. (x, sources_at p at.component at.line x)) xs)
@@ -216,7 +238,9 @@ entries_said version p is says = record {
 -- a partial picture of which a text of version 1 is read has no source
 says_all : (version : Version) (shape : PictureShape) (es : List Entry) → AreSaid version shape es → SaysAll version (partial_of shape es)
 says_all Two shape es h = tt
-says_all One shape es h = same_set marks_total marks_exact (partial_of shape es).marks set.empty (λ m. holds_mark shape es m.0 m.1 ∙ nothing (kept_readings es) (unsaid es h.said) m.0 m.1 ∙ sym (contains-empty (mark_cmp reading_cmp) m))
+says_all One shape es h = same_set marks_total marks_exact (partial_of shape es).marks set.empty
+    (λ m. holds_mark shape es m.0 m.1 ∙ nothing (kept_readings es) (unsaid es h.said) m.0 m.1
+    ∙ sym (contains-empty (mark_cmp reading_cmp) m))
   where
     IsUnsaid : Reading × List ℕ → Type 0
     IsUnsaid k = k.1 ≡ []
@@ -232,11 +256,13 @@ says_all One shape es h = same_set marks_total marks_exact (partial_of shape es)
 
     unsaid : (es : List Entry) → AllByRecursion (λ e. AllByRecursion (IsSaid One) e.1) es → AllByRecursion IsUnsaid (kept_readings es)
     unsaid [] h = tt
-    unsaid (e ∷ es) h = subst (AllByRecursion IsUnsaid) (sym (flat_map-cons (λ (e : Entry). map (kept_at_place e.0) e.1) e es)) (all_then (map (kept_at_place e.0) e.1) (kept_readings es) (all_there e.0 e.1 h.0) (unsaid es h.1))
+    unsaid (e ∷ es) h = subst (AllByRecursion IsUnsaid) (sym (flat_map-cons (λ (e : Entry). map (kept_at_place e.0) e.1) e es))
+        (all_then (map (kept_at_place e.0) e.1) (kept_readings es) (all_there e.0 e.1 h.0) (unsaid es h.1))
 
     nothing : (ks : List (Reading × List ℕ)) → AllByRecursion IsUnsaid ks → (r : Reading) (s : ℕ) → has_mark reading_cmp r s ks ≡ false
     nothing [] h r s = refl
-    nothing (k ∷ ks) h r s = (λ i. (eq_by_cmp reading_cmp r k.0 && list_any (eq_by_cmp nat_cmp s) (h.0 i)) || nothing ks h.1 r s i) ∙ and_false (eq_by_cmp reading_cmp r k.0)
+    nothing (k ∷ ks) h r s = (λ i. (eq_by_cmp reading_cmp r k.0 && list_any (eq_by_cmp nat_cmp s) (h.0 i)) || nothing ks h.1 r s i)
+        ∙ and_false (eq_by_cmp reading_cmp r k.0)
       where
         and_false : (b : Bool) → ((b && false) || false) ≡ false
         and_false true = refl
@@ -248,15 +274,23 @@ says_all One shape es h = same_set marks_total marks_exact (partial_of shape es)
 pub read_takes : (bytes : List ℕ) (p : PartialPicture) → IsBytes bytes → read_text bytes ≡ Ok p → IsTextOf bytes p
 unfolding read_text
 read_takes bytes p fits e =
-    let f = bind_ok (text_fields (length bytes) bytes) (λ (x : Parts). cond (eqb (length x.2) 0) (Ok (partial_of x.0 x.1)) (Err (fault.Trailing (offset (length bytes) x.2)))) p e in
+    let f = bind_ok (text_fields (length bytes) bytes)
+    (λ (x : Parts). cond (eqb (length x.2) 0) (Ok (partial_of x.0 x.1)) (Err (fault.Trailing (offset (length bytes) x.2)))) p e in
     let g = passed_ok (eqb (length f.0.2) 0) (fault.Trailing (offset (length bytes) f.0.2)) (partial_of f.0.0 f.0.1) p f.2 in
     let t = text_takes (length bytes) bytes f.0 fits f.1 in
     let version = t.0 in
     let nothing : f.0.2 ≡ [] = nil_from_length f.0.2 (eqb-true _ _ g.0) in
     let q = partial_of f.0.0 f.0.1 in
     let whole : bytes ≡ text_of version f.0.0 (entries q) =
-    t.1 ∙ ap (λ (r : List ℕ). text_of version f.0.0 f.0.1 ++ r) nothing ∙ append-nil (text_of version f.0.0 f.0.1) ∙ ap (text_of version f.0.0) (sym (said_again version f.0.0 f.0.1 t.3)) in
-    subst (IsTextOf bytes) g.1 (record { partial = partial_is version f.0.0 f.0.1 t.2 t.3; version = version; says_all = says_all version f.0.0 f.0.1 t.3; bytes_are = whole })
+    t.1 ∙ ap (λ (r : List ℕ). text_of version f.0.0 f.0.1 ++ r) nothing ∙ append-nil (text_of version f.0.0 f.0.1)
+    ∙ ap (text_of version f.0.0) (sym (said_again version f.0.0 f.0.1 t.3)) in
+    subst (IsTextOf bytes) g.1 (record {
+      partial = partial_is version f.0.0 f.0.1 t.2 t.3;
+      version = version;
+      says_all = says_all version f.0.0 f.0.1 t.3;
+      bytes_are =
+          whole;
+    })
 
 -- each text is read
 pub read_again : (bytes : List ℕ) (p : PartialPicture) → IsTextOf bytes p → read_text bytes ≡ Ok p
@@ -264,7 +298,8 @@ unfolding read_text
 read_again bytes p is =
     let whole = text_of is.version p.shape (entries p) in
     ap read_text is.bytes_are
-    ∙ rw (text_again (length whole) is.version p.shape (entries p) is.partial.shape (entries_said is.version p is.partial is.says_all)) (ap (λ (q : PartialPicture). Ok q) (partial_again p is.partial.marks_held))
+    ∙ rw (text_again (length whole) is.version p.shape (entries p) is.partial.shape (entries_said is.version p is.partial is.says_all))
+    (ap (λ (q : PartialPicture). Ok q) (partial_again p is.partial.marks_held))
 
 -- partial pictures that have one text are one
 pub one_text : (bytes : List ℕ) (p q : PartialPicture) → IsTextOf bytes p → IsTextOf bytes q → p ≡ q

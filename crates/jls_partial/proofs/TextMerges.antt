@@ -61,18 +61,23 @@ shape_stage size version (Ok shape) = count_stage size version shape.0 (number_f
 shape_stage size version (Err e) = refl
 
 version_stage : (size : ℕ) (r : Result (Version × List ℕ) TextFault)
-    → ((r >>= λ version. shape_fields size version.1 >>= λ shape. number_field size w32 shape.1 >>= entries_then size version.0 shape.0) >>= finish size)
-    ≡ ((r >>= λ version. shape_fields size version.1 >>= λ shape. number_field size w32 shape.1 >>= head_then size version.0 shape.0) >>= following)
+    → ((r >>= λ version. shape_fields size version.1 >>= λ shape. number_field size w32 shape.1 >>= entries_then size version.0 shape.0) >>=
+    finish size)
+    ≡ ((r >>= λ version. shape_fields size version.1 >>= λ shape. number_field size w32 shape.1 >>= head_then size version.0 shape.0) >>=
+    following)
 version_stage size (Ok version) = shape_stage size version.0 (shape_fields size version.1)
 version_stage size (Err e) = refl
 
 magic_stage : (size : ℕ) (r : Result (List ℕ) TextFault)
-    → ((r >>= λ version_bytes. version_field size version_bytes >>= λ version. shape_fields size version.1 >>= λ shape. number_field size w32 shape.1 >>= entries_then size version.0 shape.0) >>= finish size)
-    ≡ ((r >>= λ version_bytes. version_field size version_bytes >>= λ version. shape_fields size version.1 >>= λ shape. number_field size w32 shape.1 >>= head_then size version.0 shape.0) >>= following)
+    → ((r >>= λ version_bytes. version_field size version_bytes >>= λ version. shape_fields size version.1 >>= λ shape. number_field size
+    w32 shape.1 >>= entries_then size version.0 shape.0) >>= finish size)
+    ≡ ((r >>= λ version_bytes. version_field size version_bytes >>= λ version. shape_fields size version.1 >>= λ shape. number_field size
+    w32 shape.1 >>= head_then size version.0 shape.0) >>= following)
 magic_stage size (Ok version_bytes) = version_stage size (version_field size version_bytes)
 magic_stage size (Err e) = refl
 
-pub text_is : (bytes : List ℕ) → read_text bytes ≡ (head_fields bytes >>= λ h. with_rest h.0 (nothing_known h.2) (entries_fields h.0 h.1 h.2 None h.3 h.4))
+pub text_is : (bytes : List ℕ) → read_text bytes
+    ≡ (head_fields bytes >>= λ h. with_rest h.0 (nothing_known h.2) (entries_fields h.0 h.1 h.2 None h.3 h.4))
 unfolding read_text text_fields head_fields
 text_is bytes = magic_stage (length bytes) (magic_field (length bytes) magic bytes)
 
@@ -88,13 +93,16 @@ head_fault e bytes h = subst (Fails e) (sym (text_is bytes)) (fails_then e (head
 
 -- all readings were taken where bytes stand after the last entry
 pub rest_taken : (size : ℕ) (version : Version) (shape : PictureShape) (count : ℕ) (bytes : List ℕ) (p q : PartialPicture) (rest : List ℕ)
-    → with_entries p (entries_fields size version shape None count bytes) ≡ Ok (q, rest) → TakesPrefix p q (entries_prefix size version shape None count bytes)
+    → with_entries p (entries_fields size version shape None count bytes) ≡ Ok (q, rest)
+    → TakesPrefix p q (entries_prefix size version shape None count bytes)
 rest_taken size version shape count bytes p q rest e =
     let given = entries_given p q rest (entries_fields size version shape None count bytes) e in
-    all_taken p q (entries_prefix size version shape None count bytes) (kept_readings given.0) (whole_entries size version shape None count bytes (given.0, rest) given.1) (sym given.2)
+    all_taken p q (entries_prefix size version shape None count bytes) (kept_readings given.0)
+    (whole_entries size version shape None count bytes (given.0, rest) given.1) (sym given.2)
 
 -- what is read has the shape of the picture that it is read into
-keeps_shape : (size : ℕ) (p q : PartialPicture) (read : Result (List Entry × List ℕ) TextFault) → with_rest size p read ≡ Ok q → q.shape ≡ p.shape
+keeps_shape : (size : ℕ) (p q : PartialPicture) (read : Result (List Entry × List ℕ) TextFault) → with_rest size p read ≡ Ok q → q.shape
+    ≡ p.shape
 keeps_shape size p q (Ok es) e =
     let g = passed_ok (eqb (length es.1) 0) (fault.Trailing (offset size es.1)) (with_all p (kept_readings es.0)) q e in
     ap (λ (z : PartialPicture). z.shape) (sym g.1)
@@ -114,7 +122,8 @@ into_union size p shape (Err e) = refl
 -- ---- a text that is merged
 
 module _ (bytes : List ℕ) (h : ℕ × Version × PictureShape × ℕ × List ℕ) (head : head_fields bytes ≡ Ok h) where
-  pub fault_after : (e : TextFault) → Fails e (with_rest h.0 (nothing_known h.2) (entries_fields h.0 h.1 h.2 None h.3 h.4)) → Fails e (read_text bytes)
+  pub fault_after : (e : TextFault) → Fails e (with_rest h.0 (nothing_known h.2) (entries_fields h.0 h.1 h.2 None h.3 h.4))
+      → Fails e (read_text bytes)
   fault_after e f = subst (Fails e) (sym (text_after bytes h head)) f
 
   pub differs : (old p : PartialPicture) → IsBytes bytes → same_shape old.shape h.2 ≡ false
@@ -127,9 +136,11 @@ module _ (bytes : List ℕ) (h : ℕ × Version × PictureShape × ℕ × List �
 
   module _ (old : PartialPicture) (one_shape : h.2 ≡ old.shape) where
     same_read : with_rest h.0 old (entries_fields h.0 h.1 old.shape None h.3 h.4) ≡ (following h >>= λ q. Ok (union old q))
-    same_read = ap (λ (s : PictureShape). with_rest h.0 old (entries_fields h.0 h.1 s None h.3 h.4)) (sym one_shape) ∙ into_union h.0 old h.2 (said h)
+    same_read = ap (λ (s : PictureShape). with_rest h.0 old (entries_fields h.0 h.1 s None h.3 h.4)) (sym one_shape)
+        ∙ into_union h.0 old h.2 (said h)
 
-    pub fault_merged : (e : TextFault) → Fails e (with_rest h.0 old (entries_fields h.0 h.1 old.shape None h.3 h.4)) → Fails e (read_text bytes)
+    pub fault_merged : (e : TextFault) → Fails e (with_rest h.0 old (entries_fields h.0 h.1 old.shape None h.3 h.4))
+        → Fails e (read_text bytes)
     fault_merged e f = fault_after e (fault_given e (following h) (union old) (subst (Fails e) same_read f))
 
     pub merged : (new : PartialPicture) → IsBytes bytes → with_rest h.0 old (entries_fields h.0 h.1 old.shape None h.3 h.4) ≡ Ok new
@@ -144,10 +155,12 @@ module _ (bytes : List ℕ) (h : ℕ × Version × PictureShape × ℕ × List �
           union_is = sym (ok_is (union old q.0) new q.2);
         }
 
-    pub prefix_merged : (new : PartialPicture) → TakesPrefix old new (entries_prefix h.0 h.1 old.shape None h.3 h.4) → TakesPrefix old new (text_prefix bytes)
+    pub prefix_merged : (new : PartialPicture) → TakesPrefix old new (entries_prefix h.0 h.1 old.shape None h.3 h.4)
+        → TakesPrefix old new (text_prefix bytes)
     unfolding text_prefix
     prefix_merged new f = subst (TakesPrefix old new)
-        (ap (λ (s : PictureShape). entries_prefix h.0 h.1 s None h.3 h.4) (sym one_shape) ∙ sym (ap (λ r. unless_fault r (λ (x : Head). entries_prefix x.0 x.1 x.2 None x.3 x.4)) head)) f
+        (ap (λ (s : PictureShape). entries_prefix h.0 h.1 s None h.3 h.4) (sym one_shape)
+        ∙ sym (ap (λ r. unless_fault r (λ (x : Head). entries_prefix x.0 x.1 x.2 None x.3 x.4)) head)) f
 
 -- ---- what is held after a fault
 
@@ -157,17 +170,20 @@ unfolding text_prefix
 prefix_union old p bytes e =
     let a = bind_ok (head_fields bytes) following p (sym (text_is bytes) ∙ e) in
     let h = a.0 in
-    let b = bind_ok (with_entries (nothing_known h.2) (said h)) (λ x. cond (eqb (length x.1) 0) (Ok x.0) (Err (fault.Trailing (offset h.0 x.1)))) p a.2 in
+    let b = bind_ok (with_entries (nothing_known h.2) (said h))
+    (λ x. cond (eqb (length x.1) 0) (Ok x.0) (Err (fault.Trailing (offset h.0 x.1)))) p a.2 in
     let x = b.0 in
     let g = passed_ok (eqb (length x.1) 0) (fault.Trailing (offset h.0 x.1)) x.0 p b.2 in
     let given = entries_given (nothing_known h.2) x.0 x.1 (said h) b.1 in
     let prefix : text_prefix bytes ≡ kept_readings given.0 =
-    ap (λ r. unless_fault r (λ (z : Head). entries_prefix z.0 z.1 z.2 None z.3 z.4)) a.1 ∙ whole_entries h.0 h.1 h.2 None h.3 h.4 (given.0, x.1) given.1 in
+    ap (λ r. unless_fault r (λ (z : Head). entries_prefix z.0 z.1 z.2 None z.3 z.4)) a.1
+    ∙ whole_entries h.0 h.1 h.2 None h.3 h.4 (given.0, x.1) given.1 in
     ap (with_all old) prefix ∙ entries_union old h.2 given.0 ∙ ap (union old) (given.2 ∙ g.1)
 
 pub text_between : (old new : PartialPicture) (bytes : List ℕ) → TakesPrefix old new (text_prefix bytes)
     → (p : PartialPicture) → IsTextOf bytes p → IsBetween union old new (union old p)
-text_between old new bytes f p is = between_of old new (union old p) (text_prefix bytes) (prefix_union old p bytes (read_again bytes p is)) f
+text_between old new bytes f p is =
+    between_of old new (union old p) (text_prefix bytes) (prefix_union old p bytes (read_again bytes p is)) f
 
 -- ---- a text of another shape
 
@@ -177,9 +193,11 @@ head_shape : (bytes : List ℕ) (version : Version) (shape : PictureShape) (rest
 unfolding head_fields
 head_shape bytes version shape rest h is bytes_are e =
     let size = length bytes in
-    let parted : bytes ≡ magic ++ (version_byte version ∷ (shape_text shape ++ rest)) = bytes_are ∙ append_assoc magic (version_byte version ∷ shape_text shape) rest in
+    let parted : bytes ≡ magic ++ (version_byte version ∷ (shape_text shape ++ rest)) = bytes_are
+    ∙ append_assoc magic (version_byte version ∷ shape_text shape) rest in
     let read : head_fields bytes ≡ (number_field size w32 rest >>= head_then size version shape) =
-    ap (λ (bs : List ℕ). magic_field size magic bs >>= λ version_bytes. version_field size version_bytes >>= λ v. shape_fields size v.1 >>= λ s. number_field size w32 s.1 >>= head_then size v.0 s.0) parted
+    ap (λ (bs : List ℕ). magic_field size magic bs >>= λ version_bytes. version_field size version_bytes >>= λ v. shape_fields size v.1 >>=
+    λ s. number_field size w32 s.1 >>= head_then size v.0 s.0) parted
     ∙ rw (
       magic_again size magic (version_byte version ∷ (shape_text shape ++ rest)),
       version_again size version (shape_text shape ++ rest),
@@ -190,7 +208,8 @@ head_shape bytes version shape rest h is bytes_are e =
     let made : Head = (size, version, shape, count.0.0, count.0.1) in
     ap (λ (x : Head). x.2) (ok_is made h count.2)
 
-pub no_other_head : (old : PartialPicture) (bytes : List ℕ) (h : ℕ × Version × PictureShape × ℕ × List ℕ) → head_fields bytes ≡ Ok h → h.2 ≡ old.shape
+pub no_other_head : (old : PartialPicture) (bytes : List ℕ) (h : ℕ × Version × PictureShape × ℕ × List ℕ) → head_fields bytes ≡ Ok h → h.2
+    ≡ old.shape
     → HasOtherHead old bytes → ⊥
 no_other_head old bytes h head one_shape o =
     let same : o.shape ≡ old.shape = head_shape bytes o.version o.shape o.rest h o.is_shape o.bytes_are head ∙ one_shape in

@@ -24,7 +24,8 @@ sourced = (record { component = 0; line = 0 }, (3 ∷ [], 2 ∷ 7 ∷ []) ∷ []
 
 -- what stands before its sources, up to their number
 abbrev start : List ℕ
-start = 0x4A ∷ 0x4C ∷ 0x53 ∷ 0x50 ∷ 2 ∷ 8 ∷ 0 ∷ 1 ∷ 0 ∷ 1 ∷ 1 ∷ 1 ∷ 0 ∷ 0 ∷ 0 ∷ 1 ∷ 0 ∷ 0 ∷ 0 ∷ 0 ∷ 0 ∷ 0 ∷ 0 ∷ 0 ∷ 0 ∷ 0 ∷ 1 ∷ 0 ∷ 3 ∷ 0 ∷ 0 ∷ 0 ∷ 0 ∷ 0 ∷ 0 ∷ 0 ∷ 2 ∷ []
+start = 0x4A ∷ 0x4C ∷ 0x53 ∷ 0x50 ∷ 2 ∷ 8 ∷ 0 ∷ 1 ∷ 0 ∷ 1 ∷ 1 ∷ 1 ∷ 0 ∷ 0 ∷ 0 ∷ 1 ∷ 0 ∷ 0 ∷ 0 ∷ 0 ∷ 0 ∷ 0 ∷ 0 ∷ 0 ∷ 0 ∷ 0 ∷ 1 ∷ 0 ∷ 3 ∷ 0
+    ∷ 0 ∷ 0 ∷ 0 ∷ 0 ∷ 0 ∷ 0 ∷ 2 ∷ []
 
 abbrev its_text : List ℕ
 its_text = start ++ 0 ∷ 0 ∷ 0 ∷ 2 ∷ 0 ∷ 0 ∷ 0 ∷ 7 ∷ []
@@ -62,12 +63,14 @@ in_version_one : text_of One one_sample two_readings ≡ first_text
 in_version_one = refl
 
 in_version_two : text_of Two one_sample two_readings
-    ≡ 0x4A ∷ 0x4C ∷ 0x53 ∷ 0x50 ∷ 2 ∷ drop 5 first_start ++ 0 ∷ 3 ∷ 0 ∷ 0 ∷ 0 ∷ 0 ∷ 0 ∷ 0 ∷ 0 ∷ 0 ∷ 0 ∷ 5 ∷ 0 ∷ 0 ∷ 0 ∷ 0 ∷ 0 ∷ 0 ∷ 0 ∷ 0 ∷ []
+    ≡ 0x4A ∷ 0x4C ∷ 0x53 ∷ 0x50 ∷ 2 ∷ drop 5 first_start ++ 0 ∷ 3 ∷ 0 ∷ 0 ∷ 0 ∷ 0 ∷ 0 ∷ 0 ∷ 0 ∷ 0 ∷ 0 ∷ 5 ∷ 0 ∷ 0 ∷ 0 ∷ 0 ∷ 0 ∷ 0 ∷ 0 ∷ 0
+    ∷ []
 in_version_two = refl
 
 -- what opens the readers, so that they compute
 unfoldable readers : Unit {0}
-unfolding read_text text_fields magic_field version_field byte_field bytes_field shape_fields sample_field samples_fields reading_fields source_field sources_fields own_sources_fields kept_fields readings_fields place_fields count_field entry_fields entries_fields
+unfolding read_text text_fields magic_field version_field byte_field bytes_field shape_fields sample_field samples_fields reading_fields
+    source_field sources_fields own_sources_fields kept_fields readings_fields place_fields count_field entry_fields entries_fields
 readers = tt
 
 -- the text itself

@@ -33,7 +33,8 @@ apart false b d f = refl
 
 -- the readings of a line are those at its place
 any_line : (r : Reading) (c l : ℕ) (rs : List Reading)
-    → list_any (eq_by_cmp reading_cmp r) (map (reading_of c l) (map (λ r. r.samples) (filter (is_there c l) rs))) ≡ (is_at (place_cmp (place c l)) (place_of r) && list_any (eq_by_cmp reading_cmp r) rs)
+    → list_any (eq_by_cmp reading_cmp r) (map (reading_of c l) (map (λ r. r.samples) (filter (is_there c l) rs)))
+    ≡ (is_at (place_cmp (place c l)) (place_of r) && list_any (eq_by_cmp reading_cmp r) rs)
 any_line r c l [] = none (is_at (place_cmp (place c l)) (place_of r))
   where
     none : (b : Bool) → false ≡ (b && false)
@@ -42,21 +43,25 @@ any_line r c l [] = none (is_at (place_cmp (place c l)) (place_of r))
 any_line r c l (k ∷ rs) =
     let test = eq_by_cmp reading_cmp r in
     elim (k.component == c && k.line == l) as (λ t. (k.component == c && k.line == l) ≡ t →
-    list_any test (map (reading_of c l) (map (λ r. r.samples) (cond t (k ∷ filter (is_there c l) rs) (filter (is_there c l) rs)))) ≡ (is_at (place_cmp (place c l)) (place_of r) && (test k || list_any test rs))) [
+    list_any test (map (reading_of c l) (map (λ r. r.samples) (cond t (k ∷ filter (is_there c l) rs) (filter (is_there c l) rs))))
+    ≡ (is_at (place_cmp (place c l)) (place_of r) && (test k || list_any test rs))) [
       | true ↦ λ e.
           let there : is_at (place_cmp (place c l)) (place_of k) ≡ true = sym (eq_there c l (place_of k)) ∙ e in
           let same : reading_of c l k.samples ≡ k = ap (λ p. at_place p k.samples) (same_place (place c l) (place_of k) there) in
           (λ i. test (same i) || any_line r c l rs i)
-          ∙ absorb (test k) (is_at (place_cmp (place c l)) (place_of r)) (list_any test rs) (λ t. ap (λ (z : Reading). is_at (place_cmp (place c l)) (place_of z)) (same_reading r k t) ∙ there)
+          ∙ absorb (test k) (is_at (place_cmp (place c l)) (place_of r)) (list_any test rs)
+          (λ t. ap (λ (z : Reading). is_at (place_cmp (place c l)) (place_of z)) (same_reading r k t) ∙ there)
       | false ↦ λ e.
           let not_there : is_at (place_cmp (place c l)) (place_of k) ≡ false = sym (eq_there c l (place_of k)) ∙ e in
           any_line r c l rs
-          ∙ apart (test k) (is_at (place_cmp (place c l)) (place_of r)) (list_any test rs) (λ t. ap (λ (z : Reading). is_at (place_cmp (place c l)) (place_of z)) (same_reading r k t) ∙ not_there)
+          ∙ apart (test k) (is_at (place_cmp (place c l)) (place_of r)) (list_any test rs)
+          (λ t. ap (λ (z : Reading). is_at (place_cmp (place c l)) (place_of z)) (same_reading r k t) ∙ not_there)
     ] refl
 
 pub in_line : (p : PartialPicture) (r : Reading) (c l : ℕ)
     → list_any (eq_by_cmp reading_cmp r) (line_readings p c l) ≡ (is_at (place_cmp (place c l)) (place_of r) && contains p.readings r)
-in_line p r c l = any_line r c l (items p.readings) ∙ ap (λ b. is_at (place_cmp (place c l)) (place_of r) && b) (sym (contains-items p.readings r))
+in_line p r c l = any_line r c l (items p.readings)
+    ∙ ap (λ b. is_at (place_cmp (place c l)) (place_of r) && b) (sym (contains-items p.readings r))
 
 -- what stands in a line is held
 pub held_in_line : (p : PartialPicture) (r : Reading) (c l : ℕ) → list_any (eq_by_cmp reading_cmp r) (line_readings p c l) ≡ true
@@ -73,13 +78,15 @@ pub held_from_lines : (p : PartialPicture) (r : Reading) (c n : ℕ) → list_an
     → contains p.readings r ≡ true
 held_from_lines p r c zero e = absurd cc
 held_from_lines p r c (suc n) e =
-    either _ _ _ (held_from_lines p r c n) (held_in_line p r c n) (sym (list_any-append (eq_by_cmp reading_cmp r) (readings_of_lines p c n) (line_readings p c n)) ∙ e)
+    either _ _ _ (held_from_lines p r c n) (held_in_line p r c n)
+    (sym (list_any-append (eq_by_cmp reading_cmp r) (readings_of_lines p c n) (line_readings p c n)) ∙ e)
 
 pub held_from_components : (p : PartialPicture) (r : Reading) (n : ℕ)
     → list_any (eq_by_cmp reading_cmp r) (readings_of_components p n) ≡ true → contains p.readings r ≡ true
 held_from_components p r zero e = absurd cc
 held_from_components p r (suc n) e =
-    either _ _ _ (held_from_components p r n) (held_from_lines p r n p.shape.height) (sym (list_any-append (eq_by_cmp reading_cmp r) (readings_of_components p n) (readings_of_lines p n p.shape.height)) ∙ e)
+    either _ _ _ (held_from_components p r n) (held_from_lines p r n p.shape.height)
+    (sym (list_any-append (eq_by_cmp reading_cmp r) (readings_of_components p n) (readings_of_lines p n p.shape.height)) ∙ e)
 
 -- what is held stands in its line
 pub in_its_line : (p : PartialPicture) (r : Reading) → contains p.readings r ≡ true
@@ -95,7 +102,8 @@ lines_hold p r (suc n) h lt =
     list_any-append test (readings_of_lines p r.component n) (line_readings p r.component n) ∙
     elim (cases_lt r.line n) [
       | inl lt' ↦ or_left _ _ (lines_hold p r n h lt')
-      | inr le ↦ or_right (list_any test (readings_of_lines p r.component n)) _ (subst (λ (l : ℕ). list_any test (line_readings p r.component l) ≡ true) (omega arith) (in_its_line p r h))
+      | inr le ↦ or_right (list_any test (readings_of_lines p r.component n)) _
+          (subst (λ (l : ℕ). list_any test (line_readings p r.component l) ≡ true) (omega arith) (in_its_line p r h))
     ]
 
 pub components_hold : (p : PartialPicture) (r : Reading) (n : ℕ) → contains p.readings r ≡ true → r.component < n → r.line < p.shape.height
@@ -106,7 +114,9 @@ components_hold p r (suc n) h lt line =
     list_any-append test (readings_of_components p n) (readings_of_lines p n p.shape.height) ∙
     elim (cases_lt r.component n) [
       | inl lt' ↦ or_left _ _ (components_hold p r n h lt' line)
-      | inr le ↦ or_right (list_any test (readings_of_components p n)) _ (subst (λ (c : ℕ). list_any test (readings_of_lines p c p.shape.height) ≡ true) (omega arith) (lines_hold p r p.shape.height h line))
+      | inr le ↦ or_right (list_any test (readings_of_components p n)) _
+          (subst (λ (c : ℕ). list_any test (readings_of_lines p c p.shape.height) ≡ true) (omega arith)
+          (lines_hold p r p.shape.height h line))
     ]
 
 no_first_fault : (b : Bool) (f : InsertFault) (rest : Option InsertFault) → cond b (Some f) rest ≡ None → (b ≡ false) × (rest ≡ None)

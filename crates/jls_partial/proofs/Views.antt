@@ -22,5 +22,7 @@ got_held s i x e = contains-items s x ∙ got (set.items s) i e
   where
     got : (xs : List (List ℕ)) (i : ℕ) → slice_get xs i ≡ Some x → list_any (eq_by_cmp (slice_cmp nat_cmp) x) xs ≡ true
     got [] i e = absurd cc
-    got (y ∷ xs) zero e = let same : y ≡ x = cc in ap (λ b. b || list_any (eq_by_cmp (slice_cmp nat_cmp) x) xs) (ap (λ (z : List ℕ). eq_by_cmp (slice_cmp nat_cmp) x z) same ∙ ap is_eq (tied_itself lines_total x))
+    got (y ∷ xs) zero e = let same : y ≡ x = cc in
+        ap (λ b. b || list_any (eq_by_cmp (slice_cmp nat_cmp) x) xs)
+        (ap (λ (z : List ℕ). eq_by_cmp (slice_cmp nat_cmp) x z) same ∙ ap is_eq (tied_itself lines_total x))
     got (y ∷ xs) (suc i) e = or_right (eq_by_cmp (slice_cmp nat_cmp) x y) (list_any (eq_by_cmp (slice_cmp nat_cmp) x) xs) (got xs i e)

@@ -21,16 +21,20 @@ one_of_three : (n : ℕ) → cond (n == 1) 1 0 + cond (n == 0) 1 0 + cond (nat_l
 one_of_three n = grind (arith, nat_tests)
 
 of_component : (p : PartialPicture) (component : ℕ)
-    → count_by (is_settled_line p component) (lines p.shape) + count_by (is_missing p component) (lines p.shape) + count_by (is_disputed p component) (lines p.shape) ≡ p.shape.height
+    → count_by (is_settled_line p component) (lines p.shape) + count_by (is_missing p component) (lines p.shape)
+    + count_by (is_disputed p component) (lines p.shape) ≡ p.shape.height
 of_component p component =
-    let all : count_by (is_settled_line p component) (lines p.shape) + count_by (is_missing p component) (lines p.shape) + count_by (is_disputed p component) (lines p.shape) ≡ length (lines p.shape) * 1 =
-    three_sums (λ line. cond (is_settled_line p component line) 1 0) (λ line. cond (is_missing p component line) 1 0) (λ line. cond (is_disputed p component line) 1 0) 1
+    let all : count_by (is_settled_line p component) (lines p.shape) + count_by (is_missing p component) (lines p.shape)
+    + count_by (is_disputed p component) (lines p.shape) ≡ length (lines p.shape) * 1 =
+    three_sums (λ line. cond (is_settled_line p component line) 1 0) (λ line. cond (is_missing p component line) 1 0)
+    (λ line. cond (is_disputed p component line) 1 0) 1
     (λ line. one_of_three (reading_count p component line)) (lines p.shape) in
     let size : length (lines p.shape) ≡ p.shape.height = length-range_with_len 0 p.shape.height in
     omega (arith, all, size)
 
 pub counts_are_all_lines : CountsAreAllLines
 counts_are_all_lines p =
-    three_sums (λ component. count_by (is_settled_line p component) (lines p.shape)) (λ component. count_by (is_missing p component) (lines p.shape))
+    three_sums (λ component. count_by (is_settled_line p component) (lines p.shape))
+    (λ component. count_by (is_missing p component) (lines p.shape))
     (λ component. count_by (is_disputed p component) (lines p.shape)) p.shape.height (of_component p) (components p.shape)
     ∙ ap (λ n. n * p.shape.height) (length-range_with_len 0 (length p.shape.ids))

@@ -18,7 +18,8 @@ use Rattle.jls_report.proofs.LongestRanges.{range_is_longest, no_range, first_or
 
 count_over : {X : Type 0} (q : X → Bool) (f : ℕ → List X) (ks : List ℕ) → count_by q (flat_map f ks) ≡ sum_by (λ k. count_by q (f k)) ks
 count_over q f [] = refl
-count_over q f (k ∷ ks) = sum_by-append (λ x. cond (q x) 1 0) (f k) (flat_map f ks) ∙ ap (λ n. count_by q (f k) + n) (count_over q f ks) ∙ sym (sum_by-cons (λ i. count_by q (f i)) k ks)
+count_over q f (k ∷ ks) = sum_by-append (λ x. cond (q x) 1 0) (f k) (flat_map f ks) ∙ ap (λ n. count_by q (f k) + n) (count_over q f ks)
+    ∙ sym (sum_by-cons (λ i. count_by q (f i)) k ks)
 
 none_counts : (g : ℕ → ℕ) (a n : ℕ) → ((k : ℕ) → a ≤ k → k < a + n → g k ≡ 0) → sum_by g (range_with_len a n) ≡ 0
 none_counts g a zero each = refl
@@ -33,13 +34,15 @@ one_counts : (g : ℕ → ℕ) (a n j : ℕ) → j < n → ((k : ℕ) → a ≤ 
     → sum_by g (range_with_len a n) ≡ g (a + j)
 one_counts g a zero j below others = absurd (omega arith)
 one_counts g a (suc n) zero below others =
-    let rest : sum_by g (range_with_len (a + 1) n) ≡ 0 = none_counts g (a + 1) n (λ k low high. others k (omega arith) (omega arith) (λ e. omega arith)) in
+    let rest : sum_by g (range_with_len (a + 1) n) ≡ 0 =
+    none_counts g (a + 1) n (λ k low high. others k (omega arith) (omega arith) (λ e. omega arith)) in
     let here : g (a + 0) ≡ g a = ap g (add-zero a) in
     let is : sum_by g (range_with_len a (suc n)) ≡ g a + sum_by g (range_with_len (a + 1) n) = sum_by-cons g a (range_with_len (a + 1) n) in
     omega (arith, rest, here, is)
 one_counts g a (suc n) (suc j) below others =
     let here : g a ≡ 0 = others a (omega arith) (omega arith) (λ e. omega arith) in
-    let rest : sum_by g (range_with_len (a + 1) n) ≡ g (a + 1 + j) = one_counts g (a + 1) n j (omega arith) (λ k low high ne. others k (omega arith) (omega arith) (λ e. ne (omega arith))) in
+    let rest : sum_by g (range_with_len (a + 1) n) ≡ g (a + 1 + j) =
+    one_counts g (a + 1) n j (omega arith) (λ k low high ne. others k (omega arith) (omega arith) (λ e. ne (omega arith))) in
     let same : g (a + 1 + j) ≡ g (a + suc j) = ap g (omega arith) in
     let is : sum_by g (range_with_len a (suc n)) ≡ g a + sum_by g (range_with_len (a + 1) n) = sum_by-cons g a (range_with_len (a + 1) n) in
     omega (arith, here, rest, same, is)
@@ -109,11 +112,22 @@ one_beginning missing line f g at_f at_g differ =
     differ (omega arith)
 
 beginning : (missing : ℕ → Bool) (line : ℕ) → (first : ℕ) × BeginsAt missing line first
-beginning missing zero = (zero, record { at_most = omega arith; each = λ k low high. absurd (omega arith); above = λ k e. absurd (omega arith) })
+beginning missing zero = (
+  zero,
+  record { at_most = omega arith; each = λ k low high. absurd (omega arith); above = λ k e. absurd (omega arith) },
+)
 beginning missing (suc line) =
     elim (missing line) as (λ b. missing line ≡ b → (first : ℕ) × BeginsAt missing (suc line) first) [
       | true ↦ λ is. longer missing line is (beginning missing line)
-      | false ↦ λ is. (suc line, record { at_most = omega arith; each = λ k low high. absurd (omega arith); above = λ k e. let same : k ≡ line = omega arith in ap missing same ∙ is })
+      | false ↦ λ is. (
+        suc line,
+        record {
+          at_most = omega arith;
+          each = λ k low high. absurd (omega arith);
+          above = λ k e. let same : k
+              ≡ line = omega arith in ap missing same ∙ is;
+        },
+      )
     ] refl
   where
     longer : (missing : ℕ → Bool) (line : ℕ) → missing line ≡ true → ((first : ℕ) × BeginsAt missing line first)
@@ -157,14 +171,18 @@ module _ (p : PartialPicture) (component line : ℕ) (component_in : component <
   dispute_at c l = Disputed c l (reading_count p c l)
 
   spoken_is : (c l : ℕ) → spoken c l
-      ≡ cond (begins_range p c l) (one_if (speaks_of component line (range_at c l))) (cond (is_disputed p c l) (one_if (speaks_of component line (dispute_at c l))) 0)
+      ≡ cond (begins_range p c l) (one_if (speaks_of component line (range_at c l)))
+      (cond (is_disputed p c l) (one_if (speaks_of component line (dispute_at c l))) 0)
   spoken_is c l = count_two (speaks_of component line) (begins_range p c l) (is_disputed p c l) (range_at c l) (dispute_at c l)
 
   abbrev Unspoken : ℕ → ℕ → Type 0
-  Unspoken c l = (begins_range p c l ≡ true → speaks_of component line (range_at c l) ≡ true → ⊥) × (is_disputed p c l ≡ true → speaks_of component line (dispute_at c l) ≡ true → ⊥)
+  Unspoken c l = (begins_range p c l ≡ true → speaks_of component line (range_at c l) ≡ true → ⊥)
+      × (is_disputed p c l ≡ true → speaks_of component line (dispute_at c l) ≡ true → ⊥)
 
   unspoken : (c l : ℕ) → Unspoken c l → spoken c l ≡ 0
-  unspoken c l silent = spoken_is c l ∙ not_counted (begins_range p c l) (is_disputed p c l) (speaks_of component line (range_at c l)) (speaks_of component line (dispute_at c l)) silent.0 silent.1
+  unspoken c l silent = spoken_is c l
+      ∙ not_counted (begins_range p c l) (is_disputed p c l) (speaks_of component line (range_at c l))
+      (speaks_of component line (dispute_at c l)) silent.0 silent.1
 
   other_component : (c l : ℕ) → (c ≡ component → ⊥) → Unspoken c l
   other_component c l ne = (
@@ -176,15 +194,18 @@ module _ (p : PartialPicture) (component line : ℕ) (component_in : component <
   total : (l : ℕ) → l < p.shape.height → ((k : ℕ) → k < p.shape.height → (k ≡ l → ⊥) → Unspoken component k)
       → count_by (speaks_of component line) (report_entries p) ≡ spoken component l
   total l within others =
-      let in_component : (c : ℕ) → count_by (speaks_of component line) (component_entries p c) ≡ sum_by (spoken c) (lines p.shape) = λ c. count_over (speaks_of component line) (entries_at p c) (lines p.shape) in
+      let in_component : (c : ℕ) → count_by (speaks_of component line) (component_entries p c) ≡ sum_by (spoken c) (lines p.shape) =
+      λ c. count_over (speaks_of component line) (entries_at p c) (lines p.shape) in
       let c_is : 0 + component ≡ component = omega arith in
       let l_is : 0 + l ≡ l = omega arith in
       count_over (speaks_of component line) (component_entries p) (components p.shape)
       ∙ one_counts (λ c. count_by (speaks_of component line) (component_entries p c)) 0 (length p.shape.ids) component component_in
-      (λ c low high ne. in_component c ∙ none_counts (spoken c) 0 p.shape.height (λ k from below. unspoken c k (other_component c k (λ e. ne (omega arith)))))
+      (λ c low high ne. in_component c
+      ∙ none_counts (spoken c) 0 p.shape.height (λ k from below. unspoken c k (other_component c k (λ e. ne (omega arith)))))
       ∙ ap (λ c. count_by (speaks_of component line) (component_entries p c)) c_is
       ∙ in_component component
-      ∙ one_counts (spoken component) 0 p.shape.height l within (λ k low high ne. unspoken component k (others k (omega arith) (λ e. ne (omega arith))))
+      ∙ one_counts (spoken component) 0 p.shape.height l within
+      (λ k low high ne. unspoken component k (others k (omega arith) (λ e. ne (omega arith))))
       ∙ ap (spoken component) l_is
 
   -- a range that speaks of the line has it as a missing line
@@ -218,9 +239,13 @@ module _ (p : PartialPicture) (component line : ℕ) (component_in : component <
 
   disputed_line : 2 ≤ reading_count p component line → count_by (speaks_of component line) (report_entries p) ≡ 1
   disputed_line several =
-      total line line_in (λ k within ne. (read_line (omega arith) k within, λ disputed speaks. ne (is_line component line component k (reading_count p component k) speaks).1))
+      total line line_in (λ k within ne. (
+        read_line (omega arith) k within,
+        λ disputed speaks. ne (is_line component line component k (reading_count p component k) speaks).1,
+      ))
       ∙ spoken_is component line
-      ∙ second_counted (begins_range p component line) (is_disputed p component line) (speaks_of component line (range_at component line)) (speaks_of component line (dispute_at component line))
+      ∙ second_counted (begins_range p component line) (is_disputed p component line) (speaks_of component line (range_at component line))
+      (speaks_of component line (dispute_at component line))
       (no_range p component line (omega arith)) (le-leb 2 (reading_count p component line) several)
       (and_from (component == component) (line == line) (eqb_itself component) (eqb_itself line))
 
@@ -259,14 +284,17 @@ module _ (p : PartialPicture) (component line : ℕ) (component_in : component <
             omega (arith, several, same),
       ))
       ∙ spoken_is component first
-      ∙ first_counted (begins_range p component first) (is_disputed p component first) (speaks_of component line (range_at component first)) (speaks_of component line (dispute_at component first)) begins
-      (all_true (component == component) (nat_le first line) (nat_le line (last_of component first)) (eqb_itself component) (le-leb first line at_most)
+      ∙ first_counted (begins_range p component first) (is_disputed p component first) (speaks_of component line (range_at component first))
+      (speaks_of component line (dispute_at component first)) begins
+      (all_true (component == component) (nat_le first line) (nat_le line (last_of component first)) (eqb_itself component)
+      (le-leb first line at_most)
       (le-leb line (last_of component first) (reaches first (last_of component first) range at missing)))
     where
       begins_there : (first : ℕ) → BeginsAt (is_missing p component) line first → is_missing p component line ≡ true
           → begins_range p component first ≡ true
       begins_there first at missing =
-          and_from (is_missing p component first) (first == 0 || not (is_missing p component (first - 1))) (here (cases_lt first line)) (first_or first (is_missing p component) at.above)
+          and_from (is_missing p component first) (first == 0 || not (is_missing p component (first - 1))) (here (cases_lt first line))
+          (first_or first (is_missing p component) at.above)
         where
           here : (first < line) ⊎ (line ≤ first) → is_missing p component first ≡ true
           here (inl before) = at.each first (omega arith) before

@@ -25,7 +25,8 @@ sum_same f g each [] = refl
 sum_same f g each (k ∷ ks) =
     let here = each k in let rest = sum_same f g each ks in omega (arith, here, rest, sum_by-cons f k ks, sum_by-cons g k ks)
 
-sum_same_in : (f g : ℕ → ℕ) (a n : ℕ) → ((k : ℕ) → a ≤ k → k < a + n → f k ≡ g k) → sum_by f (range_with_len a n) ≡ sum_by g (range_with_len a n)
+sum_same_in : (f g : ℕ → ℕ) (a n : ℕ) → ((k : ℕ) → a ≤ k → k < a + n → f k ≡ g k) → sum_by f (range_with_len a n)
+    ≡ sum_by g (range_with_len a n)
 sum_same_in f g a zero each = refl
 sum_same_in f g a (suc n) each =
     let here : f a ≡ g a = each a (omega arith) (omega arith) in
@@ -44,29 +45,37 @@ one_disputed false false component first last line readings apart = refl
 some_readings : (n : ℕ) → nat_lt 1 n ≡ true → 0 < n
 some_readings n more = grind (arith, nat_tests, more)
 
-disputed_at : (p : PartialPicture) (component line : ℕ) → sum_by disputed_of (entries_at p component line) ≡ cond (is_disputed p component line) 1 0
+disputed_at : (p : PartialPicture) (component line : ℕ) → sum_by disputed_of (entries_at p component line)
+    ≡ cond (is_disputed p component line) 1 0
 disputed_at p component line =
-    one_disputed (begins_range p component line) (is_disputed p component line) component line (line + missing_from p component line - 1) line (reading_count p component line)
+    one_disputed (begins_range p component line) (is_disputed p component line) component line (line + missing_from p component line - 1)
+    line (reading_count p component line)
     (λ more. no_range p component line (some_readings (reading_count p component line) more))
 
-disputed_in : (p : PartialPicture) (component : ℕ) → sum_by disputed_of (component_entries p component) ≡ sum_by (λ line. cond (is_disputed p component line) 1 0) (lines p.shape)
+disputed_in : (p : PartialPicture) (component : ℕ) → sum_by disputed_of (component_entries p component)
+    ≡ sum_by (λ line. cond (is_disputed p component line) 1 0) (lines p.shape)
 disputed_in p component =
     sum_over disputed_of (entries_at p component) (lines p.shape)
-    ∙ sum_same (λ line. sum_by disputed_of (entries_at p component line)) (λ line. cond (is_disputed p component line) 1 0) (disputed_at p component) (lines p.shape)
+    ∙ sum_same (λ line. sum_by disputed_of (entries_at p component line)) (λ line. cond (is_disputed p component line) 1 0)
+    (disputed_at p component) (lines p.shape)
 
 -- ---- missing lines
 
 one_missing : (b d : Bool) (component line count readings : ℕ) → (b ≡ true → 0 < count)
-    → sum_by missing_of (cond b (Missing component line (line + count - 1) ∷ []) (cond d (Disputed component line readings ∷ []) [])) ≡ cond b count 0
-one_missing true d component line count readings some = let more = some refl in let e : line + count - 1 + 1 - line ≡ count = omega (arith, more) in omega (arith, e)
+    → sum_by missing_of (cond b (Missing component line (line + count - 1) ∷ []) (cond d (Disputed component line readings ∷ []) []))
+    ≡ cond b count 0
+one_missing true d component line count readings some = let more = some refl in
+    let e : line + count - 1 + 1 - line ≡ count = omega (arith, more) in omega (arith, e)
 one_missing false true component line count readings some = refl
 one_missing false false component line count readings some = refl
 
 missing_at : (p : PartialPicture) (component line : ℕ) → line < p.shape.height
     → sum_by missing_of (entries_at p component line) ≡ cond (begins_range p component line) (missing_from p component line) 0
 missing_at p component line below =
-    one_missing (begins_range p component line) (is_disputed p component line) component line (missing_from p component line) (reading_count p component line)
-    (λ begins. some_pass (is_missing p component) line (p.shape.height - line) (omega (arith, below)) (and_parts (is_missing p component line) (line == 0 || not (is_missing p component (line - 1))) begins).0)
+    one_missing (begins_range p component line) (is_disputed p component line) component line (missing_from p component line)
+    (reading_count p component line)
+    (λ begins. some_pass (is_missing p component) line (p.shape.height - line) (omega (arith, below))
+    (and_parts (is_missing p component line) (line == 0 || not (is_missing p component (line - 1))) begins).0)
 
 module _ (missing : ℕ → Bool) (height : ℕ) where
   abbrev begins : ℕ → Bool
@@ -97,24 +106,30 @@ module _ (missing : ℕ → Bool) (height : ℕ) where
       let rest = all_runs (line + 1) n (missing line) (omega (arith, whole)) (after_one line) in
       let step = one_step (missing line) above (prefix_len missing (range_with_len (line + 1) n)) _ _ rest in
       let first : cond (begins line) (run line) 0 ≡ cond (missing line && not above) (prefix_len missing (range_with_len line (suc n))) 0 =
-      ap (λ b. cond (missing line && b) (run line) 0) is ∙ ap (λ m. cond (missing line && not above) (prefix_len missing (range_with_len line m)) 0) left in
+      ap (λ b. cond (missing line && b) (run line) 0) is
+      ∙ ap (λ m. cond (missing line && not above) (prefix_len missing (range_with_len line m)) 0) left in
       let sums = sum_by-cons (λ k. cond (begins k) (run k) 0) line (range_with_len (line + 1) n) in
       let counts = sum_by-cons (λ k. cond (missing k) 1 0) line (range_with_len (line + 1) n) in
       omega (arith, step, first, sums, counts)
 
-missing_in : (p : PartialPicture) (component : ℕ) → sum_by missing_of (component_entries p component) ≡ sum_by (λ line. cond (is_missing p component line) 1 0) (lines p.shape)
+missing_in : (p : PartialPicture) (component : ℕ) → sum_by missing_of (component_entries p component)
+    ≡ sum_by (λ line. cond (is_missing p component line) 1 0) (lines p.shape)
 missing_in p component =
     let runs : sum_by (λ line. cond (begins_range p component line) (missing_from p component line) 0) (lines p.shape) + 0
-    ≡ sum_by (λ line. cond (is_missing p component line) 1 0) (lines p.shape) = all_runs (is_missing p component) p.shape.height 0 p.shape.height false (omega arith) refl in
+    ≡ sum_by (λ line. cond (is_missing p component line) 1 0) (lines p.shape) =
+    all_runs (is_missing p component) p.shape.height 0 p.shape.height false (omega arith) refl in
     sum_over missing_of (entries_at p component) (lines p.shape)
-    ∙ sum_same_in (λ line. sum_by missing_of (entries_at p component line)) (λ line. cond (begins_range p component line) (missing_from p component line) 0) 0 p.shape.height
+    ∙ sum_same_in (λ line. sum_by missing_of (entries_at p component line))
+    (λ line. cond (begins_range p component line) (missing_from p component line) 0) 0 p.shape.height
     (λ line low high. missing_at p component line (omega (arith, high)))
     ∙ sym (add-zero _) ∙ runs
 
 pub counts_are_of_entries : CountsAreOfEntries
 counts_are_of_entries p = (
   sym (sum_over missing_of (component_entries p) (components p.shape)
-      ∙ sum_same (λ component. sum_by missing_of (component_entries p component)) (λ component. sum_by (λ line. cond (is_missing p component line) 1 0) (lines p.shape)) (missing_in p) (components p.shape)),
+      ∙ sum_same (λ component. sum_by missing_of (component_entries p component))
+      (λ component. sum_by (λ line. cond (is_missing p component line) 1 0) (lines p.shape)) (missing_in p) (components p.shape)),
   sym (sum_over disputed_of (component_entries p) (components p.shape)
-      ∙ sum_same (λ component. sum_by disputed_of (component_entries p component)) (λ component. sum_by (λ line. cond (is_disputed p component line) 1 0) (lines p.shape)) (disputed_in p) (components p.shape)),
+      ∙ sum_same (λ component. sum_by disputed_of (component_entries p component))
+      (λ component. sum_by (λ line. cond (is_disputed p component line) 1 0) (lines p.shape)) (disputed_in p) (components p.shape)),
 )

@@ -19,7 +19,8 @@ one_less f a n = sum_by-cons f a (range_with_len (a + 1) n)
 
 at_most : (f : ℕ → ℕ) (m : ℕ) → ((x : ℕ) → f x ≤ m) → (a n : ℕ) → sum_by f (range_with_len a n) ≤ n * m
 at_most f m le a zero = omega arith
-at_most f m le a (suc n) = let step = one_less f a n in let here = le a in let rest = at_most f m le (a + 1) n in omega (arith, step, here, rest)
+at_most f m le a (suc n) = let step = one_less f a n in let here = le a in let rest = at_most f m le (a + 1) n in
+    omega (arith, step, here, rest)
 
 -- the sum is as large as can be: each number is
 each_is : (f : ℕ → ℕ) (m : ℕ) → ((x : ℕ) → f x ≤ m) → (a n : ℕ) → sum_by f (range_with_len a n) ≡ n * m → (k : ℕ) → k < n → f (a + k) ≡ m
@@ -69,7 +70,8 @@ module _ (p : PartialPicture) where
   settled_lines component = count_by (is_settled_line p component) (lines p.shape)
 
   few_lines : (component : ℕ) → settled_lines component ≤ p.shape.height
-  few_lines component = subst (λ (n : ℕ). settled_lines component ≤ n) (length-range_with_len 0 p.shape.height) (count_by-le-length (is_settled_line p component) (lines p.shape))
+  few_lines component = subst (λ (n : ℕ). settled_lines component ≤ n) (length-range_with_len 0 p.shape.height)
+      (count_by-le-length (is_settled_line p component) (lines p.shape))
 
   of_component : (component : ℕ) → settled_lines component ≡ p.shape.height → (line : ℕ) → line < p.shape.height
       → status_of (readings_at p component line) ≡ Settled
@@ -78,19 +80,23 @@ module _ (p : PartialPicture) where
       let sum : sum_by f (range_with_len 0 p.shape.height) ≡ p.shape.height = e in
       let all : sum_by f (range_with_len 0 p.shape.height) ≡ p.shape.height * 1 = omega (arith, sum) in
       settled_by (readings_at p component line)
-      (is_one (length (readings_at p component line)) (from_zero f 1 (λ l. at_most_one (length (readings_at p component l))) p.shape.height all line lt))
+      (is_one (length (readings_at p component line))
+      (from_zero f 1 (λ l. at_most_one (length (readings_at p component l))) p.shape.height all line lt))
 
   to_component : (component : ℕ) → ((line : ℕ) → line < p.shape.height → status_of (readings_at p component line) ≡ Settled)
       → settled_lines component ≡ p.shape.height
   to_component component each =
       let f : ℕ → ℕ = λ l. cond (is_settled_line p component l) 1 0 in
       let all : sum_by f (range_with_len 0 p.shape.height) ≡ p.shape.height * 1 =
-      to_zero f 1 p.shape.height (λ l lt. subst (λ (n : ℕ). counted n ≡ 1) (sym (one_reading (readings_at p component l) (each l lt))) refl) in
+      to_zero f 1 p.shape.height (λ l lt. subst (λ (n : ℕ). counted n ≡ 1) (sym (one_reading (readings_at p component l) (each l lt)))
+      refl) in
       let sum : sum_by f (range_with_len 0 p.shape.height) ≡ p.shape.height = omega (arith, all) in
       sum
 
 pub full_count : FullCountIsSettled
 full_count p = (
-  λ e component within. of_component p component (from_zero (settled_lines p) p.shape.height (few_lines p) (length p.shape.ids) e component within),
-  λ settled. to_zero (settled_lines p) p.shape.height (length p.shape.ids) (λ component within. to_component p component (settled component within)),
+  λ e component within. of_component p component
+      (from_zero (settled_lines p) p.shape.height (few_lines p) (length p.shape.ids) e component within),
+  λ settled. to_zero (settled_lines p) p.shape.height (length p.shape.ids)
+      (λ component within. to_component p component (settled component within)),
 )

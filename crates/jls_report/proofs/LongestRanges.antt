@@ -76,7 +76,8 @@ range_is_longest p component line component_in line_in begins =
       above = λ k next.
           let not_first : (line == 0) ≡ false = ne_eqb line 0 (λ e. omega arith) in
           let k_is : line - 1 ≡ k = omega arith in
-          subst (λ (i : ℕ). missing i ≡ false) k_is (not-true (missing (line - 1)) (or_second (line == 0) (not (missing (line - 1))) both.1 not_first));
+          subst (λ (i : ℕ). missing i ≡ false) k_is
+          (not-true (missing (line - 1)) (or_second (line == 0) (not (missing (line - 1))) both.1 not_first));
       below = λ more.
           let next_is : line + missing_from p component line ≡ line + missing_from p component line - 1 + 1 = omega arith in
           subst (λ (i : ℕ). missing i ≡ false) next_is (stops missing line n (omega arith));
@@ -85,7 +86,8 @@ range_is_longest p component line component_in line_in begins =
 pub longest_begins : (p : PartialPicture) (component first last : ℕ) → IsLongestRange p component first last
     → begins_range p component first ≡ true
 longest_begins p component first last range =
-    and_from (is_missing p component first) (first == 0 || not (is_missing p component (first - 1))) (range.each first (omega arith) range.rising)
+    and_from (is_missing p component first) (first == 0 || not (is_missing p component (first - 1)))
+    (range.each first (omega arith) range.rising)
     (first_or first (is_missing p component) range.above)
 
 longest_ends : (p : PartialPicture) (component first last : ℕ) → IsLongestRange p component first last
@@ -96,7 +98,8 @@ longest_ends p component first last range =
     let count : missing_from p component first ≡ last + 1 - first =
     prefix_is (is_missing p component) first (p.shape.height - first) (last + 1 - first) (omega arith)
     (λ k low high. range.each k low (omega arith))
-    (λ less. let next : first + (last + 1 - first) ≡ last + 1 = omega arith in subst (λ (i : ℕ). is_missing p component i ≡ false) (sym next) (range.below (omega arith))) in
+    (λ less. let next : first + (last + 1 - first) ≡ last + 1 = omega arith in
+    subst (λ (i : ℕ). is_missing p component i ≡ false) (sym next) (range.below (omega arith))) in
     omega (arith, count)
 
 -- ---- the laws
@@ -118,19 +121,22 @@ listed_at p e component line component_in line_in here =
     let l_is : 0 + line ≡ line = omega arith in
     member_over (component_entries p) 0 (length p.shape.ids) component e component_in
     (subst (λ (c : ℕ). Contains (component_entries p c) e) (sym c_is)
-    (member_over (entries_at p component) 0 p.shape.height line e line_in (subst (λ (l : ℕ). Contains (entries_at p component l) e) (sym l_is) here)))
+    (member_over (entries_at p component) 0 p.shape.height line e line_in
+    (subst (λ (l : ℕ). Contains (entries_at p component l) e) (sym l_is) here)))
 
 pub ranges_are_longest : RangesAreLongest
 ranges_are_longest p component first last = (
   λ there.
       let at = found_at p (Missing component first last) there in
-      elim (one_of (begins_range p at.0 at.1) (is_disputed p at.0 at.1) (Missing at.0 at.1 (at.1 + missing_from p at.0 at.1 - 1)) (Disputed at.0 at.1 (reading_count p at.0 at.1)) (Missing component first last) at.4) [
+      elim (one_of (begins_range p at.0 at.1) (is_disputed p at.0 at.1) (Missing at.0 at.1 (at.1 + missing_from p at.0 at.1 - 1))
+      (Disputed at.0 at.1 (reading_count p at.0 at.1)) (Missing component first last) at.4) [
         | inl w ↦
             let range = range_is_longest p at.0 at.1 at.2 at.3 w.0 in
             let c_is : at.0 ≡ component = cc w.1 in
             let f_is : at.1 ≡ first = cc w.1 in
             let l_is : at.1 + missing_from p at.0 at.1 - 1 ≡ last = cc w.1 in
-            subst (λ (c : ℕ). IsLongestRange p c first last) c_is (subst (λ (f : ℕ). IsLongestRange p at.0 f last) f_is (subst (λ (l : ℕ). IsLongestRange p at.0 at.1 l) l_is range))
+            subst (λ (c : ℕ). IsLongestRange p c first last) c_is
+            (subst (λ (f : ℕ). IsLongestRange p at.0 f last) f_is (subst (λ (l : ℕ). IsLongestRange p at.0 at.1 l) l_is range))
         | inr w ↦ absurd (cc w.2)
       ],
   λ range.
@@ -138,26 +144,31 @@ ranges_are_longest p component first last = (
       let last_in = range.last_in in
       listed_at p (Missing component first last) component first range.component_in (omega arith)
       (subst (λ (l : ℕ). Contains (entries_at p component first) (Missing component first l)) (longest_ends p component first last range)
-      (first_of_two (begins_range p component first) (is_disputed p component first) (Missing component first (first + missing_from p component first - 1)) (Disputed component first (reading_count p component first)) (longest_begins p component first last range))),
+      (first_of_two (begins_range p component first) (is_disputed p component first)
+      (Missing component first (first + missing_from p component first - 1)) (Disputed component first (reading_count p component first))
+      (longest_begins p component first last range))),
 )
 
 -- a line that has readings begins no range
 pub no_range : (p : PartialPicture) (component line : ℕ) → 0 < reading_count p component line → begins_range p component line ≡ false
 no_range p component line some =
-    ap (λ b. b && (line == 0 || not (is_missing p component (line - 1)))) (ne_eqb (reading_count p component line) 0 (λ e. omega (arith, e)))
+    ap (λ b. b && (line == 0 || not (is_missing p component (line - 1))))
+    (ne_eqb (reading_count p component line) 0 (λ e. omega (arith, e)))
 
 pub disputed_are_listed : DisputedAreListed
 disputed_are_listed p component line readings = (
   λ there.
       let at = found_at p (Disputed component line readings) there in
-      elim (one_of (begins_range p at.0 at.1) (is_disputed p at.0 at.1) (Missing at.0 at.1 (at.1 + missing_from p at.0 at.1 - 1)) (Disputed at.0 at.1 (reading_count p at.0 at.1)) (Disputed component line readings) at.4) [
+      elim (one_of (begins_range p at.0 at.1) (is_disputed p at.0 at.1) (Missing at.0 at.1 (at.1 + missing_from p at.0 at.1 - 1))
+      (Disputed at.0 at.1 (reading_count p at.0 at.1)) (Disputed component line readings) at.4) [
         | inl w ↦ absurd (cc w.1)
         | inr w ↦
             let c_is : at.0 ≡ component = cc w.2 in
             let l_is : at.1 ≡ line = cc w.2 in
             let r_is : reading_count p at.0 at.1 ≡ readings = cc w.2 in
             let several = leb-true 2 (reading_count p at.0 at.1) w.1 in
-            let is : IsDisputedLine p at.0 at.1 readings = record { component_in = at.2; line_in = at.3; several = omega (arith, several, r_is); counted = r_is } in
+            let is : IsDisputedLine p at.0 at.1 readings =
+            record { component_in = at.2; line_in = at.3; several = omega (arith, several, r_is); counted = r_is } in
             subst (λ (c : ℕ). IsDisputedLine p c line readings) c_is (subst (λ (l : ℕ). IsDisputedLine p at.0 l readings) l_is is)
       ],
   λ is.
@@ -165,6 +176,7 @@ disputed_are_listed p component line readings = (
       let counted = is.counted in
       listed_at p (Disputed component line readings) component line is.component_in is.line_in
       (subst (λ (n : ℕ). Contains (entries_at p component line) (Disputed component line n)) counted
-      (second_of_two (begins_range p component line) (is_disputed p component line) (Missing component line (line + missing_from p component line - 1)) (Disputed component line (reading_count p component line))
+      (second_of_two (begins_range p component line) (is_disputed p component line)
+      (Missing component line (line + missing_from p component line - 1)) (Disputed component line (reading_count p component line))
       (no_range p component line (omega arith)) (le-leb 2 (reading_count p component line) (omega arith)))),
 )

@@ -11,7 +11,8 @@ found_over f a zero x (k, below, is) = absurd (omega (arith, below))
 found_over f a (suc n) x there =
     elim (Contains-append_cases (f a) (flat_map f (range_with_len (a + 1) n)) x there) [
       | inl here ↦ (a, omega arith, here)
-      | inr later ↦ let found = found_over f (a + 1) n x later in let below : found.0 < a + suc n = omega (arith, found.1) in (found.0, below, found.2)
+      | inr later ↦ let found = found_over f (a + 1) n x later in let below : found.0 < a + suc n = omega (arith, found.1) in
+          (found.0, below, found.2)
     ]
 
 -- and what stands at one of them is a member
@@ -19,7 +20,8 @@ pub member_over : {X : Type 0} (f : ℕ → List X) (a n j : ℕ) (x : X) → j 
     → Contains (flat_map f (range_with_len a n)) x
 member_over f a zero j x below here = absurd (omega arith)
 member_over f a (suc n) zero x below here =
-    Contains-append_left (f a) (flat_map f (range_with_len (a + 1) n)) x (let same : a + 0 ≡ a = omega arith in subst (λ k. Contains (f k) x) same here)
+    Contains-append_left (f a) (flat_map f (range_with_len (a + 1) n)) x
+    (let same : a + 0 ≡ a = omega arith in subst (λ k. Contains (f k) x) same here)
 member_over f a (suc n) (suc j) x below here =
     Contains-append_right (f a) (flat_map f (range_with_len (a + 1) n)) x
     (member_over f (a + 1) n j x (omega arith) (let same : a + suc j ≡ a + 1 + j = omega arith in subst (λ k. Contains (f k) x) same here))

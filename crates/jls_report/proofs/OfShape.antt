@@ -12,7 +12,8 @@ all-over : {X : Type 0} (P : X → Type 0) (f : ℕ → List X) (a n : ℕ) → 
     → AllByRecursion P (flat_map f (range_with_len a n))
 all-over P f a zero each = tt
 all-over P f a (suc n) each =
-    all_append P (f a) (flat_map f (range_with_len (a + 1) n)) (each a (omega arith)) (all-over P f (a + 1) n (λ k below. each k (omega arith)))
+    all_append P (f a) (flat_map f (range_with_len (a + 1) n)) (each a (omega arith))
+    (all-over P f (a + 1) n (λ k below. each k (omega arith)))
 
 abbrev IsOf : ℕ → ReportEntry → Type 0
 IsOf n e = component_of e < n
@@ -29,4 +30,5 @@ of_shape p =
     let n : ℕ = length p.shape.ids in
     all-over (IsOf n) (component_entries p) 0 n (λ component below.
     all-over (IsOf n) (entries_at p component) 0 p.shape.height (λ line _.
-    either_is n component line (line + missing_from p component line - 1) line (reading_count p component line) (begins_range p component line) (is_disputed p component line) (omega arith)))
+    either_is n component line (line + missing_from p component line - 1) line (reading_count p component line)
+    (begins_range p component line) (is_disputed p component line) (omega arith)))

@@ -19,7 +19,8 @@ two_components = record { precision = 8; width = 1; height = 4; ids = 5 ∷ 9 �
 
 -- of component 5 line 0 was read once, and line 3 as 6 and as 7; of component 9 lines 0 and 1 were read once
 abbrev five_read : List Reading
-five_read = reading_of 0 0 (0 ∷ []) ∷ reading_of 0 3 (6 ∷ []) ∷ reading_of 0 3 (7 ∷ []) ∷ reading_of 1 0 (0 ∷ []) ∷ reading_of 1 1 (0 ∷ []) ∷ []
+five_read = reading_of 0 0 (0 ∷ []) ∷ reading_of 0 3 (6 ∷ []) ∷ reading_of 0 3 (7 ∷ []) ∷ reading_of 1 0 (0 ∷ []) ∷ reading_of 1 1 (0 ∷ [])
+    ∷ []
 
 five_rise : IsStrictlySortedBy reading_cmp five_read
 unfolding IsStrictlySortedBy

@@ -50,5 +50,6 @@ one_disputed = without_sources four_lines (set.from_list two_read)
 range_dispute_range : report_entries one_disputed ≡ Missing 0 0 0 ∷ Disputed 0 1 2 ∷ Missing 0 2 3 ∷ []
 range_dispute_range = rw (items-from_list reading_total two_read two_rise) refl
 
-that_report : report_of one_disputed ≡ record { shape = four_lines; settled = 0; missing = 3; disputed = 1; entries = Missing 0 0 0 ∷ Disputed 0 1 2 ∷ Missing 0 2 3 ∷ [] }
+that_report : report_of one_disputed
+    ≡ record { shape = four_lines; settled = 0; missing = 3; disputed = 1; entries = Missing 0 0 0 ∷ Disputed 0 1 2 ∷ Missing 0 2 3 ∷ [] }
 that_report = rw (items-from_list reading_total two_read two_rise) refl

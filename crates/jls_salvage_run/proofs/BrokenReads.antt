@@ -100,10 +100,28 @@ refused_unread : (name bytes : List ℕ) (stop : ReadStop) (f : InputFault) (rea
     → IsRefused bytes stop f → status_of_input f ≡ 4 → IsUnread name (opened name ∷ reads)
 refused_unread name bytes _ _ reads is (no_text _ f t wrong) e = absurd (omega (arith, e))
 refused_unread name bytes stop _ reads is (text_not_read _ _ t not) e =
-    record { bytes = bytes; stop = stop; f = fault.Read stop (length bytes); reads = reads; events_are = refl; is_read = is; in_part = not; refused = text_not_read bytes stop t not }
+    record {
+      bytes = bytes;
+      stop = stop;
+      f = fault.Read stop (length bytes);
+      reads = reads;
+      events_are = refl;
+      is_read = is;
+      in_part = not;
+      refused = text_not_read bytes stop t not;
+    }
 refused_unread name bytes _ _ reads is (no_picture _ f offset t none) e = absurd (omega (arith, e))
 refused_unread name bytes stop _ reads is (copy_not_read _ _ f offset t not none) e =
-    record { bytes = bytes; stop = stop; f = fault.Read stop (length bytes); reads = reads; events_are = refl; is_read = is; in_part = not; refused = copy_not_read bytes stop f offset t not none }
+    record {
+      bytes = bytes;
+      stop = stop;
+      f = fault.Read stop (length bytes);
+      reads = reads;
+      events_are = refl;
+      is_read = is;
+      in_part = not;
+      refused = copy_not_read bytes stop f offset t not none;
+    }
 
 reads_unread : (name : List ℕ) (f : InputFault) (reads : List Event) → ReadsRefuse f reads → status_of_input f ≡ 4
     → IsUnread name (opened name ∷ reads)
@@ -146,7 +164,12 @@ join_in_part : (source : Option ℕ) (out : List ℕ) (names : List (List ℕ)) 
     → Joins source out names outcome events → exit_status outcome ≡ 4 → NothingElseFailed events
     → JoinsInPart source out names events ⊎ EndsAtUnread source names events
 join_in_part source out names _ events (joining.done _ _ _ p settled whole _ h) e fine =
-    inl (record { joined = p; settled = settled; is_done = subst (λ (w : Bool). JoinIsDone source out names p settled w events) (all_not_read settled whole e) h })
+    inl (record {
+      joined = p;
+      settled = settled;
+      is_done =
+          subst (λ (w : Bool). JoinIsDone source out names p settled w events) (all_not_read settled whole e) h;
+    })
 join_in_part source out names _ events (joining.at_input _ _ _ r _ h) e fine =
     let last = (parts_fine h.reading h.last (subst NothingElseFailed h.events_are fine)).1 in
     inr (record {
@@ -166,10 +189,17 @@ join_in_part source out names _ _ (joining.at_output _ _ _ r p whole reading wri
     absurd (not_at_output _ _ r written stops (parts_fine reading written fine).1)
 
 tell_in_part : (traced : Bool) (name : List ℕ) (outcome : Outcome) (events reported : List Event)
-    → PrintsReport (lines traced) name outcome events reported → exit_status outcome ≡ 4 → NothingElseFailed events → NothingElseFailed reported
+    → PrintsReport (lines traced) name outcome events reported → exit_status outcome ≡ 4 → NothingElseFailed events
+    → NothingElseFailed reported
     → TellsInPart traced name events reported ⊎ (EndsAtUnread None (name ∷ []) events × (reported ≡ []))
 tell_in_part traced name _ events reported (reporting.done _ g settled whole _ _ taken says wrote) e fine quiet =
-    inl (record { g = g; taken = taken; in_part = λ is. not_whole whole (all_not_read settled whole e) (says.whole_is.1 is); printed = wrote })
+    inl (record {
+      g = g;
+      taken = taken;
+      in_part = λ is. not_whole whole (all_not_read settled whole e) (says.whole_is.1 is);
+      printed =
+          wrote;
+    })
 tell_in_part traced name _ events _ (reporting.at_input _ r _ named h) e fine quiet =
     inr (ends_at_first name events (subst (λ (n : List ℕ). IsUnread n events) named (unread_at_input None [] r events h e fine)), refl)
 tell_in_part traced name _ events _ (reporting.no_memory _ n g _ named taken) e fine quiet = absurd (omega (arith, e))
@@ -202,7 +232,8 @@ write_in_part format out name _ events (writing.at_input _ _ _ r _ named h) e fi
 write_in_part format out name _ events (writing.unsettled _ _ _ r n g f _ named taken first because) e fine =
     let k = status_of_unsettled n g.partial f r because in absurd (omega (arith, k, e))
 write_in_part format out name _ _ (writing.at_file _ _ _ r g reading written named taken settled stops) e fine =
-    file_in_part (FitsFormat format (picture_of g.partial)) (writing.IsTooLarge format (picture_of g.partial)) (writing.takes_memory format) (writing.file format (picture_of g.partial)) r written stops e (parts_fine reading written fine).1
+    file_in_part (FitsFormat format (picture_of g.partial)) (writing.IsTooLarge format (picture_of g.partial)) (writing.takes_memory format)
+    (writing.file format (picture_of g.partial)) r written stops e (parts_fine reading written fine).1
 
 -- ---- the law
 

@@ -150,10 +150,12 @@ failed_in_turn source (name ∷ names) (g ∷ givens) events h not =
 failed_at_output : (name bytes : List ℕ) (r : Refusal) (events : List Event) → StopsAtOutput name bytes r events → HadFailure events
 failed_at_output name bytes r _ (outputs.not_there _ _) = inl refl
 failed_at_output name bytes r _ (outputs.cut count writes _ _ h) =
-    failed_right (created name ∷ []) writes (failed_as writes (h.writes ++ write_failed ∷ []) h.events_are (failed_right h.writes (write_failed ∷ []) (inl refl)))
+    failed_right (created name ∷ []) writes
+    (failed_as writes (h.writes ++ write_failed ∷ []) h.events_are (failed_right h.writes (write_failed ∷ []) (inl refl)))
 
 prefix_failed : (bytes : List ℕ) (count : ℕ) (events : List Event) → WrotePrefix bytes count events → HadFailure events
-prefix_failed bytes count events h = failed_as events (h.writes ++ write_failed ∷ []) h.events_are (failed_right h.writes (write_failed ∷ []) (inl refl))
+prefix_failed bytes count events h =
+    failed_as events (h.writes ++ write_failed ∷ []) h.events_are (failed_right h.writes (write_failed ∷ []) (inl refl))
 
 -- ---- commands that end with 4
 
@@ -167,12 +169,15 @@ join_failed : (source : Option ℕ) (out : List ℕ) (names : List (List ℕ)) (
     → exit_status outcome ≡ 4 → HadFailure events
 join_failed source out names _ events (joining.done _ _ _ p settled whole _ h) e =
     failed_as events (h.reading ++ h.writing) h.events_are
-    (failed_left h.reading h.writing (failed_in_turn source names h.taken.givens h.reading h.taken.taken.in_turn (λ all. not_whole settled whole e (h.taken.whole_is.1 all))))
+    (failed_left h.reading h.writing
+    (failed_in_turn source names h.taken.givens h.reading h.taken.taken.in_turn
+    (λ all. not_whole settled whole e (h.taken.whole_is.1 all))))
 join_failed source out names _ events (joining.at_input _ _ _ r _ h) e =
     failed_as events (h.reading ++ h.last) h.events_are (failed_right h.reading h.last (failed_at_input source h.givens r h.last h.stops e))
 join_failed source out names _ events (joining.no_memory _ _ _ n p whole _ named h) e =
     absurd (omega (arith, e))
-join_failed source out names _ _ (joining.at_output _ _ _ r p whole reading written h stops) e = failed_right reading written (failed_at_output _ _ r written stops)
+join_failed source out names _ _ (joining.at_output _ _ _ r p whole reading written h stops) e =
+    failed_right reading written (failed_at_output _ _ r written stops)
 
 tell_failed : (traced : Bool) (name : List ℕ) (outcome : Outcome) (events reported : List Event)
     → PrintsReport (lines traced) name outcome events reported
@@ -182,7 +187,8 @@ tell_failed traced name _ events reported (reporting.done _ g settled whole _ _ 
 tell_failed traced name _ events _ (reporting.at_input _ r _ named h) e = inl (failed_at_input None [] r events h e)
 tell_failed traced name _ events _ (reporting.no_memory _ n g _ named taken) e =
     absurd (omega (arith, e))
-tell_failed traced name _ events reported (reporting.not_printed _ n g count _ _ named taken wrote) e = inr (prefix_failed (lines traced g) count reported wrote)
+tell_failed traced name _ events reported (reporting.not_printed _ n g count _ _ named taken wrote) e =
+    inr (prefix_failed (lines traced g) count reported wrote)
 
 file_failed : (F L : Type 0) (takes : Bool) (bytes : List ℕ) (r : Refusal) (events : List Event) → StopsAtFile F L takes bytes r events
     → status_of_cause r.cause ≡ 4 → HadFailure events
@@ -219,4 +225,5 @@ run_failed words _ _ _ faults (nothing_begun _ _ line) e = absurd (omega (arith,
 run_failed words _ _ _ faults (nothing_asked _ _ asks line) e = absurd (omega (arith, e))
 
 pub failures_after : FailuresCauseStatus4
-failures_after words status desk desk' report report' faults faults' ran e = run_failed words status ran.desk_events ran.report_events ran.fault_events ran.run e
+failures_after words status desk desk' report report' faults faults' ran e =
+    run_failed words status ran.desk_events ran.report_events ran.fault_events ran.run e

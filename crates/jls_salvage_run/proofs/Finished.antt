@@ -54,7 +54,8 @@ status_at_input source before _ _ (other_shape _ _ _ g events h other) = omega a
 status_at_input source before _ _ (no_memory _ _ _ g events h other) = omega arith
 
 -- an output has status 4
-pub output_is_4 : (name bytes : List ℕ) (r : Refusal) (events : List Event) → StopsAtOutput name bytes r events → status_of_cause r.cause ≡ 4
+pub output_is_4 : (name bytes : List ℕ) (r : Refusal) (events : List Event) → StopsAtOutput name bytes r events → status_of_cause r.cause
+    ≡ 4
 output_is_4 name bytes r _ (outputs.not_there named is) = ap status_of_cause is
 output_is_4 name bytes r _ (outputs.cut count writes named is h) = ap status_of_cause is
 
@@ -65,7 +66,8 @@ status_at_file F L takes bytes _ _ (writing.too_large _ _ large) = omega arith
 status_at_file F L takes bytes r _ (writing.at_output _ _ events fit h) = let k = output_is_4 _ bytes r events h in omega (arith, k)
 status_at_file F L takes bytes _ _ (writing.no_memory _ _ count writes fit is lt h) = omega arith
 
-pub status_of_unsettled : (n : Bor (List ℕ)) (p : PartialPicture) (f : PictureFault) (r : Refusal) → r ≡ unsettled_refusal n p f → status_of_cause r.cause ≡ 1
+pub status_of_unsettled : (n : Bor (List ℕ)) (p : PartialPicture) (f : PictureFault) (r : Refusal) → r ≡ unsettled_refusal n p f
+    → status_of_cause r.cause ≡ 1
 status_of_unsettled n p (Unsettled component line) r is = ap (λ (x : Refusal). status_of_cause x.cause) is
 
 -- ---- no fault line
@@ -105,7 +107,12 @@ came_of_run : (words : List Text) (status : ℕ) (desk report faults : List Even
     → AskFor words asked → status ≤ 1
     → Came asked status desk report faults
 came_of_run words _ desk report faults (came_of _ a outcome _ _ _ reads came line) asked k le =
-    record { outcome = outcome; came = subst (λ (x : Asked). CameOf x outcome desk report) (one_asked words a asked reads k) came; status_is = refl; printed = line }
+    record {
+      outcome = outcome;
+      came = subst (λ (x : Asked). CameOf x outcome desk report) (one_asked words a asked reads k) came;
+      status_is = refl;
+      printed = line;
+    }
 came_of_run words _ _ _ faults (misused _ kind usage _ r n line) asked k le = absurd (r.not_taken k.taken)
 came_of_run words _ _ report _ (helped _ kind help _ r n wrote) asked k le = absurd (r.not_taken k.taken)
 came_of_run words _ _ report faults (help_cut _ kind help count _ _ r n wrote line) asked k le = absurd (r.not_taken k.taken)
@@ -133,9 +140,11 @@ join_finished source out names _ events desk desk' (joining.done _ _ _ p settled
       },
       refl,
     )
-join_finished source out names _ events desk desk' (joining.at_input _ _ _ r _ h) e le = let k = status_at_input source h.givens r h.last h.stops in absurd (omega (arith, k, le))
+join_finished source out names _ events desk desk' (joining.at_input _ _ _ r _ h) e le = let k =
+    status_at_input source h.givens r h.last h.stops in absurd (omega (arith, k, le))
 join_finished source out names _ events desk desk' (joining.no_memory _ _ _ n p whole _ named h) e le = absurd (omega (arith, le))
-join_finished source out names _ _ desk desk' (joining.at_output _ _ _ r p whole reading writing h stops) e le = let k = output_is_4 _ _ r writing stops in absurd (omega (arith, k, le))
+join_finished source out names _ _ desk desk' (joining.at_output _ _ _ r p whole reading writing h stops) e le = let k =
+    output_is_4 _ _ r writing stops in absurd (omega (arith, k, le))
 
 tell_finished : (traced : Bool) (name : Text) (outcome : Outcome) (events reported : List Event) (desk desk' report report' : History)
     → PrintsReport (lines traced) name outcome events reported
@@ -162,8 +171,20 @@ write_finished : (format : Format) (out name : Text) (outcome : Outcome) (events
     → WritesFile format out name outcome events → desk' ≡ desk ++ events → exit_status outcome ≡ 0
     → (g : Given) × WriteRan format out name g desk desk' × (fault_line program outcome ≡ [])
 write_finished format out name _ _ desk desk' (writing.done _ _ _ g whole reading written taken settled says fit handed) e is =
-    let s = done_status true whole g.partial says.settled_is (omega (arith, is)) in
-    (g, record { reading = reading; writing = written; grew = e; taken = taken; whole = says.whole_is.0 s.1; settled = settled; fits = fit; handed = handed }, refl)
+    let s = done_status true whole g.partial says.settled_is (omega (arith, is)) in (
+      g,
+      record {
+        reading = reading;
+        writing = written;
+        grew = e;
+        taken = taken;
+        whole = says.whole_is.0 s.1;
+        settled = settled;
+        fits = fit;
+        handed = handed;
+      },
+      refl,
+    )
 write_finished format out name _ events desk desk' (writing.at_input _ _ _ r _ named h) e is =
     let k = status_at_input None [] r events h in absurd (omega (arith, k, is))
 write_finished format out name _ events desk desk' (writing.unsettled _ _ _ r n g f _ named taken first because) e is =
@@ -204,25 +225,30 @@ joins_finished words status desk desk' report report' faults faults' ran source 
       f.0,
       subst (λ (s : ℕ). JoinRan source out names f.0 s desk desk') (sym c.status_is) f.1,
       unchanged report report' ran.report_events ran.report_is c.came.1,
-      unchanged faults faults' ran.fault_events ran.faults_are (none_printed ran.fault_events (subst (λ (line : List ℕ). Printed line ran.fault_events) f.2 c.printed)),
+      unchanged faults faults' ran.fault_events ran.faults_are
+          (none_printed ran.fault_events (subst (λ (line : List ℕ). Printed line ran.fault_events) f.2 c.printed)),
     )
 
 pub checks_finished : DoneChecksRan
 checks_finished words status desk desk' report report' faults faults' ran name k le =
     let c = came_of_run words status ran.desk_events ran.report_events ran.fault_events ran.run _ k le in
-    let f = tell_finished true name c.outcome ran.desk_events ran.report_events desk desk' report report' c.came ran.desk_is ran.report_is (omega (arith, le, c.status_is)) in (
+    let f = tell_finished true name c.outcome ran.desk_events ran.report_events desk desk' report report' c.came ran.desk_is ran.report_is
+    (omega (arith, le, c.status_is)) in (
       f.0,
       subst (λ (s : ℕ). TellRan true name f.0 s desk desk' report report') (sym c.status_is) f.1,
-      unchanged faults faults' ran.fault_events ran.faults_are (none_printed ran.fault_events (subst (λ (line : List ℕ). Printed line ran.fault_events) f.2 c.printed)),
+      unchanged faults faults' ran.fault_events ran.faults_are
+          (none_printed ran.fault_events (subst (λ (line : List ℕ). Printed line ran.fault_events) f.2 c.printed)),
     )
 
 pub shows_finished : DoneShowsRan
 shows_finished words status desk desk' report report' faults faults' ran name k le =
     let c = came_of_run words status ran.desk_events ran.report_events ran.fault_events ran.run _ k le in
-    let f = tell_finished false name c.outcome ran.desk_events ran.report_events desk desk' report report' c.came ran.desk_is ran.report_is (omega (arith, le, c.status_is)) in (
+    let f = tell_finished false name c.outcome ran.desk_events ran.report_events desk desk' report report' c.came ran.desk_is ran.report_is
+    (omega (arith, le, c.status_is)) in (
       f.0,
       subst (λ (s : ℕ). TellRan false name f.0 s desk desk' report report') (sym c.status_is) f.1,
-      unchanged faults faults' ran.fault_events ran.faults_are (none_printed ran.fault_events (subst (λ (line : List ℕ). Printed line ran.fault_events) f.2 c.printed)),
+      unchanged faults faults' ran.fault_events ran.faults_are
+          (none_printed ran.fault_events (subst (λ (line : List ℕ). Printed line ran.fault_events) f.2 c.printed)),
     )
 
 pub writes_finished : DoneWritesRan
@@ -233,7 +259,8 @@ writes_finished words status desk desk' report report' faults faults' ran format
       f.0,
       f.1,
       unchanged report report' ran.report_events ran.report_is came.1,
-      unchanged faults faults' ran.fault_events ran.faults_are (none_printed ran.fault_events (subst (λ (line : List ℕ). Printed line ran.fault_events) f.2 c.printed)),
+      unchanged faults faults' ran.fault_events ran.faults_are
+          (none_printed ran.fault_events (subst (λ (line : List ℕ). Printed line ran.fault_events) f.2 c.printed)),
     )
 
 pub writes_stopped : UnsettledWritesStop

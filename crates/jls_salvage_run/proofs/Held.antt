@@ -16,7 +16,8 @@ use Rattle.jls_cli.specs.declared.outcome.Cause.TheVariants as cause
 
 -- ---- a text
 
-pub text_first : (held : Option PartialPicture) (bytes : List ℕ) (said new : PartialPicture) → held ≡ None → IsTextOf bytes said → new ≡ said
+pub text_first : (held : Option PartialPicture) (bytes : List ℕ) (said new : PartialPicture) → held ≡ None → IsTextOf bytes said → new
+    ≡ said
     → JoinsText held bytes new
 text_first held bytes said new none is_text is =
     subst (λ (h : Option PartialPicture). JoinsText h bytes new) (sym none)

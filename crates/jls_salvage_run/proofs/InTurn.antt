@@ -30,13 +30,15 @@ use Rattle.jls_cli.specs.declared.outcome.Cause.TheVariants as cause
 module _ (source : Option ℕ) (old mid new : History) (name : List ℕ) where
   pub opened_and_given : (g : Given) → mid ≡ old ++ opened name ∷ [] → GrewBy (ReadsGive source g) mid new
       → GrewBy (IsTaken source name g) old new
-  opened_and_given g = grew_after (ReadsGive source g) (IsTaken source name g) old mid new (opened name) (λ reads h. record { reads = reads; events_are = refl; give = h })
+  opened_and_given g = grew_after (ReadsGive source g) (IsTaken source name g) old mid new (opened name)
+      (λ reads h. record { reads = reads; events_are = refl; give = h })
 
 module _ (source : Option ℕ) (old mid new : History) (name : Bor (List ℕ)) where
   pub opened_and_refused : (f : InputFault) (before : List Given) → mid ≡ old ++ opened name.now ∷ [] → GrewBy (ReadsRefuse f) mid new
       → GrewBy (StopsAt source before (refusal_at name (cause.Input f))) old new
   opened_and_refused f before =
-      grew_after (ReadsRefuse f) (StopsAt source before (refusal_at name (cause.Input f))) old mid new (opened name.now) (λ reads h. refused source before name f reads h)
+      grew_after (ReadsRefuse f) (StopsAt source before (refusal_at name (cause.Input f))) old mid new (opened name.now)
+      (λ reads h. refused source before name f reads h)
 
   pub not_opened_at_all : (before : List Given) (r : Refusal) → r ≡ refusal_at name cause.NotOpened → new ≡ old ++ not_opened name.now ∷ []
       → GrewBy (StopsAt source before r) old new
@@ -59,7 +61,8 @@ union_of_more (p ∷ ps) joined q h = ap (λ (x : PartialPicture). union x q) h 
 -- what has the shape of the union has that of the first
 shape_of_union : (p : PartialPicture) (ps : List PartialPicture) (joined q : PartialPicture) → IsUnionOf (p ∷ ps) joined
     → has_same_shape joined q ≡ has_same_shape p q
-shape_of_union p ps joined q h = ap (λ (s : PictureShape). same_shape s q.shape) (ap (λ (x : PartialPicture). x.shape) h ∙ shape_of_join p ps)
+shape_of_union p ps joined q h =
+    ap (λ (s : PictureShape). same_shape s q.shape) (ap (λ (x : PartialPicture). x.shape) h ∙ shape_of_join p ps)
 
 shapes_one_more : (p : PartialPicture) (ps : List PartialPicture) (q : PartialPicture) → AllOfShape has_same_shape p ps
     → has_same_shape p q ≡ true → AllOfShape has_same_shape p (ps ++ q ∷ [])
@@ -76,7 +79,8 @@ pub other_shape_than_union : (ps : List PartialPicture) (joined q : PartialPictu
 other_shape_than_union [] joined q u e = absurd u
 other_shape_than_union (p ∷ ps) joined q u e = sym (shape_of_union p ps joined q u) ∙ e
 
-pub same_shape_as_union : (ps : List PartialPicture) (joined q : PartialPicture) → IsUnionOf ps joined → (has_same_shape joined q ≡ false → ⊥)
+pub same_shape_as_union : (ps : List PartialPicture) (joined q : PartialPicture) → IsUnionOf ps joined
+    → (has_same_shape joined q ≡ false → ⊥)
     → IsOfOtherShape ps q → ⊥
 same_shape_as_union [] joined q u same other = other
 same_shape_as_union (p ∷ ps) joined q u same other = same (shape_of_union p ps joined q u ∙ other)
@@ -109,32 +113,37 @@ whole_one_more givens g whole also both h k is = (
   λ t. let parts = and_parts whole also (sym is ∙ t) in
       All-append (λ (x : Given). x.stop ≡ Whole) givens (g ∷ []) (h.0 parts.0)
       (All-cons (λ (x : Given). x.stop ≡ Whole) g [] (k.0 parts.1) (All-nil (λ (x : Given). x.stop ≡ Whole))),
-  λ all. is ∙ and_from whole also (h.1 (All-left (λ (x : Given). x.stop ≡ Whole) givens (g ∷ []) all)) (k.1 (All-last (λ (x : Given). x.stop ≡ Whole) givens g all)),
+  λ all. is ∙ and_from whole also (h.1 (All-left (λ (x : Given). x.stop ≡ Whole) givens (g ∷ []) all))
+      (k.1 (All-last (λ (x : Given). x.stop ≡ Whole) givens g all)),
 )
 
-module _ (source : Option ℕ) (names : List (List ℕ)) (name : List ℕ) (g : Given) (also : Bool) (also_is : IsTrue also ↔ (g.stop ≡ Whole)) where
-  first_taken : (events : List Event) → IsTaken source name g events → TakesUnion source (name ∷ []) g.partial also events
-  first_taken events h = record {
-    givens = g ∷ [];
-    taken = record { in_turn = (events, [], sym (append-nil events), h, refl); one_shape = tt };
-    union_is = refl;
-    whole_is = whole_one_more [] g true also also (λ _. All-nil (λ (x : Given). x.stop ≡ Whole), λ _. refl) also_is refl;
-  }
+module _ (source : Option ℕ) (names : List (List ℕ)) (name : List ℕ) (g : Given) (also : Bool) (also_is : IsTrue also ↔ (g.stop ≡ Whole))
+  where
+    first_taken : (events : List Event) → IsTaken source name g events → TakesUnion source (name ∷ []) g.partial also events
+    first_taken events h = record {
+      givens = g ∷ [];
+      taken = record { in_turn = (events, [], sym (append-nil events), h, refl); one_shape = tt };
+      union_is = refl;
+      whole_is = whole_one_more [] g true also also (λ _. All-nil (λ (x : Given). x.stop ≡ Whole), λ _. refl) also_is refl;
+    }
 
-  next_taken : (joined : PartialPicture) (whole both : Bool) → both ≡ (whole && also) → has_same_shape joined g.partial ≡ true
-      → (a b : List Event)
-      → TakesUnion source names joined whole a → IsTaken source name g b → TakesUnion source (names ++ name ∷ []) (union joined g.partial) both (a ++ b)
-  next_taken joined whole both is e a b h t =
-      let more : partials (h.givens ++ g ∷ []) ≡ partials h.givens ++ g.partial ∷ [] = map-append (λ (x : Given). x.partial) h.givens (g ∷ []) in
-      record {
-        givens = h.givens ++ g ∷ [];
-        taken = record {
-          in_turn = in_turn_more source names h.givens a b name g h.taken.in_turn t;
-          one_shape = subst AreOfOneShape (sym more) (one_shape_more (partials h.givens) joined g.partial h.union_is h.taken.one_shape e);
-        };
-        union_is = subst (λ (ps : List PartialPicture). IsUnionOf ps (union joined g.partial)) (sym more) (union_of_more (partials h.givens) joined g.partial h.union_is);
-        whole_is = whole_one_more h.givens g whole also both h.whole_is also_is is;
-      }
+    next_taken : (joined : PartialPicture) (whole both : Bool) → both ≡ (whole && also) → has_same_shape joined g.partial ≡ true
+        → (a b : List Event)
+        → TakesUnion source names joined whole a → IsTaken source name g b
+        → TakesUnion source (names ++ name ∷ []) (union joined g.partial) both (a ++ b)
+    next_taken joined whole both is e a b h t =
+        let more : partials (h.givens ++ g ∷ []) ≡ partials h.givens ++ g.partial ∷ [] =
+        map-append (λ (x : Given). x.partial) h.givens (g ∷ []) in
+        record {
+          givens = h.givens ++ g ∷ [];
+          taken = record {
+            in_turn = in_turn_more source names h.givens a b name g h.taken.in_turn t;
+            one_shape = subst AreOfOneShape (sym more) (one_shape_more (partials h.givens) joined g.partial h.union_is h.taken.one_shape e);
+          };
+          union_is = subst (λ (ps : List PartialPicture). IsUnionOf ps (union joined g.partial)) (sym more)
+              (union_of_more (partials h.givens) joined g.partial h.union_is);
+          whole_is = whole_one_more h.givens g whole also both h.whole_is also_is is;
+        }
 
 pub union_of_first : (source : Option ℕ) (old new : History) (name : List ℕ) (g : Given) (also : Bool) (held : PartialPicture)
     → IsTrue also ↔ (g.stop ≡ Whole) → held ≡ g.partial
@@ -142,10 +151,12 @@ pub union_of_first : (source : Option ℕ) (old new : History) (name : List ℕ)
 union_of_first source old new name g also held w is h = record {
   events = h.events;
   grew = h.grew;
-  they_are = subst (λ (p : PartialPicture). TakesUnion source (name ∷ []) p also h.events) (sym is) (first_taken source [] name g also w h.events h.they_are);
+  they_are = subst (λ (p : PartialPicture). TakesUnion source (name ∷ []) p also h.events) (sym is)
+      (first_taken source [] name g also w h.events h.they_are);
 }
 
-module _ (source : Option ℕ) (old mid new : History) (names : List (List ℕ)) (joined : PartialPicture) (whole : Bool) (taken : GrewBy (TakesUnion source names joined whole) old mid) where
+module _ (source : Option ℕ) (old mid new : History) (names : List (List ℕ)) (joined : PartialPicture) (whole : Bool)
+    (taken : GrewBy (TakesUnion source names joined whole) old mid) where
   pub union_of_next : (name : List ℕ) (g : Given) (also both : Bool) (new_union : PartialPicture) → IsTrue also ↔ (g.stop ≡ Whole)
       → both ≡ (whole && also)
       → GrewBy (IsTaken source name g) mid new → has_same_shape joined g.partial ≡ true → new_union ≡ union joined g.partial

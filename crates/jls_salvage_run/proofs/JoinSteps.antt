@@ -17,10 +17,12 @@ use Rattle.jls_cli.specs.declared.outcome.Cause.TheVariants as cause
 
 module _ (source : Option ℕ) (out : List ℕ) (names : List (List ℕ)) (old mid new : History) where
   pub ends_at_input : (r : Refusal) → GrewBy (StopsAtInput source names r) old mid → GrewBy (Joins source out names (Err r)) old mid
-  ends_at_input r = grew_as (StopsAtInput source names r) (Joins source out names (Err r)) old mid (λ events h. at_input source out names r events h)
+  ends_at_input r = grew_as (StopsAtInput source names r) (Joins source out names (Err r)) old mid
+      (λ events h. at_input source out names r events h)
 
   module _ (joined : PartialPicture) (whole : Bool) (taken : GrewBy (TakesUnion source names joined whole) old mid) where
-    pub ends_for_memory : (name : Bor (List ℕ)) → name.now ≡ out → GrewBy (Joins source out names (Err (refusal_at name cause.OutOfMemory))) old mid
+    pub ends_for_memory : (name : Bor (List ℕ)) → name.now ≡ out
+        → GrewBy (Joins source out names (Err (refusal_at name cause.OutOfMemory))) old mid
     ends_for_memory name named =
         grew_as (TakesUnion source names joined whole) (Joins source out names (Err (refusal_at name cause.OutOfMemory))) old mid
         (λ events h. no_memory source out names name joined whole events named h) taken

@@ -20,7 +20,8 @@ use Rattle.jls_salvage_run.proofs.InTurn.{opened_and_given, opened_and_refused, 
 use Rattle.jls_salvage_run.proofs.InTurn.{union_of_next}
 
 module _ (source : Option ℕ) (old mid new : History) (name : List ℕ) (is_opened : mid ≡ old ++ opened name ∷ []) where
-  pub given_joined : (held : Option PartialPicture) (joined : PartialPicture) (whole : Bool) (g : Given) → GrewBy (ReadsGive source g) mid new
+  pub given_joined : (held : Option PartialPicture) (joined : PartialPicture) (whole : Bool) (g : Given)
+      → GrewBy (ReadsGive source g) mid new
       → JoinsWith held g.partial joined → IsTrue whole ↔ (g.stop ≡ Whole) → GrewBy (JoinsInput source name held joined whole) old new
   given_joined held joined whole g h j w =
       grew_as (IsTaken source name g) (JoinsInput source name held joined whole) old new
@@ -30,7 +31,8 @@ module _ (source : Option ℕ) (old mid new : History) (name : List ℕ) (is_ope
   pub text_joined : (held : Option PartialPicture) (joined : PartialPicture) (bytes : List ℕ) → GrewBy (IsForm source bytes Text) mid new
       → JoinsText held bytes joined → GrewBy (JoinsInput source name held joined true) old new
   text_joined held joined bytes h j =
-      given_joined held joined true (given_by_text j.said) (text_gives source mid new bytes h j.said j.is_text) j.joined (λ _. refl, λ _. refl)
+      given_joined held joined true (given_by_text j.said) (text_gives source mid new bytes h j.said j.is_text) j.joined
+      (λ _. refl, λ _. refl)
 
 -- ---- stopped
 
@@ -55,7 +57,8 @@ module _ (source : Option ℕ) (old mid new : History) (name : List ℕ) (is_ope
       opened_and_refused source old mid new n _ before (is_opened_as n named)
       (refused_by mid new bytes h.they_are.1 (all_read source mid new bytes h) f fails)
   text_stops _ before u bytes _ named h (other_text held said _ n is other) =
-      given_stops (Some held) before u (given_by_text said) (refusal_at n cause.ShapeDiffers) named (text_gives source mid new bytes h said is) (differs held said n other)
+      given_stops (Some held) before u (given_by_text said) (refusal_at n cause.ShapeDiffers) named
+      (text_gives source mid new bytes h said is) (differs held said n other)
 
 -- ---- all of them
 
@@ -63,11 +66,14 @@ pub first_joined : (source : Option ℕ) (old new : History) (name : List ℕ) (
     → GrewBy (JoinsInput source name None joined whole) old new → GrewBy (TakesUnion source (name ∷ []) joined whole) old new
 first_joined source old new name joined whole h =
     let j = h.they_are in
-    union_of_first source old new name j.given whole joined j.whole_is j.joined.union_is (record { events = h.events; grew = h.grew; they_are = j.taken })
+    union_of_first source old new name j.given whole joined j.whole_is j.joined.union_is
+    (record { events = h.events; grew = h.grew; they_are = j.taken })
 
 pub next_joined : (source : Option ℕ) (old mid new : History) (names : List (List ℕ)) (held : PartialPicture) (whole : Bool)
-    → GrewBy (TakesUnion source names held whole) old mid → (name : List ℕ) (joined : PartialPicture) (also both : Bool) → both ≡ (whole && also)
+    → GrewBy (TakesUnion source names held whole) old mid → (name : List ℕ) (joined : PartialPicture) (also both : Bool) → both
+    ≡ (whole && also)
     → GrewBy (JoinsInput source name (Some held) joined also) mid new → GrewBy (TakesUnion source (names ++ name ∷ []) joined both) old new
 next_joined source old mid new names held whole taken name joined also both is h =
     let j = h.they_are in
-    union_of_next source old mid new names held whole taken name j.given also both joined j.whole_is is (record { events = h.events; grew = h.grew; they_are = j.taken }) j.joined.one_shape j.joined.union_is
+    union_of_next source old mid new names held whole taken name j.given also both joined j.whole_is is
+    (record { events = h.events; grew = h.grew; they_are = j.taken }) j.joined.one_shape j.joined.union_is

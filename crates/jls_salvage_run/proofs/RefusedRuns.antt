@@ -57,7 +57,8 @@ unfit_input source before _ events (other_shape _ _ n g _ h other) e = statuses.
 unfit_input source before _ events (no_memory _ _ _ g _ h other) e = absurd (omega (arith, e))
 
 -- the only input is unfit
-ends_at_one : (name : List ℕ) (r : Refusal) (events : List Event) → r.name.now ≡ name → StopsAt None [] r events → status_of_cause r.cause ≡ 3
+ends_at_one : (name : List ℕ) (r : Refusal) (events : List Event) → r.name.now ≡ name → StopsAt None [] r events → status_of_cause r.cause
+    ≡ 3
     → EndsAtUnfit None (name ∷ []) events
 ends_at_one name r events named h e = record {
   before = [];
@@ -110,7 +111,8 @@ file_not_3 F L takes bytes _ _ (writing.no_memory _ _ count writes fit is lt h) 
 
 write_unfit : (format : Format) (out name : List ℕ) (outcome : Outcome) (events : List Event)
     → WritesFile format out name outcome events → exit_status outcome ≡ 3 → EndsAtUnfit None (name ∷ []) events
-write_unfit format out name _ _ (writing.done _ _ _ g whole reading written taken settled says fit handed) e = absurd (done_not_3 true whole e)
+write_unfit format out name _ _ (writing.done _ _ _ g whole reading written taken settled says fit handed) e =
+    absurd (done_not_3 true whole e)
 write_unfit format out name _ events (writing.at_input _ _ _ r _ named h) e = ends_at_one name r events named h e
 write_unfit format out name _ events (writing.unsettled _ _ _ r n g f _ named taken first because) e =
     let k = status_of_unsettled n g.partial f r because in absurd (omega (arith, k, e))
@@ -127,7 +129,8 @@ came_unfit (write_jls line ri out name) outcome desk report h e = write_unfit (J
 
 run_unfit : (words : List (List ℕ)) (status : ℕ) (desk report faults : List Event) → Run words status desk report faults → status ≡ 3
     → (asked : Asked) × AskFor words asked × EndsAtUnfit (source_of asked) (inputs_of asked) desk
-run_unfit words _ desk report faults (came_of _ asked outcome _ _ _ reads came line) e = (asked, reads, came_unfit asked outcome desk report came e)
+run_unfit words _ desk report faults (came_of _ asked outcome _ _ _ reads came line) e =
+    (asked, reads, came_unfit asked outcome desk report came e)
 run_unfit words _ _ _ faults (misused _ kind usage _ r n line) e = absurd (omega (arith, e))
 run_unfit words _ _ report _ (helped _ kind help _ r n wrote) e = absurd (omega (arith, e))
 run_unfit words _ _ report faults (help_cut _ kind help count _ _ r n wrote line) e = absurd (omega (arith, e))
@@ -197,7 +200,12 @@ module _ (words : List (List ℕ)) (desk desk' : History) where
         name = name;
         asked = asks;
         g = g;
-        taken = record { events = reading; grew = grew ∙ ap (λ (es : List Event). desk ++ es) (ap (λ (es : List Event). reading ++ es) h.1 ∙ append-nil reading); they_are = taken };
+        taken = record {
+          events = reading;
+          grew = grew
+              ∙ ap (λ (es : List Event). desk ++ es) (ap (λ (es : List Event). reading ++ es) h.1 ∙ append-nil reading);
+          they_are = taken;
+        };
         settled = settled;
         too_large = h.0;
       }
@@ -208,11 +216,13 @@ module _ (words : List (List ℕ)) (desk desk' : History) where
   came_with_2 (join source out names) outcome events report h e asks grew = absurd (join_not_2 source out names outcome events h.0 e)
   came_with_2 (show name) outcome events report h e asks grew = absurd (tell_not_2 false name outcome events report h e)
   came_with_2 (write_pnm out name) outcome events report h e asks grew = write_with_2 Pnm out name outcome events h.0 e asks grew
-  came_with_2 (write_jls line rows out name) outcome events report h e asks grew = write_with_2 (Jls line rows) out name outcome events h.0 e asks grew
+  came_with_2 (write_jls line rows out name) outcome events report h e asks grew =
+      write_with_2 (Jls line rows) out name outcome events h.0 e asks grew
 
   run_with_2 : (status : ℕ) (events report faults : List Event) → Run words status events report faults → status ≡ 2
       → desk' ≡ desk ++ events → AreMisused words ⊎ (AskForNothing words ⊎ AskForTooMuch words desk desk')
-  run_with_2 _ events report faults (came_of _ asked outcome _ _ _ reads came line) e grew = inr (inr (came_with_2 asked outcome events report came e reads grew))
+  run_with_2 _ events report faults (came_of _ asked outcome _ _ _ reads came line) e grew =
+      inr (inr (came_with_2 asked outcome events report came e reads grew))
   run_with_2 _ _ _ faults (misused _ kind usage _ r n line) e grew = inl (kind, r, n)
   run_with_2 _ _ report _ (helped _ kind help _ r n wrote) e grew = absurd (omega (arith, e))
   run_with_2 _ _ report faults (help_cut _ kind help count _ _ r n wrote line) e grew = absurd (omega (arith, e))

@@ -19,4 +19,5 @@ run_of_answer words k _ _ faults (inl is) (usage _ text _ m n line) = let e : tr
 run_of_answer words k _ report _ (inr r) (help _ text _ n wrote) = helped words k text report r n wrote
 run_of_answer words k _ report _ (inl is) (help _ text _ n wrote) = let e : false ≡ true = sym (ap is_help is) ∙ n in absurd cc
 run_of_answer words k _ report faults (inr r) (cut _ text count _ _ n wrote line) = help_cut words k text count report faults r n wrote line
-run_of_answer words k _ report faults (inl is) (cut _ text count _ _ n wrote line) = let e : false ≡ true = sym (ap is_help is) ∙ n in absurd cc
+run_of_answer words k _ report faults (inl is) (cut _ text count _ _ n wrote line) = let e : false ≡ true = sym (ap is_help is) ∙ n in
+    absurd cc

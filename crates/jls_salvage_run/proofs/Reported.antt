@@ -35,22 +35,26 @@ module _ (lines : Given → List ℕ) (name : List ℕ) (desk desk' report repor
       they_are = no_memory name file g taken.events named taken.they_are;
     }
 
-    pub reported : (settled whole : Bool) (printed : List ℕ) → printed ≡ lines g → Says g settled whole → GrewBy (Wrote printed) report report'
+    pub reported : (settled whole : Bool) (printed : List ℕ) → printed ≡ lines g → Says g settled whole
+        → GrewBy (Wrote printed) report report'
         → GrewBoth (PrintsReport lines name (finished settled whole)) desk desk' report report'
     reported settled whole printed is says h = record {
       desk_events = taken.events;
       report_events = h.events;
       desk_is = taken.grew;
       report_is = h.grew;
-      they_are = done name g settled whole taken.events h.events taken.they_are says (subst (λ (bytes : List ℕ). Wrote bytes h.events) is h.they_are);
+      they_are = done name g settled whole taken.events h.events taken.they_are says
+          (subst (λ (bytes : List ℕ). Wrote bytes h.events) is h.they_are);
     }
 
     pub reported_in_part : (out : Bor (List ℕ)) (count : ℕ) (printed : List ℕ) → printed ≡ lines g → out.now ≡ codes "-"
-        → GrewBy (WrotePrefix printed count) report report' → GrewBoth (PrintsReport lines name (Err (refusal_at out (cause.NotWritten count)))) desk desk' report report'
+        → GrewBy (WrotePrefix printed count) report report'
+        → GrewBoth (PrintsReport lines name (Err (refusal_at out (cause.NotWritten count)))) desk desk' report report'
     reported_in_part out count printed is named h = record {
       desk_events = taken.events;
       report_events = h.events;
       desk_is = taken.grew;
       report_is = h.grew;
-      they_are = not_printed name out g count taken.events h.events named taken.they_are (subst (λ (bytes : List ℕ). WrotePrefix bytes count h.events) is h.they_are);
+      they_are = not_printed name out g count taken.events h.events named taken.they_are
+          (subst (λ (bytes : List ℕ). WrotePrefix bytes count h.events) is h.they_are);
     }

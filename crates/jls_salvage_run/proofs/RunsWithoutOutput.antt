@@ -64,7 +64,8 @@ module _ (E : List ℕ → Type 0) where
   none_last bytes (write_failed ∷ more) stop h = absurd h
 
   none_read : (reads : List Event) (bytes : List ℕ) (stop : ReadStop) → IsRead E reads bytes stop → list_any is_creation reads ≡ false
-  none_read reads bytes stop h = none_as reads (h.on ++ h.last) h.reads_are (none_both h.on h.last (none_on [] h.on h.goes_on) (none_last bytes h.last stop h.stops))
+  none_read reads bytes stop h =
+      none_as reads (h.on ++ h.last) h.reads_are (none_both h.on h.last (none_on [] h.on h.goes_on) (none_last bytes h.last stop h.stops))
 
 none_refused : (f : InputFault) (reads : List Event) → ReadsRefuse f reads → list_any is_creation reads ≡ false
 none_refused f reads (for_fault _ bytes stop _ is h) = none_read IsEnough reads bytes stop is
@@ -73,7 +74,8 @@ none_refused _ reads (for_memory _ (after_the_last bytes stop _ is t)) = none_re
 
 none_taken : (source : Option ℕ) (name : List ℕ) (g : Given) (events : List Event) → IsTaken source name g events
     → list_any is_creation events ≡ false
-none_taken source name g events h = none_as events (opened name ∷ h.reads) h.events_are (none_read IsEnough h.reads h.give.bytes g.stop h.give.is_read)
+none_taken source name g events h =
+    none_as events (opened name ∷ h.reads) h.events_are (none_read IsEnough h.reads h.give.bytes g.stop h.give.is_read)
 
 none_at_input : (source : Option ℕ) (before : List Given) (r : Refusal) (events : List Event)
     → StopsAt source before r events → list_any is_creation events ≡ false
@@ -97,7 +99,8 @@ done_else settled false ge le = absurd (omega (arith, le))
 done_else true true ge le = absurd (omega (arith, ge))
 done_else false true ge le = absurd (omega (arith, ge))
 
-output_else : (name bytes : List ℕ) (r : Refusal) (events : List Event) → StopsAtOutput name bytes r events → status_of_cause r.cause ≤ 3 → ⊥
+output_else : (name bytes : List ℕ) (r : Refusal) (events : List Event) → StopsAtOutput name bytes r events → status_of_cause r.cause ≤ 3
+    → ⊥
 output_else name bytes r events h le = let k = output_is_4 name bytes r events h in absurd (omega (arith, k, le))
 
 join_creates_none : (source : Option ℕ) (out : List ℕ) (names : List (List ℕ)) (outcome : Outcome) (events : List Event)
@@ -106,14 +109,18 @@ join_creates_none : (source : Option ℕ) (out : List ℕ) (names : List (List �
 join_creates_none source out names _ events (joining.done _ _ _ p settled whole _ h) ge le = absurd (done_else settled whole ge le)
 join_creates_none source out names _ events (joining.at_input _ _ _ r _ h) ge le =
     none_as events (h.reading ++ h.last) h.events_are
-    (none_both h.reading h.last (none_in_turn source h.before h.givens h.reading h.taken.in_turn) (none_at_input source h.givens r h.last h.stops))
-join_creates_none source out names _ events (joining.no_memory _ _ _ n p whole _ named h) ge le = none_in_turn source names h.givens events h.taken.in_turn
-join_creates_none source out names _ _ (joining.at_output _ _ _ r p whole reading written h stops) ge le = absurd (output_else _ _ r written stops le)
+    (none_both h.reading h.last (none_in_turn source h.before h.givens h.reading h.taken.in_turn)
+    (none_at_input source h.givens r h.last h.stops))
+join_creates_none source out names _ events (joining.no_memory _ _ _ n p whole _ named h) ge le =
+    none_in_turn source names h.givens events h.taken.in_turn
+join_creates_none source out names _ _ (joining.at_output _ _ _ r p whole reading written h stops) ge le =
+    absurd (output_else _ _ r written stops le)
 
 tell_creates_none : (traced : Bool) (name : List ℕ) (outcome : Outcome) (events reported : List Event)
     → PrintsReport (lines traced) name outcome events reported
     → 2 ≤ exit_status outcome → exit_status outcome ≤ 3 → (list_any is_creation events ≡ false) × (reported ≡ [])
-tell_creates_none traced name _ events reported (reporting.done _ g settled whole _ _ taken says wrote) ge le = absurd (done_else settled whole ge le)
+tell_creates_none traced name _ events reported (reporting.done _ g settled whole _ _ taken says wrote) ge le =
+    absurd (done_else settled whole ge le)
 tell_creates_none traced name _ events _ (reporting.at_input _ r _ named h) ge le = (none_at_input None [] r events h, refl)
 tell_creates_none traced name _ events _ (reporting.no_memory _ n g _ named taken) ge le = (none_taken None name g events taken, refl)
 tell_creates_none traced name _ events reported (reporting.not_printed _ n g count _ _ named taken wrote) ge le =
@@ -129,9 +136,11 @@ file_creates_none F L takes bytes _ _ (writing.no_memory _ _ count writes fit is
 write_creates_none : (format : Format) (out name : List ℕ) (outcome : Outcome) (events : List Event)
     → WritesFile format out name outcome events
     → 2 ≤ exit_status outcome → exit_status outcome ≤ 3 → list_any is_creation events ≡ false
-write_creates_none format out name _ _ (writing.done _ _ _ g whole reading written taken settled says fit handed) ge le = absurd (done_else true whole ge le)
+write_creates_none format out name _ _ (writing.done _ _ _ g whole reading written taken settled says fit handed) ge le =
+    absurd (done_else true whole ge le)
 write_creates_none format out name _ events (writing.at_input _ _ _ r _ named h) ge le = none_at_input None [] r events h
-write_creates_none format out name _ events (writing.unsettled _ _ _ r n g f _ named taken first because) ge le = none_taken None name g events taken
+write_creates_none format out name _ events (writing.unsettled _ _ _ r n g f _ named taken first because) ge le =
+    none_taken None name g events taken
 write_creates_none format out name _ _ (writing.at_file _ _ _ r g reading written named taken settled stops) ge le =
     none_both reading written (none_taken None name g reading taken) (file_creates_none _ _ _ _ r written stops le)
 
@@ -142,12 +151,14 @@ came_creates_none (check name) outcome desk report h ge le = tell_creates_none t
 came_creates_none (join source out names) outcome desk report h ge le = (join_creates_none source out names outcome desk h.0 ge le, h.1)
 came_creates_none (show name) outcome desk report h ge le = tell_creates_none false name outcome desk report h ge le
 came_creates_none (write_pnm out name) outcome desk report h ge le = (write_creates_none Pnm out name outcome desk h.0 ge le, h.1)
-came_creates_none (write_jls line ri out name) outcome desk report h ge le = (write_creates_none (Jls line ri) out name outcome desk h.0 ge le, h.1)
+came_creates_none (write_jls line ri out name) outcome desk report h ge le =
+    (write_creates_none (Jls line ri) out name outcome desk h.0 ge le, h.1)
 
 run_creates_none : (words : List (List ℕ)) (status : ℕ) (desk report faults : List Event) → Run words status desk report faults → 2 ≤ status
     → status ≤ 3
     → (list_any is_creation desk ≡ false) × (report ≡ [])
-run_creates_none words _ desk report faults (came_of _ asked outcome _ _ _ reads came line) ge le = came_creates_none asked outcome desk report came ge le
+run_creates_none words _ desk report faults (came_of _ asked outcome _ _ _ reads came line) ge le =
+    came_creates_none asked outcome desk report came ge le
 run_creates_none words _ _ _ faults (misused _ kind usage _ r n line) ge le = (refl, refl)
 run_creates_none words _ _ report _ (helped _ kind help _ r n wrote) ge le = absurd (omega (arith, ge))
 run_creates_none words _ _ report faults (help_cut _ kind help count _ _ r n wrote line) ge le = absurd (omega (arith, le))

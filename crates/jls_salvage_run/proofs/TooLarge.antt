@@ -18,8 +18,10 @@ module _ (picture : WholePicture) (is : IsPicture picture) (line : Bool) (ri : �
   samples_at_most : (c : ℕ) → c < length picture.shape.ids → (y : ℕ) → y < picture.shape.height
       → All (λ sample. sample ≤ 2 ^ picture.shape.precision - 1) (line_of picture c y)
   samples_at_most c inside y below =
-      let component = item_at (IsComponentIn picture.shape) picture.lines is.each c [] (subst (λ (n : ℕ). c < n) (sym is.components) inside) in
-      let one = item_at (IsLineIn picture.shape) (get_or picture.lines c []) component.1 y [] (subst (λ (n : ℕ). y < n) (sym component.0) below) in
+      let component = item_at (IsComponentIn picture.shape) picture.lines is.each c []
+      (subst (λ (n : ℕ). c < n) (sym is.components) inside) in
+      let one = item_at (IsLineIn picture.shape) (get_or picture.lines c []) component.1 y []
+      (subst (λ (n : ℕ). y < n) (sym component.0) below) in
       all_at_most (2 ^ picture.shape.precision) (line_of picture c y) one.1
 
   pub only_too_large : (OptionsFit picture (options_for line ri picture) → ⊥) → HasTooLarge picture (options_for line ri picture)

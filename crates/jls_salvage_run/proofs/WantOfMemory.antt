@@ -46,7 +46,8 @@ memory_line (Err r) e = line_of_memory r.name.now r.cause e
 
 run_out_of_memory : (words : List (List ℕ)) (status : ℕ) (desk report faults : List Event) → Run words status desk report faults
     → status ≡ 5 → Printed (out_of_memory_line program) faults
-run_out_of_memory words _ desk report faults (came_of _ asked outcome _ _ _ reads came line) e = subst (λ (l : List ℕ). Printed l faults) (memory_line outcome e) line
+run_out_of_memory words _ desk report faults (came_of _ asked outcome _ _ _ reads came line) e =
+    subst (λ (l : List ℕ). Printed l faults) (memory_line outcome e) line
 run_out_of_memory words _ _ _ faults (misused _ kind usage _ r n line) e = absurd (omega (arith, e))
 run_out_of_memory words _ _ report _ (helped _ kind help _ r n wrote) e = absurd (omega (arith, e))
 run_out_of_memory words _ _ report faults (help_cut _ kind help count _ _ r n wrote line) e = absurd (omega (arith, e))
@@ -54,4 +55,5 @@ run_out_of_memory words _ _ _ faults (nothing_begun _ _ line) e = line
 run_out_of_memory words _ _ _ faults (nothing_asked _ _ asks line) e = absurd (omega (arith, e))
 
 pub memory_reported : WantOfMemoryIsReported
-memory_reported words status desk desk' report report' faults faults' ran e = run_out_of_memory words status ran.desk_events ran.report_events ran.fault_events ran.run e
+memory_reported words status desk desk' report report' faults faults' ran e =
+    run_out_of_memory words status ran.desk_events ran.report_events ran.fault_events ran.run e

@@ -26,7 +26,8 @@ input_of_member : (source : Option ℕ) (inputs : List (List ℕ)) (ps : List Pa
 input_of_member source [] [] p h (k, lt, e) = absurd (omega (arith, lt))
 input_of_member source [] (q ∷ ps) p h c = absurd h
 input_of_member source (bytes ∷ inputs) [] p h c = absurd h
-input_of_member source (bytes ∷ inputs) (q ∷ ps) p h (zero, lt, e) = (bytes, (0, omega arith, refl), h.0, subst (λ (x : PartialPicture). GivesPartial source bytes x) e h.1)
+input_of_member source (bytes ∷ inputs) (q ∷ ps) p h (zero, lt, e) =
+    (bytes, (0, omega arith, refl), h.0, subst (λ (x : PartialPicture). GivesPartial source bytes x) e h.1)
 input_of_member source (bytes ∷ inputs) (q ∷ ps) p h (suc k, lt, e) =
     let m = input_of_member source inputs ps p h.2 (k, omega (arith, lt), e) in (m.0, (suc m.1.0, omega (arith, m.1.1), m.1.2), m.2, m.3)
 
@@ -36,7 +37,8 @@ member_of_input : (source : Option ℕ) (inputs : List (List ℕ)) (ps : List Pa
 member_of_input source [] [] bytes h (k, lt, e) = absurd (omega (arith, lt))
 member_of_input source [] (q ∷ ps) bytes h c = absurd h
 member_of_input source (x ∷ inputs) [] bytes h c = absurd h
-member_of_input source (x ∷ inputs) (q ∷ ps) bytes h (zero, lt, e) = (q, (0, omega arith, refl), subst (λ (b : List ℕ). GivesPartial source b q) e h.1)
+member_of_input source (x ∷ inputs) (q ∷ ps) bytes h (zero, lt, e) =
+    (q, (0, omega arith, refl), subst (λ (b : List ℕ). GivesPartial source b q) e h.1)
 member_of_input source (x ∷ inputs) (q ∷ ps) bytes h (suc k, lt, e) =
     let m = member_of_input source inputs ps bytes h.2 (k, omega (arith, lt), e) in (m.0, (suc m.1.0, omega (arith, m.1.1), m.1.2), m.2)
 
@@ -80,7 +82,8 @@ module _ (apart : (bytes : List ℕ) (p q : PartialPicture) → IsTextOf bytes p
       let rest = same_pictures source inputs ps qs h.2 k.1 in
       (λ i. first i ∷ rest i)
 
-  module _ (one_join : (x y : PartialPicture) (xs ys : List PartialPicture) → AllOfShape has_same_shape x xs → AllOfShape has_same_shape y ys
+  module _ (one_join : (x y : PartialPicture) (xs ys : List PartialPicture) → AllOfShape has_same_shape x xs
+      → AllOfShape has_same_shape y ys
       → ((z : PartialPicture) → Contains (x ∷ xs) z ↔ Contains (y ∷ ys) z) → join_all union x xs ≡ join_all union y ys) where
     unions_agree : (ps qs : List PartialPicture) (joined joined' : PartialPicture) → IsUnionOf ps joined → IsUnionOf qs joined'
         → AreOfOneShape ps → AreOfOneShape qs
@@ -97,7 +100,8 @@ module _ (apart : (bytes : List ℕ) (p q : PartialPicture) → IsTextOf bytes p
         let qs = partials h'.taken.givens in
         let there = among source (input_bytes events) (input_bytes events') ps qs t.0 t'.0 (λ bytes c. (same bytes).0 c) in
         let back = among source (input_bytes events') (input_bytes events) qs ps t'.0 t.0 (λ bytes c. (same bytes).1 c) in
-        let e = unions_agree ps qs joined joined' h.taken.union_is h'.taken.union_is h.taken.taken.one_shape h'.taken.taken.one_shape (λ p. (there p, back p)) in
+        let e = unions_agree ps qs joined joined' h.taken.union_is h'.taken.union_is h.taken.taken.one_shape h'.taken.taken.one_shape
+        (λ p. (there p, back p)) in
         (e, t.1 ∙ (ap (λ (p : PartialPicture). text p ∷ []) e ∙ sym t'.1))
 
   union_of_parts : PartsGiveThePicture → (picture joined : PartialPicture) → IsPartial picture → IsSettled picture
@@ -110,5 +114,6 @@ module _ (apart : (bytes : List ℕ) (p q : PartialPicture) → IsTextOf bytes p
   picture_written join source out names joined settled whole events h picture is picture_settled parts are survives inputs =
       let t = bytes_of_join source out names joined settled whole events h in
       let same = same_pictures source (input_bytes events) (partials h.taken.givens) parts t.0 inputs in
-      let e = union_of_parts join picture joined is picture_settled parts (subst (λ (ps : List PartialPicture). IsUnionOf ps joined) same h.taken.union_is) are survives in
+      let e = union_of_parts join picture joined is picture_settled parts
+      (subst (λ (ps : List PartialPicture). IsUnionOf ps joined) same h.taken.union_is) are survives in
       (e, t.1 ∙ ap (λ (p : PartialPicture). text p ∷ []) e)

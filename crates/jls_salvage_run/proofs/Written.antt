@@ -35,28 +35,34 @@ use Rattle.jls_salvage_run.proofs.TooLarge.{only_too_large}
 module _ (f : Format) (out name : List ℕ) (old mid new : History) where
   pub stops_at_input : (r : Refusal) → r.name.now ≡ name → GrewBy (StopsAt None [] r) old mid
       → GrewBy (WritesFile f out name (Err r)) old mid
-  stops_at_input r named = grew_as (StopsAt None [] r) (WritesFile f out name (Err r)) old mid (λ events h. at_input f out name r events named h)
+  stops_at_input r named = grew_as (StopsAt None [] r) (WritesFile f out name (Err r)) old mid
+      (λ events h. at_input f out name r events named h)
 
   module _ (g : Given) (taken : GrewBy (IsTaken None name g) old mid) where
-    pub stops_unsettled : (r : Refusal) (input : Bor (List ℕ)) (fault : PictureFault) → input.now ≡ name → NamesFirstUnsettled g.partial fault
+    pub stops_unsettled : (r : Refusal) (input : Bor (List ℕ)) (fault : PictureFault) → input.now ≡ name
+        → NamesFirstUnsettled g.partial fault
         → r ≡ unsettled_refusal input g.partial fault
         → GrewBy (WritesFile f out name (Err r)) old mid
     stops_unsettled r input fault named first is =
-        grew_as (IsTaken None name g) (WritesFile f out name (Err r)) old mid (λ events h. unsettled f out name r input g fault events named h first is) taken
+        grew_as (IsTaken None name g) (WritesFile f out name (Err r)) old mid
+        (λ events h. unsettled f out name r input g fault events named h first is) taken
 
     module _ (settled : IsSettled g.partial) where
       pub is_written : (whole : Bool) → Says g true whole → FitsFormat f (picture_of g.partial)
           → GrewBy (HandsOut out (file f (picture_of g.partial))) mid new
           → GrewBy (WritesFile f out name (finished true whole)) old new
       is_written whole says fit =
-          grew_on (IsTaken None name g) (HandsOut out (file f (picture_of g.partial))) (WritesFile f out name (finished true whole)) old mid new
+          grew_on (IsTaken None name g) (HandsOut out (file f (picture_of g.partial))) (WritesFile f out name (finished true whole)) old mid
+          new
           (λ a b t h. done f out name g whole a b t settled says fit h) taken
 
       pub stops_at_file : (r : Refusal) → r.name.now ≡ out
-          → GrewBy (StopsAtFile (FitsFormat f (picture_of g.partial)) (IsTooLarge f (picture_of g.partial)) (takes_memory f) (file f (picture_of g.partial)) r) mid new
+          → GrewBy (StopsAtFile (FitsFormat f (picture_of g.partial)) (IsTooLarge f (picture_of g.partial)) (takes_memory f)
+          (file f (picture_of g.partial)) r) mid new
           → GrewBy (WritesFile f out name (Err r)) old new
       stops_at_file r named =
-          grew_on (IsTaken None name g) (StopsAtFile (FitsFormat f (picture_of g.partial)) (IsTooLarge f (picture_of g.partial)) (takes_memory f) (file f (picture_of g.partial)) r) (WritesFile f out name (Err r)) old mid new
+          grew_on (IsTaken None name g) (StopsAtFile (FitsFormat f (picture_of g.partial)) (IsTooLarge f (picture_of g.partial))
+          (takes_memory f) (file f (picture_of g.partial)) r) (WritesFile f out name (Err r)) old mid new
           (λ a b t h. at_file f out name r g a b named t settled h) taken
 
 -- a file that went out in part
@@ -70,12 +76,15 @@ cut_after (Write count) old mid new name bytes held holds made h =
 cut_after (OutOfMemory count) old mid new name bytes held holds made h = absurd h
 
 -- the same of a file whose writer takes memory
-pub cut_in_file : (F L : Type 0) → F → (f : OutputFault) (old mid new : History) (name : Bor (List ℕ)) (bytes : List ℕ) (held holds : Option (List ℕ))
+pub cut_in_file : (F L : Type 0) → F
+    → (f : OutputFault) (old mid new : History) (name : Bor (List ℕ)) (bytes : List ℕ) (held holds : Option (List ℕ))
     → mid ≡ old ++ created name.now ∷ []
     → StopsIn f 0 mid new held holds bytes → GrewBy (StopsAtFile F L true bytes (cut_refusal name f)) old new
 cut_in_file F L fit (Write count) old mid new name bytes held holds made h =
-    grew_as (StopsAtOutput name.now bytes (cut_refusal name (Write count))) (StopsAtFile F L true bytes (cut_refusal name (Write count))) old new
-    (λ events k. at_output bytes (cut_refusal name (Write count)) events fit k) (cut_after (Write count) old mid new name bytes held holds made h)
+    grew_as (StopsAtOutput name.now bytes (cut_refusal name (Write count))) (StopsAtFile F L true bytes (cut_refusal name (Write count)))
+    old new
+    (λ events k. at_output bytes (cut_refusal name (Write count)) events fit k)
+    (cut_after (Write count) old mid new name bytes held holds made h)
 cut_in_file F L fit (OutOfMemory count) old mid new name bytes held holds made h =
     let part = h.2 in
     grew_after (Wrote (take h.0 bytes)) (StopsAtFile F L true bytes (refusal_at name cause.OutOfMemory)) old mid new (created name.now)
@@ -84,7 +93,8 @@ cut_in_file F L fit (OutOfMemory count) old mid new name bytes held holds made h
 -- nothing was created
 pub stops_before : (F L : Type 0) (takes : Bool) → L → (h : History) (name : Bor (List ℕ)) (bytes : List ℕ)
     → GrewBy (StopsAtFile F L takes bytes (refusal_at name cause.TooLarge)) h h
-stops_before F L takes large h name bytes = grew_not (StopsAtFile F L takes bytes (refusal_at name cause.TooLarge)) h (too_large name bytes large)
+stops_before F L takes large h name bytes =
+    grew_not (StopsAtFile F L takes bytes (refusal_at name cause.TooLarge)) h (too_large name bytes large)
 
 -- what it is too large for is another way to say it
 too_large_so : (F L M : Type 0) (takes : Bool) → (L → M) → (bytes : List ℕ) (r : Refusal) (events : List Event)
@@ -116,16 +126,21 @@ pnm_stopped : {T : Type 0} (r : Result T Refusal) (old new : History) (name : Li
 pnm_stopped (Ok x) old new name picture h = tt
 pnm_stopped (Err c) old new name picture h = stopped_by_output (Unit {0}) ⊥ false tt c old new name (pnm picture) h
 
-pub stopped_as_pnm : {T : Type 0} (f : Format) → f ≡ Pnm → (r : Result T Refusal) (old new : History) (name : List ℕ) (picture : WholePicture)
-    → IfErr r (λ c. GrewBy (StopsAtOutput name (pnm picture) c) old new) → IfErr r (λ c. GrewBy (StopsAtFile (FitsFormat f picture) (IsTooLarge f picture) (takes_memory f) (file f picture) c) old new)
+pub stopped_as_pnm : {T : Type 0} (f : Format) → f ≡ Pnm
+    → (r : Result T Refusal) (old new : History) (name : List ℕ) (picture : WholePicture)
+    → IfErr r (λ c. GrewBy (StopsAtOutput name (pnm picture) c) old new)
+    → IfErr r (λ c. GrewBy (StopsAtFile (FitsFormat f picture) (IsTooLarge f picture) (takes_memory f) (file f picture) c) old new)
 stopped_as_pnm {T} f e r old new name picture h =
-    subst (λ (x : Format). IfErr r (λ c. GrewBy (StopsAtFile (FitsFormat x picture) (IsTooLarge x picture) (takes_memory x) (file x picture) c) old new)) (sym e) (pnm_stopped r old new name picture h)
+    subst (λ (x : Format). IfErr r
+    (λ c. GrewBy (StopsAtFile (FitsFormat x picture) (IsTooLarge x picture) (takes_memory x) (file x picture) c) old new)) (sym e)
+    (pnm_stopped r old new name picture h)
 
 -- and a JPEG-LS file
 jls_stopped : {T : Type 0} (line : Bool) (ri : ℕ) (r : Result T Refusal) (old new : History) (picture : WholePicture) → IsPicture picture
     → (o : WriteOptions) → o ≡ options_for line ri picture
     → IfErr r (λ c. GrewBy (StopsAtFile (OptionsFit picture o) (OptionsFit picture o → ⊥) true (written_file picture o) c) old new)
-    → IfErr r (λ c. GrewBy (StopsAtFile (FitsFormat (Jls line ri) picture) (IsTooLarge (Jls line ri) picture) (takes_memory (Jls line ri)) (file (Jls line ri) picture) c) old new)
+    → IfErr r (λ c. GrewBy (StopsAtFile (FitsFormat (Jls line ri) picture) (IsTooLarge (Jls line ri) picture) (takes_memory (Jls line ri))
+    (file (Jls line ri) picture) c) old new)
 jls_stopped line ri (Ok x) old new picture is o are h = tt
 jls_stopped line ri (Err c) old new picture is o are h =
     let F = FitsFormat (Jls line ri) picture in
@@ -133,7 +148,8 @@ jls_stopped line ri (Err c) old new picture is o are h =
     let bytes = file (Jls line ri) picture in
     grew_as (StopsAtFile F (F → ⊥) true bytes c) (StopsAtFile F large true bytes c) old new
     (λ events k. too_large_so F (F → ⊥) large true (only_too_large picture is line ri) bytes c events k)
-    (subst (λ (x : WriteOptions). GrewBy (StopsAtFile (OptionsFit picture x) (OptionsFit picture x → ⊥) true (written_file picture x) c) old new) are h)
+    (subst (λ (x : WriteOptions). GrewBy (StopsAtFile (OptionsFit picture x) (OptionsFit picture x → ⊥) true (written_file picture x) c) old
+    new) are h)
 
 pub stopped_as_jls : {T : Type 0} (f : Format) (line : Bool) (ri : ℕ) → f ≡ Jls line ri
     → (r : Result T Refusal) (old new : History) (picture : WholePicture) → IsPicture picture
@@ -141,5 +157,6 @@ pub stopped_as_jls : {T : Type 0} (f : Format) (line : Bool) (ri : ℕ) → f �
     → IfErr r (λ c. GrewBy (StopsAtFile (OptionsFit picture o) (OptionsFit picture o → ⊥) true (written_file picture o) c) old new)
     → IfErr r (λ c. GrewBy (StopsAtFile (FitsFormat f picture) (IsTooLarge f picture) (takes_memory f) (file f picture) c) old new)
 stopped_as_jls {T} f line ri e r old new picture is o are h =
-    subst (λ (x : Format). IfErr r (λ c. GrewBy (StopsAtFile (FitsFormat x picture) (IsTooLarge x picture) (takes_memory x) (file x picture) c) old new)) (sym e)
+    subst (λ (x : Format). IfErr r
+    (λ c. GrewBy (StopsAtFile (FitsFormat x picture) (IsTooLarge x picture) (takes_memory x) (file x picture) c) old new)) (sym e)
     (jls_stopped line ri r old new picture is o are h)

@@ -41,38 +41,41 @@ read_one_more (n ∷ names) [] a b name copy h t = absurd h
 read_one_more (n ∷ names) (x ∷ copies) a b name copy h t =
     (h.0, h.1 ++ b, ap (λ (y : List Event). y ++ b) h.2 ∙ append_assoc h.0 h.1 b, h.3, read_one_more names copies h.1 b name copy h.4 t)
 
-module _ (names : List (List ℕ)) (copies : List CopyBytes) (old mid new : History) (so_far : GrewBy (AreCopiesRead names copies) old mid) where
-  pub reads_next : (name : List ℕ) (copy : CopyBytes) → GrewBy (IsCopyRead name copy) mid new
-      → GrewBy (AreCopiesRead (names ++ name ∷ []) (copies ++ copy ∷ [])) old new
-  reads_next name copy h =
-      grew_on (AreCopiesRead names copies) (IsCopyRead name copy) (AreCopiesRead (names ++ name ∷ []) (copies ++ copy ∷ [])) old mid new
-      (λ a b s t. read_one_more names copies a b name copy s t) so_far h
+module _ (names : List (List ℕ)) (copies : List CopyBytes) (old mid new : History) (so_far : GrewBy (AreCopiesRead names copies) old mid)
+  where
+    pub reads_next : (name : List ℕ) (copy : CopyBytes) → GrewBy (IsCopyRead name copy) mid new
+        → GrewBy (AreCopiesRead (names ++ name ∷ []) (copies ++ copy ∷ [])) old new
+    reads_next name copy h =
+        grew_on (AreCopiesRead names copies) (IsCopyRead name copy) (AreCopiesRead (names ++ name ∷ []) (copies ++ copy ∷ [])) old mid new
+        (λ a b s t. read_one_more names copies a b name copy s t) so_far h
 
-  pub stops_next : (all after : List (List ℕ)) (r : CopyRefusal) → all ≡ names ++ r.name.now ∷ after
-      → GrewBy (StopsAtCopy r.name.now r.cause) mid new → GrewBy (StopsAmongCopies all r) old new
-  stops_next all after r among h = record {
-    events = so_far.events ++ h.events;
-    grew = grew_twice old mid new so_far.events h.events so_far.grew h.grew;
-    they_are = record {
-      before = names;
-      after = after;
-      among = among;
-      copies = copies;
-      reading = so_far.events;
-      read = so_far.they_are;
-      last = h.events;
-      stops = h.they_are;
-      events_are = refl;
-    };
-  }
+    pub stops_next : (all after : List (List ℕ)) (r : CopyRefusal) → all ≡ names ++ r.name.now ∷ after
+        → GrewBy (StopsAtCopy r.name.now r.cause) mid new → GrewBy (StopsAmongCopies all r) old new
+    stops_next all after r among h = record {
+      events = so_far.events ++ h.events;
+      grew = grew_twice old mid new so_far.events h.events so_far.grew h.grew;
+      they_are = record {
+        before = names;
+        after = after;
+        among = among;
+        copies = copies;
+        reading = so_far.events;
+        read = so_far.they_are;
+        last = h.events;
+        stops = h.they_are;
+        events_are = refl;
+      };
+    }
 
 -- one name more of those that the code has, and the copy that was read under it
-pub reads_on : (names : List (Bor (List ℕ))) (i : ℕ) (d : Bor (List ℕ)) → i < length names → (before after : List CopyFile) (copy : CopyFile)
+pub reads_on : (names : List (Bor (List ℕ))) (i : ℕ) (d : Bor (List ℕ)) → i < length names
+    → (before after : List CopyFile) (copy : CopyFile)
     → after ≡ before ++ copy ∷ [] → (old mid new : History) → GrewBy (AreCopiesRead (map name_of (take i names)) (copies_of before)) old mid
     → GrewBy (IsCopyRead (get_or names i d).now (copy_of copy)) mid new
     → GrewBy (AreCopiesRead (map name_of (take (i + 1) names)) (copies_of after)) old new
 reads_on names i d within before after copy is old mid new so_far h =
     let copied : copies_of after ≡ copies_of before ++ copy_of copy ∷ [] = ap copies_of is ∙ map-append copy_of before (copy ∷ []) in
     subst (λ (copies : List CopyBytes). GrewBy (AreCopiesRead (map name_of (take (i + 1) names)) copies) old new) (sym copied)
-    (subst (λ (read : List (List ℕ)). GrewBy (AreCopiesRead read (copies_of before ++ copy_of copy ∷ [])) old new) (sym (names_one_more names i d within))
+    (subst (λ (read : List (List ℕ)). GrewBy (AreCopiesRead read (copies_of before ++ copy_of copy ∷ [])) old new)
+    (sym (names_one_more names i d within))
     (reads_next (map name_of (take i names)) (copies_of before) old mid new so_far (get_or names i d).now (copy_of copy) h))

@@ -27,8 +27,10 @@ use Rattle.jls_station.specs.declared.take_copy.TakeFault.TheVariants as take
 use Rattle.jls_station.proofs.OneInput.{given_so, read_as_input, refused_as_copy}
 
 -- what was taken out of a copy that reads so
-pub copy_given : (source : Option ℕ) (reader : Option (List ℕ)) (read : ReadCopy) (p : PartialPicture) (pieces : List PieceRecord) (n : ℕ) (e : End) (count : ℕ) (stop : ReadStop)
-    → p ≡ marked source read.partial → pieces ≡ read.pieces → n ≡ read.piece_count → e ≡ read.ended → IfSome reader (λ bytes. count ≡ length bytes)
+pub copy_given : (source : Option ℕ) (reader : Option (List ℕ)) (read : ReadCopy) (p : PartialPicture) (pieces : List PieceRecord) (n : ℕ)
+    (e : End) (count : ℕ) (stop : ReadStop)
+    → p ≡ marked source read.partial → pieces ≡ read.pieces → n ≡ read.piece_count → e ≡ read.ended
+    → IfSome reader (λ bytes. count ≡ length bytes)
     → IfSome reader (λ bytes. CopyReads bytes read)
     → IfSome reader (λ bytes. (r : ReadCopy) × CopyReads bytes r × (p ≡ marked source r.partial)
     × (record { found = record { pieces = pieces; piece_count = n; ended = e; count = count }; stop = stop } ≡ report_of bytes r stop))
@@ -37,8 +39,10 @@ copy_given source (Some bytes) read p pieces n e count stop a b c d m h =
     (read, h, a, λ i. record { found = record { pieces = b i; piece_count = c i; ended = d i; count = m i }; stop = stop })
 
 -- why a copy is refused that gives nothing
-pub refused_so : (reader : Option (List ℕ)) (f : CopyFault) (stop : ReadStop) (count : ℕ) (answer : InputFault) → IfSome reader (λ bytes. CopyGivesNone bytes f)
-    → IfSome reader (λ bytes. count ≡ length bytes) → answer ≡ input_fault_of_copy f stop count → IfSome reader (λ bytes. IsCopyRefused bytes stop answer)
+pub refused_so : (reader : Option (List ℕ)) (f : CopyFault) (stop : ReadStop) (count : ℕ) (answer : InputFault)
+    → IfSome reader (λ bytes. CopyGivesNone bytes f)
+    → IfSome reader (λ bytes. count ≡ length bytes) → answer ≡ input_fault_of_copy f stop count
+    → IfSome reader (λ bytes. IsCopyRefused bytes stop answer)
 refused_so None f stop count answer h n is = tt
 refused_so (Some bytes) f stop count answer h n is = (f, h, is ∙ ap (λ (m : ℕ). input_fault_of_copy f stop m) n)
 
@@ -51,13 +55,15 @@ module _ (source : Option ℕ) (first : List ℕ) (stop : ReadStop) (old new : H
   pub copy_gives : (reader : Option (List ℕ)) (p : PartialPicture) (report : CopyReport) (g : Given) → g ≡ given_of p (Some report)
       → IsSomeAnd reader (λ bytes. is_text bytes ≡ is_text first)
       → IsSomeAnd reader (λ bytes. GrewBy (λ reads. IsRead IsCopyDone reads bytes stop) old new)
-      → IfSome reader (λ bytes. (r : ReadCopy) × CopyReads bytes r × (p ≡ marked source r.partial) × (report ≡ report_of bytes r stop)) → GrewBy (ReadsGive source g) old new
+      → IfSome reader (λ bytes. (r : ReadCopy) × CopyReads bytes r × (p ≡ marked source r.partial) × (report ≡ report_of bytes r stop))
+      → GrewBy (ReadsGive source g) old new
   copy_gives None p report g is b k h = absurd b
   copy_gives (Some bytes) p report g is b k h =
       let copied = b ∙ not_text in
       let same : g ≡ given_by_copy source bytes h.0 stop = is ∙ (λ i. given_of (h.2 i) (Some (h.3 i))) in
       subst (λ (x : Given). GrewBy (ReadsGive source x) old new) (sym same)
-      (given_so old new bytes stop (read_as_input bytes stop old new copied k) source (given_by_copy source bytes h.0 stop) refl (by_copy source bytes h.0 stop copied h.1))
+      (given_so old new bytes stop (read_as_input bytes stop old new copied k) source (given_by_copy source bytes h.0 stop) refl
+      (by_copy source bytes h.0 stop copied h.1))
 
   -- a copy without a frame
   pub copy_refused : (reader : Option (List ℕ)) (answer : InputFault)
@@ -90,8 +96,10 @@ is_taken_so (copy.NoPicture f offset) Turns count = unread Turns count
 pub is_taken : (Q : List ℕ → Type 0) (reader : Option (List ℕ)) (stop : ReadStop) (answer : InputFault) → IsSomeAnd reader Q
     → IfSome reader (λ bytes. IsCopyRefused bytes stop answer) → (taken : TakeFault) × IsTakenFor answer taken
 is_taken Q None stop answer k h = absurd k
-is_taken Q (Some bytes) stop answer k h =
-    (taken_so h.0 stop (length bytes), subst (λ (x : InputFault). IsTakenFor x (taken_so h.0 stop (length bytes))) (sym h.2) (is_taken_so h.0 stop (length bytes)))
+is_taken Q (Some bytes) stop answer k h = (
+  taken_so h.0 stop (length bytes),
+  subst (λ (x : InputFault). IsTakenFor x (taken_so h.0 stop (length bytes))) (sym h.2) (is_taken_so h.0 stop (length bytes)),
+)
 
 IsOfCopy : InputFault → Type 0
 IsOfCopy (input.Text f) = ⊥
@@ -133,9 +141,11 @@ module _ (source : Option ℕ) (stop : ReadStop) (old new : History) where
       → GrewBy (λ reads. IsRead IsCopyDone reads bytes how) old new → CopyGivesNone bytes f
       → IsTakenFor (input_fault_of_copy f how (length bytes)) answer → GrewBy (CopyStops answer) old new
   stops_for bytes copy.OutOfMemory how _ k h for_memory =
-      grew_as (λ reads. IsRead IsCopyDone reads bytes how) (CopyStops take.OutOfMemory) old new (λ reads is. after_the_last bytes how reads is) k
+      grew_as (λ reads. IsRead IsCopyDone reads bytes how) (CopyStops take.OutOfMemory) old new
+      (λ reads is. after_the_last bytes how reads is) k
   stops_for bytes (copy.NoPicture f offset) Whole _ k h (no_frame _ _) =
-      grew_as (λ reads. IsRead IsCopyDone reads bytes Whole) (CopyStops (take.NoPicture f offset)) old new (λ reads is. no_picture bytes f offset reads is h) k
+      grew_as (λ reads. IsRead IsCopyDone reads bytes Whole) (CopyStops (take.NoPicture f offset)) old new
+      (λ reads is. no_picture bytes f offset reads is h) k
   stops_for bytes (copy.NoPicture f offset) Failed _ k h (unread _ _) =
       grew_as (λ reads. IsRead IsCopyDone reads bytes Failed) (CopyStops (take.Read Failed (length bytes))) old new
       (λ reads is. not_read bytes Failed f offset reads (λ t. absurd cc) is h) k

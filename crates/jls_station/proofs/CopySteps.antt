@@ -1,5 +1,6 @@
 -- Steps of the loop that reads an input.
-use Rattle.std.proofs.Common.{◌≡◌, ◌⊎◌, ◌<◌, ◌≤◌, ℕ, ◌+◌, ◌*◌, Bool, true, false, List, [], ◌∷◌, ◌++◌, Option, Some, None, length, sym, subst, ap}
+use Rattle.std.proofs.Common.{◌≡◌, ◌⊎◌, ◌<◌, ◌≤◌, ℕ, ◌+◌, ◌*◌, Bool, true, false, List, [], ◌∷◌, ◌++◌, Option, Some, None, length, sym}
+use Rattle.std.proofs.Common.{subst, ap}
 use Rattle.std.proofs.Common.{◌∙◌, arith, refl}
 use Rattle.std.specs.Prelude.{◌↔◌, IsTrue, IfSome, IsSomeAnd, if◌then◌else◌, ◌-◌, ◌^◌}
 use Rattle.std.specs.Io.KnownBytes.{Consumes, IsAtEnd}
@@ -16,7 +17,8 @@ use Rattle.jls_station.proofs.OneInput.{one_read_more, consumes_on}
 
 -- What an intake, which was fed as `first` says and is fed as `held` says now, got by so many reads. `left` is what its source had left
 -- before them and has left now, where that is known
-pub record SoFar (E : List ℕ → Type 0) (first held : Option (List ℕ)) (made count : ℕ) (old new : History) (left left' : Option (List ℕ)) : Type 0 where
+pub record SoFar (E : List ℕ → Type 0) (first held : Option (List ℕ)) (made count : ℕ) (old new : History)
+    (left left' : Option (List ℕ)) : Type 0 where
   pub bytes : List ℕ
   pub is : held ≡ Some bytes
   pub few : length bytes ≤ 4096 * count
@@ -74,9 +76,11 @@ pub put_fits : (held : Option (List ℕ)) (bytes more : List ℕ) → held ≡ S
 put_fits held bytes more is le = subst (λ (o : Option (List ℕ)). IfSome o (λ b. length b + length more ≤ 2 ^ 63 - 1)) (sym is) le
 
 -- one read more, which gave some bytes
-pub one_more : (E : List ℕ → Type 0) (first held held' : Option (List ℕ)) (made count : ℕ) (old mid new : History) (room : ℕ) (more : List ℕ) (left mid_left left' : Option (List ℕ))
+pub one_more : (E : List ℕ → Type 0) (first held held' : Option (List ℕ)) (made count : ℕ) (old mid new : History) (room : ℕ)
+    (more : List ℕ) (left mid_left left' : Option (List ℕ))
     (h : SoFar E first held made count old mid left mid_left)
-    → held' ≡ Some (h.bytes ++ more) → new ≡ mid ++ gave room more ∷ [] → (E h.bytes → ⊥) → room ≤ 4096 → 0 < length more → length more ≤ 4096 → AreBytes more
+    → held' ≡ Some (h.bytes ++ more) → new ≡ mid ++ gave room more ∷ [] → (E h.bytes → ⊥) → room ≤ 4096 → 0 < length more → length more
+    ≤ 4096 → AreBytes more
     → Consumes mid_left left' more → SoFar E first held' made (count + 1) old new left left'
 one_more E first held held' made count old mid new room more left mid_left left' h is e not fits some few low consumed = record {
   bytes = h.bytes ++ more;

@@ -56,7 +56,8 @@ module _ (source : Option ℕ) (held : PartialPicture) where
   ran_out None = tt
   ran_out (Some bytes) = tt
 
-  refused_so : (bytes prefix : List ℕ) (f : CopyFault) (stop : ReadStop) (answer : TakeFault) → IsPrefixOf bytes prefix stop → CopyGivesNone prefix f
+  refused_so : (bytes prefix : List ℕ) (f : CopyFault) (stop : ReadStop) (answer : TakeFault) → IsPrefixOf bytes prefix stop
+      → CopyGivesNone prefix f
       → IsTakenFor (input_fault_of_copy f stop (length prefix)) answer → RefusesBytes source held bytes answer
   refused_so bytes prefix copy.OutOfMemory stop _ k h for_memory = tt
   refused_so bytes prefix (copy.NoPicture f offset) Whole _ k h (no_frame _ _) = (prefix, k, h)

@@ -87,7 +87,12 @@ module _ (E : List ℕ → Type 0) where
 
   module _ (count : ℕ) (old mid new : History) (bytes : List ℕ) where
     pub nothing_read : GrewBy (ReadSoFar E 0 []) old old
-    nothing_read = record { events = []; grew = sym (append-nil old); they_are = record { goes_on = tt; bytes_are = refl; are_bytes = tt; number = refl } }
+    nothing_read = record {
+      events = [];
+      grew = sym (append-nil old);
+      they_are =
+          record { goes_on = tt; bytes_are = refl; are_bytes = tt; number = refl };
+    }
 
     pub one_read_more : (room : ℕ) (more : List ℕ) → GrewBy (ReadSoFar E count bytes) old mid → new ≡ mid ++ gave room more ∷ []
         → (E bytes → ⊥) → room ≤ 4096
@@ -229,20 +234,31 @@ consumes_on (Some xs) (Some ys) (Some zs) a b h k = h ∙ (ap (λ (t : List ℕ)
 
 module _ (old new : History) where
   pub out_of_memory_in_part : GrewBy (IsReadInPart IsEnough) old new → GrewBy (ReadsRefuse fault.OutOfMemory) old new
-  out_of_memory_in_part = grew_as (IsReadInPart IsEnough) (ReadsRefuse fault.OutOfMemory) old new (λ reads h. for_memory reads (between_reads reads h))
+  out_of_memory_in_part = grew_as (IsReadInPart IsEnough) (ReadsRefuse fault.OutOfMemory) old new
+      (λ reads h. for_memory reads (between_reads reads h))
 
   module _ (bytes : List ℕ) (stop : ReadStop) (h : GrewBy (λ reads. IsRead IsEnough reads bytes stop) old new) where
     pub refused_for : (f : InputFault) → IsRefused bytes stop f → GrewBy (ReadsRefuse f) old new
     refused_for f is = record { events = h.events; grew = h.grew; they_are = for_fault f bytes stop h.events h.they_are is }
 
     pub out_of_memory_after : (is_text bytes ≡ true → stop ≡ Whole) → GrewBy (ReadsRefuse fault.OutOfMemory) old new
-    out_of_memory_after is = record { events = h.events; grew = h.grew; they_are = for_memory h.events (after_the_last bytes stop h.events h.they_are is) }
+    out_of_memory_after is = record {
+      events = h.events;
+      grew = h.grew;
+      they_are =
+          for_memory h.events (after_the_last bytes stop h.events h.they_are is);
+    }
 
     pub given_so : (source : Option ℕ) (g : Given) → g.stop ≡ stop → Gives source bytes g → GrewBy (ReadsGive source g) old new
     given_so source g is gives = record {
       events = h.events;
       grew = h.grew;
-      they_are = record { bytes = bytes; is_read = subst (λ (s : ReadStop). IsRead IsEnough h.events bytes s) (sym is) h.they_are; gives = gives };
+      they_are = record {
+        bytes = bytes;
+        is_read = subst (λ (s : ReadStop). IsRead IsEnough h.events bytes s) (sym is) h.they_are;
+        gives =
+            gives;
+      };
     }
 
 -- where the bytes of a source are known, they are those that were read to its end
@@ -257,7 +273,8 @@ known_text None bytes p h is = tt
 known_text (Some xs) bytes p h is = subst (λ (t : List ℕ). IsTextOf t p) (sym h) is
 
 -- the fault of a text that a function answers, as the fault of an input
-module _ (old new : History) (bytes : List ℕ) (text : is_text bytes ≡ true) (h : GrewBy (λ reads. IsRead IsEnough reads bytes Whole) old new) where
+module _ (old new : History) (bytes : List ℕ) (text : is_text bytes ≡ true)
+    (h : GrewBy (λ reads. IsRead IsEnough reads bytes Whole) old new) where
   refused_as_text : (f : TextFault) → IsNoText bytes f → GrewBy (ReadsRefuse (fault.Text f)) old new
   refused_as_text f fails = refused_for old new bytes Whole h (fault.Text f) (no_text bytes f text fails)
 
@@ -276,8 +293,10 @@ module _ (old new : History) (bytes : List ℕ) (text : is_text bytes ≡ true) 
 pub refused_as_copy : (old new : History) (bytes : List ℕ) (stop : ReadStop) → is_text bytes ≡ false
     → GrewBy (λ reads. IsRead IsEnough reads bytes stop) old new
     → (f : CopyFault) → CopyGivesNone bytes f → GrewBy (ReadsRefuse (input_fault_of_copy f stop (length bytes))) old new
-refused_as_copy old new bytes stop copied h copy.OutOfMemory e = out_of_memory_after old new bytes stop h (λ is. absurd (false≢true (sym copied ∙ is)))
-refused_as_copy old new bytes Whole copied h (copy.NoPicture f offset) e = refused_for old new bytes Whole h (fault.NoPicture f offset) (no_picture bytes f offset copied e)
+refused_as_copy old new bytes stop copied h copy.OutOfMemory e =
+    out_of_memory_after old new bytes stop h (λ is. absurd (false≢true (sym copied ∙ is)))
+refused_as_copy old new bytes Whole copied h (copy.NoPicture f offset) e =
+    refused_for old new bytes Whole h (fault.NoPicture f offset) (no_picture bytes f offset copied e)
 refused_as_copy old new bytes Failed copied h (copy.NoPicture f offset) e =
     refused_for old new bytes Failed h (fault.Read Failed (length bytes)) (copy_not_read bytes Failed f offset copied (λ t. absurd cc) e)
 refused_as_copy old new bytes Turns copied h (copy.NoPicture f offset) e =
@@ -289,7 +308,8 @@ empty_gives_none = (without_units 0 (Header marker.Ended 0), with_fill_alone 0, 
 
 pub empty_goes_on : OneCourse → IsCopyDone [] → ⊥
 empty_goes_on one done =
-    false≢true (ap (λ (c : Course). is_final_end c.end) (one [] (without_units 0 (Header marker.Ended 0)) done.0 (with_fill_alone 0) done.1) ∙ sym done.2)
+    false≢true (ap (λ (c : Course). is_final_end c.end) (one [] (without_units 0 (Header marker.Ended 0)) done.0 (with_fill_alone 0) done.1)
+    ∙ sym done.2)
 
 pub other_input_fault : (f : TextFault) → (f ≡ text_fault.OutOfMemory → ⊥) → input_fault_of f ≡ fault.Text f
 other_input_fault (text_fault.Magic offset) other = refl

@@ -1,5 +1,6 @@
 -- What the loop that reads an input says of a text and of a copy.
-use Rattle.std.proofs.Common.{◌≡◌, ◌≤◌, ◌*◌, ◌++◌, ◌⊎◌, ℕ, Bool, true, false, List, Option, Some, None, Result, Ok, Err, length, sym, subst, ap, inl, inr, refl, arith, ◌∙◌}
+use Rattle.std.proofs.Common.{◌≡◌, ◌≤◌, ◌*◌, ◌++◌, ◌⊎◌, ℕ, Bool, true, false, List, Option, Some, None, Result, Ok, Err, length, sym}
+use Rattle.std.proofs.Common.{subst, ap, inl, inr, refl, arith, ◌∙◌}
 use Rattle.std.specs.Prelude.{IfOk, IfSome, IsSomeAnd, if◌then◌else◌}
 use Rattle.std.specs.Io.KnownBytes.{Consumes, IsAtEnd}
 use Rattle.jls_station.specs.Inputs.{IsCopyDone, IsEnough}
@@ -25,7 +26,8 @@ module _ {E : Type 0} (r : Result ReadStop E) where
       → IfOk r (λ stop. IsSomeAnd held (λ bytes. (more : List ℕ) × (bytes ≡ fed ++ more)))
       → IfOk r (λ stop. IsSomeAnd held (λ bytes. is_text bytes ≡ is_text fed))
   copy_begins held fed some =
-      ok_so (λ stop. IsSomeAnd held (λ bytes. (more : List ℕ) × (bytes ≡ fed ++ more))) (λ stop. IsSomeAnd held (λ bytes. is_text bytes ≡ is_text fed)) r
+      ok_so (λ stop. IsSomeAnd held (λ bytes. (more : List ℕ) × (bytes ≡ fed ++ more)))
+      (λ stop. IsSomeAnd held (λ bytes. is_text bytes ≡ is_text fed)) r
       (λ stop. some_so (λ bytes. (more : List ℕ) × (bytes ≡ fed ++ more)) (λ bytes. is_text bytes ≡ is_text fed) held
       (λ bytes h. ap is_text h.1 ∙ same_first fed h.0 some))
 
@@ -35,7 +37,8 @@ module _ {E : Type 0} (r : Result ReadStop E) where
       → IfOk r (λ stop. IsSomeAnd held (λ prefix. IfSome before (λ bytes. IsPrefixOf bytes prefix stop)))
   copy_known held before left h e = by r held h e
     where
-      by : {E : Type 0} (r : Result ReadStop E) (held : Option (List ℕ)) → IfOk r (λ stop. IsSomeAnd held (λ bytes. Consumes before left bytes))
+      by : {E : Type 0} (r : Result ReadStop E) (held : Option (List ℕ))
+          → IfOk r (λ stop. IsSomeAnd held (λ bytes. Consumes before left bytes))
           → IfOk r (λ stop. stop ≡ Whole → IsSomeAnd held IsCopyDone ⊎ IsAtEnd left)
           → IfOk r (λ stop. IsSomeAnd held (λ prefix. IfSome before (λ bytes. IsPrefixOf bytes prefix stop)))
       by (Err x) held h e = tt
@@ -51,7 +54,8 @@ text_is Q bytes = by (is_text bytes) refl
     by false text h = absurd h
 
 pub text_few : (bytes : List ℕ) → is_text bytes ≡ true → length bytes ≤ 4096 → IsSomeAnd (text_in bytes) (λ fed. length fed ≤ 4096 * 1)
-text_few bytes text few = subst (λ (o : Option (List ℕ)). IsSomeAnd o (λ fed. length fed ≤ 4096 * 1)) (sym (text_held bytes text)) (omega (arith, few))
+text_few bytes text few = subst (λ (o : Option (List ℕ)). IsSomeAnd o (λ fed. length fed ≤ 4096 * 1)) (sym (text_held bytes text))
+    (omega (arith, few))
 
 module _ {E : Type 0} (r : Result ReadStop E) (bytes : List ℕ) where
   pub still_a_text : (Q : List ℕ → Type 0) → IfOk r (λ stop. IsSomeAnd (text_in bytes) Q) → IfOk r (λ stop. is_text bytes ≡ true)

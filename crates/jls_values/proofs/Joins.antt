@@ -46,7 +46,8 @@ module _ {V : Type 0} {same_shape : V → V → Bool} {join : V → V → V} (la
     record {
       within = lt;
       before = before;
-      differs = subst (λ (o : Option V). IfSome o (λ m. same_shape x m ≡ false)) (sym (slice_get_read ys (length ys) k y refl lt is)) (unfit_along x z y f g);
+      differs = subst (λ (o : Option V). IfSome o (λ m. same_shape x m ≡ false)) (sym (slice_get_read ys (length ys) k y refl lt is))
+          (unfit_along x z y f g);
       merged = e;
     },
   )
@@ -61,13 +62,15 @@ module _ {V : Type 0} {same_shape : V → V → Bool} {join : V → V → V} (la
   pub fits_all : (x : V) (ys : List V) → AllOfShape same_shape x ys → same_shape x (join_all join x ys) ≡ true
   fits_all x [] h = laws.reflexive x
   fits_all x (y ∷ ys) h =
-      laws.transitive x (join x y) (join_all join (join x y) ys) (laws.join_same_shape x y h.0) (fits_all (join x y) ys (joined_fit x y ys h.0 h.1))
+      laws.transitive x (join x y) (join_all join (join x y) ys) (laws.join_same_shape x y h.0)
+      (fits_all (join x y) ys (joined_fit x y ys h.0 h.1))
 
   pub below_all : (x : V) (ys : List V) → AllOfShape same_shape x ys → IsBelow join x (join_all join x ys)
   below_all x [] h = laws.idempotent x
   below_all x (y ∷ ys) h =
       let h' = joined_fit x y ys h.0 h.1 in
-      below_along x (join x y) (join_all join (join x y) ys) (laws.join_same_shape x y h.0) (fits_all (join x y) ys h') (below_join x y h.0) (below_all (join x y) ys h')
+      below_along x (join x y) (join_all join (join x y) ys) (laws.join_same_shape x y h.0) (fits_all (join x y) ys h') (below_join x y h.0)
+      (below_all (join x y) ys h')
 
   pub member_below : (x : V) (ys : List V) (k : ℕ) (d : V) → k < length ys → AllOfShape same_shape x ys
       → IsBelow join (get_or ys k d) (join_all join x ys)
@@ -75,7 +78,8 @@ module _ {V : Type 0} {same_shape : V → V → Bool} {join : V → V → V} (la
   member_below x (y ∷ ys) zero d lt h =
       let h' = joined_fit x y ys h.0 h.1 in
       let f = laws.transitive y x (join x y) (turned x y h.0) (laws.join_same_shape x y h.0) in
-      below_along y (join x y) (join_all join (join x y) ys) f (fits_all (join x y) ys h') (below_join_right x y h.0) (below_all (join x y) ys h')
+      below_along y (join x y) (join_all join (join x y) ys) f (fits_all (join x y) ys h') (below_join_right x y h.0)
+      (below_all (join x y) ys h')
   member_below x (y ∷ ys) (suc k) d lt h = member_below (join x y) ys k d (omega arith) (joined_fit x y ys h.0 h.1)
 
   pub contained_below : (x : V) (ys : List V) (y : V) → AllOfShape same_shape x ys → Contains ys y → IsBelow join y (join_all join x ys)
@@ -119,7 +123,8 @@ module _ {V : Type 0} {same_shape : V → V → Bool} {join : V → V → V} (la
       all_least x (join_all join y ys) xs h
       (laws.transitive x y (join_all join y ys) (turned y x (contained_fits y ys x g first)) (fits_all y ys g))
       (whole_below y ys x g first)
-      (λ k d lt. whole_below y ys (get_or xs k d) g (inside (get_or xs k d) (suc k, omega (arith, lt), same_place xs k d (get_or xs k d) lt)))
+      (λ k d lt. whole_below y ys (get_or xs k d) g
+      (inside (get_or xs k d) (suc k, omega (arith, lt), same_place xs k d (get_or xs k d) lt)))
 
   -- lists with the same members have the same join, whichever member is the first
   pub same_lists : (x : V) (xs : List V) (y : V) (ys : List V) → AllOfShape same_shape x xs → AllOfShape same_shape y ys
@@ -128,7 +133,8 @@ module _ {V : Type 0} {same_shape : V → V → Bool} {join : V → V → V} (la
   same_lists x xs y ys h g there back =
       let f = turned y x (contained_fits y ys x g (there x (0, omega arith, refl))) in
       below_both (join_all join x xs) (join_all join y ys)
-      (laws.transitive (join_all join x xs) x (join_all join y ys) (turned x (join_all join x xs) (fits_all x xs h)) (laws.transitive x y (join_all join y ys) f (fits_all y ys g)))
+      (laws.transitive (join_all join x xs) x (join_all join y ys) (turned x (join_all join x xs) (fits_all x xs h))
+      (laws.transitive x y (join_all join y ys) f (fits_all y ys g)))
       (half x xs y ys h g there) (half y ys x xs g h back)
 
   following : (x : V) (xs ys : List V) → ((z : V) → Contains xs z → Contains ys z) → (z : V) → Contains (x ∷ xs) z → Contains (x ∷ ys) z
@@ -159,7 +165,8 @@ module _ {V : Type 0} (same_shape : V → V → Bool) where
   pub AllOfShape-take_more : (x : V) (ys : List V) (k : ℕ) (y : V) → k < length ys → y ≡ get_or ys k y → AllOfShape same_shape x (take k ys)
       → same_shape x y ≡ true → AllOfShape same_shape x (take (k + 1) ys)
   AllOfShape-take_more x ys k y lt is h f =
-      subst (AllOfShape same_shape x) (sym (take_more ys k y lt ∙ ap (λ z. take k ys ++ (z ∷ [])) (sym is))) (AllOfShape-push x (take k ys) y h f)
+      subst (AllOfShape same_shape x) (sym (take_more ys k y lt ∙ ap (λ z. take k ys ++ (z ∷ [])) (sym is)))
+      (AllOfShape-push x (take k ys) y h f)
 
 module _ {V : Type 0} {same_shape : V → V → Bool} {join : V → V → V} (laws : JoinLaws same_shape join) where
   -- memory ran out inside the member at k, when z was held

@@ -12,7 +12,9 @@ unfolding least_from
 least_from-first passes zero from least low high before here = omega arith
 least_from-first passes (suc count) from least low high before here =
     elim (cases_lt from least) [
-      | inl lt ↦ rw (before from (omega arith) lt) (least_from-first passes count (suc from) least (omega arith) (omega arith) (λ k at_least below. before k (omega arith) below) here)
+      | inl lt ↦ rw (before from (omega arith) lt)
+          (least_from-first passes count (suc from) least (omega arith) (omega arith)
+          (λ k at_least below. before k (omega arith) below) here)
       | inr le ↦ let same : from ≡ least = omega arith in rw (ap passes same ∙ here) same
     ]
 

@@ -1,5 +1,6 @@
 -- Lists: their members, what holds of each of them, and what one number or piece more adds.
-use Rattle.std.proofs.Common.{◌≡◌, ℕ, zero, suc, ◌+◌, ◌-◌, ◌<◌, ◌≤◌, List, [], ◌∷◌, ◌++◌, map, refl, sym, ap, ◌∙◌, subst, append_assoc, arith, ◌⊎◌, inl, inr}
+use Rattle.std.proofs.Common.{◌≡◌, ℕ, zero, suc, ◌+◌, ◌-◌, ◌<◌, ◌≤◌, List, [], ◌∷◌, ◌++◌, map, refl, sym, ap, ◌∙◌, subst, append_assoc}
+use Rattle.std.proofs.Common.{arith, ◌⊎◌, inl, inr}
 use Rattle.std.proofs.Common.{add-one, add-zero}
 use Rattle.std.specs.Prelude.{get_or}
 use Rattle.std.specs.List.{All, AllByRecursion, Contains, flat_map, range_with_len}
@@ -41,7 +42,8 @@ in_flat_map f [] x y c d = absurd (none_in x c)
 in_flat_map f (z ∷ zs) x y (zero, l, e) d = Contains-append_left (f z) (flat_map f zs) y (subst (λ v. Contains (f v) y) (sym e) d)
 in_flat_map f (z ∷ zs) x y (suc k, l, e) d = Contains-append_right (f z) (flat_map f zs) y (in_flat_map f zs x y (k, omega (arith, l), e) d)
 
-pub of_flat_map : {X Y : Type 0} (f : X → List Y) (xs : List X) (y : Y) → Contains (flat_map f xs) y → (x : X) × Contains xs x × Contains (f x) y
+pub of_flat_map : {X Y : Type 0} (f : X → List Y) (xs : List X) (y : Y) → Contains (flat_map f xs) y → (x : X) × Contains xs x
+    × Contains (f x) y
 of_flat_map f [] y c = absurd (none_in y c)
 of_flat_map f (x ∷ xs) y c =
     elim (Contains-append_cases (f x) (flat_map f xs) y c) [
@@ -98,7 +100,8 @@ pub from_zero : (n : ℕ) → range_with_len 0 (n + 1) ≡ range_with_len 0 n ++
 from_zero n = let same : 0 + n ≡ n = omega arith in range_more 0 n ∙ ap (λ k. range_with_len 0 n ++ k ∷ []) same
 
 pub flat_map_more : {X : Type 0} (f : ℕ → List X) (n : ℕ) → flat_map f (range_with_len 0 (n + 1)) ≡ flat_map f (range_with_len 0 n) ++ f n
-flat_map_more f n = ap (flat_map f) (from_zero n) ∙ flat_map-append f (range_with_len 0 n) (n ∷ []) ∙ ap (λ t. flat_map f (range_with_len 0 n) ++ t) (append-nil (f n))
+flat_map_more f n = ap (flat_map f) (from_zero n) ∙ flat_map-append f (range_with_len 0 n) (n ∷ [])
+    ∙ ap (λ t. flat_map f (range_with_len 0 n) ++ t) (append-nil (f n))
 
 -- two pieces appended, one after the other
 pub appended : (out a b x y : List ℕ) → x ≡ out ++ a → y ≡ x ++ b → y ≡ out ++ (a ++ b)

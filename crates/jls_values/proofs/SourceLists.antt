@@ -35,7 +35,8 @@ there-held xs i x lt is = contains-from_list nat_cmp_total xs x ∙ found xs i l
   where
     found : (xs : List ℕ) (i : ℕ) → i < length xs → get_or xs i 0 ≡ x → list_any (eq_by_cmp nat_cmp x) xs ≡ true
     found [] i lt is = absurd (omega arith)
-    found (y ∷ xs) zero lt is = ap (λ b. b || list_any (eq_by_cmp nat_cmp x) xs) (ap (λ z. eq_by_cmp nat_cmp x z) is ∙ ap is_eq (tied_itself nat_cmp_total x))
+    found (y ∷ xs) zero lt is = ap (λ b. b || list_any (eq_by_cmp nat_cmp x) xs)
+        (ap (λ z. eq_by_cmp nat_cmp x z) is ∙ ap is_eq (tied_itself nat_cmp_total x))
     found (y ∷ xs) (suc i) lt is = ap (λ b. eq_by_cmp nat_cmp x y || b) (found xs i (omega arith) is) ∙ or_true (eq_by_cmp nat_cmp x y)
       where
         or_true : (b : Bool) → (b || true) ≡ true
@@ -69,7 +70,12 @@ gap-new xs i x g = contains-from_list nat_cmp_total xs x ∙ none xs i g
     none [] i g = refl
     none (y ∷ xs) zero g =
         ap (λ b. b || list_any (eq_by_cmp nat_cmp x) xs) (ap is_eq (is_less x y (g.above 0 (omega arith) (omega arith))))
-        ∙ none xs zero (record { within = omega arith; below = λ k lt. absurd (omega arith); above = λ k le lt. g.above (suc k) (omega arith) (omega arith) })
+        ∙ none xs zero (record {
+          within = omega arith;
+          below = λ k lt. absurd (omega arith);
+          above =
+              λ k le lt. g.above (suc k) (omega arith) (omega arith);
+        })
     none (y ∷ xs) (suc i) g =
         ap (λ b. b || list_any (eq_by_cmp nat_cmp x) xs) (ap is_eq (is_greater x y (g.below 0 (omega arith))))
         ∙ none xs i (next y xs i x g)
@@ -86,7 +92,8 @@ any-insert p (y ∷ xs) (suc i) x le = ap (λ b. p y || b) (any-insert p xs i x 
     turn false b c = refl
 
 -- one number more in the list is one more in the set
-pub from_list-insert : (xs : List ℕ) (i x : ℕ) → i ≤ length xs → set.from_list {R = nat_cmp} (insert xs i x) ≡ set.insert (set.from_list {R = nat_cmp} xs) x
+pub from_list-insert : (xs : List ℕ) (i x : ℕ) → i ≤ length xs → set.from_list {R = nat_cmp} (insert xs i x)
+    ≡ set.insert (set.from_list {R = nat_cmp} xs) x
 from_list-insert xs i x le = same_set nat_cmp_total exact_unsigned _ _ (λ q.
     contains-from_list nat_cmp_total (insert xs i x) q ∙ any-insert (eq_by_cmp nat_cmp q) xs i x le
     ∙ ap (λ b. eq_by_cmp nat_cmp q x || b) (sym (contains-from_list nat_cmp_total xs q))
@@ -105,15 +112,18 @@ pub rises-insert : (xs : List ℕ) (i x : ℕ) → IsGap xs i x → Rises xs →
 unfolding IsStrictlySortedBy
 rises-insert xs zero x g h = (all-above x xs (λ k lt. g.above k (omega arith) lt), h)
 rises-insert [] (suc i) x g h = absurd (omega (arith, g.within))
-rises-insert (y ∷ xs) (suc i) x g h =
-    (all-insert (λ z. nat_cmp y z ≡ Less) xs i x (omega (arith, g.within)) h.0 (is_less y x (g.below 0 (omega arith))), rises-insert xs i x (next y xs i x g) h.1)
+rises-insert (y ∷ xs) (suc i) x g h = (
+  all-insert (λ z. nat_cmp y z ≡ Less) xs i x (omega (arith, g.within)) h.0 (is_less y x (g.below 0 (omega arith))),
+  rises-insert xs i x (next y xs i x g) h.1,
+)
 
 pub sources-none : IsSourceList []
 unfolding IsStrictlySortedBy
 sources-none = record { sorted = tt; small = tt }
 
 pub sources-insert : (xs : List ℕ) (i x : ℕ) → x < 2 ^ 32 → IsGap xs i x → IsSourceList xs → IsSourceList (insert xs i x)
-sources-insert xs i x lt g h = record { sorted = rises-insert xs i x g h.sorted; small = all-insert (λ y. y < 2 ^ 32) xs i x g.within h.small lt }
+sources-insert xs i x lt g h =
+    record { sorted = rises-insert xs i x g h.sorted; small = all-insert (λ y. y < 2 ^ 32) xs i x g.within h.small lt }
 
 -- a number that is in the set is in it once
 pub insert-there : (s : set.OrderedSet nat_cmp) (x : ℕ) → set.contains s x ≡ true → set.insert s x ≡ s
@@ -135,13 +145,15 @@ insert-there s x h = same_set nat_cmp_total exact_unsigned _ _ (λ q. contains-i
 pub found : (xs ys : List ℕ) (i x : ℕ) (s : set.OrderedSet nat_cmp) → IsSourceList xs → set.from_list xs ≡ s → ys ≡ xs
     → IsBinarySearchResult (λ y. nat_cmp y x) ys (Ok i) → set.contains s x ≡ true
 found xs ys i x s kept is same search =
-    let r = searched xs x (Ok i) (subst (λ (zs : List ℕ). IsBinarySearchResult (λ y. nat_cmp y x) zs (Ok i)) same search) (never_falls xs kept.sorted) in
+    let r = searched xs x (Ok i) (subst (λ (zs : List ℕ). IsBinarySearchResult (λ y. nat_cmp y x) zs (Ok i)) same search)
+    (never_falls xs kept.sorted) in
     ap (λ (t : set.OrderedSet nat_cmp). set.contains t x) (sym is) ∙ there-held xs i x r.0 r.1
 
 -- and belongs where the search did not find it
 pub gap : (xs ys : List ℕ) (i x : ℕ) → IsSourceList xs → ys ≡ xs → IsBinarySearchResult (λ y. nat_cmp y x) ys (Err i) → IsGap xs i x
 gap xs ys i x kept same search =
-    let r = searched xs x (Err i) (subst (λ (zs : List ℕ). IsBinarySearchResult (λ y. nat_cmp y x) zs (Err i)) same search) (never_falls xs kept.sorted) in
+    let r = searched xs x (Err i) (subst (λ (zs : List ℕ). IsBinarySearchResult (λ y. nat_cmp y x) zs (Err i)) same search)
+    (never_falls xs kept.sorted) in
     record { within = r.0; below = r.1; above = r.2 }
 
 -- some of the numbers are held: all that was held is, and nothing that all of them do not give

@@ -45,7 +45,8 @@ all-at x (y ∷ xs) h zero lt = h.0
 all-at x (y ∷ xs) h (suc k) lt = all-at x xs h.1 k (omega arith)
 
 -- what stands from a place on is above what the number there is above
-pub above_from : (xs ys : List ℕ) (i x : ℕ) → IsSourceList (xs ++ ys) → i < length ys → x < get_or ys i 0 → AllByRecursion (λ n. x < n) (drop i ys)
+pub above_from : (xs ys : List ℕ) (i x : ℕ) → IsSourceList (xs ++ ys) → i < length ys → x < get_or ys i 0
+    → AllByRecursion (λ n. x < n) (drop i ys)
 above_from xs ys i x h lt less = all-made x (drop i ys) each
   where
     each : (k : ℕ) → k < length (drop i ys) → x < get_or (drop i ys) k 0
@@ -59,7 +60,8 @@ above_from xs ys i x h lt less = all-made x (drop i ys) each
 gap-before : (xs ys : List ℕ) (i x : ℕ) → IsGap xs i x → AllByRecursion (λ n. x < n) ys → IsGap (xs ++ ys) i x
 gap-before xs ys i x g a = record {
   within = omega (arith, length-append xs ys, g.within);
-  below = λ k lt. let e : get_or (xs ++ ys) k 0 ≡ get_or xs k 0 = get_or_append_left xs ys 0 k (omega (arith, g.within)) in omega (arith, g.below k lt);
+  below = λ k lt. let e : get_or (xs ++ ys) k 0 ≡ get_or xs k 0 = get_or_append_left xs ys 0 k (omega (arith, g.within)) in
+      omega (arith, g.below k lt);
   above = above;
 }
   where

@@ -37,7 +37,8 @@ in_range p (Some f) e = absurd cc
 pub defaults_are : (p : ℕ) → 2 ≤ p → p ≤ 16 → params_of p no_presets ≡ Ok (in_force p no_presets)
 defaults_are p low high =
     let passes : test p ≡ true =
-    sym (get_or-map-range_with_len test 2 15 (p - 2) p true (omega (arith, low, high)) (omega (arith, low, high))) ∙ each (map test (range_with_len 2 15)) (p - 2) tested in
+    sym (get_or-map-range_with_len test 2 15 (p - 2) p true (omega (arith, low, high)) (omega (arith, low, high)))
+    ∙ each (map test (range_with_len 2 15)) (p - 2) tested in
     in_range (in_force p no_presets) (param_fault (in_force p no_presets)) passes
 
 -- what is a value is no fault

@@ -33,7 +33,8 @@ stops_first old new held holds (OutOfMemory count) before a rest (n, count_is, p
   n,
   count_is,
   record {
-    out = subst (λ (t : List ℕ). HandedOut old new held holds t) (sym (take-append-le n a rest (let less = part.not_all in omega (arith, less)))) part.out;
+    out = subst (λ (t : List ℕ). HandedOut old new held holds t)
+        (sym (take-append-le n a rest (let less = part.not_all in omega (arith, less)))) part.out;
     not_all = let less = part.not_all in let both = length-append a rest in omega (arith, less, both);
   },
 )
@@ -54,7 +55,8 @@ stops_on old mid new held keeps holds (OutOfMemory count) before now a b rest al
       length a + n,
       omega (arith, now_is, count_is),
       record {
-        out = subst (λ (t : List ℕ). HandedOut old new held holds t) (sym prefix) (handed_on old mid new held keeps holds a (take n b) h part.out);
+        out = subst (λ (t : List ℕ). HandedOut old new held holds t) (sym prefix)
+            (handed_on old mid new held keeps holds a (take n b) h part.out);
         not_all = omega (arith, less, two, three, size);
       },
     )

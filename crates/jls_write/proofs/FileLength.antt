@@ -64,7 +64,8 @@ pub marked_at_most : (pic : WholePicture) (o : WriteOptions) (first count k : �
 marked_at_most pic o first count k fit shape params of_scan =
     let s = scan_from pic o first count in
     let few = before_at_most pic o first count k (few_components pic o count shape of_scan) in
-    let code = packed_at_most o.params pic.shape.width (length s.components) (interval_lines pic s k) params shape.width_below (samples_most pic o first count k fit of_scan) in
+    let code = packed_at_most o.params pic.shape.width (length s.components) (interval_lines pic s k) params shape.width_below
+    (samples_most pic o first count k fit of_scan) in
     let both = length-append (before_interval pic s k) (interval_code pic s k) in
     omega (arith, few, code, both)
 
@@ -74,7 +75,8 @@ pub scan_at_most : (pic : WholePicture) (o : WriteOptions) (first : ℕ) → Opt
 scan_at_most pic o first fit shape params =
     let s = scan_from pic o first (components_of_scan pic.shape o) in
     let low = shape.height_below in
-    let each = length-flat_map-le (marked_interval pic s) (2 ^ 39) (λ k. marked_at_most pic o first (components_of_scan pic.shape o) k fit shape params refl) 0 (intervals s) in
+    let each = length-flat_map-le (marked_interval pic s) (2 ^ 39)
+    (λ k. marked_at_most pic o first (components_of_scan pic.shape o) k fit shape params refl) 0 (intervals s) in
     let few : intervals s ≤ pic.shape.height = count_at_most pic.shape.height o.restart_interval shape.height_at_least in
     omega (arith, each, few, low)
 
@@ -89,7 +91,8 @@ scan_count_at_most pic o shape = by_line o.line
 pub scans_at_most : (pic : WholePicture) (o : WriteOptions) (n : ℕ) → OptionsFit pic o → IsShape pic.shape → AreCodingParameters o.params
     → length (flat_map (λ first. scan_bytes pic (scan_from pic o first (components_of_scan pic.shape o))) (range_with_len 0 n)) ≤ n * 2 ^ 55
 scans_at_most pic o n fit shape params =
-    length-flat_map-le (λ first. scan_bytes pic (scan_from pic o first (components_of_scan pic.shape o))) (2 ^ 55) (λ first. scan_at_most pic o first fit shape params) 0 n
+    length-flat_map-le (λ first. scan_bytes pic (scan_from pic o first (components_of_scan pic.shape o))) (2 ^ 55)
+    (λ first. scan_at_most pic o first fit shape params) 0 n
 
 pub all_scans_at_most : (pic : WholePicture) (o : WriteOptions) → OptionsFit pic o → IsShape pic.shape → AreCodingParameters o.params
     → length (scans_bytes pic o) ≤ 2 ^ 57
@@ -108,14 +111,16 @@ preset_at_most p false = omega arith
 restart_at_most : (n : ℕ) → length (flat_map bytes_of (restart_segments n)) ≤ 8
 restart_at_most zero = omega arith
 restart_at_most (suc n) =
-    rw (ne_eqb (suc n) 0 (λ e. absurd (omega (arith, e)))) (let few = length-drop (unneeded_bytes (suc n)) (to_be_bytes w32 (suc n)) in let none = length-append (restart_payload (suc n)) [] in
+    rw (ne_eqb (suc n) 0 (λ e. absurd (omega (arith, e))))
+    (let few = length-drop (unneeded_bytes (suc n)) (to_be_bytes w32 (suc n)) in let none = length-append (restart_payload (suc n)) [] in
     let four : length (to_be_bytes w32 (suc n)) ≡ 4 = refl in omega (arith, few, none, four))
 
 frame_at_most : (shape : PictureShape) → length shape.ids ≤ 4 → length (bytes_of (segment.Frame shape)) ≤ 22
 frame_at_most shape few = let listed = each_length (λ id. id ∷ 0x11 ∷ 0 ∷ []) 3 shape.ids (λ x. refl) in omega (arith, listed, few)
 
 three_at_most : (a b c : List ℕ) → length a ≤ 22 → length b ≤ 15 → length c ≤ 8 → length (a ++ (b ++ c)) ≤ 62
-three_at_most a b c first second third = let outer = length-append a (b ++ c) in let inner = length-append b c in omega (arith, first, second, third, outer, inner)
+three_at_most a b c first second third = let outer = length-append a (b ++ c) in let inner = length-append b c in
+    omega (arith, first, second, third, outer, inner)
 
 two_more : (xs : List ℕ) (x y n : ℕ) → length xs ≤ n → length (x ∷ y ∷ xs) ≤ n + 2
 two_more xs x y n h = omega (arith, h)
@@ -124,6 +129,8 @@ pub header_at_most : (pic : WholePicture) (o : WriteOptions) → IsShape pic.sha
 header_at_most pic o shape =
     let frame : List ℕ = bytes_of (segment.Frame pic.shape) in
     two_more (flat_map bytes_of (header_segments pic o)) 0xFF 0xD8 62
-    (subst (λ (t : List ℕ). length (frame ++ t) ≤ 62) (sym (flat_map-append bytes_of (preset_segments o.params) (restart_segments o.restart_interval)))
-    (three_at_most frame (flat_map bytes_of (preset_segments o.params)) (flat_map bytes_of (restart_segments o.restart_interval)) (frame_at_most pic.shape shape.ids_at_most)
+    (subst (λ (t : List ℕ). length (frame ++ t) ≤ 62)
+    (sym (flat_map-append bytes_of (preset_segments o.params) (restart_segments o.restart_interval)))
+    (three_at_most frame (flat_map bytes_of (preset_segments o.params)) (flat_map bytes_of (restart_segments o.restart_interval))
+    (frame_at_most pic.shape shape.ids_at_most)
     (preset_at_most o.params (are_defaults o.params)) (restart_at_most o.restart_interval)))

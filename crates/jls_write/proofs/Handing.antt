@@ -25,13 +25,18 @@ prefix_of old new held holds a b count h =
 
 module _ (old mid new : History) (held keeps holds : Option (List ℕ)) where
   pub handed_on : (a b : List ℕ) → HandedOut old mid held keeps a → HandedOut mid new keeps holds b → HandedOut old new held holds (a ++ b)
-  handed_on a b h k = record { wrote = written_on old mid new a b h.wrote k.wrote; holds_them = appends_on held keeps holds a b h.holds_them k.holds_them }
+  handed_on a b h k = record {
+    wrote = written_on old mid new a b h.wrote k.wrote;
+    holds_them =
+        appends_on held keeps holds a b h.holds_them k.holds_them;
+  }
 
   prefix_on : (a b : List ℕ) (count : ℕ) → HandedOut old mid held keeps a → HandedPrefix mid new keeps holds b count
       → HandedPrefix old new held holds (a ++ b) (length a + count)
   prefix_on a b count h k = record {
     wrote = cut_after old mid new a b count h.wrote k.wrote;
-    holds_them = subst (λ (t : List ℕ). Appends held holds t) (sym (take-append-add a b count)) (appends_on held keeps holds a (take count b) h.holds_them k.holds_them);
+    holds_them = subst (λ (t : List ℕ). Appends held holds t) (sym (take-append-add a b count))
+        (appends_on held keeps holds a (take count b) h.holds_them k.holds_them);
   }
 
   -- the first part went out, and a write failed in the second, after which the rest was to come
@@ -41,7 +46,8 @@ module _ (old mid new : History) (held keeps holds : Option (List ℕ)) where
   stopped_on (Write count) before now a b rest all now_is all_is h (n, count_is, prefix) = (
     length a + n,
     omega (arith, now_is, count_is),
-    subst (λ (t : List ℕ). HandedPrefix old new held holds t (length a + n)) (sym all_is) (prefix_of old new held holds (a ++ b) rest (length a + n) (prefix_on a b n h prefix)),
+    subst (λ (t : List ℕ). HandedPrefix old new held holds t (length a + n)) (sym all_is)
+        (prefix_of old new held holds (a ++ b) rest (length a + n) (prefix_on a b n h prefix)),
   )
   stopped_on (OutOfMemory count) before now a b rest all now_is all_is h stopped = stopped
 
@@ -61,7 +67,8 @@ module _ (old mid new : History) (held keeps holds : Option (List ℕ)) where
       }
 
   -- a write failed in what waited and the part after it, after which the rest was to come
-  pub stopped_after : (fault : OutputFault) (w : List ℕ) (m : ℕ) (v : List ℕ) (n : ℕ) (x part rest whole : List ℕ) → whole ≡ x ++ part ++ rest
+  pub stopped_after : (fault : OutputFault) (w : List ℕ) (m : ℕ) (v : List ℕ) (n : ℕ) (x part rest whole : List ℕ) → whole ≡ x ++ part
+      ++ rest
       → PutAfter old mid held keeps w m v n x
       → StoppedBy fault n (HandedPrefix mid new keeps holds (v ++ part)) → StoppedBy fault m (HandedPrefix old new held holds (w ++ whole))
   stopped_after fault w m v n x part rest whole whole_is p stopped =
@@ -71,7 +78,8 @@ module _ (old mid new : History) (held keeps holds : Option (List ℕ)) where
       p.handed stopped
 
 -- no more went out than waited and was put after
-pub gone_at_most : (old new : History) (held holds : Option (List ℕ)) (w : List ℕ) (m : ℕ) (u : List ℕ) (n : ℕ) (x : List ℕ) → PutAfter old new held holds w m u n x
+pub gone_at_most : (old new : History) (held holds : Option (List ℕ)) (w : List ℕ) (m : ℕ) (u : List ℕ) (n : ℕ) (x : List ℕ)
+    → PutAfter old new held holds w m u n x
     → n ≤ m + length w + length x
 gone_at_most old new held holds w m u n x p =
     let count = p.counted in
@@ -79,7 +87,8 @@ gone_at_most old new held holds w m u n x p =
     omega (arith, count, sizes)
 
 -- bytes that are put first, and then handed out as far as there is no room for them
-pub put_first : (old new : History) (held holds : Option (List ℕ)) (w v : List ℕ) (m : ℕ) (u : List ℕ) (n : ℕ) (part : List ℕ) → v ≡ w ++ part
+pub put_first : (old new : History) (held holds : Option (List ℕ)) (w v : List ℕ) (m : ℕ) (u : List ℕ) (n : ℕ) (part : List ℕ) → v ≡ w
+    ++ part
     → PutAfter old new held holds v m u n [] → PutAfter old new held holds w m u n part
 put_first old new held holds w v m u n part v_is p =
     record { out = p.out; all = sym v_is ∙ sym (append-nil v) ∙ p.all; counted = p.counted; handed = p.handed }
@@ -87,7 +96,8 @@ put_first old new held holds w v m u n part v_is p =
 -- a write failed in the first part
 pub stopped_first : (old new : History) (held holds : Option (List ℕ)) (fault : OutputFault) (before : ℕ) (a rest : List ℕ)
     → StoppedBy fault before (HandedPrefix old new held holds a) → StoppedBy fault before (HandedPrefix old new held holds (a ++ rest))
-stopped_first old new held holds (Write count) before a rest (n, count_is, prefix) = (n, count_is, prefix_of old new held holds a rest n prefix)
+stopped_first old new held holds (Write count) before a rest (n, count_is, prefix) =
+    (n, count_is, prefix_of old new held holds a rest n prefix)
 stopped_first old new held holds (OutOfMemory count) before a rest stopped = stopped
 
 pub if_err_weaker : {X Y : Type 0} (r : Result X Y) (P Q : Y → Type 0) → ((y : Y) → P y → Q y) → IfErr r P → IfErr r Q

@@ -23,7 +23,8 @@ map_is f (x ∷ xs) = ap (λ t. f x ∷ t) (map_is f xs)
 pub map_more : {X : Type 0} (f : ℕ → X) (a k : ℕ) → a ≤ k
     → map f (range_with_len a (k + 1 - a)) ≡ map f (range_with_len a (k - a)) ++ f k ∷ []
 map_more f a k low =
-    map_is f (range_with_len a (k + 1 - a)) ∙ flat_map_from_more (λ x. f x ∷ []) a k low ∙ ap (λ t. t ++ f k ∷ []) (sym (map_is f (range_with_len a (k - a))))
+    map_is f (range_with_len a (k + 1 - a)) ∙ flat_map_from_more (λ x. f x ∷ []) a k low
+    ∙ ap (λ t. t ++ f k ∷ []) (sym (map_is f (range_with_len a (k - a))))
 
 pub all_by : (P : ℕ → Type 0) (xs : List ℕ) → All P xs → AllByRecursion P xs
 all_by P [] h = tt
@@ -55,20 +56,26 @@ rows_most pic o first count k =
     let most = rows_first pic.shape.height o.restart_interval k in
     subst (λ n. row_count (scan_from pic o first count) k ≤ n) (of_rows o.restart_interval) most
   where
-    of_rows : (r : ℕ) → row_count (record (scan_from pic o first count) { restart_interval = r }) 0 ≡ rows_of_interval pic.shape (record o { restart_interval = r })
+    of_rows : (r : ℕ) → row_count (record (scan_from pic o first count) { restart_interval = r }) 0
+        ≡ rows_of_interval pic.shape (record o { restart_interval = r })
     of_rows zero = refl
-    of_rows (suc r) = let all : pic.shape.height - 0 * suc r ≡ pic.shape.height = omega arith in rw (ne_eqb (suc r) 0 (λ e. absurd (omega (arith, e)))) (ap (min (suc r)) all)
+    of_rows (suc r) = let all : pic.shape.height - 0 * suc r ≡ pic.shape.height = omega arith in
+        rw (ne_eqb (suc r) 0 (λ e. absurd (omega (arith, e)))) (ap (min (suc r)) all)
 
 -- how many samples an interval has
 pub samples_most : (pic : WholePicture) (o : WriteOptions) (first count k : ℕ) → OptionsFit pic o → count ≡ components_of_scan pic.shape o
     → length (interval_lines pic (scan_from pic o first count) k) * pic.shape.width ≤ 2 ^ 28
 samples_most pic o first count k fit of_scan =
     let s = scan_from pic o first count in
-    let lines : length (interval_lines pic s k) ≡ row_count s k * count = rows_length pic s.components _ _ ∙ ap (λ n. row_count s k * n) (length_range first count) in
+    let lines : length (interval_lines pic s k) ≡ row_count s k * count = rows_length pic s.components _ _
+    ∙ ap (λ n. row_count s k * n) (length_range first count) in
     let rows = rows_most pic o first count k in
-    let most : pic.shape.width * count * row_count s k ≤ pic.shape.width * count * rows_of_interval pic.shape o = mul-le-mul_left (pic.shape.width * count) rows in
-    let all : pic.shape.width * count * rows_of_interval pic.shape o ≤ 2 ^ 28 = subst (λ n. pic.shape.width * n * rows_of_interval pic.shape o ≤ 2 ^ 28) (sym of_scan) fit.interval in
-    let turned : row_count s k * count * pic.shape.width ≡ pic.shape.width * count * row_count s k = turn (row_count s k) count pic.shape.width in
+    let most : pic.shape.width * count * row_count s k ≤ pic.shape.width * count * rows_of_interval pic.shape o =
+    mul-le-mul_left (pic.shape.width * count) rows in
+    let all : pic.shape.width * count * rows_of_interval pic.shape o ≤ 2 ^ 28 =
+    subst (λ n. pic.shape.width * n * rows_of_interval pic.shape o ≤ 2 ^ 28) (sym of_scan) fit.interval in
+    let turned : row_count s k * count * pic.shape.width ≡ pic.shape.width * count * row_count s k =
+    turn (row_count s k) count pic.shape.width in
     rw (lines, turned) (omega (arith, most, all))
   where
     turn : (a b c : ℕ) → a * b * c ≡ c * b * a
@@ -76,10 +83,12 @@ samples_most pic o first count k fit of_scan =
 
 pub lines_fit : (pic : WholePicture) (o : WriteOptions) (first count k : ℕ) (lines : List (List ℕ)) → IsScanFrom pic o first count
     → k < intervals (scan_from pic o first count)
-    → lines ≡ interval_lines pic (scan_from pic o first count) k → AllByRecursion (IsLine o.params pic.shape.width) lines → FitsInterval o.params pic.shape.width count lines
+    → lines ≡ interval_lines pic (scan_from pic o first count) k → AllByRecursion (IsLine o.params pic.shape.width) lines
+    → FitsInterval o.params pic.shape.width count lines
 lines_fit pic o first count k lines part within lines_are each =
     let s = scan_from pic o first count in
-    let size : length lines ≡ row_count s k * count = ap length lines_are ∙ rows_length pic s.components _ _ ∙ ap (λ n. row_count s k * n) (length_range first count) in
+    let size : length lines ≡ row_count s k * count = ap length lines_are ∙ rows_length pic s.components _ _
+    ∙ ap (λ n. row_count s k * n) (length_range first count) in
     let some : 1 ≤ row_count s k = rows_some pic.shape.height o.restart_interval k part.shape.height_at_least within in
     let one : 1 * count ≤ row_count s k * count = mul-le-mul_right count some in
     record {

@@ -11,7 +11,8 @@ joined_more f k start now new so_far more =
     appended start (flat_map f (range_with_len 0 k)) (f k) now new so_far more ∙ ap (λ t. start ++ t) (sym (flat_map_more f k))
 
 -- the end after the back
-pub end_joined : (front back ended none header first scans end : List ℕ) → front ++ back ≡ (header ++ none) ++ scans → none ≡ [] → header ≡ first
+pub end_joined : (front back ended none header first scans end : List ℕ) → front ++ back ≡ (header ++ none) ++ scans → none ≡ [] → header
+    ≡ first
     → ended ≡ back ++ end → front ++ ended ≡ first ++ (scans ++ end)
 end_joined front back ended none header first scans end both empty header_is ended_is =
     ap (λ t. front ++ t) ended_is ∙ (sym (append_assoc front back end) ∙ (ap (λ t. t ++ end)

@@ -17,7 +17,9 @@ use Rattle.jls_write.specs.Picture.{line_of, settled_line, picture_of}
 pub line_is : (p : PartialPicture) (component line : ℕ) → component < length p.shape.ids → line < p.shape.height
     → line_of (picture_of p) component line ≡ settled_line p component line
 line_is p component line component_in line_in =
-    ap (λ (plane : List (List ℕ)). get_or plane line []) (get_or-map-range_with_len (λ c. map (settled_line p c) (range_with_len 0 p.shape.height)) 0 (length p.shape.ids) component component [] component_in (zero-add component))
+    ap (λ (plane : List (List ℕ)). get_or plane line [])
+    (get_or-map-range_with_len (λ c. map (settled_line p c) (range_with_len 0 p.shape.height)) 0 (length p.shape.ids) component component
+    [] component_in (zero-add component))
     ∙ get_or-map-range_with_len (settled_line p component) 0 p.shape.height line line [] line_in (zero-add line)
 
 -- ---- readings without a fault
@@ -43,5 +45,7 @@ fits_shape shape component line samples e =
     let in_components = first_none (nat_le (length shape.ids) component) _ _ e in
     let in_lines = first_none (nat_le shape.height line) _ _ in_components.1 in
     let in_width = first_none (not (eqb (length samples) shape.width)) _ _ in_lines.1 in
-    let in_range = first_none (list_any (λ x. nat_le (2 ^ shape.precision) x) samples) _ _ in_width.1 in
-    (eqb-true (length samples) shape.width (not_false (eqb (length samples) shape.width) in_width.0), all_below (2 ^ shape.precision) samples in_range.0)
+    let in_range = first_none (list_any (λ x. nat_le (2 ^ shape.precision) x) samples) _ _ in_width.1 in (
+      eqb-true (length samples) shape.width (not_false (eqb (length samples) shape.width) in_width.0),
+      all_below (2 ^ shape.precision) samples in_range.0,
+    )

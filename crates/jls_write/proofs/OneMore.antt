@@ -10,7 +10,8 @@ range-append a zero n = ap (range_with_len a) (zero-add n) ∙ ap (λ k. range_w
 range-append a (suc m) n =
     let more : suc m + n ≡ suc (m + n) = omega arith in
     let same : a + 1 + m ≡ a + suc m = omega arith in
-    ap (range_with_len a) more ∙ ap (λ t. a ∷ t) (range-append (a + 1) m n) ∙ ap (λ k. a ∷ (range_with_len (a + 1) m ++ range_with_len k n)) same
+    ap (range_with_len a) more ∙ ap (λ t. a ∷ t) (range-append (a + 1) m n)
+    ∙ ap (λ k. a ∷ (range_with_len (a + 1) m ++ range_with_len k n)) same
 
 -- a list over two ranges, of which the second follows the first
 pub flat_map_on : {X : Type 0} (f : ℕ → List X) (a m n : ℕ) → a ≤ m → m ≤ n
@@ -27,7 +28,8 @@ pub two_parts : {X : Type 0} (f : ℕ → List X) (m n : ℕ) → m ≤ n
 two_parts f m n high =
     let all : n ≡ n - 0 = omega arith in
     let first : m - 0 ≡ m = omega arith in
-    ap (λ k. flat_map f (range_with_len 0 k)) all ∙ flat_map_on f 0 m n (omega arith) high ∙ ap (λ k. flat_map f (range_with_len 0 k) ++ flat_map f (range_with_len m (n - m))) first
+    ap (λ k. flat_map f (range_with_len 0 k)) all ∙ flat_map_on f 0 m n (omega arith) high
+    ∙ ap (λ k. flat_map f (range_with_len 0 k) ++ flat_map f (range_with_len m (n - m))) first
 
 pub flat_map_one : {X : Type 0} (f : ℕ → List X) (k : ℕ) → flat_map f (range_with_len k (k + 1 - k)) ≡ f k
 flat_map_one f k = let one : k + 1 - k ≡ 1 = omega arith in ap (λ n. flat_map f (range_with_len k n)) one ∙ append-nil (f k)
@@ -35,14 +37,16 @@ flat_map_one f k = let one : k + 1 - k ≡ 1 = omega arith in ap (λ n. flat_map
 -- the list with one number more
 pub flat_map_from_more : {X : Type 0} (f : ℕ → List X) (a k : ℕ) → a ≤ k
     → flat_map f (range_with_len a (k + 1 - a)) ≡ flat_map f (range_with_len a (k - a)) ++ f k
-flat_map_from_more f a k low = flat_map_on f a k (k + 1) low (omega arith) ∙ ap (λ t. flat_map f (range_with_len a (k - a)) ++ t) (flat_map_one f k)
+flat_map_from_more f a k low = flat_map_on f a k (k + 1) low (omega arith)
+    ∙ ap (λ t. flat_map f (range_with_len a (k - a)) ++ t) (flat_map_one f k)
 
 -- a list over the numbers below `all`, in three parts: those below `start`, those below `end`, and the rest
 pub three_parts : {X : Type 0} (f : ℕ → List X) (start end all : ℕ) (part : List X) → start ≤ end → end ≤ all
     → part ≡ flat_map f (range_with_len start (end - start))
     → flat_map f (range_with_len 0 all) ≡ flat_map f (range_with_len 0 start) ++ part ++ flat_map f (range_with_len end (all - end))
 three_parts f start end all part low high is =
-    two_parts f end all high ∙ ap (λ t. t ++ flat_map f (range_with_len end (all - end))) (two_parts f start end low ∙ ap (λ t. flat_map f (range_with_len 0 start) ++ t) (sym is))
+    two_parts f end all high ∙ ap (λ t. t ++ flat_map f (range_with_len end (all - end)))
+    (two_parts f start end low ∙ ap (λ t. flat_map f (range_with_len 0 start) ++ t) (sym is))
 
 -- n lists of at most `most` elements each
 pub length-flat_map-le : {X : Type 0} (f : ℕ → List X) (most : ℕ) → ((k : ℕ) → length (f k) ≤ most) → (a n : ℕ)

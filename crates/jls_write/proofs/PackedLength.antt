@@ -50,8 +50,11 @@ golomb_at_most : (k g q m : ℕ) → length (golomb k g q m) ≤ g + k + q + 1
 unfolding golomb
 golomb_at_most k g q m =
     elim (cases_Bool (is_short k g q m)) [
-      | inl e ↦ rw e (let few = ltb-true (m / 2 ^ k) (g - q - 1) e in let both = length-append (replicate (m / 2 ^ k) false) (true ∷ bits k m) in let zeros = length-replicate (m / 2 ^ k) false in let low = length-bits k m in omega (arith, few, both, zeros, low))
-      | inr e ↦ rw e (let both = length-append (replicate (g - q - 1) false) (true ∷ bits q (m - 1)) in let zeros = length-replicate (g - q - 1) false in let low = length-bits q (m - 1) in omega (arith, both, zeros, low))
+      | inl e ↦ rw e (let few = ltb-true (m / 2 ^ k) (g - q - 1) e in
+          let both = length-append (replicate (m / 2 ^ k) false) (true ∷ bits k m) in let zeros = length-replicate (m / 2 ^ k) false in
+          let low = length-bits k m in omega (arith, few, both, zeros, low))
+      | inr e ↦ rw e (let both = length-append (replicate (g - q - 1) false) (true ∷ bits q (m - 1)) in
+          let zeros = length-replicate (g - q - 1) false in let low = length-bits q (m - 1) in omega (arith, both, zeros, low))
     ]
 
 least_at_most : (passes : ℕ → Bool) (count from j : ℕ) → from ≤ j → passes j ≡ true → least_from passes count from ≤ j
@@ -60,7 +63,12 @@ least_at_most passes zero from j low here = low
 least_at_most passes (suc count) from j low here =
     elim (cases_Bool (passes from)) [
       | inl e ↦ rw e low
-      | inr e ↦ rw e (least_at_most passes count (suc from) j (elim (cases_eq from j) [ inl same ↦ absurd (let both : true ≡ false = sym here ∙ ap passes (sym same) ∙ e in cc) | inr other ↦ omega arith ]) here)
+      | inr e ↦ rw e (least_at_most passes count (suc from) j
+          (elim (cases_eq from j) [
+            | inl same ↦ absurd (let both : true ≡ false = sym here ∙ ap passes (sym same) ∙ e in cc)
+            | inr other ↦
+                omega arith
+          ]) here)
     ]
 
 -- k is small where A is
@@ -85,15 +93,21 @@ updated_grows : (reset : ℕ) (cell : Cell) (e : ℤ) → unsigned_abs e ≤ 2 ^
 unfolding updated
 updated_grows reset cell e small =
     elim (cases_Bool (eqb cell.occurrences reset)) [
-      | inl same ↦ (let stay = sums_stay (counted (halved (with_error cell e))) in rw (same, stay.0, stay.1) (omega arith, omega (arith, small)))
+      | inl same ↦ (let stay = sums_stay (counted (halved (with_error cell e))) in
+          rw (same, stay.0, stay.1) (omega arith, omega (arith, small)))
       | inr other ↦ (let stay = sums_stay (counted (with_error cell e)) in rw (other, stay.0, stay.1) (omega arith, omega (arith, small)))
     ]
 
 run_updated_grows : (reset : ℕ) (same : Bool) (cell : RunCell) (e : ℤ) → interruption_mapped same cell e ≤ 2 ^ 16
-    → (1 ≤ (run_updated reset same cell e).occurrences) × ((run_updated reset same cell e).magnitudes ≤ cell.magnitudes + 2 ^ 17) × ((run_updated reset same cell e).occurrences ≤ cell.occurrences + 1)
+    → (1 ≤ (run_updated reset same cell e).occurrences) × ((run_updated reset same cell e).magnitudes ≤ cell.magnitudes + 2 ^ 17)
+    × ((run_updated reset same cell e).occurrences ≤ cell.occurrences + 1)
 unfolding run_updated
 run_updated_grows reset same cell e small =
-    elim (cases_Bool (eqb cell.occurrences reset)) [ inl at ↦ rw at (omega arith, omega (arith, small), omega arith) | inr other ↦ rw other (omega arith, omega (arith, small), omega arith) ]
+    elim (cases_Bool (eqb cell.occurrences reset)) [
+      | inl at ↦ rw at (omega arith, omega (arith, small), omega arith)
+      | inr other ↦
+          rw other (omega arith, omega (arith, small), omega arith)
+    ]
 
 temp_at_most : (same : Bool) (cell : RunCell) (a b : ℕ) → cell.magnitudes ≤ a → cell.occurrences ≤ b
     → interruption_magnitudes same cell ≤ a + b
@@ -104,12 +118,15 @@ module _ (p : CodingParameters) (small : p.maxval < 2 ^ 16) where
   regular_grows : (cell : Cell) (e : Event) → 1 ≤ cell.occurrences
       → (1 ≤ (cell_after p cell e).occurrences) × ((cell_after p cell e).magnitudes ≤ cell.magnitudes + 2 ^ 17)
   regular_grows cell (regular near sample) some =
-      updated_grows p.reset cell (regular_error p cell near sample) (error_at_most p (regular_error p cell near sample) small (error_range p (is_negative p near) sample (regular_prediction p cell near)))
+      updated_grows p.reset cell (regular_error p cell near sample)
+      (error_at_most p (regular_error p cell near sample) small
+      (error_range p (is_negative p near) sample (regular_prediction p cell near)))
   regular_grows cell (run_to_end component count) some = (some, omega arith)
   regular_grows cell (interrupted_run component count near sample) some = (some, omega arith)
 
   cells_grow : (cell : Cell) (events : List Event) → 1 ≤ cell.occurrences
-      → (1 ≤ (fold (cell_after p) cell events).occurrences) × ((fold (cell_after p) cell events).magnitudes ≤ cell.magnitudes + length events * 2 ^ 17)
+      → (1 ≤ (fold (cell_after p) cell events).occurrences)
+      × ((fold (cell_after p) cell events).magnitudes ≤ cell.magnitudes + length events * 2 ^ 17)
   cells_grow cell [] some = (some, omega arith)
   cells_grow cell (e ∷ events) some =
       let one = regular_grows cell e some in
@@ -117,15 +134,18 @@ module _ (p : CodingParameters) (small : p.maxval < 2 ^ 16) where
       (rest.0, omega (arith, one.1, rest.1))
 
   run_grows : (same : Bool) (cell : RunCell) (e : Event) → 1 ≤ cell.occurrences
-      → (1 ≤ (run_cell_after p same cell e).occurrences) × ((run_cell_after p same cell e).magnitudes ≤ cell.magnitudes + 2 ^ 17) × ((run_cell_after p same cell e).occurrences ≤ cell.occurrences + 1)
+      → (1 ≤ (run_cell_after p same cell e).occurrences) × ((run_cell_after p same cell e).magnitudes ≤ cell.magnitudes + 2 ^ 17)
+      × ((run_cell_after p same cell e).occurrences ≤ cell.occurrences + 1)
   run_grows same cell (regular near sample) some = (some, omega arith, omega arith)
   run_grows same cell (run_to_end component count) some = (some, omega arith, omega arith)
   run_grows same cell (interrupted_run component count near sample) some =
-      let most = interruption_mapped_at_most p same cell (interruption_error p near sample) (error_range p (ltb near.rb near.ra) sample near.rb) in
+      let most = interruption_mapped_at_most p same cell (interruption_error p near sample)
+      (error_range p (ltb near.rb near.ra) sample near.rb) in
       run_updated_grows p.reset same cell (interruption_error p near sample) (omega (arith, most, small))
 
   run_cells_grow : (same : Bool) (cell : RunCell) (events : List Event) → 1 ≤ cell.occurrences
-      → (1 ≤ (fold (run_cell_after p same) cell events).occurrences) × ((fold (run_cell_after p same) cell events).magnitudes ≤ cell.magnitudes + length events * 2 ^ 17)
+      → (1 ≤ (fold (run_cell_after p same) cell events).occurrences)
+      × ((fold (run_cell_after p same) cell events).magnitudes ≤ cell.magnitudes + length events * 2 ^ 17)
       × ((fold (run_cell_after p same) cell events).occurrences ≤ cell.occurrences + length events)
   run_cells_grow same cell [] some = (some, omega arith, omega arith)
   run_cells_grow same cell (e ∷ events) some =
@@ -145,7 +165,8 @@ module _ (p : CodingParameters) (small : p.maxval < 2 ^ 16) where
   regular_k_at_most earlier q few =
       let grown = cells_grow (initial_cell p) (filter (uses_cell p q) earlier) (omega arith) in
       let fewer = filtered (uses_cell p q) earlier in
-      k_at_most (fold (cell_after p) (initial_cell p) (filter (uses_cell p q) earlier)).occurrences (fold (cell_after p) (initial_cell p) (filter (uses_cell p q) earlier)).magnitudes 46 grown.0
+      k_at_most (fold (cell_after p) (initial_cell p) (filter (uses_cell p q) earlier)).occurrences
+      (fold (cell_after p) (initial_cell p) (filter (uses_cell p q) earlier)).magnitudes 46 grown.0
       (omega (arith, grown.1, fewer, few, small))
 
   run_k_at_most : (earlier : List Event) (same : Bool) → length earlier ≤ 2 ^ 28 → run_k same (run_cell_before p earlier same) ≤ 46
@@ -154,7 +175,8 @@ module _ (p : CodingParameters) (small : p.maxval < 2 ^ 16) where
       let cell = fold (run_cell_after p same) (initial_run_cell p) (filter (uses_run_cell same) earlier) in
       let grown = run_cells_grow same (initial_run_cell p) (filter (uses_run_cell same) earlier) (omega arith) in
       let fewer = filtered (uses_run_cell same) earlier in
-      let temp = temp_at_most same cell (2 ^ 45 + 2 ^ 17) (2 ^ 28 + 1) (omega (arith, grown.1, fewer, few, small)) (omega (arith, grown.2, fewer, few)) in
+      let temp = temp_at_most same cell (2 ^ 45 + 2 ^ 17) (2 ^ 28 + 1) (omega (arith, grown.1, fewer, few, small))
+      (omega (arith, grown.2, fewer, few)) in
       k_at_most cell.occurrences (interruption_magnitudes same cell) 46 grown.0 (omega (arith, temp))
 
 -- ---- events
@@ -178,7 +200,8 @@ event_at_most : (p : CodingParameters) → p.maxval < 2 ^ 16 → (width : ℕ) �
     → length earlier ≤ 2 ^ 28 → IsWithin width e → length (event_bits p earlier e) ≤ 200
 unfolding event_bits
 event_at_most p small width narrow earlier (regular near sample) few within =
-    let code = golomb_at_most (regular_k (cell_before p earlier (context p near))) (limit p) (qbpp p) (regular_mapped (cell_before p earlier (context p near)) (regular_error p (cell_before p earlier (context p near)) near sample)) in
+    let code = golomb_at_most (regular_k (cell_before p earlier (context p near))) (limit p) (qbpp p)
+    (regular_mapped (cell_before p earlier (context p near)) (regular_error p (cell_before p earlier (context p near)) near sample)) in
     let k = regular_k_at_most p small earlier (context p near) few in
     let limits = limit_at_most p in
     omega (arith, code, k, limits)
@@ -187,19 +210,25 @@ event_at_most p small width narrow earlier (run_to_end component count) few with
     let full = blocks_at_most (run_index_before earlier component) count (omega (arith, narrow, within)) in
     let ones = length-replicate {A = Bool} run.full_blocks true in
     let both = length-append (replicate run.full_blocks true) (cond (eqb run.remaining 0) [] (true ∷ [])) in
-    elim (cases_Bool (eqb run.remaining 0)) [ inl e ↦ rw e (simp append-nil (omega (arith, full, ones))) | inr e ↦ rw e (let more = length-append (replicate run.full_blocks true) (true ∷ []) in omega (arith, full, ones, more)) ]
+    elim (cases_Bool (eqb run.remaining 0)) [
+      | inl e ↦ rw e (simp append-nil (omega (arith, full, ones)))
+      | inr e ↦
+          rw e (let more = length-append (replicate run.full_blocks true) (true ∷ []) in omega (arith, full, ones, more))
+    ]
 event_at_most p small width narrow earlier (interrupted_run component count near sample) few within =
     let run = blocks (run_index_before earlier component) count in
     let full = blocks_at_most (run_index_before earlier component) count (omega (arith, narrow, within)) in
     let cell = run_cell_before p earlier (is_same near) in
     let j = run_order run.run_index in
-    let rest = golomb_at_most (run_k (is_same near) cell) (limit p - j - 1) (qbpp p) (interruption_mapped (is_same near) cell (interruption_error p near sample)) in
+    let rest = golomb_at_most (run_k (is_same near) cell) (limit p - j - 1) (qbpp p)
+    (interruption_mapped (is_same near) cell (interruption_error p near sample)) in
     let k = run_k_at_most p small earlier (is_same near) few in
     let limits = limit_at_most p in
     let order = j_small run.run_index in
     let ones = length-replicate {A = Bool} run.full_blocks true in
     let low = length-bits j run.remaining in
-    let code = golomb (run_k (is_same near) cell) (limit p - j - 1) (qbpp p) (interruption_mapped (is_same near) cell (interruption_error p near sample)) in
+    let code = golomb (run_k (is_same near) cell) (limit p - j - 1) (qbpp p)
+    (interruption_mapped (is_same near) cell (interruption_error p near sample)) in
     let a = length-append (replicate run.full_blocks true) (false ∷ bits j run.remaining) in
     let b = length-append (replicate run.full_blocks true ++ false ∷ bits j run.remaining) code in
     omega (arith, a, b, rest, k, limits, order, ones, low, full)
@@ -222,32 +251,46 @@ stretch_within width component up line x =
     let near = neighbours width up line x in
     let stop = run_stop line near.ra x in
     elim (cases_Bool (is_run_mode near)) [
-      | inl run ↦ elim (cases_Bool (ltb stop width)) [ inl inside ↦ rw (run, inside) (let below = ltb-true stop width inside in omega (arith, below)) | inr to_end ↦ rw (run, to_end) (omega arith) ]
+      | inl run ↦ elim (cases_Bool (ltb stop width)) [
+        | inl inside ↦ rw (run, inside) (let below = ltb-true stop width inside in omega (arith, below))
+        | inr to_end ↦
+            rw (run, to_end) (omega arith)
+      ]
       | inr other ↦ rw other tt
     ]
 
 line_at_most : (width component : ℕ) (up : Above) (line : List ℕ) (fuel x : ℕ)
-    → (length (events_from (stretch width component up line) width fuel x) ≤ fuel) × AllByRecursion (IsWithin width) (events_from (stretch width component up line) width fuel x)
+    → (length (events_from (stretch width component up line) width fuel x) ≤ fuel)
+    × AllByRecursion (IsWithin width) (events_from (stretch width component up line) width fuel x)
 unfolding events_from
 line_at_most width component up line zero x = (omega arith, tt)
 line_at_most width component up line (suc fuel) x =
     let rest = line_at_most width component up line fuel (stretch width component up line x).next in
-    elim (cases_Bool (ltb x width)) [ inl inside ↦ rw inside (omega (arith, rest.0), (stretch_within width component up line x, rest.1)) | inr done ↦ rw done (omega arith, tt) ]
+    elim (cases_Bool (ltb x width)) [
+      | inl inside ↦ rw inside (omega (arith, rest.0), (stretch_within width component up line x, rest.1))
+      | inr done ↦
+          rw done (omega arith, tt)
+    ]
 
 all_on : (P : Event → Type 0) (xs ys : List Event) → AllByRecursion P xs → AllByRecursion P ys → AllByRecursion P (xs ++ ys)
 all_on P [] ys h k = k
 all_on P (x ∷ xs) ys h k = (h.0, all_on P xs ys h.1 k)
 
 lines_at_most : (width components : ℕ) (before lines : List (List ℕ))
-    → (length (events_after width components before lines) ≤ length lines * width) × AllByRecursion (IsWithin width) (events_after width components before lines)
+    → (length (events_after width components before lines) ≤ length lines * width)
+    × AllByRecursion (IsWithin width) (events_after width components before lines)
 unfolding events_after
 lines_at_most width components before [] = (omega arith, tt)
 lines_at_most width components before (line ∷ lines) =
     let here = line_at_most width (length before % components) (above components before) line width 0 in
     let rest = lines_at_most width components (before ++ line ∷ []) lines in
-    let both = length-append (line_events width (length before % components) (above components before) line) (events_after width components (before ++ line ∷ []) lines) in
-    let more : length (line ∷ lines) * width ≡ width + length lines * width = omega arith in
-    (omega (arith, here.0, rest.0, both, more), all_on (IsWithin width) (line_events width (length before % components) (above components before) line) (events_after width components (before ++ line ∷ []) lines) here.1 rest.1)
+    let both = length-append (line_events width (length before % components) (above components before) line)
+    (events_after width components (before ++ line ∷ []) lines) in
+    let more : length (line ∷ lines) * width ≡ width + length lines * width = omega arith in (
+      omega (arith, here.0, rest.0, both, more),
+      all_on (IsWithin width) (line_events width (length before % components) (above components before) line)
+          (events_after width components (before ++ line ∷ []) lines) here.1 rest.1,
+    )
 
 pub packed_at_most : (p : CodingParameters) (width components : ℕ) (lines : List (List ℕ)) → AreCodingParameters p → width < 2 ^ 16
     → length lines * width ≤ 2 ^ 28
@@ -255,6 +298,7 @@ pub packed_at_most : (p : CodingParameters) (width components : ℕ) (lines : Li
 unfolding code
 packed_at_most p width components lines are narrow few =
     let all = lines_at_most width components [] lines in
-    let given = bits_at_most p (maxval_small p are) width narrow [] (events_after width components [] lines) (omega (arith, all.0, few)) all.1 in
+    let given = bits_at_most p (maxval_small p are) width narrow [] (events_after width components [] lines) (omega (arith, all.0, few))
+    all.1 in
     let bytes = pad_at_most 0 [] (bits_of_events p [] (events_after width components [] lines)) in
     omega (arith, all.0, few, given, bytes)

@@ -53,7 +53,8 @@ pub line_fits : (shape : PictureShape) (samples : List ℕ) → AreSamplesOf sha
 line_fits shape samples are component line component_in line_below =
     let size = shape.height * shape.width in
     let plane = part_at size samples component in (
-      length_part shape.width line shape.height plane (length_part size component (length shape.ids) samples are.count component_in) line_below,
+      length_part shape.width line shape.height plane (length_part size component (length shape.ids) samples are.count component_in)
+          line_below,
       all_of_part (λ sample. sample < 2 ^ shape.precision) shape.width line plane
           (all_of_part (λ sample. sample < 2 ^ shape.precision) size component samples are.in_range),
     )

@@ -19,26 +19,33 @@ ids_are ids first zero h = refl
 ids_are ids first (suc count) h =
     let here : drop first ids ≡ get_or ids first 0 ∷ drop (suc first) ids = drop-cons ids first 0 (omega arith) in
     let next : first + 1 ≡ suc first = omega arith in
-    ap (λ t. get_or ids first 0 ∷ t) (ids_are ids (first + 1) count (omega arith) ∙ ap (λ k. take count (drop k ids)) next) ∙ sym (ap (take (suc count)) here)
+    ap (λ t. get_or ids first 0 ∷ t) (ids_are ids (first + 1) count (omega arith) ∙ ap (λ k. take count (drop k ids)) next)
+    ∙ sym (ap (take (suc count)) here)
 
 sliced : (ids given : List ℕ) (first count from size : ℕ) → given ≡ ids → from ≡ first → size ≡ count → first + count ≤ length ids
     → take (from + size - from) (drop from given) ≡ map (λ c. get_or ids c 0) (range_with_len first count)
 sliced ids given first count from size given_is from_is size_is within =
     let length_is : from + size - from ≡ count = omega arith in
-    ap (λ n. take n (drop from given)) length_is ∙ ap (λ n. take count (drop n given)) from_is ∙ ap (λ t. take count (drop first t)) given_is ∙ sym (ids_are ids first count within)
+    ap (λ n. take n (drop from given)) length_is ∙ ap (λ n. take count (drop n given)) from_is
+    ∙ ap (λ t. take count (drop first t)) given_is ∙ sym (ids_are ids first count within)
 
 -- the selection that these identifiers make
 selected : (ids : List ℕ) (line : Bool) (head : ScanSelection) → selection_of ids line ≡ Ok head → head ≡ record { ids = ids; line = line }
 selected ids line head made =
-    let tests = (nat_le 1 (length ids) && nat_le (length ids) 4, fault.Length) ∷ (not (has_repeat ids), fault.RepeatedComponent) ∷ (nat_le (length ids) 1 || line, fault.Interleave) ∷ [] in
+    let tests = (nat_le 1 (length ids) && nat_le (length ids) 4, fault.Length) ∷ (not (has_repeat ids), fault.RepeatedComponent)
+    ∷ (nat_le (length ids) 1 || line, fault.Interleave) ∷ [] in
     sym (all_pass tests (record { ids = ids; line = line }) head made).1
 
 -- the header that was made of these identifiers is that of the scan
 pub scan_header_is : (pic : WholePicture) (given : List ℕ) (first count from size : ℕ) (head : ScanSelection) → given ≡ pic.shape.ids
     → from ≡ first → size ≡ count → first + count ≤ length pic.shape.ids
-    → selection_of (take (from + size - from) (drop from given)) (nat_lt 1 count) ≡ Ok head → bytes_of (segment.Scan head) ≡ bytes_of (scan_segment pic (range_with_len first count))
+    → selection_of (take (from + size - from) (drop from given)) (nat_lt 1 count) ≡ Ok head → bytes_of (segment.Scan head)
+    ≡ bytes_of (scan_segment pic (range_with_len first count))
 scan_header_is pic given first count from size head given_is from_is size_is within made =
     let ids : List ℕ = take (from + size - from) (drop from given) in
     ap (λ (h : ScanSelection). bytes_of (segment.Scan h))
-    (selected ids (nat_lt 1 count) head made ∙ ap (λ (t : List ℕ). record { ids = t; line = nat_lt 1 count }) (sliced pic.shape.ids given first count from size given_is from_is size_is within)
-    ∙ ap (λ n. record { ids = map (λ c. get_or pic.shape.ids c 0) (range_with_len first count); line = nat_lt 1 n }) (sym (length_range first count)))
+    (selected ids (nat_lt 1 count) head made
+    ∙ ap (λ (t : List ℕ). record { ids = t; line = nat_lt 1 count })
+    (sliced pic.shape.ids given first count from size given_is from_is size_is within)
+    ∙ ap (λ n. record { ids = map (λ c. get_or pic.shape.ids c 0) (range_with_len first count); line = nat_lt 1 n })
+    (sym (length_range first count)))

@@ -20,20 +20,24 @@ pub made_of_scans : (of : List ℕ → List ℕ) (pic : WholePicture) (o : Write
 made_of_scans of pic o = by_line o.line
   where
     by_line : (line : Bool)
-        → flat_map of (cond line (range_with_len 0 (length pic.shape.ids) ∷ []) (map (λ c. c ∷ []) (range_with_len 0 (length pic.shape.ids))))
-        ≡ flat_map (λ first. of (range_with_len first (cond line (length pic.shape.ids) 1))) (range_with_len 0 (cond line 1 (length pic.shape.ids)))
+        → flat_map of (cond line (range_with_len 0 (length pic.shape.ids) ∷ [])
+        (map (λ c. c ∷ []) (range_with_len 0 (length pic.shape.ids))))
+        ≡ flat_map (λ first. of (range_with_len first (cond line (length pic.shape.ids) 1)))
+        (range_with_len 0 (cond line 1 (length pic.shape.ids)))
     by_line true = refl
     by_line false = singles of 0 (length pic.shape.ids)
 
 -- the bytes of all scans are those of so many
 pub scans_are : (pic : WholePicture) (o : WriteOptions)
-    → scans_bytes pic o ≡ flat_map (λ first. scan_bytes pic (scan_from pic o first (components_of_scan pic.shape o))) (range_with_len 0 (scan_count pic o))
+    → scans_bytes pic o ≡ flat_map (λ first. scan_bytes pic (scan_from pic o first (components_of_scan pic.shape o)))
+    (range_with_len 0 (scan_count pic o))
 scans_are pic o = made_of_scans (λ components. scan_bytes pic (scan_of pic o components)) pic o
 
 -- each of them can be written
 pub scan_fits : (pic : WholePicture) (o : WriteOptions) (first : ℕ) → OptionsFit pic o → IsShape pic.shape → AreCodingParameters o.params
     → first < scan_count pic o → IsScanFrom pic o first (components_of_scan pic.shape o)
-scan_fits pic o first fit shape params below = let both = by_line o.line below in record { fit = fit; shape = shape; params = params; some = both.0; within = both.1; of_scan = refl }
+scan_fits pic o first fit shape params below = let both = by_line o.line below in
+    record { fit = fit; shape = shape; params = params; some = both.0; within = both.1; of_scan = refl }
   where
     by_line : (line : Bool) → first < cond line 1 (length pic.shape.ids)
         → (1 ≤ cond line (length pic.shape.ids) 1) × (first + cond line (length pic.shape.ids) 1 ≤ length pic.shape.ids)

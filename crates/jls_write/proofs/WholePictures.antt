@@ -30,10 +30,12 @@ picture_by shape f = record {
 
 module _ (shape : PictureShape) (ranges : IsShape shape) (f : ℕ → ℕ → List ℕ)
     (fits : (component line : ℕ) → component < length shape.ids → line < shape.height → IsLineIn shape (f component line)) where
-  line_by : (component line : ℕ) → component < length shape.ids → line < shape.height → line_of (picture_by shape f) component line ≡ f component line
+  line_by : (component line : ℕ) → component < length shape.ids → line < shape.height → line_of (picture_by shape f) component line
+      ≡ f component line
   line_by component line inside below =
       ap (λ (plane : List (List ℕ)). get_or plane line [])
-      (get_or-map-range_with_len (λ c. map (f c) (range_with_len 0 shape.height)) 0 (length shape.ids) component component [] inside (zero-add component))
+      (get_or-map-range_with_len (λ c. map (f c) (range_with_len 0 shape.height)) 0 (length shape.ids) component component [] inside
+      (zero-add component))
       ∙ get_or-map-range_with_len (f component) 0 shape.height line line [] below (zero-add line)
 
   component_by : (component : ℕ) → component < length shape.ids → IsComponentIn shape (map (f component) (range_with_len 0 shape.height))
@@ -46,13 +48,15 @@ module _ (shape : PictureShape) (ranges : IsShape shape) (f : ℕ → ℕ → Li
   picture_by_is = record {
     shape = ranges;
     components = length-map-range_with_len (λ c. map (f c) (range_with_len 0 shape.height)) 0 (length shape.ids);
-    each = all_of_range (IsComponentIn shape) (λ c. map (f c) (range_with_len 0 shape.height)) 0 (length shape.ids) (λ c l. component_by c (omega (arith, l)));
+    each = all_of_range (IsComponentIn shape) (λ c. map (f c) (range_with_len 0 shape.height)) 0 (length shape.ids)
+        (λ c l. component_by c (omega (arith, l)));
   }
 
   whole_by : IsWholePicture (picture_by shape f)
   whole_by = record {
     shape = ranges;
-    widths = λ component line inside below. ap (λ (samples : List ℕ). length samples) (line_by component line inside below) ∙ (fits component line inside below).0;
+    widths = λ component line inside below. ap (λ (samples : List ℕ). length samples) (line_by component line inside below)
+        ∙ (fits component line inside below).0;
   }
 
 -- ---- a settled partial picture
@@ -62,9 +66,11 @@ only_got [] e = absurd (omega (arith, e))
 only_got (x ∷ xs) e = refl
 
 module _ (p : PartialPicture) (shape : IsShape p.shape) (fits : IsFitting p) (settled : IsSettled p) where
-  settled_fits : (component line : ℕ) → component < length p.shape.ids → line < p.shape.height → IsLineIn p.shape (settled_line p component line)
+  settled_fits : (component line : ℕ) → component < length p.shape.ids → line < p.shape.height
+      → IsLineIn p.shape (settled_line p component line)
   settled_fits component line inside below =
-      let got = only_got (readings_at p component line) (one_reading (readings_at p component line) (settled component inside line below)) in
+      let got = only_got (readings_at p component line)
+      (one_reading (readings_at p component line) (settled component inside line below)) in
       let samples = settled_line p component line in
       fits_shape p.shape component line samples (fits component line samples (got_held p component line 0 samples got))
 
@@ -76,8 +82,10 @@ module _ (p : PartialPicture) (shape : IsShape p.shape) (fits : IsFitting p) (se
 
 -- ---- samples
 
-pub samples_are_picture : (shape : PictureShape) (samples : List ℕ) → IsShape shape → AreSamplesOf shape samples → IsPicture (picture_in shape samples)
+pub samples_are_picture : (shape : PictureShape) (samples : List ℕ) → IsShape shape → AreSamplesOf shape samples
+    → IsPicture (picture_in shape samples)
 samples_are_picture shape samples ranges are = picture_by_is shape ranges (line_in shape samples) (line_fits shape samples are)
 
-pub samples_are_whole : (shape : PictureShape) (samples : List ℕ) → IsShape shape → AreSamplesOf shape samples → IsWholePicture (picture_in shape samples)
+pub samples_are_whole : (shape : PictureShape) (samples : List ℕ) → IsShape shape → AreSamplesOf shape samples
+    → IsWholePicture (picture_in shape samples)
 samples_are_whole shape samples ranges are = whole_by shape ranges (line_in shape samples) (line_fits shape samples are)

@@ -37,7 +37,14 @@ returns-in-Ok-clause-done c = λ done.
     c.of_samples-picture.result c.has_large_interval.result c.in-Some.ensures.some in_range c.has_large_interval.ensures
     c.if-has_large_interval.false c.of_samples-picture.ensures c.in-Ok.ensures in
     let put = c.put_file.ensures.done done in
-    record { file = found.front.items ++ found.back.items; is_file = is_file; size_is = c.put_file.ensures.size; fits = put.0; bytes_are = put.1 }
+    record {
+      file = found.front.items ++ found.back.items;
+      is_file = is_file;
+      size_is = c.put_file.ensures.size;
+      fits = put.0;
+      bytes_are =
+          put.1;
+    }
 
 pub returns-in-Ok-clause-size_kept : goal.returns-in-Ok-clause-size_kept
 returns-in-Ok-clause-size_kept c = λ not_done not_short. absurd (not_short (c.put_file.ensures.answers not_done))

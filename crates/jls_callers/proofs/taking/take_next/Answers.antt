@@ -11,7 +11,8 @@ use Rattle.jls_callers.proofs.taking.take_next.Goals as goal
 
 -- where memory ran out, the station holds what it held, or all of the copy was read
 early : (source : Option ℕ) (old new : PartialPicture) (f : TakeFault) (reads : List Event) (copies over : List SourcedCopy)
-    → Collected old copies over → RefusesCopy source old new f reads → Collected new copies over ⊎ ((p : PartialPicture) × (report : CopyReport) × CopyGives source p report reads)
+    → Collected old copies over → RefusesCopy source old new f reads → Collected new copies over
+    ⊎ ((p : PartialPicture) × (report : CopyReport) × CopyGives source p report reads)
 early source old new f reads copies over collected (gives_none _ _ _ _ stops) = inl collected
 early source old new f reads copies over collected (other_shape _ _ _ _ _ gives differs) = inl collected
 early source old new f reads copies over collected (no_memory _ _ _ p report _ gives one between) = inr (p, report, gives)
@@ -22,7 +23,8 @@ returns-clause-ran_out_early g c = λ copies over collected.
     let new = c.take_copy.new.self in
     let source = c.args.source in
     fault_then c.take_copy.result
-    (λ (f : TakeFault). GrewBy (RefusesCopy source old new f) (g.S.Device.history c.args.device.now) (g.S.Device.history c.take_copy.new.device)) _
+    (λ (f : TakeFault). GrewBy (RefusesCopy source old new f) (g.S.Device.history c.args.device.now)
+    (g.S.Device.history c.take_copy.new.device)) _
     c.take_copy.ensures.refused
     (λ f t e. record {
       events = t.events;

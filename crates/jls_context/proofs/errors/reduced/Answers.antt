@@ -11,22 +11,26 @@ pub returns-then-remainder-error_limit-clause-value :
     goal.returns-then-remainder-error_limit-clause-value
 returns-then-remainder-error_limit-clause-value c =
     let d : to_z w32 (of_z w32 c.args.difference) ≡ c.args.difference = omega (arith, ints) in
-    let is : pos c.remainder.result ≡ int_rem_euclid c.args.difference (pos (range c.args.params.now)) = rw (d, c.maxval.ensures.value) at c.remainder.ensures.value in
+    let is : pos c.remainder.result ≡ int_rem_euclid c.args.difference (pos (range c.args.params.now)) =
+    rw (d, c.maxval.ensures.value) at c.remainder.ensures.value in
     let e = reduced_low c.args.params.now c.args.difference (grind (arith, ints)) in omega (arith, ints)
 
 pub returns-then-remainder-error_limit-clause-reduced :
     goal.returns-then-remainder-error_limit-clause-reduced
 returns-then-remainder-error_limit-clause-reduced c =
-    subst (IsModuloReduced c.args.params.now c.args.difference) (sym (returns-then-remainder-error_limit-clause-value c)) (modulo_reduced_is c.args.params.now c.args.difference)
+    subst (IsModuloReduced c.args.params.now c.args.difference) (sym (returns-then-remainder-error_limit-clause-value c))
+    (modulo_reduced_is c.args.params.now c.args.difference)
 
 pub returns-else-remainder-error_limit-clause-value :
     goal.returns-else-remainder-error_limit-clause-value
 returns-else-remainder-error_limit-clause-value c =
     let d : to_z w32 (of_z w32 c.args.difference) ≡ c.args.difference = omega (arith, ints) in
-    let is : pos c.remainder.result ≡ int_rem_euclid c.args.difference (pos (range c.args.params.now)) = rw (d, c.maxval.ensures.value) at c.remainder.ensures.value in
+    let is : pos c.remainder.result ≡ int_rem_euclid c.args.difference (pos (range c.args.params.now)) =
+    rw (d, c.maxval.ensures.value) at c.remainder.ensures.value in
     let e = reduced_high c.args.params.now c.args.difference (grind (arith, ints)) in omega (arith, ints)
 
 pub returns-else-remainder-error_limit-clause-reduced :
     goal.returns-else-remainder-error_limit-clause-reduced
 returns-else-remainder-error_limit-clause-reduced c =
-    subst (IsModuloReduced c.args.params.now c.args.difference) (sym (returns-else-remainder-error_limit-clause-value c)) (modulo_reduced_is c.args.params.now c.args.difference)
+    subst (IsModuloReduced c.args.params.now c.args.difference) (sym (returns-else-remainder-error_limit-clause-value c))
+    (modulo_reduced_is c.args.params.now c.args.difference)

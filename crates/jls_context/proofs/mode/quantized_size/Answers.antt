@@ -5,7 +5,8 @@ use Rattle.jls_context.proofs.mode.quantized_size.Goals as goal
 
 pub returns-clause-value : goal.returns-clause-value
 returns-clause-value c =
-    let steps = steps_counted c.args.params.now c.args.size c.t1.result c.t2.result c.t3.result c.t1.ensures.ranges c.t1.ensures.value c.t2.ensures.value c.t3.ensures.value in
+    let steps = steps_counted c.args.params.now c.args.size c.t1.result c.t2.result c.t3.result c.t1.ensures.ranges c.t1.ensures.value
+    c.t2.ensures.value c.t3.ensures.value in
     omega (arith, ints)
 
 pub returns-clause-at_most : goal.returns-clause-at_most

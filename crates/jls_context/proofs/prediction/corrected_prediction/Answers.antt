@@ -7,5 +7,6 @@ use Rattle.jls_context.proofs.prediction.corrected_prediction.Goals as goal
 pub returns-clause-value : goal.returns-clause-value
 unfolding corrected_prediction
 returns-clause-value c =
-    let sign : c.with_sign.result ≡ with_sign c.args.negative c.args.correction = c.with_sign.ensures.value ∙ ap (with_sign c.args.negative) (omega (arith, ints)) in
+    let sign : c.with_sign.result ≡ with_sign c.args.negative c.args.correction = c.with_sign.ensures.value
+    ∙ ap (with_sign c.args.negative) (omega (arith, ints)) in
     c.clamped_prediction.ensures ∙ ap (clamped_prediction c.args.params.now) (omega (arith, ints))

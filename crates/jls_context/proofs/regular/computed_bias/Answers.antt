@@ -14,8 +14,10 @@ returns-clause-value c =
         | else-bias-gt0 v ↦ (let low : b ≤ℤ neg_ℤ (pos n) = omega (arith, ints) in let is = bias_low n b low in omega (arith, ints, clamps))
       ]
       | else-bias-count w ↦ (let above : neg_ℤ (pos n) <ℤ b = omega (arith, ints) in elim c.if-bias-gt0.branch [
-        | then-bias-gt0 v ↦ (let high : pos 0 <ℤ b = omega (arith, ints) in let is = bias_high n b above high in omega (arith, ints, clamps))
-        | else-bias-gt0 v ↦ (let most : b ≤ℤ pos 0 = omega (arith, ints) in let is = (neither n b b above most).0 in omega (arith, ints, clamps))
+        | then-bias-gt0 v ↦ (let high : pos 0 <ℤ b = omega (arith, ints) in let is = bias_high n b above high in
+            omega (arith, ints, clamps))
+        | else-bias-gt0 v ↦ (let most : b ≤ℤ pos 0 = omega (arith, ints) in let is = (neither n b b above most).0 in
+            omega (arith, ints, clamps))
       ])
     ]
 

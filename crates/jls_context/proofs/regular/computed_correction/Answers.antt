@@ -11,11 +11,14 @@ returns-clause-value c =
     elim c.if-bias-count.branch [
       | then-bias-count w ↦ elim c.if-bias-gt0.branch [
         | then-bias-gt0 v ↦ absurd (omega (arith, ints))
-        | else-bias-gt0 v ↦ (let low : b ≤ℤ neg_ℤ (pos n) = omega (arith, ints) in let is = correction_low n b d low in omega (arith, ints, clamps))
+        | else-bias-gt0 v ↦ (let low : b ≤ℤ neg_ℤ (pos n) = omega (arith, ints) in let is = correction_low n b d low in
+            omega (arith, ints, clamps))
       ]
       | else-bias-count w ↦ (let above : neg_ℤ (pos n) <ℤ b = omega (arith, ints) in elim c.if-bias-gt0.branch [
-        | then-bias-gt0 v ↦ (let high : pos 0 <ℤ b = omega (arith, ints) in let is = correction_high n b d above high in omega (arith, ints, clamps))
-        | else-bias-gt0 v ↦ (let most : b ≤ℤ pos 0 = omega (arith, ints) in let is = (neither n b d above most).1 in omega (arith, ints, clamps))
+        | then-bias-gt0 v ↦ (let high : pos 0 <ℤ b = omega (arith, ints) in let is = correction_high n b d above high in
+            omega (arith, ints, clamps))
+        | else-bias-gt0 v ↦ (let most : b ≤ℤ pos 0 = omega (arith, ints) in let is = (neither n b d above most).1 in
+            omega (arith, ints, clamps))
       ])
     ]
 

@@ -5,7 +5,8 @@ use Rattle.jls_copy.proofs.cut_search.stretch_len.Goals.{else-end-gt0-via-then-e
 
 pub returns-then-bytes-end-clause-stretch : goal.returns-then-bytes-end-clause-stretch
 returns-then-bytes-end-clause-stretch c =
-    stretch_before c.args.bytes.now c.uncut_len-end.result c.uncut_len-end.ensures.uncut c.uncut_len-end.ensures.within c.if-end-gt0.true c.if-bytes-end.true
+    stretch_before c.args.bytes.now c.uncut_len-end.result c.uncut_len-end.ensures.uncut c.uncut_len-end.ensures.within c.if-end-gt0.true
+    c.if-bytes-end.true
 
 pub returns-else-end-gt0-clause-stretch : goal.returns-else-end-gt0-clause-stretch
 returns-else-end-gt0-clause-stretch c =
@@ -17,7 +18,8 @@ returns-else-end-gt0-clause-stretch c =
 
 pub returns-then-bytes-end-clause-ff : goal.returns-then-bytes-end-clause-ff
 returns-then-bytes-end-clause-ff c = λ none some.
-    let zero : c.uncut_len-end.result - 1 ≡ 0 = omega arith in subst (λ (k : ℕ). get_or c.args.bytes.now k 0 ≡ 0xFF) zero c.if-bytes-end.true
+    let zero : c.uncut_len-end.result - 1 ≡ 0 = omega arith in
+    subst (λ (k : ℕ). get_or c.args.bytes.now k 0 ≡ 0xFF) zero c.if-bytes-end.true
 
 pub returns-else-end-gt0-clause-ff : goal.returns-else-end-gt0-clause-ff
 returns-else-end-gt0-clause-ff c = λ none some.

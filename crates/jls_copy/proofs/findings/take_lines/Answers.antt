@@ -8,24 +8,47 @@ use Rattle.jls_copy.proofs.findings.take_lines.Goals.{then-place-components, els
 pub take_line-requires : goal.take_line-requires
 take_line-requires c =
     let here = ap (map (λ line. line.items)) c.in-Some.ensures.steps.0 in
-    let fit = subst (FitFrom c.loop-line.partial.shape c.args.components.now c.loop-line.row c.loop-line.place) here c.loop-line.invariant.fit in
+    let fit = subst (FitFrom c.loop-line.partial.shape c.args.components.now c.loop-line.row c.loop-line.place) here
+    c.loop-line.invariant.fit in
     rw c.deref.ensures.value (takes_here _ _ _ _ _ _ fit)
 
 pub loop-line-preserved : goal.loop-line-preserved
 loop-line-preserved c =
     let here = ap (map (λ line. line.items)) c.in-Some.ensures.steps.0 in
-    let fit = subst (FitFrom c.loop-line.partial.shape c.args.components.now c.loop-line.row c.loop-line.place) here c.loop-line.invariant.fit in
+    let fit = subst (FitFrom c.loop-line.partial.shape c.args.components.now c.loop-line.row c.loop-line.place) here
+    c.loop-line.invariant.fit in
     let took = c.in_ok-take_line.ensures in
     let shape = ap (λ p. p.shape) took in
     elim c.if-place-components.branch [
       | then-place-components w ↦ record {
         shape_is = shape ∙ c.loop-line.invariant.shape_is;
         fit = rw (took, w.row-is, w.place-is) (fit_below _ _ _ _ _ _ fit w.if-place-components.true);
-        leads = grind (arith, nat_tests, here, took, c.deref.ensures.value, c.loop-line.invariant.leads, w.row-is, w.place-is, w.if-place-components.true);
+        leads = grind (
+          arith,
+          nat_tests,
+          here,
+          took,
+          c.deref.ensures.value,
+          c.loop-line.invariant.leads,
+          w.row-is,
+          w.place-is,
+          w.if-place-components.true,
+        );
       }
       | else-place-components w ↦ record {
         shape_is = shape ∙ c.loop-line.invariant.shape_is;
-        fit = rw (took, w.row-is, w.place-is) (fit_beside _ _ _ _ _ _ fit (omega (arith, c.loop-line.invariant.fit.place_in, w.if-place-components.false)));
-        leads = grind (arith, nat_tests, here, took, c.deref.ensures.value, c.loop-line.invariant.leads, w.row-is, w.place-is, w.if-place-components.false);
+        fit = rw (took, w.row-is, w.place-is)
+            (fit_beside _ _ _ _ _ _ fit (omega (arith, c.loop-line.invariant.fit.place_in, w.if-place-components.false)));
+        leads = grind (
+          arith,
+          nat_tests,
+          here,
+          took,
+          c.deref.ensures.value,
+          c.loop-line.invariant.leads,
+          w.row-is,
+          w.place-is,
+          w.if-place-components.false,
+        );
       }
     ]

@@ -10,5 +10,6 @@ use Rattle.jls_interval.proofs.cut_sample.interruption_goes_on.Given as goal
 
 abbrev pub invariant-loop-mapped : goal.invariant-loop-mapped
 invariant-loop-mapped l =
-    let p = l.coder.cells.parameters in let near = l.neighbours in let cell = run_cell_at l.coder.cells (is_same near) in let g = limit p - l.order - 1 in
+    let p = l.coder.cells.parameters in let near = l.neighbours in let cell = run_cell_at l.coder.cells (is_same near) in
+    let g = limit p - l.order - 1 in
     Tried (run_k (is_same near) cell) g (qbpp p) (bits_fed g (qbpp p) l.code) (NoInterruption p cell near l.order) l.mapped

@@ -15,7 +15,8 @@ loop-mapped-init c =
 pub loop-mapped-preserved : goal.loop-mapped-preserved
 loop-mapped-preserved c =
     let p = c.args.coder.now.cells.parameters in let cell = cell_at c.args.coder.now.cells c.args.mode.context in
-    tried_more (regular_k cell) (limit p) (qbpp p) (bits_fed (limit p) (qbpp p) c.args.code) (NoSample p cell c.args.neighbours) c.loop-mapped.mapped c.loop-mapped.invariant (c.sample_begins.ensures.no c.if-sample_begins.false)
+    tried_more (regular_k cell) (limit p) (qbpp p) (bits_fed (limit p) (qbpp p) c.args.code) (NoSample p cell c.args.neighbours)
+    c.loop-mapped.mapped c.loop-mapped.invariant (c.sample_begins.ensures.no c.if-sample_begins.false)
 
 pub returns-clause-no : goal.returns-clause-no
 returns-clause-no c = λ _.

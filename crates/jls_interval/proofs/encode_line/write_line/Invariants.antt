@@ -6,7 +6,8 @@ use Rattle.jls_interval.proofs.encode_line.write_line.Given as goal
 abbrev pub invariant-loop-x : goal.invariant-loop-x
 invariant-loop-x l = record {
   parameters : l.encoder.coder.cells.parameters ≡ l.initial.encoder.coder.cells.parameters;
-  written : WritesColumns l.initial.encoder.coder.cells.parameters l.place.component (above_of l.place) l.line 0 l.x (written_by l.initial.encoder) (written_by l.encoder);
+  written : WritesColumns l.initial.encoder.coder.cells.parameters l.place.component (above_of l.place) l.line 0 l.x
+      (written_by l.initial.encoder) (written_by l.encoder);
 }
 
 abbrev pub decreases-loop-x : goal.decreases-loop-x

@@ -5,7 +5,8 @@ use Rattle.jls_interval.proofs.encode_run.write_full_blocks.Given as goal
 abbrev pub invariant-loop-remaining : goal.invariant-loop-remaining
 invariant-loop-remaining l = record {
   within : l.now ≤ 31;
-  written : l.writer ++ replicate (blocks l.now l.remaining).full_blocks true ≡ l.initial.writer ++ replicate (blocks l.run_index l.count).full_blocks true;
+  written : l.writer ++ replicate (blocks l.now l.remaining).full_blocks true ≡ l.initial.writer
+      ++ replicate (blocks l.run_index l.count).full_blocks true;
   run_index : (blocks l.now l.remaining).run_index ≡ (blocks l.run_index l.count).run_index;
   remaining : (blocks l.now l.remaining).remaining ≡ (blocks l.run_index l.count).remaining;
 }

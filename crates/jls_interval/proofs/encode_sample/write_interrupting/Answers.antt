@@ -8,10 +8,14 @@ pub run_code-k-requires-clause-another : goal.run_code-k-requires-clause-another
 run_code-k-requires-clause-another c = λ same zero.
     let dd : to_z w32 (of_z w32 c.signed_difference.result) ≡ c.signed_difference.result = omega (arith, ints) in
     let ee : to_z w32 (of_z w32 c.reduce-error.result) ≡ c.reduce-error.result = omega (arith, ints) in
-    no_zero c.args.encoder.now.coder.cells.parameters c.args.neighbours c.requires.above c.args.sample c.requires.sample c.requires.another same (sym (c.reduce-error.ensures.value ∙ ap (modulo_reduced c.args.encoder.now.coder.cells.parameters) (dd ∙ c.signed_difference.ensures)) ∙ sym ee ∙ zero)
+    no_zero c.args.encoder.now.coder.cells.parameters c.args.neighbours c.requires.above c.args.sample c.requires.sample c.requires.another
+    same (sym (c.reduce-error.ensures.value
+    ∙ ap (modulo_reduced c.args.encoder.now.coder.cells.parameters) (dd ∙ c.signed_difference.ensures)) ∙ sym ee ∙ zero)
 
 pub update_run-requires-clause-another : goal.update_run-requires-clause-another
 update_run-requires-clause-another c = λ same zero.
     let dd : to_z w32 (of_z w32 c.signed_difference.result) ≡ c.signed_difference.result = omega (arith, ints) in
     let ee : to_z w32 (of_z w32 c.reduce-error.result) ≡ c.reduce-error.result = omega (arith, ints) in
-    no_zero c.args.encoder.now.coder.cells.parameters c.args.neighbours c.requires.above c.args.sample c.requires.sample c.requires.another same (sym (c.reduce-error.ensures.value ∙ ap (modulo_reduced c.args.encoder.now.coder.cells.parameters) (dd ∙ c.signed_difference.ensures)) ∙ sym ee ∙ zero)
+    no_zero c.args.encoder.now.coder.cells.parameters c.args.neighbours c.requires.above c.args.sample c.requires.sample c.requires.another
+    same (sym (c.reduce-error.ensures.value
+    ∙ ap (modulo_reduced c.args.encoder.now.coder.cells.parameters) (dd ∙ c.signed_difference.ensures)) ∙ sym ee ∙ zero)

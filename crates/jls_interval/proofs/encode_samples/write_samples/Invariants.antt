@@ -14,7 +14,8 @@ invariant-columns l = record {
   near : l.near ≡ neighbours (length l.line) (above_of l.place) l.line l.column;
   second : l.second ≡ quantized_gradient l.encoder.coder.cells.parameters (pos l.near.rb -ℤ pos l.near.rc);
   step : IsStep l.second;
-  written : WritesColumns l.initial.encoder.coder.cells.parameters l.place.component (above_of l.place) l.line l.x l.column (written_by l.initial.encoder) (written_by l.encoder);
+  written : WritesColumns l.initial.encoder.coder.cells.parameters l.place.component (above_of l.place) l.line l.x l.column
+      (written_by l.initial.encoder) (written_by l.encoder);
 }
 
 abbrev pub decreases-columns : goal.decreases-columns

@@ -10,4 +10,5 @@ returns-in-Some-clause-bits c = λ given whole e.
 
 pub returns-in-Some-clause-few : goal.returns-in-Some-clause-few
 returns-in-Some-clause-few c =
-    let a = ap length c.append.ensures in let b = length-append c.args.chunk.now (bits c.in-Some.count c.in-Some.value) in let l = length-bits c.in-Some.count c.in-Some.value in let n = c.in-Some.ensures.count.1 in omega arith
+    let a = ap length c.append.ensures in let b = length-append c.args.chunk.now (bits c.in-Some.count c.in-Some.value) in
+    let l = length-bits c.in-Some.count c.in-Some.value in let n = c.in-Some.ensures.count.1 in omega arith

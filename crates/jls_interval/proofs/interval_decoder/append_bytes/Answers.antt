@@ -16,9 +16,12 @@ loop-byte-init c = record {
 
 pub loop-byte-preserved : goal.loop-byte-preserved
 loop-byte-preserved c =
-    let u : List ℕ = c.args.unstuffer.now in let now : List ℕ = c.loop-byte.unstuffer in let xs : List ℕ = c.args.bytes.now in let i : ℕ = c.loop-byte.byte-index in let b : ℕ = get_or xs i 0 in let v = c.loop-byte.invariant in let e = c.append_byte-whole.ensures in
+    let u : List ℕ = c.args.unstuffer.now in let now : List ℕ = c.loop-byte.unstuffer in let xs : List ℕ = c.args.bytes.now in
+    let i : ℕ = c.loop-byte.byte-index in let b : ℕ = get_or xs i 0 in let v = c.loop-byte.invariant in
+    let e = c.append_byte-whole.ensures in
     record {
-      pushed = e.pushed ∙ ap (λ z. z ++ b ∷ []) v.pushed ∙ append_assoc u (take i xs) (b ∷ []) ∙ ap (λ z. u ++ z) (sym (take_more xs i 0 c.loop-byte-test.true));
+      pushed = e.pushed ∙ ap (λ z. z ++ b ∷ []) v.pushed ∙ append_assoc u (take i xs) (b ∷ [])
+          ∙ ap (λ z. u ++ z) (sym (take_more xs i 0 c.loop-byte-test.true));
       whole = λ h. e.whole;
       bits = λ given w f. e.bits given w (v.bits given (whole_prefix 0 now (b ∷ []) (subst (λ z. is_whole z ≡ true) e.pushed w)).0 f);
       few = (let a = v.few in let n = e.few in omega arith);
@@ -26,11 +29,13 @@ loop-byte-preserved c =
 
 pub returns-clause-pushed : goal.returns-clause-pushed
 returns-clause-pushed c =
-    c.loop-byte.invariant.pushed ∙ ap (λ z. c.args.unstuffer.now ++ z) (take_all c.loop-byte.byte-index c.args.bytes.now c.loop-byte-test.false)
+    c.loop-byte.invariant.pushed ∙ ap (λ z. c.args.unstuffer.now ++ z)
+    (take_all c.loop-byte.byte-index c.args.bytes.now c.loop-byte-test.false)
 
 pub returns-clause-whole : goal.returns-clause-whole
 returns-clause-whole c = c.loop-byte.invariant.whole (let t = c.loop-byte-test.false in let s = c.requires.some in omega arith)
 
 pub returns-clause-are_bytes : goal.returns-clause-are_bytes
 returns-clause-are_bytes c = λ h.
-    subst (AllByRecursion (λ x. x < 256)) (sym (returns-clause-pushed c)) (bytes_append c.args.unstuffer.now c.args.bytes.now h (all_bytes c.args.bytes.now (λ k. omega (arith, c.type_inv.bytes k))))
+    subst (AllByRecursion (λ x. x < 256)) (sym (returns-clause-pushed c))
+    (bytes_append c.args.unstuffer.now c.args.bytes.now h (all_bytes c.args.bytes.now (λ k. omega (arith, c.type_inv.bytes k))))

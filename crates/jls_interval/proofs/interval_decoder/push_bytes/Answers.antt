@@ -26,26 +26,40 @@ loop-at-init c =
 
 pub push_chunk-requires : goal.push_chunk-requires
 push_chunk-requires c =
-    let h = c.requires.reading in let v = c.loop-at.invariant in let e = c.append_bytes-whole.ensures in let now : List ℕ = c.loop-at.unstuffer in let bytes : List ℕ = c.append_bytes-whole.new.unstuffer in
+    let h = c.requires.reading in let v = c.loop-at.invariant in let e = c.append_bytes-whole.ensures in
+    let now : List ℕ = c.loop-at.unstuffer in let bytes : List ℕ = c.append_bytes-whole.new.unstuffer in
     let w : is_whole bytes ≡ true = sym e.whole ∙ c.if-whole.true in
-    let r = before_appended h.0 now c.loop-at.reader bytes c.loop-at.chunk c.append_bytes-whole.new.chunk e.bits w (v.reading h.0 h.1 (whole_prefix 0 now _ (subst (λ z. is_whole z ≡ true) e.pushed w)).0) in
+    let r = before_appended h.0 now c.loop-at.reader bytes c.loop-at.chunk c.append_bytes-whole.new.chunk e.bits w
+    (v.reading h.0 h.1 (whole_prefix 0 now _ (subst (λ z. is_whole z ≡ true) e.pushed w)).0) in
     (h.0, r.given, r.reading)
 
 pub loop-at-preserved-in-Continue-1 : goal.loop-at-preserved-in-Continue-1
 loop-at-preserved-in-Continue-1 c =
-    let h = c.requires.reading in let v = c.loop-at.invariant in let e = c.append_bytes-whole.ensures in let now : List ℕ = c.loop-at.unstuffer in let bytes : List ℕ = c.append_bytes-whole.new.unstuffer in
-    let u : List ℕ = c.args.unstuffer.now in let xs : List ℕ = c.args.bytes.now in let at : ℕ = c.loop-at.at in let n : ℕ = c.min.result in let end : ℕ = at + n in let same : n ≡ end - at = omega arith in
+    let h = c.requires.reading in let v = c.loop-at.invariant in let e = c.append_bytes-whole.ensures in
+    let now : List ℕ = c.loop-at.unstuffer in let bytes : List ℕ = c.append_bytes-whole.new.unstuffer in
+    let u : List ℕ = c.args.unstuffer.now in let xs : List ℕ = c.args.bytes.now in let at : ℕ = c.loop-at.at in let n : ℕ = c.min.result in
+    let end : ℕ = at + n in let same : n ≡ end - at = omega arith in
     let s : List ℕ = take (end - at) (drop at xs) in let o = c.in_ok-push_chunk.ensures in
     let w : is_whole bytes ≡ true = sym e.whole ∙ c.if-whole.true in
-    let reading : (p : CodingParameters) → ReadsBefore p u c.args.given_back c.args.reader.now → is_whole bytes ≡ true → IsReadingBefore p bytes c.push_chunk.new.chunk c.push_chunk.new.self = λ p f w. before_taken p bytes c.loop-at.reader c.push_chunk.new.self c.append_bytes-whole.new.chunk c.push_chunk.new.chunk o.bits (before_appended p now c.loop-at.reader bytes c.loop-at.chunk c.append_bytes-whole.new.chunk e.bits w (v.reading p f (whole_prefix 0 now s (subst (λ z. is_whole z ≡ true) e.pushed w)).0)) in
+    let reading : (p : CodingParameters) → ReadsBefore p u c.args.given_back c.args.reader.now → is_whole bytes ≡ true
+    → IsReadingBefore p bytes c.push_chunk.new.chunk c.push_chunk.new.self =
+    λ p f w. before_taken p bytes c.loop-at.reader c.push_chunk.new.self c.append_bytes-whole.new.chunk c.push_chunk.new.chunk o.bits
+    (before_appended p now c.loop-at.reader bytes c.loop-at.chunk c.append_bytes-whole.new.chunk e.bits w
+    (v.reading p f (whole_prefix 0 now s (subst (λ z. is_whole z ≡ true) e.pushed w)).0)) in
     record {
       within = (let t = c.loop-at-test.true in let m = c.min.ensures in omega arith);
       room = (let f = o.few in omega arith);
-      pushed = e.pushed ∙ ap (λ z. z ++ s) v.pushed ∙ append_assoc u (take at xs) s ∙ ap (λ z. u ++ z) (sym (take-add at n xs ∙ ap (λ z. take at xs ++ take z (drop at xs)) same));
+      pushed = e.pushed ∙ ap (λ z. z ++ s) v.pushed ∙ append_assoc u (take at xs) s
+          ∙ ap (λ z. u ++ z) (sym (take-add at n xs ∙ ap (λ z. take at xs ++ take z (drop at xs)) same));
       are_bytes = λ a. e.are_bytes (v.are_bytes a);
       whole = λ a. e.whole;
       shape = shape_then c.args.reader.now c.loop-at.reader c.push_chunk.new.self v.shape c.push_chunk.ensures.shape;
-      few = λ any all whole. (let f = o.few in elim c.if-at-bytes.branch [ then-at-bytes b ↦ (let l = b.if-at-bytes.true in omega arith) | else-at-bytes b ↦ (let z = b.waiting-is in omega arith) ]);
+      few = λ any all whole. (let f = o.few in
+          elim c.if-at-bytes.branch [
+            | then-at-bytes b ↦ (let l = b.if-at-bytes.true in omega arith)
+            | else-at-bytes b ↦
+                (let z = b.waiting-is in omega arith)
+          ]);
       lengths = before_lengths h.0 bytes c.push_chunk.new.self c.push_chunk.new.chunk (reading h.0 h.1 w);
       reading = reading;
     }
@@ -53,12 +67,14 @@ loop-at-preserved-in-Continue-1 c =
 pub loop-at-preserved : goal.loop-at-preserved
 loop-at-preserved c =
     let v = c.loop-at.invariant in let e = c.append_bytes-whole.ensures in let now : List ℕ = c.loop-at.unstuffer in
-    let u : List ℕ = c.args.unstuffer.now in let xs : List ℕ = c.args.bytes.now in let at : ℕ = c.loop-at.at in let n : ℕ = c.min.result in let end : ℕ = at + n in let same : n ≡ end - at = omega arith in
+    let u : List ℕ = c.args.unstuffer.now in let xs : List ℕ = c.args.bytes.now in let at : ℕ = c.loop-at.at in let n : ℕ = c.min.result in
+    let end : ℕ = at + n in let same : n ≡ end - at = omega arith in
     let s : List ℕ = take (end - at) (drop at xs) in let none = ap length c.new-chunk.ensures in
     record {
       within = (let t = c.loop-at-test.true in let m = c.min.ensures in omega arith);
       room = omega arith;
-      pushed = e.pushed ∙ ap (λ z. z ++ s) v.pushed ∙ append_assoc u (take at xs) s ∙ ap (λ z. u ++ z) (sym (take-add at n xs ∙ ap (λ z. take at xs ++ take z (drop at xs)) same));
+      pushed = e.pushed ∙ ap (λ z. z ++ s) v.pushed ∙ append_assoc u (take at xs) s
+          ∙ ap (λ z. u ++ z) (sym (take-add at n xs ∙ ap (λ z. take at xs ++ take z (drop at xs)) same));
       are_bytes = λ a. e.are_bytes (v.are_bytes a);
       whole = λ a. e.whole;
       shape = v.shape;

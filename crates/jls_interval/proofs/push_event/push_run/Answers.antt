@@ -16,4 +16,5 @@ run_filled (Err x) line next len begun count v e f h = tt
 pub returns : goal.returns
 returns c =
     let line = c.args.line.now in
-    run_filled c.resize.result line.items c.resize.new.self.items line.len c.len.result c.args.count c.args.value line.ok.0 c.len.ensures c.resize.ensures.items
+    run_filled c.resize.result line.items c.resize.new.self.items line.len c.len.result c.args.count c.args.value line.ok.0 c.len.ensures
+    c.resize.ensures.items

@@ -50,9 +50,11 @@ module _ (old : LineReader) (place : Place) (count : ℕ) where
   b = following w up line count
 
   -- the samples round that column, as the reader finds them
-  there_at : {value : ℕ} {slice : List ℕ} {next : Neighbours} (column : ℕ) → next ≡ neighbours w up slice (column + count) → slice ≡ line → value ≡ (now_at w up line).ra → column ≡ vec_len old.line
+  there_at : {value : ℕ} {slice : List ℕ} {next : Neighbours} (column : ℕ) → next ≡ neighbours w up slice (column + count) → slice ≡ line
+      → value ≡ (now_at w up line).ra → column ≡ vec_len old.line
       → record { ra = value; rb = next.rb; rc = next.rc; rd = next.rd } ≡ b
-  there_at {value} {slice} {next} column next_is same a e = near_after w up line count value (column + count) next a (omega arith) (next_is ∙ ap (λ z. neighbours w up z (column + count)) same)
+  there_at {value} {slice} {next} column next_is same a e =
+      near_after w up line count value (column + count) next a (omega arith) (next_is ∙ ap (λ z. neighbours w up z (column + count)) same)
 
   -- the code of the sample there is open
   abbrev Opened : Neighbours → ℕ → CodeState → Type 0
@@ -62,8 +64,11 @@ module _ (old : LineReader) (place : Place) (count : ℕ) where
   opened_same code {near} {near'} {i} {j} e f o = subst (λ z. Opened near' z code) f (subst (λ (z : Neighbours). Opened z i code) e o)
 
   -- What was fed of the run, and of the sample that interrupts it, with the bits that are taken now
-  module _ {rx j : ℕ} (code : CodeState) {there : Neighbours} {fed : List Bool} {earlier : List Event} (there_is : there ≡ b) (j_is : j ≡ run_order rx) (t : IsAfter p old.coder.cells old.coder.run_indices earlier)
-      (s : RunIs (get_or old.coder.run_indices place.component 0) (w - length line) fed (bits_fed (limit p - run_order rx - 1) (qbpp p) code) (Interrupted count rx)) (taken : List Bool) (above : AllByRecursion (λ s. s ≤ p.maxval) up.line_above) (mode : is_run_mode (now_at w up line) ≡ true) where
+  module _ {rx j : ℕ} (code : CodeState) {there : Neighbours} {fed : List Bool} {earlier : List Event} (there_is : there ≡ b)
+      (j_is : j ≡ run_order rx) (t : IsAfter p old.coder.cells old.coder.run_indices earlier)
+      (s : RunIs (get_or old.coder.run_indices place.component 0) (w - length line) fed
+      (bits_fed (limit p - run_order rx - 1) (qbpp p) code) (Interrupted count rx)) (taken : List Bool)
+      (above : AllByRecursion (λ s. s ≤ p.maxval) up.line_above) (mode : is_run_mode (now_at w up line) ≡ true) where
     abbrev cell : RunCell
     cell = run_cell_at old.coder.cells (is_same there)
 
@@ -80,31 +85,45 @@ module _ (old : LineReader) (place : Place) (count : ℕ) where
     order_is = j_is ∙ ap run_order (sym s.2)
 
     given_is : fed ++ taken ≡ interrupted_run_bits run unread
-    given_is = ap (λ z. z ++ taken) s.1 ∙ ap (λ z. interrupted_run_bits run (bits_fed (limit p - z - 1) (qbpp p) code) ++ taken) (sym j_is) ∙ broken_with run (bits_fed (limit p - j - 1) (qbpp p) code) taken
+    given_is = ap (λ z. z ++ taken) s.1 ∙ ap (λ z. interrupted_run_bits run (bits_fed (limit p - z - 1) (qbpp p) code) ++ taken) (sym j_is)
+        ∙ broken_with run (bits_fed (limit p - j - 1) (qbpp p) code) taken
 
     -- the code goes on
     more_fed : (code' : CodeState) → unread ≡ bits_fed (limit p - j - 1) (qbpp p) code'
         → fed ++ taken ≡ interrupted_run_bits run (bits_fed (limit p - run_order rx - 1) (qbpp p) code')
-    more_fed code' e = given_is ∙ ap (interrupted_run_bits run) e ∙ ap (λ z. interrupted_run_bits run (bits_fed (limit p - z - 1) (qbpp p) code')) j_is
+    more_fed code' e = given_is ∙ ap (interrupted_run_bits run) e
+        ∙ ap (λ z. interrupted_run_bits run (bits_fed (limit p - z - 1) (qbpp p) code')) j_is
 
     -- no sample can come
-    refused : ((more : List Bool) → NoInterruption p cell there j (unread ++ more)) → (more : List Bool) → NoEvent p w place.component up line ((fed ++ taken) ++ more) earlier
+    refused : ((more : List Bool) → NoInterruption p cell there j (unread ++ more)) → (more : List Bool)
+        → NoEvent p w place.component up line ((fed ++ taken) ++ more) earlier
     refused none more =
-        run_alone p (wide p old.coder.in_range) w place.component up above line earlier _ (t.run_indices_are place.component) (w - length line) (let e = s.0 in omega arith) ((fed ++ taken) ++ more) mode count s.0 (unread ++ more) (ap (λ z. z ++ more) given_is ∙ broken_with run unread more) cell cell_is j order_is (subst (λ (z : Neighbours). NoInterruption p cell z j (unread ++ more)) there_is (none more))
+        run_alone p (wide p old.coder.in_range) w place.component up above line earlier _ (t.run_indices_are place.component)
+        (w - length line) (let e = s.0 in omega arith) ((fed ++ taken) ++ more) mode count s.0 (unread ++ more)
+        (ap (λ z. z ++ more) given_is ∙ broken_with run unread more) cell cell_is j order_is
+        (subst (λ (z : Neighbours). NoInterruption p cell z j (unread ++ more)) there_is (none more))
 
     -- the sample is there
-    fits : (m : ℕ) → m ≤ p.maxval → (m ≡ there.ra → ⊥) → Fits p w place.component up line (now_at w up line) (interrupted_run place.component count b m)
+    fits : (m : ℕ) → m ≤ p.maxval → (m ≡ there.ra → ⊥)
+        → Fits p w place.component up line (now_at w up line) (interrupted_run place.component count b m)
     fits m small another =
-        run_fits p (wide p old.coder.in_range) w place.component up above line earlier _ (t.run_indices_are place.component) (w - length line) (let e = s.0 in omega arith) (fed ++ taken) mode count s.0 unread given_is cell cell_is j order_is m small (λ o. another (o ∙ ap (λ (z : Neighbours). z.ra) (sym there_is)))
+        run_fits p (wide p old.coder.in_range) w place.component up above line earlier _ (t.run_indices_are place.component)
+        (w - length line) (let e = s.0 in omega arith) (fed ++ taken) mode count s.0 unread given_is cell cell_is j order_is m small
+        (λ o. another (o ∙ ap (λ (z : Neighbours). z.ra) (sym there_is)))
 
-    whole : (m : ℕ) → unread ≡ interrupting_bits p cell there j m → fed ++ taken ≡ event_bits p earlier (interrupted_run place.component count b m)
+    whole : (m : ℕ) → unread ≡ interrupting_bits p cell there j m → fed ++ taken
+        ≡ event_bits p earlier (interrupted_run place.component count b m)
     whole m e =
-        run_broken p (wide p old.coder.in_range) w place.component up above line earlier _ (t.run_indices_are place.component) (w - length line) (let e = s.0 in omega arith) (fed ++ taken) mode count s.0 unread given_is cell cell_is j order_is m [] (e ∙ ap (λ (z : Neighbours). interrupting_bits p cell z j m) there_is ∙ sym (append-nil (interrupting_bits p cell b j m))) ∙ append-nil _
+        run_broken p (wide p old.coder.in_range) w place.component up above line earlier _ (t.run_indices_are place.component)
+        (w - length line) (let e = s.0 in omega arith) (fed ++ taken) mode count s.0 unread given_is cell cell_is j order_is m []
+        (e ∙ ap (λ (z : Neighbours). interrupting_bits p cell z j m) there_is ∙ sym (append-nil (interrupting_bits p cell b j m)))
+        ∙ append-nil _
 
 pub push_to_interruption-requires-clause-above : goal.push_to_interruption-requires-clause-above
 push_to_interruption-requires-clause-above c =
     let old = c.args.reader.now in let p = old.coder.cells.parameters in
-    subst (λ (z : Neighbours). z.rb ≤ p.maxval) (sym c.neighbours-next.ensures) (rb_small p old.width (above_of c.args.place.now) c.requires.above _ _)
+    subst (λ (z : Neighbours). z.rb ≤ p.maxval) (sym c.neighbours-next.ensures)
+    (rb_small p old.width (above_of c.args.place.now) c.requires.above _ _)
 
 pub push_to_interruption-requires-clause-opened : goal.push_to_interruption-requires-clause-opened
 push_to_interruption-requires-clause-opened c =
@@ -115,17 +134,29 @@ push_to_interruption-requires-clause-opened c =
 pub returns-in-More-clause-step : goal.returns-in-More-clause-step
 returns-in-More-clause-step c = λ fed earlier t s.
     let old = c.args.reader.now in let place = c.args.place.now in let count : ℕ = c.args.interruption.count in let q = c.in-More.ensures in
-    let there_is = there_at old place count c.len.result c.neighbours-next.ensures c.deref.ensures.value c.requires.value c.len.ensures in let j_is = c.run_order.ensures.value in
+    let there_is = there_at old place count c.len.result c.neighbours-next.ensures c.deref.ensures.value c.requires.value c.len.ensures in
+    let j_is = c.run_order.ensures.value in
     record {
       taken = q.taken;
       chunk_is = q.chunk_is;
-      step_is = (refl, refl, refl, (c.requires.run, c.requires.run_index, opened_same old place count _ there_is j_is q.step_is.0, (s.0, more_fed old place count _ there_is j_is t s q.taken c.requires.above c.requires.run _ q.step_is.1, s.2)));
+      step_is = (
+        refl,
+        refl,
+        refl,
+        (
+          c.requires.run,
+          c.requires.run_index,
+          opened_same old place count _ there_is j_is q.step_is.0,
+          (s.0, more_fed old place count _ there_is j_is t s q.taken c.requires.above c.requires.run _ q.step_is.1, s.2),
+        ),
+      );
       all = q.all;
     }
 
 pub returns-in-Refused-clause-step : goal.returns-in-Refused-clause-step
 returns-in-Refused-clause-step c = λ fed earlier t s.
-    let old = c.args.reader.now in let place = c.args.place.now in let count : ℕ = c.args.interruption.count in let q = c.in-Refused.ensures in
+    let old = c.args.reader.now in let place = c.args.place.now in let count : ℕ = c.args.interruption.count in
+    let q = c.in-Refused.ensures in
     let there_is = there_at old place count c.len.result c.neighbours-next.ensures c.deref.ensures.value c.requires.value c.len.ensures in
     record {
       taken = q.taken;
@@ -136,19 +167,38 @@ returns-in-Refused-clause-step c = λ fed earlier t s.
 
 pub returns-in_ok-push-in-Done-clause-step : goal.returns-in_ok-push-in-Done-clause-step
 returns-in_ok-push-in-Done-clause-step c = λ fed earlier t s.
-    let old = c.args.reader.now in let cells : Variables = old.coder.cells in let p = cells.parameters in let w : ℕ = old.width in let line : List ℕ = old.line.items in let ri : List ℕ = old.coder.run_indices in
-    let place = c.args.place.now in let k : ℕ = place.component in let up : Above = above_of place in let count : ℕ = c.args.interruption.count in let b = following w up line count in let q = c.in-Done.ensures in let d = q.step_is in
-    let there_is = there_at old place count c.len.result c.neighbours-next.ensures c.deref.ensures.value c.requires.value c.len.ensures in let j_is = c.run_order.ensures.value in
-    let next : Neighbours = c.neighbours-next.result in let there : Neighbours = record { ra = c.args.value; rb = next.rb; rc = next.rc; rd = next.rd } in
+    let old = c.args.reader.now in let cells : Variables = old.coder.cells in let p = cells.parameters in let w : ℕ = old.width in
+    let line : List ℕ = old.line.items in let ri : List ℕ = old.coder.run_indices in
+    let place = c.args.place.now in let k : ℕ = place.component in let up : Above = above_of place in
+    let count : ℕ = c.args.interruption.count in let b = following w up line count in let q = c.in-Done.ensures in let d = q.step_is in
+    let there_is = there_at old place count c.len.result c.neighbours-next.ensures c.deref.ensures.value c.requires.value c.len.ensures in
+    let j_is = c.run_order.ensures.value in
+    let next : Neighbours = c.neighbours-next.result in
+    let there : Neighbours = record { ra = c.args.value; rb = next.rb; rc = next.rc; rd = next.rd } in
     let m : ℕ = c.in-Done.sample.value in let err : ℤ = c.in-Done.sample.error in let u = c.update_run.ensures in
     let same : to_z w32 (of_z w32 err) ≡ err = omega (arith, ints) in
     let err_is : err ≡ interruption_error p b m = d.2 ∙ ap (λ (z : Neighbours). interruption_error p z m) there_is in
     let four : length ri ≡ 4 = old.coder.four in let below = place.component_below in
-    let after = after_interruption p cells ri earlier t k count (omega arith) b m c.lowered.result (is_same there) err c.update_run.new.self (c.lowered.ensures ∙ ap run_index_lowered (sym s.2)) (ap is_same there_is) err_is u.regular u.parameters (u.updated ∙ ap (λ z. run_updated p.reset (is_same there) (run_cell_at cells (is_same there)) z) same) u.other in
+    let after = after_interruption p cells ri earlier t k count (omega arith) b m c.lowered.result (is_same there) err c.update_run.new.self
+    (c.lowered.ensures ∙ ap run_index_lowered (sym s.2)) (ap is_same there_is) err_is u.regular u.parameters
+    (u.updated ∙ ap (λ z. run_updated p.reset (is_same there) (run_cell_at cells (is_same there)) z) same) u.other in
     let e = interrupted_run k count b m in
     record {
       taken = q.taken;
       chunk_is = q.chunk_is;
-      step_is = (record { event = e; fits = fits old place count _ there_is j_is t s q.taken c.requires.above c.requires.run m d.0 d.1; line_is = c.in_ok-push-in-Done.ensures.items ∙ ap (λ z. z ++ m ∷ []) (c.in_ok-push_run-in-Done.ensures ∙ ap (λ z. line ++ replicate count z) c.requires.value) ∙ append_assoc line (replicate count (now_at w up line).ra) (m ∷ []); is_after = after_same p _ _ _ _ (earlier ++ e ∷ []) c.set_run_index.ensures.cells c.set_run_index.ensures.run_indices after; bits_are = whole old place count _ there_is j_is t s q.taken c.requires.above c.requires.run m d.5 }, refl);
+      step_is = (
+        record {
+          event = e;
+          fits = fits old place count _ there_is j_is t s q.taken c.requires.above c.requires.run m d.0 d.1;
+          line_is = c.in_ok-push-in-Done.ensures.items
+              ∙ ap (λ z. z ++ m ∷ []) (c.in_ok-push_run-in-Done.ensures ∙ ap (λ z. line ++ replicate count z) c.requires.value)
+              ∙ append_assoc line (replicate count (now_at w up line).ra) (m ∷ []);
+          is_after =
+              after_same p _ _ _ _ (earlier ++ e ∷ []) c.set_run_index.ensures.cells c.set_run_index.ensures.run_indices after;
+          bits_are =
+              whole old place count _ there_is j_is t s q.taken c.requires.above c.requires.run m d.5;
+        },
+        refl,
+      );
       all = tt;
     }

@@ -7,7 +7,8 @@ use Rattle.jls_io.proofs.line.print_line.Goals as goal
 
 pub loop-part-init : goal.loop-part-init
 loop-part-init g c =
-    fresh c.new-pending.result.bytes.items c.new-pending.result.went (g.E.Device.history c.args.faults.now) c.new-pending.ensures.empty c.new-pending.ensures.well
+    fresh c.new-pending.result.bytes.items c.new-pending.result.went (g.E.Device.history c.args.faults.now) c.new-pending.ensures.empty
+    c.new-pending.ensures.well
 
 pub returns : goal.returns
 returns g c =

@@ -17,5 +17,7 @@ loop-c-preserved g c = λ line before h.
 
 pub returns : goal.returns
 returns g c = λ line before h.
-    let t = YieldsList-end (YieldsList-from_chars c.args.name.now c.utf8.name cc) c.loop-c.yielded _ c.loop-c.yielded_by _ _ c.in-None.is c.next.ensures.steps in
-    handed_as _ _ _ _ before _ (ap (λ (l : List ℕ). line ++ flat_map shown_bytes l) (sym (map-id c.loop-c.yielded) ∙ t.0)) (c.loop-c.invariant line before h)
+    let t = YieldsList-end (YieldsList-from_chars c.args.name.now c.utf8.name cc) c.loop-c.yielded _ c.loop-c.yielded_by _ _ c.in-None.is
+    c.next.ensures.steps in
+    handed_as _ _ _ _ before _ (ap (λ (l : List ℕ). line ++ flat_map shown_bytes l) (sym (map-id c.loop-c.yielded) ∙ t.0))
+    (c.loop-c.invariant line before h)

@@ -10,9 +10,11 @@ returns-then-not-went g c = λ line before h.
 pub returns-in-Ok : goal.returns-in-Ok
 returns-in-Ok g c = λ line before h.
     let history = g.E.Device.history in
-    flushed_whole line c.args.bytes.now before (history c.args.faults.now) (history c.write_all.new.sink) c.args.went (search rules) c.in-Ok.ensures.written h
+    flushed_whole line c.args.bytes.now before (history c.args.faults.now) (history c.write_all.new.sink) c.args.went (search rules)
+    c.in-Ok.ensures.written h
 
 pub returns-in-Err : goal.returns-in-Err
 returns-in-Err g c = λ line before h.
     let history = g.E.Device.history in
-    flushed_prefix line c.args.bytes.now before (history c.args.faults.now) (history c.write_all.new.sink) c.args.went _ (search rules) c.in-Err.ensures.stopped h
+    flushed_prefix line c.args.bytes.now before (history c.args.faults.now) (history c.write_all.new.sink) c.args.went _ (search rules)
+    c.in-Err.ensures.stopped h

@@ -7,4 +7,5 @@ pub returns : goal.returns
 returns g c = λ line before h.
     let now = g.E.Device.history c.make_room.new.faults in
     subst (λ (b : List ℕ). HandedBut (line ++ c.args.byte ∷ []) c.make_room.new.pending.went b before now) (sym c.push.ensures.items)
-    (pushed line c.make_room.new.pending.bytes.items (c.args.byte ∷ []) c.make_room.new.pending.went before now (c.make_room.ensures.same_line line before h))
+    (pushed line c.make_room.new.pending.bytes.items (c.args.byte ∷ []) c.make_room.new.pending.went before now
+    (c.make_room.ensures.same_line line before h))

@@ -23,9 +23,11 @@ loop-done-preserved g c =
     record {
       within = omega (arith, c.in-Ok.ensures.within);
       so_far = subst (λ (t : List ℕ). GrewBy (Wrote t) (history c.args.sink.now) (history c.write_some.new.self)) more
-          (one_write_more (history c.args.sink.now) (history c.loop-done.sink) (history c.write_some.new.self) (take done bytes) (take n (drop done bytes))
+          (one_write_more (history c.args.sink.now) (history c.loop-done.sink) (history c.write_some.new.self) (take done bytes)
+          (take n (drop done bytes))
           c.loop-done.invariant.so_far taken (rw (take_rest bytes done) at c.in-Ok.ensures.written));
       holds = subst (λ (t : List ℕ). Appends (contents c.args.sink.now) (contents c.write_some.new.self) t) more
-          (appends_on (contents c.args.sink.now) (contents c.loop-done.sink) (contents c.write_some.new.self) (take done bytes) (take n (drop done bytes))
+          (appends_on (contents c.args.sink.now) (contents c.loop-done.sink) (contents c.write_some.new.self) (take done bytes)
+          (take n (drop done bytes))
           c.loop-done.invariant.holds (rw (take_rest bytes done) at c.in-Ok.ensures.bytes));
     }

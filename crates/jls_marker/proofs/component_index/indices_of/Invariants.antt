@@ -7,7 +7,8 @@ use Rattle.jls_marker.proofs.component_index.indices_of.Given as goal
 abbrev pub invariant-loop-rest : goal.invariant-loop-rest
 invariant-loop-rest l = record {
   so_far : l.indices.items ++ map (index_of l.frame_ids) l.rest ≡ map (index_of l.frame_ids) l.ids;
-  known : list_all (λ id. nat_lt (index_of l.frame_ids id) (length l.frame_ids)) l.rest ≡ list_all (λ id. nat_lt (index_of l.frame_ids id) (length l.frame_ids)) l.ids;
+  known : list_all (λ id. nat_lt (index_of l.frame_ids id) (length l.frame_ids)) l.rest
+      ≡ list_all (λ id. nat_lt (index_of l.frame_ids id) (length l.frame_ids)) l.ids;
   room : length l.rest + length l.indices.items ≤ 4;
 }
 

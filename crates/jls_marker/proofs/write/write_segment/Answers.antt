@@ -7,8 +7,10 @@ use Rattle.jls_marker.proofs.write.write_segment.Goals as goal
 
 pub returns-in-Frame-clause-reads_back : goal.returns-in-Frame-clause-reads_back
 returns-in-Frame-clause-reads_back c =
-    subst (λ (x : Segment). segment_of (code_of x) (payload_of x) ≡ Ok x) (sym c.in-Frame.is) (frame_reads_back c.in-Frame.frame c.frame_payload.ensures.ranges)
+    subst (λ (x : Segment). segment_of (code_of x) (payload_of x) ≡ Ok x) (sym c.in-Frame.is)
+    (frame_reads_back c.in-Frame.frame c.frame_payload.ensures.ranges)
 
 pub returns-in-Scan-clause-reads_back : goal.returns-in-Scan-clause-reads_back
 returns-in-Scan-clause-reads_back c =
-    subst (λ (x : Segment). segment_of (code_of x) (payload_of x) ≡ Ok x) (sym c.in-Scan.is) (scan_reads_back c.in-Scan.head c.scan_payload.ensures.ranges)
+    subst (λ (x : Segment). segment_of (code_of x) (payload_of x) ≡ Ok x) (sym c.in-Scan.is)
+    (scan_reads_back c.in-Scan.head c.scan_payload.ensures.ranges)

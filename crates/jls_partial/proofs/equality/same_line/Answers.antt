@@ -10,7 +10,8 @@ pub returns-then-not-same_samples : goal.returns-then-not-same_samples
 returns-then-not-same_samples c = (
   λ e. absurd cc,
   λ same. absurd (apart_lists c.get.result.now c.get-in-loop-i.result.now (sym c.eq-same_samples.ensures ∙ c.if-not-same_samples.true)
-      (samples_same c.args.one.now c.args.other.now c.loop-i.i c.get.result.now c.get-in-loop-i.result.now c.get.ensures.value c.get-in-loop-i.ensures.value same)),
+      (samples_same c.args.one.now c.args.other.now c.loop-i.i c.get.result.now c.get-in-loop-i.result.now c.get.ensures.value
+      c.get-in-loop-i.ensures.value same)),
 )
 
 pub returns-then-not-same_sources : goal.returns-then-not-same_sources
@@ -25,8 +26,10 @@ returns-then-not-same_sources c =
     let lt : i < length (items L.lines) = omega (arith, end, c.loop-i-test.true) in
     let lt' : i < length (items M.lines) = omega (arith, lens, l1, l2, lt) in (
       λ e. absurd cc,
-      λ same. absurd (apart_lists c.sources.result.now c.sources-in-loop-i.result.now (sym c.eq-same_sources.ensures ∙ c.if-not-same_sources.true)
-          (sources_same L M i c.get.result.now c.get-in-loop-i.result.now c.sources.result.now c.sources-in-loop-i.result.now lt lt' c.get.ensures.value c.get-in-loop-i.ensures.value c.sources.ensures c.sources-in-loop-i.ensures same)),
+      λ same. absurd (apart_lists c.sources.result.now c.sources-in-loop-i.result.now
+          (sym c.eq-same_sources.ensures ∙ c.if-not-same_sources.true)
+          (sources_same L M i c.get.result.now c.get-in-loop-i.result.now c.sources.result.now c.sources-in-loop-i.result.now lt lt'
+          c.get.ensures.value c.get-in-loop-i.ensures.value c.sources.ensures c.sources-in-loop-i.ensures same)),
     )
 
 pub loop-i-preserved : goal.loop-i-preserved
@@ -45,4 +48,5 @@ loop-i-preserved c =
     let k = λ (x ss : List ℕ). let k : Kept = (x, ss) in k in
     kept_more L i c.get.result.now c.sources.result.now lt c.get.ensures.value c.sources.ensures
     ∙ (λ j. c.loop-i.invariant j ++ k (x j) (ss j) ∷ [])
-    ∙ sym (kept_more M i c.get-in-loop-i.result.now c.sources-in-loop-i.result.now lt' c.get-in-loop-i.ensures.value c.sources-in-loop-i.ensures)
+    ∙ sym (kept_more M i c.get-in-loop-i.result.now c.sources-in-loop-i.result.now lt' c.get-in-loop-i.ensures.value
+    c.sources-in-loop-i.ensures)

@@ -20,15 +20,19 @@ found : (c : In-Some) → lookup (is_at (page_cmp (page_of c.args.at))) c.args.p
 found c = ap (λ (z : PageNumber). lookup (is_at (page_cmp z)) c.args.pages.now.entries) (sym c.page.ensures) ∙ sym c.in-Some.ensures.value
 
 -- what is written over them
-written : (c : After-mark_row) → IsPageWritten c.args.pages.now.entries c.args.at c.in-Some.rows.now c.mark_row.new.rows (c.get_mut.follows.lender c.mark_row.new.rows).entries
+written : (c : After-mark_row)
+    → IsPageWritten c.args.pages.now.entries c.args.at c.in-Some.rows.now c.mark_row.new.rows
+    (c.get_mut.follows.lender c.mark_row.new.rows).entries
 written c =
     let v = c.mark_row.new.rows in
     let held = c.get_mut.follows.holds v in
-    page_written c.args.pages.now.entries (c.get_mut.follows.lender v).entries c.args.at c.page.result c.in-Some.rows.now v c.page.ensures c.requires.pages.pages c.in-Some.ensures.value held.0 (λ some. (held.3 some).0) held.4 c.mark_row.ensures.page.page
+    page_written c.args.pages.now.entries (c.get_mut.follows.lender v).entries c.args.at c.page.result c.in-Some.rows.now v c.page.ensures
+    c.requires.pages.pages c.in-Some.ensures.value held.0 (λ some. (held.3 some).0) held.4 c.mark_row.ensures.page.page
 
 pub mark_row-requires-clause-page : goal.mark_row-requires-clause-page
 mark_row-requires-clause-page c =
-    rows_here c.args.packed.now c.args.pages.now.entries c.args.at c.in-Some.rows.now c.requires.pages (found (goal.at.mark_row-requires-clause-page c).In-Some)
+    rows_here c.args.packed.now c.args.pages.now.entries c.args.at c.in-Some.rows.now c.requires.pages
+    (found (goal.at.mark_row-requires-clause-page c).In-Some)
 
 pub mark_row-requires-clause-within : goal.mark_row-requires-clause-within
 mark_row-requires-clause-within c =
@@ -42,7 +46,8 @@ unreachable-requires c =
     let es = c.args.pages.now.entries in
     let at = c.args.at in
     let below = c.requires.within in
-    let missing : lookup (is_at (page_cmp (page_of at))) es ≡ None = ap (λ (z : PageNumber). lookup (is_at (page_cmp z)) es) (sym c.page.ensures) ∙ sym c.in-None.ensures.value in
+    let missing : lookup (is_at (page_cmp (page_of at))) es ≡ None =
+    ap (λ (z : PageNumber). lookup (is_at (page_cmp z)) es) (sym c.page.ensures) ∙ sym c.in-None.ensures.value in
     let empty : length (set.items (stored_at (pages_seen packed es) at).lines) ≡ 0 =
     ap (λ (L : PictureLines). length (set.items L.lines)) (lines_missed packed es at c.requires.pages.pages missing) ∙ ap length no_items in
     absurd (omega (arith, empty, below))
@@ -52,7 +57,8 @@ returns-clause-pages c =
     let packed = c.args.packed.now in
     let v = c.mark_row.new.rows in
     let w = written (goal.at.returns-clause-pages c).After-mark_row in
-    pages_packed packed packed (itself packed) c.args.pages.now.entries (c.get_mut.follows.lender v).entries c.args.at v c.requires.pages w.are w.updated c.mark_row.ensures.page
+    pages_packed packed packed (itself packed) c.args.pages.now.entries (c.get_mut.follows.lender v).entries c.args.at v c.requires.pages
+    w.are w.updated c.mark_row.ensures.page
 
 pub returns-clause-ok : goal.returns-clause-ok
 returns-clause-ok c =
@@ -62,8 +68,10 @@ returns-clause-ok c =
     let v = c.mark_row.new.rows in
     let w = written (goal.at.returns-clause-ok c).After-mark_row in
     on_ok_weaker c.mark_row.result
-    (λ adds. page_changes packed packed (itself packed) es (c.get_mut.follows.lender v).entries at v c.requires.pages w.are w.updated (λ was now. MarksLine was c.args.i c.args.source now)
-    (subst (λ (rs : List Row). AddsSource (rows_seen packed rs) at c.args.i c.args.source (rows_seen packed v.items)) (sym (rows_there es at c.in-Some.rows.now w.found)) adds))
+    (λ adds. page_changes packed packed (itself packed) es (c.get_mut.follows.lender v).entries at v c.requires.pages w.are w.updated
+    (λ was now. MarksLine was c.args.i c.args.source now)
+    (subst (λ (rs : List Row). AddsSource (rows_seen packed rs) at c.args.i c.args.source (rows_seen packed v.items))
+    (sym (rows_there es at c.in-Some.rows.now w.found)) adds))
     c.mark_row.ensures.ok
 
 pub returns-clause-err : goal.returns-clause-err
@@ -72,5 +80,6 @@ returns-clause-err c =
     let v = c.mark_row.new.rows in
     let w = written (goal.at.returns-clause-err c).After-mark_row in
     on_err_weaker c.mark_row.result
-    (λ same. page_same packed packed (itself packed) c.args.pages.now.entries (c.get_mut.follows.lender v).entries c.args.at c.in-Some.rows.now v c.requires.pages.rows_packed w.found w.is same)
+    (λ same. page_same packed packed (itself packed) c.args.pages.now.entries (c.get_mut.follows.lender v).entries c.args.at
+    c.in-Some.rows.now v c.requires.pages.rows_packed w.found w.is same)
     c.mark_row.ensures.err

@@ -20,7 +20,8 @@ pub mark-requires-clause-slots : goal.mark-requires-clause-slots
 mark-requires-clause-slots c =
     let rows = c.args.rows.now.items in
     let x = c.index_mut.result.now in
-    let w = written rows c.deref.result.now c.args.at c.in-Ok.k x x.1 c.deref.ensures.value c.requires.page.page.sorted c.in-Ok.ensures.found c.in-Ok.ensures.same c.index_mut.ensures.value in
+    let w = written rows c.deref.result.now c.args.at c.in-Ok.k x x.1 c.deref.ensures.value c.requires.page.page.sorted
+    c.in-Ok.ensures.found c.in-Ok.ensures.same c.index_mut.ensures.value in
     slots_found c.args.packed.now rows c.args.at x.1 c.requires.page.rows_packed w.found
 
 pub mark-requires-clause-within : goal.mark-requires-clause-within
@@ -29,10 +30,13 @@ mark-requires-clause-within c =
     let rows = c.args.rows.now.items in
     let x = c.index_mut.result.now in
     let here = lines_in packed x.1 in
-    let w = written rows c.deref.result.now c.args.at c.in-Ok.k x x.1 c.deref.ensures.value c.requires.page.page.sorted c.in-Ok.ensures.found c.in-Ok.ensures.same c.index_mut.ensures.value in
+    let w = written rows c.deref.result.now c.args.at c.in-Ok.k x x.1 c.deref.ensures.value c.requires.page.page.sorted
+    c.in-Ok.ensures.found c.in-Ok.ensures.same c.index_mut.ensures.value in
     let found = lines_found packed rows c.args.at x.1 (no_lines c.args.packed.now.precision c.args.packed.now.width) w.found in
-    let below : c.args.i < length (sets.items here.lines) = subst (λ (L : PictureLines). c.args.i < length (sets.items L.lines)) found c.requires.within in
-    let many = length_kept packed.precision packed.width packed.samples.items (slots_of x.1) here (mark-requires-clause-slots c) (λ _. here) in
+    let below : c.args.i < length (sets.items here.lines) =
+    subst (λ (L : PictureLines). c.args.i < length (sets.items L.lines)) found c.requires.within in
+    let many = length_kept packed.precision packed.width packed.samples.items (slots_of x.1) here (mark-requires-clause-slots c)
+    (λ _. here) in
     omega (arith, below, many)
 
 pub unreachable-requires : goal.unreachable-requires
@@ -41,9 +45,13 @@ unreachable-requires c =
     let rows = c.args.rows.now.items in
     let at = c.args.at in
     let below = c.requires.within in
-    let gap : IsGap place_cmp (map (λ (r : Row). r.0) rows) c.in-Err.field-0 at = subst (λ (rs : List Row). IsGap place_cmp (map (λ (r : Row). r.0) rs) c.in-Err.field-0 at) c.deref.ensures.value c.in-Err.ensures.gap in
+    let gap : IsGap place_cmp (map (λ (r : Row). r.0) rows) c.in-Err.field-0 at =
+    subst (λ (rs : List Row). IsGap place_cmp (map (λ (r : Row). r.0) rs) c.in-Err.field-0 at) c.deref.ensures.value
+    c.in-Err.ensures.gap in
     let none : length (sets.items (stored_at (rows_seen packed rows) at).lines) ≡ 0 =
-    ap (λ (L : PictureLines). length (sets.items L.lines)) (lines_missing packed rows at (no_lines c.args.packed.now.precision c.args.packed.now.width) (row_missing rows at c.in-Err.field-0 gap)) ∙ ap length no_items in
+    ap (λ (L : PictureLines). length (sets.items L.lines))
+    (lines_missing packed rows at (no_lines c.args.packed.now.precision c.args.packed.now.width)
+    (row_missing rows at c.in-Err.field-0 gap)) ∙ ap length no_items in
     absurd (omega (arith, none, below))
 
 pub returns-clause-page : goal.returns-clause-page
@@ -54,11 +62,13 @@ returns-clause-page c =
     let x = c.index_mut.result.now in
     let y = c.mark.new.slots in
     let fs = set rows c.in-Ok.k (x.0, y) in
-    let w = written rows c.deref.result.now at c.in-Ok.k x y c.deref.ensures.value c.requires.page.page.sorted c.in-Ok.ensures.found c.in-Ok.ensures.same c.index_mut.ensures.value in
+    let w = written rows c.deref.result.now at c.in-Ok.k x y c.deref.ensures.value c.requires.page.page.sorted c.in-Ok.ensures.found
+    c.in-Ok.ensures.same c.index_mut.ensures.value in
     let page = subst (IsPage (page_of at)) (sym w.is) (set_page (page_of at) rows (is_at (place_cmp at)) y c.requires.page.page) in
     record {
       page = page;
-      rows_packed = more_packed packed packed (itself packed) (slots_of_entries rows) (slots_of_entries fs) at (slots_of y) c.requires.page.rows_packed (updated-map slots_of rows fs at y w.updated) c.mark.ensures.slots
+      rows_packed = more_packed packed packed (itself packed) (slots_of_entries rows) (slots_of_entries fs) at (slots_of y)
+          c.requires.page.rows_packed (updated-map slots_of rows fs at y w.updated) c.mark.ensures.slots
           (ordered_slots fs page.sorted);
     }
 
@@ -70,10 +80,12 @@ returns-clause-ok c =
     let x = c.index_mut.result.now in
     let y = c.mark.new.slots in
     let fs = set rows c.in-Ok.k (x.0, y) in
-    let w = written rows c.deref.result.now at c.in-Ok.k x y c.deref.ensures.value c.requires.page.page.sorted c.in-Ok.ensures.found c.in-Ok.ensures.same c.index_mut.ensures.value in
+    let w = written rows c.deref.result.now at c.in-Ok.k x y c.deref.ensures.value c.requires.page.page.sorted c.in-Ok.ensures.found
+    c.in-Ok.ensures.same c.index_mut.ensures.value in
     let found = lines_found packed rows at x.1 (no_lines packed.precision packed.width) w.found in
     on_ok_weaker c.mark.result
-    (λ marks. changes_at packed packed (itself packed) (slots_of_entries rows) (slots_of_entries fs) at (slots_of y) c.requires.page.rows_packed (updated-map slots_of rows fs at y w.updated)
+    (λ marks. changes_at packed packed (itself packed) (slots_of_entries rows) (slots_of_entries fs) at (slots_of y)
+    c.requires.page.rows_packed (updated-map slots_of rows fs at y w.updated)
     (λ was now. MarksLine was c.args.i c.args.source now)
     (subst (λ (L : PictureLines). MarksLine L c.args.i c.args.source (lines_in packed y)) (sym found) marks))
     c.mark.ensures.ok
@@ -86,7 +98,9 @@ returns-clause-err c =
     let x = c.index_mut.result.now in
     let y = c.mark.new.slots in
     let fs = set rows c.in-Ok.k (x.0, y) in
-    let w = written rows c.deref.result.now at c.in-Ok.k x y c.deref.ensures.value c.requires.page.page.sorted c.in-Ok.ensures.found c.in-Ok.ensures.same c.index_mut.ensures.value in
+    let w = written rows c.deref.result.now at c.in-Ok.k x y c.deref.ensures.value c.requires.page.page.sorted c.in-Ok.ensures.found
+    c.in-Ok.ensures.same c.index_mut.ensures.value in
     on_err_weaker c.mark.result
-    (λ same. ap (λ (ss : List LineSlots). stored packed (seen_entries packed.precision packed.width packed.samples.items ss)) (entries_same rows fs at x.1 y w.found w.is same))
+    (λ same. ap (λ (ss : List LineSlots). stored packed (seen_entries packed.precision packed.width packed.samples.items ss))
+    (entries_same rows fs at x.1 y w.found w.is same))
     c.mark.ensures.err

@@ -24,7 +24,8 @@ returns-in-Ok c =
     let rows = c.in-Some.rows.now in
     let found = ap (λ (z : PageNumber). lookup (is_at (page_cmp z)) es) (sym c.page.ensures) ∙ sym c.in-Some.ensures.value in
     let lt : c.in-Ok.i < length rows.items = subst (λ (rs : List Row). c.in-Ok.i < length rs) c.deref.ensures.value c.in-Ok.ensures.found in
-    let same : get_or (map (λ (r : Row). r.0) rows.items) c.in-Ok.i at ≡ at = subst (λ (rs : List Row). get_or (map (λ (r : Row). r.0) rs) c.in-Ok.i at ≡ at) c.deref.ensures.value c.in-Ok.ensures.same in
+    let same : get_or (map (λ (r : Row). r.0) rows.items) c.in-Ok.i at ≡ at =
+    subst (λ (rs : List Row). get_or (map (λ (r : Row). r.0) rs) c.in-Ok.i at ≡ at) c.deref.ensures.value c.in-Ok.ensures.same in
     sym (page_found es at c.requires ∙ ap (lookup (is_at (place_cmp at))) (rows_there es at rows found)
     ∙ row_found rows.items at c.in-Ok.i c.index.result.now (page_here es at rows c.requires found).sorted lt same c.index.ensures)
 
@@ -34,8 +35,11 @@ returns-in-Err c =
     let at = c.args.at in
     let rows = c.in-Some.rows.now in
     let found = ap (λ (z : PageNumber). lookup (is_at (page_cmp z)) es) (sym c.page.ensures) ∙ sym c.in-Some.ensures.value in
-    let gap : IsGap place_cmp (map (λ (r : Row). r.0) rows.items) c.in-Err.field-0 at = subst (λ (rs : List Row). IsGap place_cmp (map (λ (r : Row). r.0) rs) c.in-Err.field-0 at) c.deref.ensures.value c.in-Err.ensures.gap in
-    sym (page_found es at c.requires ∙ ap (lookup (is_at (place_cmp at))) (rows_there es at rows found) ∙ row_missing rows.items at c.in-Err.field-0 gap)
+    let gap : IsGap place_cmp (map (λ (r : Row). r.0) rows.items) c.in-Err.field-0 at =
+    subst (λ (rs : List Row). IsGap place_cmp (map (λ (r : Row). r.0) rs) c.in-Err.field-0 at) c.deref.ensures.value
+    c.in-Err.ensures.gap in
+    sym (page_found es at c.requires ∙ ap (lookup (is_at (place_cmp at))) (rows_there es at rows found)
+    ∙ row_missing rows.items at c.in-Err.field-0 gap)
 
 pub returns-in-None : goal.returns-in-None
 returns-in-None c =

@@ -24,25 +24,31 @@ found : (c : In-Some) → lookup (is_at (page_cmp (page_of c.args.at))) c.args.p
 found c = ap (λ (z : PageNumber). lookup (is_at (page_cmp z)) c.args.pages.now.entries) (sym c.page.ensures) ∙ sym c.in-Some.ensures.value
 
 -- its lines are those of its page
-was : (c : In-Some) → stored_at (pages_seen c.args.packed.now c.args.pages.now.entries) c.args.at ≡ stored_at (rows_seen c.args.packed.now c.in-Some.rows.now.items) c.args.at
+was : (c : In-Some) → stored_at (pages_seen c.args.packed.now c.args.pages.now.entries) c.args.at
+    ≡ stored_at (rows_seen c.args.packed.now c.in-Some.rows.now.items) c.args.at
 was c = lines_there c.args.packed.now c.args.pages.now.entries c.args.at c.in-Some.rows.now c.requires.pages.pages (found c)
 
 -- what is written over them
-written : (c : After-take_row) → IsPageWritten c.args.pages.now.entries c.args.at c.in-Some.rows.now c.take_row.new.rows (c.get_mut.follows.lender c.take_row.new.rows).entries
+written : (c : After-take_row)
+    → IsPageWritten c.args.pages.now.entries c.args.at c.in-Some.rows.now c.take_row.new.rows
+    (c.get_mut.follows.lender c.take_row.new.rows).entries
 written c =
     let v = c.take_row.new.rows in
     let held = c.get_mut.follows.holds v in
-    page_written c.args.pages.now.entries (c.get_mut.follows.lender v).entries c.args.at c.page.result c.in-Some.rows.now v c.page.ensures c.requires.pages.pages c.in-Some.ensures.value held.0 (λ some. (held.3 some).0) held.4 c.take_row.ensures.page.page
+    page_written c.args.pages.now.entries (c.get_mut.follows.lender v).entries c.args.at c.page.result c.in-Some.rows.now v c.page.ensures
+    c.requires.pages.pages c.in-Some.ensures.value held.0 (λ some. (held.3 some).0) held.4 c.take_row.ensures.page.page
 
 pub take_row-requires-clause-page : goal.take_row-requires-clause-page
 take_row-requires-clause-page c =
-    rows_here c.args.packed.now c.args.pages.now.entries c.args.at c.in-Some.rows.now c.requires.pages (found (goal.at.take_row-requires-clause-page c).In-Some)
+    rows_here c.args.packed.now c.args.pages.now.entries c.args.at c.in-Some.rows.now c.requires.pages
+    (found (goal.at.take_row-requires-clause-page c).In-Some)
 
 pub returns-in-Some-clause-pages : goal.returns-in-Some-clause-pages
 returns-in-Some-clause-pages c =
     let v = c.take_row.new.rows in
     let w = written (goal.at.returns-in-Some-clause-pages c).After-take_row in
-    pages_packed c.args.packed.now c.take_row.new.packed c.take_row.ensures.extends c.args.pages.now.entries (c.get_mut.follows.lender v).entries c.args.at v c.requires.pages w.are w.updated c.take_row.ensures.page
+    pages_packed c.args.packed.now c.take_row.new.packed c.take_row.ensures.extends c.args.pages.now.entries
+    (c.get_mut.follows.lender v).entries c.args.at v c.requires.pages w.are w.updated c.take_row.ensures.page
 
 pub returns-in-Some-clause-ok : goal.returns-in-Some-clause-ok
 returns-in-Some-clause-ok c =
@@ -53,8 +59,10 @@ returns-in-Some-clause-ok c =
     let v = c.take_row.new.rows in
     let w = written (goal.at.returns-in-Some-clause-ok c).After-take_row in
     on_ok_weaker c.take_row.result
-    (λ takes. page_changes old new c.take_row.ensures.extends es (c.get_mut.follows.lender v).entries at v c.requires.pages w.are w.updated (λ was now. PutsLine was c.args.samples.now c.args.sources.now now)
-    (subst (λ (rs : List Row). TakesLine (rows_seen old rs) at c.args.samples.now c.args.sources.now (rows_seen new v.items)) (sym (rows_there es at c.in-Some.rows.now w.found)) takes))
+    (λ takes. page_changes old new c.take_row.ensures.extends es (c.get_mut.follows.lender v).entries at v c.requires.pages w.are w.updated
+    (λ was now. PutsLine was c.args.samples.now c.args.sources.now now)
+    (subst (λ (rs : List Row). TakesLine (rows_seen old rs) at c.args.samples.now c.args.sources.now (rows_seen new v.items))
+    (sym (rows_there es at c.in-Some.rows.now w.found)) takes))
     c.take_row.ensures.ok
 
 pub returns-in-Some-clause-err : goal.returns-in-Some-clause-err
@@ -62,7 +70,8 @@ returns-in-Some-clause-err c =
     let v = c.take_row.new.rows in
     let w = written (goal.at.returns-in-Some-clause-err c).After-take_row in
     on_err_weaker c.take_row.result
-    (λ same. page_same c.args.packed.now c.take_row.new.packed c.take_row.ensures.extends c.args.pages.now.entries (c.get_mut.follows.lender v).entries c.args.at c.in-Some.rows.now v c.requires.pages.rows_packed w.found w.is same)
+    (λ same. page_same c.args.packed.now c.take_row.new.packed c.take_row.ensures.extends c.args.pages.now.entries
+    (c.get_mut.follows.lender v).entries c.args.at c.in-Some.rows.now v c.requires.pages.rows_packed w.found w.is same)
     c.take_row.ensures.err
 
 pub returns-in-Some-clause-added : goal.returns-in-Some-clause-added
@@ -72,7 +81,8 @@ returns-in-Some-clause-added c =
 
 pub returns-in-Some-clause-no_memory : goal.returns-in-Some-clause-no_memory
 returns-in-Some-clause-no_memory c = λ h e.
-    c.take_row.ensures.no_memory (sym (ap (λ (L : PictureLines). set.contains L.lines c.args.samples.now) (was (goal.at.returns-in-Some-clause-no_memory c).In-Some)) ∙ h) e
+    c.take_row.ensures.no_memory (sym
+    (ap (λ (L : PictureLines). set.contains L.lines c.args.samples.now) (was (goal.at.returns-in-Some-clause-no_memory c).In-Some)) ∙ h) e
 
 -- ---- a page that is missing
 
@@ -80,12 +90,14 @@ none_held : (c : In-None) → holds_line (pages_seen c.args.packed.now c.args.pa
 none_held c =
     let es = c.args.pages.now.entries in
     let missing = ap (λ (z : PageNumber). lookup (is_at (page_cmp z)) es) (sym c.page.ensures) ∙ sym c.in-None.ensures.value in
-    ap (λ (L : PictureLines). set.contains L.lines c.args.samples.now) (lines_missed c.args.packed.now es c.args.at c.requires.pages.pages missing)
+    ap (λ (L : PictureLines). set.contains L.lines c.args.samples.now)
+    (lines_missed c.args.packed.now es c.args.at c.requires.pages.pages missing)
     ∙ contains-empty (slice_cmp nat_cmp) c.args.samples.now
 
 pub returns-in-None-clause-added : goal.returns-in-None-clause-added
 returns-in-None-clause-added c =
-    subst (λ (b : Bool). IfOk c.start_at.result (λ added. added ≡ not b)) (sym (none_held (goal.at.returns-in-None-clause-added c).In-None)) c.start_at.ensures.added
+    subst (λ (b : Bool). IfOk c.start_at.result (λ added. added ≡ not b)) (sym (none_held (goal.at.returns-in-None-clause-added c).In-None))
+    c.start_at.ensures.added
 
 pub returns-in-None-clause-no_memory : goal.returns-in-None-clause-no_memory
 returns-in-None-clause-no_memory c = λ h e.

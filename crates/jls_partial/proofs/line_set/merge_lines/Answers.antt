@@ -15,8 +15,11 @@ returns-in_err-take-clause-err c =
     let p = c.args.other.now in
     let kl = kept_lines p in
     let i = c.loop-i.i in
-    let between : IsBetween union_of_lines s (with_lines s (take i kl)) (union_of_lines s p) = prefix_between s p c.len-i-end.ensures.sources (take i kl) (drop i kl) (sym (take-append-drop i kl)) in
-    let stands : IsBetween union_of_lines s c.take.new.self (union_of_lines s p) = subst (λ (z : PictureLines). IsBetween union_of_lines s z (union_of_lines s p)) (sym (c.in_err-take.ensures.err ∙ c.loop-i.invariant)) between in
+    let between : IsBetween union_of_lines s (with_lines s (take i kl)) (union_of_lines s p) =
+    prefix_between s p c.len-i-end.ensures.sources (take i kl) (drop i kl) (sym (take-append-drop i kl)) in
+    let stands : IsBetween union_of_lines s c.take.new.self (union_of_lines s p) =
+    subst (λ (z : PictureLines). IsBetween union_of_lines s z (union_of_lines s p)) (sym (c.in_err-take.ensures.err ∙ c.loop-i.invariant))
+    between in
     elim c.from_residual.result as (λ r. OnErr r (IsBetween union_of_lines s c.take.new.self (union_of_lines s p))) [
       | Ok _ ↦ tt
       | Err _ ↦ stands
@@ -41,7 +44,8 @@ pub loop-i-preserved : goal.loop-i-preserved
 loop-i-preserved c =
     let end = c.len-i-end.ensures.value in
     let lt : c.loop-i.i < length (items c.args.other.now.lines) = omega (arith, end, c.loop-i-test.true) in
-    c.in_ok-take.ensures.ok ∙ one_more c.args.into.now c.loop-i.into c.args.other.now c.loop-i.i c.get.result.now c.sources.result.now lt c.get.ensures.value c.sources.ensures c.loop-i.invariant
+    c.in_ok-take.ensures.ok ∙ one_more c.args.into.now c.loop-i.into c.args.other.now c.loop-i.i c.get.result.now c.sources.result.now lt
+    c.get.ensures.value c.sources.ensures c.loop-i.invariant
 
 pub returns-clause-ok : goal.returns-clause-ok
 returns-clause-ok c =
@@ -52,4 +56,5 @@ returns-clause-ok c =
     let many : length kl ≡ length (items p.lines) = length-map (items p.lines) f in
     let end = c.len-i-end.ensures.value in
     let all : length kl ≡ c.loop-i.i = omega (arith, many, end) in
-    c.loop-i.invariant ∙ ap (with_lines s) (ap (take c.loop-i.i) (sym (append-nil kl)) ∙ take_at kl [] c.loop-i.i all) ∙ all_is_union s p c.len-i-end.ensures.sources
+    c.loop-i.invariant ∙ ap (with_lines s) (ap (take c.loop-i.i) (sym (append-nil kl)) ∙ take_at kl [] c.loop-i.i all)
+    ∙ all_is_union s p c.len-i-end.ensures.sources

@@ -6,7 +6,8 @@ use Rattle.jls_partial.proofs.Marked.{with_marks-append, marks_then, lines_held}
 use Rattle.jls_partial.proofs.marking.mark_component.Goals as goal
 
 pub mark_line-requires-clause-component_in : goal.mark_line-requires-clause-component_in
-mark_line-requires-clause-component_in c = subst (λ (p : PartialPicture). c.args.component < length p.shape.ids) (sym c.loop-line.invariant) c.requires
+mark_line-requires-clause-component_in c =
+    subst (λ (p : PartialPicture). c.args.component < length p.shape.ids) (sym c.loop-line.invariant) c.requires
 
 pub mark_line-requires-clause-line_in : goal.mark_line-requires-clause-line_in
 mark_line-requires-clause-line_in c =
@@ -19,7 +20,9 @@ pub returns-in_err-mark_line-clause-err : goal.returns-in_err-mark_line-clause-e
 returns-in_err-mark_line-clause-err c =
     let p = err_from_is_err_and c.from_residual.result c.from_residual.ensures.1 in
     let old = c.args.partial.now in
-    rw p.1 (marks_then old c.loop-line.partial c.mark_line.new.partial c.args.source (readings_of_lines old c.args.component c.loop-line.line) c.loop-line.invariant (lines_held old c.args.component c.loop-line.line) c.in_err-mark_line.ensures.err)
+    rw p.1 (marks_then old c.loop-line.partial c.mark_line.new.partial c.args.source
+    (readings_of_lines old c.args.component c.loop-line.line) c.loop-line.invariant (lines_held old c.args.component c.loop-line.line)
+    c.in_err-mark_line.ensures.err)
 
 pub loop-line-preserved : goal.loop-line-preserved
 loop-line-preserved c =

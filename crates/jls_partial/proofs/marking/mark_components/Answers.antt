@@ -16,7 +16,9 @@ pub returns-in_err-mark_component-clause-err : goal.returns-in_err-mark_componen
 returns-in_err-mark_component-clause-err c =
     let p = err_from_is_err_and c.from_residual.result c.from_residual.ensures.1 in
     let old = c.args.partial.now in
-    rw p.1 (marks_then old c.loop-component.partial c.mark_component.new.partial c.args.source (readings_of_components old c.loop-component.component) c.loop-component.invariant (components_held old c.loop-component.component) c.in_err-mark_component.ensures.err)
+    rw p.1 (marks_then old c.loop-component.partial c.mark_component.new.partial c.args.source
+    (readings_of_components old c.loop-component.component) c.loop-component.invariant (components_held old c.loop-component.component)
+    c.in_err-mark_component.ensures.err)
 
 pub loop-component-preserved : goal.loop-component-preserved
 loop-component-preserved c =

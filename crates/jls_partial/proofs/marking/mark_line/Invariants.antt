@@ -4,4 +4,5 @@ use Rattle.jls_partial.specs.Reading.{reading_of}
 use Rattle.jls_partial.proofs.marking.mark_line.Given as goal
 
 abbrev pub invariant-loop-i : goal.invariant-loop-i
-invariant-loop-i l = l.partial ≡ with_marks l.fn.partial l.source (map (reading_of l.component l.line) (take l.i (readings_at l.fn.partial l.component l.line)))
+invariant-loop-i l = l.partial
+    ≡ with_marks l.fn.partial l.source (map (reading_of l.component l.line) (take l.i (readings_at l.fn.partial l.component l.line)))

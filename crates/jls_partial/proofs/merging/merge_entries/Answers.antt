@@ -24,7 +24,8 @@ loop-at-preserved c =
     let es = c.next.new.self in
     let so_far = next c.args.into.now c.loop-at.into all e c.loop-at.at-iterator es c.in-Some.ensures.steps c.loop-at.invariant.so_far in
     record {
-      so_far = more_so_far c.args.into.now c.loop-at.into c.merge_line.new.into all (map (kept_at_place e.0) (kept_lines e.1)) (kept_readings (map kept_entry es)) so_far c.in_ok-merge_line.ensures.ok;
+      so_far = more_so_far c.args.into.now c.loop-at.into c.merge_line.new.into all (map (kept_at_place e.0) (kept_lines e.1))
+          (kept_readings (map kept_entry es)) so_far c.in_ok-merge_line.ensures.ok;
       each = (subst (AllByRecursion (IsLineEntry c.args.other.now.shape)) c.in-Some.ensures.steps c.loop-at.invariant.each).1;
     }
 
@@ -35,4 +36,5 @@ returns-in_err-merge_line-clause-err c =
     let all = kept_readings (entries c.args.other.now) in
     let es = c.next.new.self in
     let so_far = next c.args.into.now c.loop-at.into all e c.loop-at.at-iterator es c.in-Some.ensures.steps c.loop-at.invariant.so_far in
-    rw p.1 (prefix_so_far c.args.into.now c.loop-at.into c.merge_line.new.into all (map (kept_at_place e.0) (kept_lines e.1)) (kept_readings (map kept_entry es)) so_far c.in_err-merge_line.ensures.err)
+    rw p.1 (prefix_so_far c.args.into.now c.loop-at.into c.merge_line.new.into all (map (kept_at_place e.0) (kept_lines e.1))
+    (kept_readings (map kept_entry es)) so_far c.in_err-merge_line.ensures.err)

@@ -14,8 +14,10 @@ use Rattle.jls_partial.proofs.merging.merge_line.Goals as goal
 
 pub take-requires : goal.take-requires
 take-requires c =
-    subst (λ (s : PictureShape). reading_fault s c.args.at.component c.args.at.line c.get.result.now ≡ None) (sym (ap (λ (p : PartialPicture). p.shape) c.loop-i.invariant))
-    (all-slice_get (λ x. reading_fault c.args.into.now.shape c.args.at.component c.args.at.line x ≡ None) (items c.args.lines.now.lines) c.loop-i.i c.get.result.now c.requires.entry.fitting c.get.ensures.value)
+    subst (λ (s : PictureShape). reading_fault s c.args.at.component c.args.at.line c.get.result.now ≡ None)
+    (sym (ap (λ (p : PartialPicture). p.shape) c.loop-i.invariant))
+    (all-slice_get (λ x. reading_fault c.args.into.now.shape c.args.at.component c.args.at.line x ≡ None) (items c.args.lines.now.lines)
+    c.loop-i.i c.get.result.now c.requires.entry.fitting c.get.ensures.value)
 
 pub returns-in_err-take-clause-err : goal.returns-in_err-take-clause-err
 returns-in_err-take-clause-err c =
@@ -42,7 +44,8 @@ loop-i-preserved c =
     c.in_ok-take.ensures.ok
     ∙ ap (λ (p : PartialPicture). with_all p (f k ∷ [])) c.loop-i.invariant
     ∙ sym (with_all-append c.args.into.now (map f (take i ks)) (f k ∷ []))
-    ∙ ap (with_all c.args.into.now) (sym (ap (map f) (kept_more L i k.0 k.1 lt c.get.ensures.value c.sources.ensures) ∙ map-append f (take i ks) (k ∷ [])))
+    ∙ ap (with_all c.args.into.now)
+    (sym (ap (map f) (kept_more L i k.0 k.1 lt c.get.ensures.value c.sources.ensures) ∙ map-append f (take i ks) (k ∷ [])))
 
 pub returns-clause-ok : goal.returns-clause-ok
 returns-clause-ok c =
@@ -52,4 +55,5 @@ returns-clause-ok c =
     let many : length ks ≡ length (items L.lines) = length-map (items L.lines) g in
     let end = c.len-i-end.ensures.value in
     let all : length ks ≡ c.loop-i.i = omega (arith, many, end) in
-    c.loop-i.invariant ∙ ap (λ xs. with_all c.args.into.now (map (kept_at_place c.args.at) xs)) (ap (take c.loop-i.i) (sym (append-nil ks)) ∙ take_at ks [] c.loop-i.i all)
+    c.loop-i.invariant ∙ ap (λ xs. with_all c.args.into.now (map (kept_at_place c.args.at) xs))
+    (ap (take c.loop-i.i) (sym (append-nil ks)) ∙ take_at ks [] c.loop-i.i all)

@@ -7,4 +7,5 @@ use Rattle.jls_partial.proofs.partial.count_at.Goals as goal
 
 pub returns-in-None : goal.returns-in-None
 returns-in-None c =
-    sym (ap length no_items) ∙ ap (λ (o : Option PictureLines). length (set.items (unwrap_or o (no_lines c.args.store.now.precision c.args.store.now.width)).lines)) c.in-None.ensures
+    sym (ap length no_items) ∙ ap (λ (o : Option PictureLines). length
+    (set.items (unwrap_or o (no_lines c.args.store.now.precision c.args.store.now.width)).lines)) c.in-None.ensures

@@ -10,5 +10,6 @@ pub unreachable-requires : goal.unreachable-requires
 unreachable-requires c =
     let some = c.requires in
     let none : length (set.items (stored_at c.args.store.now c.args.at).lines) ≡ 0 =
-    ap (λ (o : Option PictureLines). length (set.items (unwrap_or o (no_lines c.args.store.now.precision c.args.store.now.width)).lines)) (sym c.in-None.ensures) ∙ ap length no_items in
+    ap (λ (o : Option PictureLines). length (set.items (unwrap_or o (no_lines c.args.store.now.precision c.args.store.now.width)).lines))
+    (sym c.in-None.ensures) ∙ ap length no_items in
     absurd (omega (arith, none, some))

@@ -9,21 +9,27 @@ use Rattle.jls_partial.proofs.text_reading.read_entry.Goals as goal
 
 pub read_readings-requires-clause-component_in : goal.read_readings-requires-clause-component_in
 read_readings-requires-clause-component_in c =
-    subst (λ (s : PictureShape). c.in_ok-at.at.component < length s.ids) c.shape.ensures.value (place_inside c.args.form.size c.shape.result.now c.args.before c.args.bytes.now (c.in_ok-at.at, c.in_ok-at.rest.now) c.in_ok-at.ensures).0
+    subst (λ (s : PictureShape). c.in_ok-at.at.component < length s.ids) c.shape.ensures.value
+    (place_inside c.args.form.size c.shape.result.now c.args.before c.args.bytes.now (c.in_ok-at.at, c.in_ok-at.rest.now)
+    c.in_ok-at.ensures).0
 
 pub read_readings-requires-clause-line_in : goal.read_readings-requires-clause-line_in
 read_readings-requires-clause-line_in c =
-    subst (λ (s : PictureShape). c.in_ok-at.at.line < s.height) c.shape.ensures.value (place_inside c.args.form.size c.shape.result.now c.args.before c.args.bytes.now (c.in_ok-at.at, c.in_ok-at.rest.now) c.in_ok-at.ensures).1
+    subst (λ (s : PictureShape). c.in_ok-at.at.line < s.height) c.shape.ensures.value
+    (place_inside c.args.form.size c.shape.result.now c.args.before c.args.bytes.now (c.in_ok-at.at, c.in_ok-at.rest.now)
+    c.in_ok-at.ensures).1
 
 pub returns-in_err-at-clause-prefix : goal.returns-in_err-at-clause-prefix
 returns-in_err-at-clause-prefix c =
     let all = entry_prefix c.args.form.size c.args.form.version c.args.partial.now.shape c.args.before c.args.bytes.now in
-    on_error c.from_residual.result (TakesPrefix c.args.partial.now c.args.partial.now all) (nothing_taken c.args.partial.now c.args.partial.now all refl)
+    on_error c.from_residual.result (TakesPrefix c.args.partial.now c.args.partial.now all)
+    (nothing_taken c.args.partial.now c.args.partial.now all refl)
 
 pub returns-in_err-count-clause-prefix : goal.returns-in_err-count-clause-prefix
 returns-in_err-count-clause-prefix c =
     let all = entry_prefix c.args.form.size c.args.form.version c.args.partial.now.shape c.args.before c.args.bytes.now in
-    on_error c.from_residual-in_err-count.result (TakesPrefix c.args.partial.now c.args.partial.now all) (nothing_taken c.args.partial.now c.args.partial.now all refl)
+    on_error c.from_residual-in_err-count.result (TakesPrefix c.args.partial.now c.args.partial.now all)
+    (nothing_taken c.args.partial.now c.args.partial.now all refl)
 
 pub returns-in_err-rest-clause-prefix : goal.returns-in_err-rest-clause-prefix
 returns-in_err-rest-clause-prefix c =
@@ -34,6 +40,8 @@ returns-in_err-rest-clause-prefix c =
     let q = c.read_readings.new.partial in
     let all = entry_prefix size version shape c.args.before c.args.bytes.now in
     let placed : place_fields size shape c.args.before c.args.bytes.now ≡ Ok (c.in_ok-at.at, c.in_ok-at.rest.now) =
-    subst (λ (s : PictureShape). place_fields size s c.args.before c.args.bytes.now ≡ Ok (c.in_ok-at.at, c.in_ok-at.rest.now)) c.shape.ensures.value c.in_ok-at.ensures in
-    let is = entry_prefix_is size version shape c.args.before c.args.bytes.now c.in_ok-at.at c.in_ok-at.rest.now c.in_ok-count.count c.in_ok-count.rest.now placed c.in_ok-count.ensures in
+    subst (λ (s : PictureShape). place_fields size s c.args.before c.args.bytes.now ≡ Ok (c.in_ok-at.at, c.in_ok-at.rest.now))
+    c.shape.ensures.value c.in_ok-at.ensures in
+    let is = entry_prefix_is size version shape c.args.before c.args.bytes.now c.in_ok-at.at c.in_ok-at.rest.now c.in_ok-count.count
+    c.in_ok-count.rest.now placed c.in_ok-count.ensures in
     on_error c.from_residual-in_err-rest.result (TakesPrefix p q all) (subst (TakesPrefix p q) (sym is) c.in_err-rest.ensures.prefix)

@@ -15,4 +15,5 @@ pub returns : goal.returns
 returns c =
     let head = c.in_ok-read_head.field-0 in
     subst (λ (f : Result PartialPicture TextFault). GivesText (λ q. q) c.read_after.result f)
-    (sym (text_after c.args.bytes.now (head.form.size, head.form.version, head.shape, head.count, head.rest.now) c.in_ok-read_head.ensures)) c.read_after.ensures
+    (sym (text_after c.args.bytes.now (head.form.size, head.form.version, head.shape, head.count, head.rest.now) c.in_ok-read_head.ensures))
+    c.read_after.ensures

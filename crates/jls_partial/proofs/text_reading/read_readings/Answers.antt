@@ -25,20 +25,31 @@ returns-in_err-samples-clause-read c =
     let size = c.args.form.size in
     let version = c.args.form.version in
     let failed : Fails e (kept_fields size version shape before c.loop.rest.now) =
-    subst (λ (s : PictureShape). Fails e (kept_fields size version s before c.loop.rest.now)) (c.shape.ensures.value ∙ c.loop.invariant.shape) c.in_err-samples.ensures in
-    rw (p.1, p.2) (readings_end e size version shape c.loop.partial c.args.at before c.args.count c.loop.counter c.loop.rest.now (with_readings c.args.partial.now c.args.at (readings_fields size version shape None c.args.count c.args.bytes.now)) c.loop-test.true failed c.loop.invariant.same)
+    subst (λ (s : PictureShape). Fails e (kept_fields size version s before c.loop.rest.now))
+    (c.shape.ensures.value ∙ c.loop.invariant.shape) c.in_err-samples.ensures in
+    rw (p.1, p.2) (readings_end e size version shape c.loop.partial c.args.at before c.args.count c.loop.counter c.loop.rest.now
+    (with_readings c.args.partial.now c.args.at (readings_fields size version shape None c.args.count c.args.bytes.now)) c.loop-test.true
+    failed c.loop.invariant.same)
 
 pub returns-in_err-samples-clause-prefix : goal.returns-in_err-samples-clause-prefix
 returns-in_err-samples-clause-prefix c =
-    let all = map (kept_at_place c.args.at) (readings_prefix c.args.form.size c.args.form.version c.args.partial.now.shape None c.args.count c.args.bytes.now) in
-    let left = map (kept_at_place c.args.at) (readings_prefix c.args.form.size c.args.form.version c.args.partial.now.shape (option_map (λ v. v.items) c.loop.before) (c.args.count - c.loop.counter) c.loop.rest.now) in
-    on_error c.from_residual.result (TakesPrefix c.args.partial.now c.loop.partial all) (so_far_prefix c.args.partial.now c.loop.partial c.loop.partial all left c.loop.invariant.so_far refl)
+    let all = map (kept_at_place c.args.at)
+    (readings_prefix c.args.form.size c.args.form.version c.args.partial.now.shape None c.args.count c.args.bytes.now) in
+    let left = map (kept_at_place c.args.at)
+    (readings_prefix c.args.form.size c.args.form.version c.args.partial.now.shape (option_map (λ v. v.items) c.loop.before)
+    (c.args.count - c.loop.counter) c.loop.rest.now) in
+    on_error c.from_residual.result (TakesPrefix c.args.partial.now c.loop.partial all)
+    (so_far_prefix c.args.partial.now c.loop.partial c.loop.partial all left c.loop.invariant.so_far refl)
 
 pub returns-in_err-take-clause-prefix : goal.returns-in_err-take-clause-prefix
 returns-in_err-take-clause-prefix c =
-    let all = map (kept_at_place c.args.at) (readings_prefix c.args.form.size c.args.form.version c.args.partial.now.shape None c.args.count c.args.bytes.now) in
-    let left = map (kept_at_place c.args.at) (readings_prefix c.args.form.size c.args.form.version c.args.partial.now.shape (option_map (λ v. v.items) c.loop.before) (c.args.count - c.loop.counter) c.loop.rest.now) in
-    on_error c.from_residual-in_err-take.result (TakesPrefix c.args.partial.now c.take.new.self all) (so_far_prefix c.args.partial.now c.loop.partial c.take.new.self all left c.loop.invariant.so_far c.in_err-take.ensures.err)
+    let all = map (kept_at_place c.args.at)
+    (readings_prefix c.args.form.size c.args.form.version c.args.partial.now.shape None c.args.count c.args.bytes.now) in
+    let left = map (kept_at_place c.args.at)
+    (readings_prefix c.args.form.size c.args.form.version c.args.partial.now.shape (option_map (λ v. v.items) c.loop.before)
+    (c.args.count - c.loop.counter) c.loop.rest.now) in
+    on_error c.from_residual-in_err-take.result (TakesPrefix c.args.partial.now c.take.new.self all)
+    (so_far_prefix c.args.partial.now c.loop.partial c.take.new.self all left c.loop.invariant.so_far c.in_err-take.ensures.err)
 
 pub take-requires : goal.take-requires
 take-requires c =
@@ -49,8 +60,10 @@ take-requires c =
     let k : Kept = (c.in_ok-samples.samples.items, c.in_ok-samples.sources.items) in
     let after = c.in_ok-samples.after.now in
     let read : kept_fields size version shape before c.loop.rest.now ≡ Ok (k, after) =
-    subst (λ (s : PictureShape). kept_fields size version s before c.loop.rest.now ≡ Ok (k, after)) (c.shape.ensures.value ∙ c.loop.invariant.shape) c.in_ok-samples.ensures in
-    let fits = fits_there shape c.args.at.component c.args.at.line k.0 c.requires.component_in c.requires.line_in (kept_fits size version shape before c.loop.rest.now (k, after) read) in
+    subst (λ (s : PictureShape). kept_fields size version s before c.loop.rest.now ≡ Ok (k, after))
+    (c.shape.ensures.value ∙ c.loop.invariant.shape) c.in_ok-samples.ensures in
+    let fits = fits_there shape c.args.at.component c.args.at.line k.0 c.requires.component_in c.requires.line_in
+    (kept_fits size version shape before c.loop.rest.now (k, after) read) in
     subst (λ (s : PictureShape). reading_fault s c.args.at.component c.args.at.line c.deref.result.now ≡ None) (sym c.loop.invariant.shape)
     (subst (λ (ys : List ℕ). reading_fault shape c.args.at.component c.args.at.line ys ≡ None) (sym c.deref.ensures.value) fits)
 
@@ -63,19 +76,33 @@ loop-preserved c =
     let k : Kept = (c.in_ok-samples.samples.items, c.in_ok-samples.sources.items) in
     let after = c.in_ok-samples.after.now in
     let read : kept_fields size version shape before c.loop.rest.now ≡ Ok (k, after) =
-    subst (λ (s : PictureShape). kept_fields size version s before c.loop.rest.now ≡ Ok (k, after)) (c.shape.ensures.value ∙ c.loop.invariant.shape) c.in_ok-samples.ensures in
+    subst (λ (s : PictureShape). kept_fields size version s before c.loop.rest.now ≡ Ok (k, after))
+    (c.shape.ensures.value ∙ c.loop.invariant.shape) c.in_ok-samples.ensures in
     let total = with_readings c.args.partial.now c.args.at (readings_fields size version shape None c.args.count c.args.bytes.now) in
     let taken : c.take.new.self ≡ with_kept c.loop.partial c.args.at k =
-    c.in_ok-take.ensures.ok ∙ (λ i. with_all c.loop.partial ((at_place c.args.at (c.deref.ensures.value i), c.deref-in-loop.ensures.value i) ∷ [])) in
+    c.in_ok-take.ensures.ok ∙ (λ i. with_all c.loop.partial
+    ((at_place c.args.at (c.deref.ensures.value i), c.deref-in-loop.ensures.value i) ∷ [])) in
     record {
       shape = ap (λ (q : PartialPicture). q.shape) taken ∙ c.loop.invariant.shape;
-      same = subst (λ (q : PartialPicture). with_readings q c.args.at (readings_fields size version shape (Some k.0) (c.args.count - (c.loop.counter + 1)) after) ≡ total) (sym taken)
-          (readings_go_on size version shape c.loop.partial c.args.at before c.args.count c.loop.counter c.loop.rest.now k after total c.loop-test.true read c.loop.invariant.same);
-      so_far = more_so_far c.args.partial.now c.loop.partial c.take.new.self (map (kept_at_place c.args.at) (readings_prefix size version shape None c.args.count c.args.bytes.now)) (kept_at_place c.args.at k ∷ []) (map (kept_at_place c.args.at) (readings_prefix size version shape (Some k.0) (c.args.count - (c.loop.counter + 1)) after))
-          (subst (IsSoFar c.args.partial.now c.loop.partial (map (kept_at_place c.args.at) (readings_prefix size version shape None c.args.count c.args.bytes.now))) (ap (map (kept_at_place c.args.at)) (next_reading size version shape before c.args.count c.loop.counter c.loop.rest.now k after c.loop-test.true read)) c.loop.invariant.so_far) taken;
+      same = subst (λ (q : PartialPicture). with_readings q c.args.at
+          (readings_fields size version shape (Some k.0) (c.args.count - (c.loop.counter + 1)) after) ≡ total) (sym taken)
+          (readings_go_on size version shape c.loop.partial c.args.at before c.args.count c.loop.counter c.loop.rest.now k after total
+          c.loop-test.true read c.loop.invariant.same);
+      so_far = more_so_far c.args.partial.now c.loop.partial c.take.new.self
+          (map (kept_at_place c.args.at) (readings_prefix size version shape None c.args.count c.args.bytes.now))
+          (kept_at_place c.args.at k ∷ [])
+          (map (kept_at_place c.args.at) (readings_prefix size version shape (Some k.0) (c.args.count - (c.loop.counter + 1)) after))
+          (subst (IsSoFar c.args.partial.now c.loop.partial
+          (map (kept_at_place c.args.at) (readings_prefix size version shape None c.args.count c.args.bytes.now)))
+          (ap (map (kept_at_place c.args.at))
+          (next_reading size version shape before c.args.count c.loop.counter c.loop.rest.now k after c.loop-test.true read))
+          c.loop.invariant.so_far) taken;
     }
 
 pub returns-clause-read : goal.returns-clause-read
 returns-clause-read c =
-    readings_done c.args.form.size c.args.form.version c.args.partial.now.shape c.loop.partial c.args.at (option_map (λ v. v.items) c.loop.before) c.args.count c.loop.counter c.loop.rest.now
-    (with_readings c.args.partial.now c.args.at (readings_fields c.args.form.size c.args.form.version c.args.partial.now.shape None c.args.count c.args.bytes.now)) c.loop-test.false c.loop.invariant.same
+    readings_done c.args.form.size c.args.form.version c.args.partial.now.shape c.loop.partial c.args.at
+    (option_map (λ v. v.items) c.loop.before) c.args.count c.loop.counter c.loop.rest.now
+    (with_readings c.args.partial.now c.args.at
+    (readings_fields c.args.form.size c.args.form.version c.args.partial.now.shape None c.args.count c.args.bytes.now)) c.loop-test.false
+    c.loop.invariant.same

@@ -10,7 +10,11 @@ use Rattle.jls_partial.proofs.text_reading.read_readings.Given as goal
 abbrev pub invariant-loop : goal.invariant-loop
 invariant-loop l = record {
   shape : l.partial.shape ≡ l.fn.partial.shape;
-  same : with_readings l.partial l.at (readings_fields l.form.size l.form.version l.fn.partial.shape (option_map (λ v. v.items) l.before) (l.count - l.counter) l.rest) ≡ with_readings l.fn.partial l.fn.at (readings_fields l.fn.form.size l.fn.form.version l.fn.partial.shape None l.fn.count l.fn.bytes);
-  so_far : IsSoFar l.fn.partial l.partial (map (kept_at_place l.fn.at) (readings_prefix l.fn.form.size l.fn.form.version l.fn.partial.shape None l.fn.count l.fn.bytes))
-      (map (kept_at_place l.at) (readings_prefix l.form.size l.form.version l.fn.partial.shape (option_map (λ v. v.items) l.before) (l.count - l.counter) l.rest));
+  same : with_readings l.partial l.at
+      (readings_fields l.form.size l.form.version l.fn.partial.shape (option_map (λ v. v.items) l.before) (l.count - l.counter) l.rest)
+      ≡ with_readings l.fn.partial l.fn.at (readings_fields l.fn.form.size l.fn.form.version l.fn.partial.shape None l.fn.count l.fn.bytes);
+  so_far : IsSoFar l.fn.partial l.partial
+      (map (kept_at_place l.fn.at) (readings_prefix l.fn.form.size l.fn.form.version l.fn.partial.shape None l.fn.count l.fn.bytes))
+      (map (kept_at_place l.at) (readings_prefix l.form.size l.form.version l.fn.partial.shape (option_map (λ v. v.items) l.before)
+      (l.count - l.counter) l.rest));
 }

@@ -10,9 +10,11 @@ loop-sample-preserved c =
     let i = c.loop-sample.sample-index in
     let most = c.max-largest.result in
     All-more (λ x. x ≤ most) xs i 0 c.loop-sample-test.true
-    (All-weaker (λ x. x ≤ c.loop-sample.largest) (λ x. x ≤ most) (λ x le. omega (arith, le, c.max-largest.ensures)) (take i xs) c.loop-sample.invariant)
+    (All-weaker (λ x. x ≤ c.loop-sample.largest) (λ x. x ≤ most) (λ x le. omega (arith, le, c.max-largest.ensures)) (take i xs)
+    c.loop-sample.invariant)
     (omega (arith, c.max-largest.ensures))
 
 pub returns : goal.returns
 returns c =
-    subst (All (λ x. x ≤ c.loop-sample.largest)) (take_all c.loop-sample.sample-index c.args.samples.now c.loop-sample-test.false) c.loop-sample.invariant
+    subst (All (λ x. x ≤ c.loop-sample.largest)) (take_all c.loop-sample.sample-index c.args.samples.now c.loop-sample-test.false)
+    c.loop-sample.invariant

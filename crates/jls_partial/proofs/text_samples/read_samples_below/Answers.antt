@@ -9,7 +9,8 @@ use Rattle.jls_partial.specs.TextReading.{sample_field, samples_fields}
 use Rattle.jls_partial.proofs.TextFields.{wide16, number_again}
 use Rattle.jls_partial.proofs.text_samples.read_samples_below.Goals as goal
 
-small_again : (size limit x : ℕ) (rest : List ℕ) → x < 2 ^ 16 → x < limit → sample_field size limit (to_be_bytes w16 x ++ rest) ≡ Ok (x, rest)
+small_again : (size limit x : ℕ) (rest : List ℕ) → x < 2 ^ 16 → x < limit → sample_field size limit (to_be_bytes w16 x ++ rest)
+    ≡ Ok (x, rest)
 unfolding sample_field
 small_again size limit x rest lt below = rw (number_again size w16 (2 ^ 16) wide16 x rest lt, lt-leb limit x below) refl
 
@@ -33,6 +34,7 @@ returns c size =
     let most = c.largest.result in
     let all : All (λ x. x ≤ most) xs = subst (All (λ x. x ≤ most)) c.deref.ensures.value c.largest.ensures in
     let again = all_again size c.args.limit most xs rest (omega (arith, c.largest.type_inv)) c.if-limit-largest.false all in
-    let whole : c.args.bytes.now ≡ samples_text xs ++ rest = c.split_at.ensures.by_index.0 ∙ ap (λ (t : List ℕ). t ++ rest) (sym c.in_ok-samples.ensures.text) in
+    let whole : c.args.bytes.now ≡ samples_text xs ++ rest = c.split_at.ensures.by_index.0
+    ∙ ap (λ (t : List ℕ). t ++ rest) (sym c.in_ok-samples.ensures.text) in
     subst (λ (t : List ℕ). samples_fields size c.args.limit c.args.count t ≡ Ok (xs, rest)) (sym whole)
     (subst (λ (n : ℕ). samples_fields size c.args.limit n (samples_text xs ++ rest) ≡ Ok (xs, rest)) c.in_ok-samples.ensures.count again)

@@ -23,11 +23,13 @@ one_more : (xs rest total prefix after : List ℕ) (x : ℕ) → samples_text xs
 one_more xs [] total prefix after x so_far long bytes prefix_is after_is is = absurd (omega arith)
 one_more xs (a ∷ []) total prefix after x so_far long bytes prefix_is after_is is = absurd (omega arith)
 one_more xs (a ∷ b ∷ rest) total prefix after x so_far long bytes prefix_is after_is is =
-    let pair : x ≡ from_be_bytes w16 (a ∷ b ∷ []) = subst (λ (t : List ℕ). x ≡ from_be_bytes w16 (get_or t 0 0 ∷ get_or t 1 0 ∷ [])) prefix_is is in
+    let pair : x ≡ from_be_bytes w16 (a ∷ b ∷ []) =
+    subst (λ (t : List ℕ). x ≡ from_be_bytes w16 (get_or t 0 0 ∷ get_or t 1 0 ∷ [])) prefix_is is in
     let again : to_be_bytes w16 x ≡ a ∷ b ∷ [] = be_bytes_2 (a ∷ b ∷ []) x refl (two_bytes a b (bytes 0) (bytes 1)) pair in
     let text : samples_text (xs ++ x ∷ []) ≡ samples_text xs ++ a ∷ b ∷ [] =
     flat_map-append (to_be_bytes w16) xs (x ∷ []) ∙ ap (λ (t : List ℕ). samples_text xs ++ t) (append-nil (to_be_bytes w16 x) ∙ again) in
-    ap (λ (t : List ℕ). samples_text (xs ++ x ∷ []) ++ t) after_is ∙ ap (λ (t : List ℕ). t ++ rest) text ∙ append_assoc (samples_text xs) (a ∷ b ∷ []) rest ∙ so_far
+    ap (λ (t : List ℕ). samples_text (xs ++ x ∷ []) ++ t) after_is ∙ ap (λ (t : List ℕ). t ++ rest) text
+    ∙ append_assoc (samples_text xs) (a ∷ b ∷ []) rest ∙ so_far
 
 pub loop-preserved : goal.loop-preserved
 loop-preserved c =
@@ -37,7 +39,8 @@ loop-preserved c =
     let after = c.split_at.result.1.now in
     let long : 2 ≤ length rest = omega (arith, c.loop.invariant.left, c.loop-test.true) in
     let same : samples_text (xs ++ x ∷ []) ++ after ≡ c.args.bytes.now =
-    one_more xs rest c.args.bytes.now c.split_at.result.0.now after x c.loop.invariant.same long c.loop.invariant.bytes c.split_at.ensures.front c.split_at.ensures.back c.from_be_bytes.ensures in
+    one_more xs rest c.args.bytes.now c.split_at.result.0.now after x c.loop.invariant.same long c.loop.invariant.bytes
+    c.split_at.ensures.front c.split_at.ensures.back c.from_be_bytes.ensures in
     record {
       room = omega (arith, c.loop.invariant.room, c.loop-test.true, c.push_reserved.ensures.len, c.push_reserved.ensures.capacity);
       read = ap (λ (t : List ℕ). length t) c.push_reserved.ensures.items ∙ omega (arith, length-append xs (x ∷ []), c.loop.invariant.read);

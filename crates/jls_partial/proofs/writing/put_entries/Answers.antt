@@ -15,10 +15,12 @@ loop-at-preserved c =
     let left = map kept_entry c.next.new.self in
     ap (λ (t : List ℕ). t ++ flat_map g left) c.in_ok-put_entry.ensures
     ∙ append_assoc c.loop-at.out.items (g (kept_entry e)) (flat_map g left)
-    ∙ ap (λ (t : List ℕ). c.loop-at.out.items ++ t) (sym (ap (λ (es : List LineEntry). flat_map g (map kept_entry es)) c.in-Some.ensures.steps ∙ flat_map-cons g (kept_entry e) left))
+    ∙ ap (λ (t : List ℕ). c.loop-at.out.items ++ t)
+    (sym (ap (λ (es : List LineEntry). flat_map g (map kept_entry es)) c.in-Some.ensures.steps ∙ flat_map-cons g (kept_entry e) left))
     ∙ c.loop-at.invariant
 
 pub returns : goal.returns
 returns c =
     let g = entry_text Two in
-    sym (ap (λ (es : List LineEntry). c.loop-at.out.items ++ flat_map g (map kept_entry es)) c.in-None.ensures.steps.0 ∙ append-nil c.loop-at.out.items) ∙ c.loop-at.invariant
+    sym (ap (λ (es : List LineEntry). c.loop-at.out.items ++ flat_map g (map kept_entry es)) c.in-None.ensures.steps.0
+    ∙ append-nil c.loop-at.out.items) ∙ c.loop-at.invariant

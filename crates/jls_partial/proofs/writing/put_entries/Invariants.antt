@@ -6,4 +6,5 @@ use Rattle.jls_partial.specs.declared.version.Version.TheVariants.{Two}
 use Rattle.jls_partial.proofs.writing.put_entries.Given as goal
 
 abbrev pub invariant-loop-at : goal.invariant-loop-at
-invariant-loop-at l = l.out.items ++ flat_map (entry_text Two) (map kept_entry l.at-iterator) ≡ l.fn.out.items ++ flat_map (entry_text Two) (entries l.partial)
+invariant-loop-at l = l.out.items ++ flat_map (entry_text Two) (map kept_entry l.at-iterator) ≡ l.fn.out.items
+    ++ flat_map (entry_text Two) (entries l.partial)

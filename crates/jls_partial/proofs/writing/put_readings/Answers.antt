@@ -21,7 +21,8 @@ loop-i-preserved c =
     let left = drop (i + 1) (kept_lines L) in
     ap (λ (t : List ℕ). t ++ flat_map g left) c.in_ok-put_reading.ensures
     ∙ append_assoc c.loop-i.out.items (g k) (flat_map g left)
-    ∙ ap (λ (t : List ℕ). c.loop-i.out.items ++ t) (sym (ap (flat_map g) (kept_next L i k.0 k.1 lt c.get.ensures.value c.sources.ensures) ∙ flat_map-cons g k left))
+    ∙ ap (λ (t : List ℕ). c.loop-i.out.items ++ t)
+    (sym (ap (flat_map g) (kept_next L i k.0 k.1 lt c.get.ensures.value c.sources.ensures) ∙ flat_map-cons g k left))
     ∙ c.loop-i.invariant
 
 pub returns : goal.returns
@@ -30,5 +31,6 @@ returns c =
     let g = reading_text Two in
     let f = λ (y : List ℕ). let k : Kept = (y, line_sources L y) in k in
     let end = c.len-i-end.ensures.value in
-    let none : drop c.loop-i.i (kept_lines L) ≡ [] = drop_all c.loop-i.i (kept_lines L) (omega (arith, end, length-map (items L.lines) f)) in
+    let none : drop c.loop-i.i (kept_lines L) ≡ [] =
+    drop_all c.loop-i.i (kept_lines L) (omega (arith, end, length-map (items L.lines) f)) in
     sym (ap (λ (ks : List Kept). c.loop-i.out.items ++ flat_map g ks) none ∙ append-nil c.loop-i.out.items) ∙ c.loop-i.invariant

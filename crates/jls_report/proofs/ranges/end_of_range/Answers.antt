@@ -15,4 +15,5 @@ pub returns : goal.returns
 returns c =
     let p = c.args.partial.now in
     let height : c.height-height.result ≡ p.shape.height = c.height-height.ensures.value ∙ ap (λ s. s.height) c.shape.ensures.value in
-    ap (λ h. h - 1) height ∙ range_end (is_missing p c.args.component) c.args.first p.shape.height p.shape.height (omega arith) (omega arith) (λ k low high. c.loop-line.invariant k low (omega arith)) (λ less. absurd (omega arith))
+    ap (λ h. h - 1) height ∙ range_end (is_missing p c.args.component) c.args.first p.shape.height p.shape.height (omega arith)
+    (omega arith) (λ k low high. c.loop-line.invariant k low (omega arith)) (λ less. absurd (omega arith))

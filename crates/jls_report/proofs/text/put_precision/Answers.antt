@@ -9,6 +9,8 @@ returns c =
     let out = c.args.out.now.items in
     let number : c.put_number.new.out.items ≡ c.extend_from_slice.new.self.items ++ decimal shape.precision =
     c.in_ok-put_number.ensures ∙ ap (λ n. c.extend_from_slice.new.self.items ++ decimal n) (c.from.ensures ∙ c.precision.ensures.value) in
-    appended out (codes ", " ++ decimal shape.precision) (codes " bits, components ") c.put_number.new.out.items c.extend_from_slice-2.new.self.items
-    (appended out (codes ", ") (decimal shape.precision) c.extend_from_slice.new.self.items c.put_number.new.out.items c.in_ok-extend_from_slice.ensures.items number)
+    appended out (codes ", " ++ decimal shape.precision) (codes " bits, components ") c.put_number.new.out.items
+    c.extend_from_slice-2.new.self.items
+    (appended out (codes ", ") (decimal shape.precision) c.extend_from_slice.new.self.items c.put_number.new.out.items
+    c.in_ok-extend_from_slice.ensures.items number)
     c.in_ok-extend_from_slice-2.ensures.items

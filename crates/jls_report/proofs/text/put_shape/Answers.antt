@@ -14,6 +14,7 @@ returns c =
     c.in_ok-put_ids.ensures ∙ ap (λ xs. c.put_precision.new.out.items ++ join_by decimal (codes ",") xs) c.ids.ensures.value in
     appended out (size_text shape ++ precision_text shape ++ ids) (codes "\n") c.put_ids.new.out.items c.extend_from_slice.new.self.items
     (appended out (size_text shape ++ precision_text shape) ids c.put_precision.new.out.items c.put_ids.new.out.items
-    (appended out (size_text shape) (precision_text shape) c.put_size.new.out.items c.put_precision.new.out.items c.in_ok-put_size.ensures c.in_ok-put_precision.ensures)
+    (appended out (size_text shape) (precision_text shape) c.put_size.new.out.items c.put_precision.new.out.items c.in_ok-put_size.ensures
+    c.in_ok-put_precision.ensures)
     ids_put)
     c.in_ok-extend_from_slice.ensures.items

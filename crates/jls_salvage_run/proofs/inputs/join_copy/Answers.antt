@@ -10,4 +10,5 @@ returns-in-Err-ShapeDiffers-clause-refused c =
 pub returns-clause-refused : goal.returns-clause-refused
 returns-clause-refused c =
     copy_runs_out c.args.held c.in-Some.station c.args.read.partial c.partial.result.now c.args.name c.in-Some.is c.partial.ensures
-    (λ e. not_both (Err c.in-Err-OutOfMemory.field-0) c.in-Err-OutOfMemory.field-0 refl c.in-Err-OutOfMemory.field-0-is (c.in-Err-OutOfMemory.ensures.shape_differs.1 e))
+    (λ e. not_both (Err c.in-Err-OutOfMemory.field-0) c.in-Err-OutOfMemory.field-0 refl c.in-Err-OutOfMemory.field-0-is
+    (c.in-Err-OutOfMemory.ensures.shape_differs.1 e))

@@ -17,15 +17,18 @@ returns-in_err-open-clause-stopped g c = λ before h.
     let history = g.D.Device.history in
     let p = err_from_is_err_and c.from_residual.result c.from_residual.ensures.1 in
     let mid = history c.open.new.desk in
-    rw (p.1, p.2) (not_opened_at_all c.args.room.now.source (history c.args.desk.now) mid mid c.args.name before c.in_err-open.field-0.0 c.in_err-open.ensures.refusal c.in_err-open.ensures.not_opened)
+    rw (p.1, p.2) (not_opened_at_all c.args.room.now.source (history c.args.desk.now) mid mid c.args.name before c.in_err-open.field-0.0
+    c.in_err-open.ensures.refusal c.in_err-open.ensures.not_opened)
 
 pub returns-in_err-form-clause-stopped : goal.returns-in_err-form-clause-stopped
 returns-in_err-form-clause-stopped g c = λ before h.
     let history = g.D.Device.history in
-    let made = error_at _ (λ fault. refusal_at c.args.name (Input fault)) (λ fault r made. search rules) c.read_form.result c.map_err.result c.in_err-form.field-0.0 c.map_err.ensures.cases c.in_err-form.was in
+    let made = error_at _ (λ fault. refusal_at c.args.name (Input fault)) (λ fault r made. search rules) c.read_form.result c.map_err.result
+    c.in_err-form.field-0.0 c.map_err.ensures.cases c.in_err-form.was in
     let refused = IfErr-at_err _ made.2 c.read_form.ensures.refused in
     let p = err_from_is_err_and c.from_residual-in_err-form.result c.from_residual-in_err-form.ensures.1 in
-    rw (p.1, p.2, made.1) (opened_and_refused c.args.room.now.source (history c.args.desk.now) (history c.open.new.desk) (history c.read_form.new.device) c.args.name made.0 before c.in_ok-open.ensures.opened refused)
+    rw (p.1, p.2, made.1) (opened_and_refused c.args.room.now.source (history c.args.desk.now) (history c.open.new.desk)
+    (history c.read_form.new.device) c.args.name made.0 before c.in_ok-open.ensures.opened refused)
 
 pub returns-in_ok-station-in-Text-clause-joined : goal.returns-in_ok-station-in-Text-clause-joined
 returns-in_ok-station-in-Text-clause-joined g c =
@@ -53,7 +56,8 @@ returns-in_err-station-in-Text-clause-stopped g c = λ before h.
     let form = subst (λ (f : InputForm). GrewBy (IsForm source bytes f) mid new) c.in-Text.is given in
     let refusal = c.in_err-station-in-Text.field-0.0 in
     let p = err_from_is_err_and c.from_residual-in_err-station-in-Text.result c.from_residual-in_err-station-in-Text.ensures.1 in
-    rw (p.1, p.2) (text_stops source (history c.args.desk.now) mid new c.args.name.now c.in_ok-open.ensures.opened c.args.held before h bytes refusal c.in_err-station-in-Text.ensures.named form
+    rw (p.1, p.2) (text_stops source (history c.args.desk.now) mid new c.args.name.now c.in_ok-open.ensures.opened c.args.held before h
+    bytes refusal c.in_err-station-in-Text.ensures.named form
     (subst (λ (t : List ℕ). CantJoinText c.args.held t refusal) c.deref.ensures.value c.in_err-station-in-Text.ensures.refused))
 
 pub returns-in_ok-station-in-Copy-clause-joined : goal.returns-in_ok-station-in-Copy-clause-joined
@@ -67,7 +71,8 @@ returns-in_ok-station-in-Copy-clause-joined g c =
     let given = IfOk-at_ok _ was c.read_form.ensures.form in
     let form : GrewBy (ReadsGive source read) mid new =
     subst (λ (f : InputForm). GrewBy (IsForm source c.read_form.new.text.items f) mid new) c.in-Copy.is given in
-    given_joined source (history c.args.desk.now) mid new c.args.name.now c.in_ok-open.ensures.opened c.args.held c.in_ok-station-in-Copy.station c.is_whole-whole.result read form
+    given_joined source (history c.args.desk.now) mid new c.args.name.now c.in_ok-open.ensures.opened c.args.held
+    c.in_ok-station-in-Copy.station c.is_whole-whole.result read form
     c.in_ok-station-in-Copy.ensures.joined c.is_whole-whole.ensures
 
 pub returns-in_err-station-in-Copy-clause-stopped : goal.returns-in_err-station-in-Copy-clause-stopped
@@ -82,4 +87,5 @@ returns-in_err-station-in-Copy-clause-stopped g c = λ before h.
     let form : GrewBy (ReadsGive source read) mid new =
     subst (λ (f : InputForm). GrewBy (IsForm source c.read_form.new.text.items f) mid new) c.in-Copy.is given in
     let p = err_from_is_err_and c.from_residual-in_err-station-in-Copy.result c.from_residual-in_err-station-in-Copy.ensures.1 in
-    rw (p.1, p.2) (given_stops source (history c.args.desk.now) mid new c.args.name.now c.in_ok-open.ensures.opened c.args.held before h read c.in_err-station-in-Copy.field-0.0 c.in_err-station-in-Copy.ensures.named form c.in_err-station-in-Copy.ensures.refused)
+    rw (p.1, p.2) (given_stops source (history c.args.desk.now) mid new c.args.name.now c.in_ok-open.ensures.opened c.args.held before h
+    read c.in_err-station-in-Copy.field-0.0 c.in_err-station-in-Copy.ensures.named form c.in_err-station-in-Copy.ensures.refused)

@@ -9,5 +9,7 @@ invariant-loop-name g l =
     let history = g.D.Device.history in
     record {
       source : l.room.source ≡ l.fn.inputs.source;
-      so_far : GrewBy (TakesUnion l.fn.inputs.source (l.fn.inputs.first.now ∷ map (λ (f : Bor (List ℕ)). f.now) (take l.name-index l.fn.inputs.others.now)) l.station l.whole) (history l.fn.desk) (history l.desk);
+      so_far : GrewBy (TakesUnion l.fn.inputs.source
+          (l.fn.inputs.first.now ∷ map (λ (f : Bor (List ℕ)). f.now) (take l.name-index l.fn.inputs.others.now)) l.station l.whole)
+          (history l.fn.desk) (history l.desk);
     }

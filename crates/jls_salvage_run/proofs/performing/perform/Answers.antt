@@ -23,14 +23,16 @@ pub returns-in-Check : goal.returns-in-Check
 returns-in-Check g c =
     let desk = g.D.Device.history in
     let report = g.W.Device.history in
-    subst (λ (a : Asked). GrewBoth (CameOf (asked_of a) c.print_report.result) (desk c.args.desk.now) (desk c.print_report.new.desk) (report c.args.report.now) (report c.print_report.new.report))
+    subst (λ (a : Asked). GrewBoth (CameOf (asked_of a) c.print_report.result) (desk c.args.desk.now) (desk c.print_report.new.desk)
+    (report c.args.report.now) (report c.print_report.new.report))
     (sym c.in-Check.is) c.print_report.ensures
 
 pub returns-in-Show : goal.returns-in-Show
 returns-in-Show g c =
     let desk = g.D.Device.history in
     let report = g.W.Device.history in
-    subst (λ (a : Asked). GrewBoth (CameOf (asked_of a) c.print_report-in-Show.result) (desk c.args.desk.now) (desk c.print_report-in-Show.new.desk) (report c.args.report.now) (report c.print_report-in-Show.new.report))
+    subst (λ (a : Asked). GrewBoth (CameOf (asked_of a) c.print_report-in-Show.result) (desk c.args.desk.now)
+    (desk c.print_report-in-Show.new.desk) (report c.args.report.now) (report c.print_report-in-Show.new.report))
     (sym c.in-Show.is) c.print_report-in-Show.ensures
 
 pub returns-in-WritePnm : goal.returns-in-WritePnm
@@ -48,4 +50,5 @@ returns-in-WriteJls g c =
     let report = g.W.Device.history c.args.report.now in
     let format = Jls c.in-WriteJls.line c.in-WriteJls.ri in
     subst (λ (a : Asked). GrewBoth (CameOf (asked_of a) c.write-in-WriteJls.result) desk desk' report report) (sym c.in-WriteJls.is)
-    (desk_alone (WritesFile format c.in-WriteJls.out.now c.in-WriteJls.file.now c.write-in-WriteJls.result) desk desk' report c.write-in-WriteJls.ensures)
+    (desk_alone (WritesFile format c.in-WriteJls.out.now c.in-WriteJls.file.now c.write-in-WriteJls.result) desk desk' report
+    c.write-in-WriteJls.ensures)

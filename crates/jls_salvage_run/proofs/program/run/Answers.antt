@@ -12,8 +12,10 @@ use Rattle.jls_salvage_run.proofs.program.run.Goals as goal
 pub returns-in-Err : goal.returns-in-Err
 returns-in-Err g c =
     let desk = g.D.Device.history c.args.desk.now in
-    ran_refused (map string_bytes c.args.words.now) desk desk (g.W.Device.history c.args.report.now) (g.W.Device.history c.answer.new.report)
-    (g.E.Device.history c.args.faults.now) (g.E.Device.history c.answer.new.faults) _ c.answer.result c.in-Err.ensures.refused c.answer.ensures
+    ran_refused (map string_bytes c.args.words.now) desk desk (g.W.Device.history c.args.report.now)
+    (g.W.Device.history c.answer.new.report)
+    (g.E.Device.history c.args.faults.now) (g.E.Device.history c.answer.new.faults) _ c.answer.result c.in-Err.ensures.refused
+    c.answer.ensures
 
 pub returns-in-None : goal.returns-in-None
 returns-in-None g c =
@@ -32,6 +34,8 @@ pub returns : goal.returns
 returns g c =
     let by_words = ap (option_and_then (λ (p : Text × List Row). asked_by p.0 p.1)) c.in-Ok.ensures.rows in
     ran (map string_bytes c.args.words.now) (g.D.Device.history c.args.desk.now) (g.D.Device.history c.perform-outcome.new.desk)
-    (g.W.Device.history c.args.report.now) (g.W.Device.history c.perform-outcome.new.report) (g.E.Device.history c.args.faults.now) (g.E.Device.history c.print_outcome.new.faults)
+    (g.W.Device.history c.args.report.now) (g.W.Device.history c.perform-outcome.new.report) (g.E.Device.history c.args.faults.now)
+    (g.E.Device.history c.print_outcome.new.faults)
     c.exit_status.result (asked_of c.in-Some.asked) c.perform-outcome.result c.exit_status.ensures
-    (record { taken = inr c.in-Ok.ensures.no_fault; asks = sym by_words ∙ sym c.in-Some.ensures }) c.perform-outcome.ensures c.print_outcome.ensures
+    (record { taken = inr c.in-Ok.ensures.no_fault; asks = sym by_words ∙ sym c.in-Some.ensures }) c.perform-outcome.ensures
+    c.print_outcome.ensures

@@ -20,8 +20,10 @@ returns-in_err-create-clause-stopped g c =
     let F = OptionsFit c.args.picture.now c.args.options.now in
     let bytes = written_file c.args.picture.now c.args.options.now in
     let p = err_from_is_err_and c.from_residual.result c.from_residual.ensures.1 in
-    rw (p.1, p.2) (stopped_by_output F (F → ⊥) true (c.fits.ensures.0 c.if-not-fits.false) c.in_err-create.field-0.0 (desk c.args.desk.now) (desk c.create.new.desk) c.args.name.now bytes
-    (not_created_at_all (desk c.args.desk.now) (desk c.create.new.desk) c.args.name bytes c.in_err-create.field-0.0 c.in_err-create.ensures.refusal c.in_err-create.ensures.not_created))
+    rw (p.1, p.2) (stopped_by_output F (F → ⊥) true (c.fits.ensures.0 c.if-not-fits.false) c.in_err-create.field-0.0 (desk c.args.desk.now)
+    (desk c.create.new.desk) c.args.name.now bytes
+    (not_created_at_all (desk c.args.desk.now) (desk c.create.new.desk) c.args.name bytes c.in_err-create.field-0.0
+    c.in_err-create.ensures.refusal c.in_err-create.ensures.not_created))
 
 pub returns-clause-stopped : goal.returns-clause-stopped
 returns-clause-stopped g c =
@@ -29,5 +31,6 @@ returns-clause-stopped g c =
     let F = OptionsFit c.args.picture.now c.args.options.now in
     let bytes = written_file c.args.picture.now c.args.options.now in
     error_so _ (λ fault. cut_refusal c.args.name fault) (λ fault r made. search rules) c.write_jls.result c.map_err.result _ _
-    (λ fault h. cut_in_file F (F → ⊥) (c.fits.ensures.0 c.if-not-fits.false) fault (desk c.args.desk.now) (desk c.create.new.desk) (desk c.write_jls.new.sink) c.args.name bytes _ _ c.in_ok-create.ensures.created h)
+    (λ fault h. cut_in_file F (F → ⊥) (c.fits.ensures.0 c.if-not-fits.false) fault (desk c.args.desk.now) (desk c.create.new.desk)
+    (desk c.write_jls.new.sink) c.args.name bytes _ _ c.in_ok-create.ensures.created h)
     c.map_err.ensures.cases c.write_jls.ensures.stops

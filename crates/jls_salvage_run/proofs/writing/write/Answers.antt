@@ -15,17 +15,20 @@ pub returns-in_err-input : goal.returns-in_err-input
 returns-in_err-input g c =
     let desk = g.D.Device.history in
     let p = err_from_is_err_and c.from_residual.result c.from_residual.ensures.1 in
-    rw (p.1, p.2) (stops_at_input c.args.format c.args.out.now c.args.file.now (desk c.args.desk.now) (desk c.open_and_read.new.desk) (desk c.open_and_read.new.desk) c.in_err-input.field-0.0 c.in_err-input.ensures.named c.in_err-input.ensures.stopped)
+    rw (p.1, p.2) (stops_at_input c.args.format c.args.out.now c.args.file.now (desk c.args.desk.now) (desk c.open_and_read.new.desk)
+    (desk c.open_and_read.new.desk) c.in_err-input.field-0.0 c.in_err-input.ensures.named c.in_err-input.ensures.stopped)
 
 pub returns-in_err-picture : goal.returns-in_err-picture
 returns-in_err-picture g c =
     let desk = g.D.Device.history in
     let is = c.partial-partial.ensures in
-    let made = error_at _ (λ fault. unsettled_refusal c.args.file c.partial-partial.result.now fault) (λ fault r made. search rules) c.of.result c.map_err.result c.in_err-picture.field-0.0 c.map_err.ensures.cases c.in_err-picture.was in
+    let made = error_at _ (λ fault. unsettled_refusal c.args.file c.partial-partial.result.now fault) (λ fault r made. search rules)
+    c.of.result c.map_err.result c.in_err-picture.field-0.0 c.map_err.ensures.cases c.in_err-picture.was in
     let first = subst (λ (p : PartialPicture). NamesFirstUnsettled p made.0) is (IfErr-at_err _ made.2 c.of.ensures.unsettled) in
     let because = made.1 ∙ ap (λ (p : PartialPicture). unsettled_refusal c.args.file p made.0) is in
     let p = err_from_is_err_and c.from_residual-in_err-picture.result c.from_residual-in_err-picture.ensures.1 in
-    rw (p.1, p.2) (stops_unsettled c.args.format c.args.out.now c.args.file.now (desk c.args.desk.now) (desk c.open_and_read.new.desk) (desk c.open_and_read.new.desk) c.in_ok-input.input c.in_ok-input.ensures.taken
+    rw (p.1, p.2) (stops_unsettled c.args.format c.args.out.now c.args.file.now (desk c.args.desk.now) (desk c.open_and_read.new.desk)
+    (desk c.open_and_read.new.desk) c.in_ok-input.input c.in_ok-input.ensures.taken
     c.in_err-picture.field-0.0 c.args.file made.0 refl first because)
 
 pub returns : goal.returns
@@ -35,8 +38,10 @@ returns g c =
     let was = value_at _ c.of.result c.map_err.result c.in_ok-picture.picture c.map_err.ensures.cases c.in_ok-picture.was in
     let same = IfOk-at_ok _ was c.of.ensures.picture ∙ ap picture_of is in
     let settled = subst IsSettled is (IfOk-at_ok _ was c.of.ensures.settled) in
-    let handed = subst (λ (p : WholePicture). GrewBy (HandsOut c.args.out.now (file c.args.format p)) (desk c.open_and_read.new.desk) (desk c.hand_out.new.desk)) same c.in_ok-hand_out.ensures.written in
-    is_written c.args.format c.args.out.now c.args.file.now (desk c.args.desk.now) (desk c.open_and_read.new.desk) (desk c.hand_out.new.desk) c.in_ok-input.input c.in_ok-input.ensures.taken
+    let handed = subst (λ (p : WholePicture). GrewBy (HandsOut c.args.out.now (file c.args.format p)) (desk c.open_and_read.new.desk)
+    (desk c.hand_out.new.desk)) same c.in_ok-hand_out.ensures.written in
+    is_written c.args.format c.args.out.now c.args.file.now (desk c.args.desk.now) (desk c.open_and_read.new.desk)
+    (desk c.hand_out.new.desk) c.in_ok-input.input c.in_ok-input.ensures.taken
     settled c.is_whole-whole.result (record { settled_is = (λ _. settled, λ _. refl); whole_is = c.is_whole-whole.ensures })
     (subst (FitsFormat c.args.format) same c.in_ok-hand_out.ensures.fit) handed
 
@@ -48,8 +53,11 @@ returns-in_err-hand_out g c =
     let same = IfOk-at_ok _ was c.of.ensures.picture ∙ ap picture_of is in
     let settled = subst IsSettled is (IfOk-at_ok _ was c.of.ensures.settled) in
     let r = c.in_err-hand_out.field-0.0 in
-    let stopped = subst (λ (p : WholePicture). GrewBy (StopsAtFile (FitsFormat c.args.format p) (IsTooLarge c.args.format p) (takes_memory c.args.format) (file c.args.format p) r) (desk c.open_and_read.new.desk) (desk c.hand_out.new.desk))
+    let stopped = subst (λ (p : WholePicture). GrewBy
+    (StopsAtFile (FitsFormat c.args.format p) (IsTooLarge c.args.format p) (takes_memory c.args.format) (file c.args.format p) r)
+    (desk c.open_and_read.new.desk) (desk c.hand_out.new.desk))
     same c.in_err-hand_out.ensures.stopped in
     let p = err_from_is_err_and c.from_residual-in_err-hand_out.result c.from_residual-in_err-hand_out.ensures.1 in
-    rw (p.1, p.2) (stops_at_file c.args.format c.args.out.now c.args.file.now (desk c.args.desk.now) (desk c.open_and_read.new.desk) (desk c.hand_out.new.desk) c.in_ok-input.input c.in_ok-input.ensures.taken
+    rw (p.1, p.2) (stops_at_file c.args.format c.args.out.now c.args.file.now (desk c.args.desk.now) (desk c.open_and_read.new.desk)
+    (desk c.hand_out.new.desk) c.in_ok-input.input c.in_ok-input.ensures.taken
     settled r c.in_err-hand_out.ensures.named stopped)

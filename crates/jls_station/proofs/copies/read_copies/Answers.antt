@@ -18,7 +18,8 @@ returns-in-Err-clause-stopped g c =
     let i = c.loop-name.name-index in
     let within : i < length names = omega arith in
     let refusal : CopyRefusal = record { name = get_or names i none; cause = c.in-Err.cause } in
-    stops_next (map name_of (take i names)) (copies_of c.loop-name.copies.items) (history c.args.desk.now) (history c.loop-name.desk) (history c.open_and_read_copy.new.desk) c.loop-name.invariant
+    stops_next (map name_of (take i names)) (copies_of c.loop-name.copies.items) (history c.args.desk.now) (history c.loop-name.desk)
+    (history c.open_and_read_copy.new.desk) c.loop-name.invariant
     (map name_of names) (map name_of (drop (i + 1) names)) refusal (names_split names i none within) c.in-Err.ensures.stopped
 
 pub returns-in-Err-push-clause-stopped : goal.returns-in-Err-push-clause-stopped
@@ -30,12 +31,15 @@ returns-in-Err-push-clause-stopped g c =
     let refusal : CopyRefusal = record { name = get_or names i none; cause = cause.OutOfMemory } in
     let name = refusal.name.now in
     let copy = copy_of c.in-Ok.copy in
-    stops_next (map name_of (take i names)) (copies_of c.loop-name.copies.items) (history c.args.desk.now) (history c.loop-name.desk) (history c.open_and_read_copy.new.desk) c.loop-name.invariant
+    stops_next (map name_of (take i names)) (copies_of c.loop-name.copies.items) (history c.args.desk.now) (history c.loop-name.desk)
+    (history c.open_and_read_copy.new.desk) c.loop-name.invariant
     (map name_of names) (map name_of (drop (i + 1) names)) refusal (names_split names i none within)
-    (grew_as (IsCopyRead name copy) (StopsAtCopy name cause.OutOfMemory) (history c.loop-name.desk) (history c.open_and_read_copy.new.desk) (after_the_last name copy) c.in-Ok.ensures.read)
+    (grew_as (IsCopyRead name copy) (StopsAtCopy name cause.OutOfMemory) (history c.loop-name.desk) (history c.open_and_read_copy.new.desk)
+    (after_the_last name copy) c.in-Ok.ensures.read)
 
 pub loop-name-preserved : goal.loop-name-preserved
 loop-name-preserved g c =
     let history = g.D.Device.history in
-    reads_on c.args.names.now c.loop-name.name-index none (omega arith) c.loop-name.copies.items c.push.new.self.items c.in-Ok.copy c.in-Ok-push.ensures.items
+    reads_on c.args.names.now c.loop-name.name-index none (omega arith) c.loop-name.copies.items c.push.new.self.items c.in-Ok.copy
+    c.in-Ok-push.ensures.items
     (history c.args.desk.now) (history c.loop-name.desk) (history c.open_and_read_copy.new.desk) c.loop-name.invariant c.in-Ok.ensures.read

@@ -7,4 +7,5 @@ use Rattle.jls_station.proofs.copies.read_copies.Given as goal
 abbrev pub invariant-loop-name : goal.invariant-loop-name
 invariant-loop-name g l =
     let history = g.D.Device.history in
-    GrewBy (AreCopiesRead (map (λ (n : Bor (List ℕ)). n.now) (take l.name-index l.names)) (copies_of l.copies.items)) (history l.fn.desk) (history l.desk)
+    GrewBy (AreCopiesRead (map (λ (n : Bor (List ℕ)). n.now) (take l.name-index l.names)) (copies_of l.copies.items)) (history l.fn.desk)
+    (history l.desk)

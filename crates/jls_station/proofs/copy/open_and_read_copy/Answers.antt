@@ -15,7 +15,8 @@ pub returns-in-Err-read_to_end-clause-stopped : goal.returns-in-Err-read_to_end-
 returns-in-Err-read_to_end-clause-stopped g c =
     let history = g.D.Device.history in
     let name = c.args.name.now in
-    opened_then (IsReadInPart IsTextPrefix) (StopsAtCopy name cause.OutOfMemory) name (history c.args.desk.now) (history c.open_input.new.self) (history c.read_to_end.new.device)
+    opened_then (IsReadInPart IsTextPrefix) (StopsAtCopy name cause.OutOfMemory) name (history c.args.desk.now)
+    (history c.open_input.new.self) (history c.read_to_end.new.device)
     c.in-Ok.ensures.opened (between_reads name) c.in-Err-read_to_end.ensures.refused
 
 pub returns-then-is_text-clause-stopped : goal.returns-then-is_text-clause-stopped
@@ -25,5 +26,7 @@ returns-then-is_text-clause-stopped g c =
     let bytes = c.read_to_end.new.bytes.items in
     let stop = c.in-Ok-read_to_end.stop in
     let prefix : begins_as_text bytes ≡ true = search rules in
-    opened_then (λ reads. IsRead IsTextPrefix reads bytes stop) (StopsAtCopy name cause.PartialPicture) name (history c.args.desk.now) (history c.open_input.new.self)
-    (history c.read_to_end.new.device) c.in-Ok.ensures.opened (λ reads is. partial_picture name bytes stop reads is prefix) c.in-Ok-read_to_end.ensures.read
+    opened_then (λ reads. IsRead IsTextPrefix reads bytes stop) (StopsAtCopy name cause.PartialPicture) name (history c.args.desk.now)
+    (history c.open_input.new.self)
+    (history c.read_to_end.new.device) c.in-Ok.ensures.opened (λ reads is. partial_picture name bytes stop reads is prefix)
+    c.in-Ok-read_to_end.ensures.read

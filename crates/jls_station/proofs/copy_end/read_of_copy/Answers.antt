@@ -10,7 +10,8 @@ pub returns-in_err-read-clause-refused : goal.returns-in_err-read-clause-refused
 returns-in_err-read-clause-refused c =
     let count = c.fed-count.result in
     let fault = c.in_err-read.field-0.0 in
-    let made = error_at _ (λ e. input_fault_of_copy e c.args.stop count) (λ e r made. search rules) c.finish.result c.map_err.result fault c.map_err.ensures.cases c.in_err-read.was in
+    let made = error_at _ (λ e. input_fault_of_copy e c.args.stop count) (λ e r made. search rules) c.finish.result c.map_err.result fault
+    c.map_err.ensures.cases c.in_err-read.was in
     let none = IfErr-at_err _ made.2 c.finish.ensures.none in
     let p = err_from_is_err_and c.from_residual.result c.from_residual.ensures.1 in
     rw (p.1, p.2) (refused_so c.args.reader made.0 c.args.stop count fault none c.fed-count.ensures made.1)
@@ -24,5 +25,7 @@ pub returns-clause-given : goal.returns-clause-given
 returns-clause-given c =
     let was = value_at _ c.finish.result c.map_err.result c.in_ok-read.read c.map_err.ensures.cases c.in_ok-read.was in
     let read = IfOk-at_ok _ was c.finish.ensures.read in
-    copy_given c.args.source c.args.reader c.in_ok-read.read c.put_source.new.partial c.into_parts-partial.result.1.items c.piece_count-piece_count.result c.ended-ended.result c.fed-count.result c.args.stop
-    (c.in_ok-put_source.ensures ∙ ap (marked c.args.source) c.into_parts-partial.ensures.partial) c.into_parts-partial.ensures.pieces c.piece_count-piece_count.ensures c.ended-ended.ensures c.fed-count.ensures read
+    copy_given c.args.source c.args.reader c.in_ok-read.read c.put_source.new.partial c.into_parts-partial.result.1.items
+    c.piece_count-piece_count.result c.ended-ended.result c.fed-count.result c.args.stop
+    (c.in_ok-put_source.ensures ∙ ap (marked c.args.source) c.into_parts-partial.ensures.partial) c.into_parts-partial.ensures.pieces
+    c.piece_count-piece_count.ensures c.ended-ended.ensures c.fed-count.ensures read

@@ -16,14 +16,17 @@ pub returns-in_err-feed-clause-refused : goal.returns-in_err-feed-clause-refused
 returns-in_err-feed-clause-refused g c before h =
     let now = g.S.Device.history c.args.device.now in
     let p = err_from_is_err_and c.from_residual.result c.from_residual.ensures.1 in
-    rw (p.1, p.2) (out_of_memory_in_part before now (part_of_input before now (read_in_part IsCopyDone 1 before now now c.args.first.now h (omega arith))))
+    rw (p.1, p.2) (out_of_memory_in_part before now
+    (part_of_input before now (read_in_part IsCopyDone 1 before now now c.args.first.now h (omega arith))))
 
 pub returns-in_err-stop-clause-refused : goal.returns-in_err-stop-clause-refused
 returns-in_err-stop-clause-refused g c before h =
     let now = g.S.Device.history c.read_copy_on.new.device in
-    let fed : c.feed.new.self ≡ Some c.args.first.now = c.in_ok-feed.ensures.ok ∙ ap (λ (o : Option (List ℕ)). after o c.args.first.now) c.new-reader.ensures in
+    let fed : c.feed.new.self ≡ Some c.args.first.now = c.in_ok-feed.ensures.ok
+    ∙ ap (λ (o : Option (List ℕ)). after o c.args.first.now) c.new-reader.ensures in
     let p = err_from_is_err_and c.from_residual-in_err-stop.result c.from_residual-in_err-stop.ensures.1 in
-    rw (p.1, p.2) (out_of_memory_in_part before now (part_of_input before now (c.in_err-stop.ensures.refused before c.args.first.now fed h)))
+    rw (p.1, p.2) (out_of_memory_in_part before now
+    (part_of_input before now (c.in_err-stop.ensures.refused before c.args.first.now fed h)))
 
 pub returns-clause-given : goal.returns-clause-given
 returns-clause-given g c before h =
@@ -31,7 +34,8 @@ returns-clause-given g c before h =
     let fed : c.feed.new.self ≡ Some first = c.in_ok-feed.ensures.ok ∙ ap (λ (o : Option (List ℕ)). after o first) c.new-reader.ensures in
     let e = c.in_ok-stop.ensures in
     let given = c.in_ok-given.given in
-    copy_gives c.args.source first c.in_ok-stop.stop before (g.S.Device.history c.read_copy_on.new.device) c.requires.no_text c.read_copy_on.new.reader given.partial given.report c.of_copy.result c.of_copy.ensures
+    copy_gives c.args.source first c.in_ok-stop.stop before (g.S.Device.history c.read_copy_on.new.device) c.requires.no_text
+    c.read_copy_on.new.reader given.partial given.report c.of_copy.result c.of_copy.ensures
     (e.begins first fed c.requires.some) (e.read before first fed h) c.in_ok-given.ensures.given
 
 pub returns-in_err-given-clause-refused : goal.returns-in_err-given-clause-refused
@@ -40,7 +44,8 @@ returns-in_err-given-clause-refused g c before h =
     let fed : c.feed.new.self ≡ Some first = c.in_ok-feed.ensures.ok ∙ ap (λ (o : Option (List ℕ)). after o first) c.new-reader.ensures in
     let e = c.in_ok-stop.ensures in
     let p = err_from_is_err_and c.from_residual-in_err-given.result c.from_residual-in_err-given.ensures.1 in
-    rw (p.1, p.2) (copy_refused c.args.source first c.in_ok-stop.stop before (g.S.Device.history c.read_copy_on.new.device) c.requires.no_text c.read_copy_on.new.reader c.in_err-given.field-0.0
+    rw (p.1, p.2) (copy_refused c.args.source first c.in_ok-stop.stop before (g.S.Device.history c.read_copy_on.new.device)
+    c.requires.no_text c.read_copy_on.new.reader c.in_err-given.field-0.0
     (e.begins first fed c.requires.some) (e.read before first fed h) c.in_err-given.ensures.refused)
 
 pub returns-clause-known : goal.returns-clause-known
@@ -67,7 +72,8 @@ returns-in_err-given-clause-known_refused g c before h =
     let first = c.args.first.now in
     let fed : c.feed.new.self ≡ Some first = c.in_ok-feed.ensures.ok ∙ ap (λ (o : Option (List ℕ)). after o first) c.new-reader.ensures in
     let p = err_from_is_err_and c.from_residual-in_err-given.result c.from_residual-in_err-given.ensures.1 in
-    rw (p.1, p.2) (known_input_stops first c.in_ok-stop.stop before (g.S.Source.remaining c.args.device.now) c.read_copy_on.new.reader c.in_err-given.field-0.0
+    rw (p.1, p.2) (known_input_stops first c.in_ok-stop.stop before (g.S.Source.remaining c.args.device.now) c.read_copy_on.new.reader
+    c.in_err-given.field-0.0
     c.requires.no_text c.requires.some h (c.in_ok-stop.ensures.known before first fed h) c.in_err-given.ensures.refused)
 
 pub returns-clause-known_count : goal.returns-clause-known_count

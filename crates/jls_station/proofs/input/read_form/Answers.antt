@@ -36,11 +36,13 @@ pub returns-in_err-count-clause-refused : goal.returns-in_err-count-clause-refus
 returns-in_err-count-clause-refused g c =
     let old = g.S.Device.history c.args.device.now in
     let new = g.S.Device.history c.read_some.new.self in
-    let made = error_at _ (λ _. fault.Read Failed 0) (λ e r made. search rules) c.read_some.result c.map_err.result c.in_err-count.field-0.0 c.map_err.ensures.cases c.in_err-count.was in
+    let made = error_at _ (λ _. fault.Read Failed 0) (λ e r made. search rules) c.read_some.result c.map_err.result c.in_err-count.field-0.0
+    c.map_err.ensures.cases c.in_err-count.was in
     let failed = IfErr-at_err _ made.2 c.read_some.ensures.failed in
     let p = err_from_is_err_and c.from_residual.result c.from_residual.ensures.1 in
     rw (p.1, p.2, made.1) (refused_for old new [] Failed
-    (read_to_failure IsEnough 0 old old new [] (nothing_read IsEnough 0 old old old []) failed (λ e. empty_goes_on c.copies_have_one_course.ensures e.1) (omega arith))
+    (read_to_failure IsEnough 0 old old new [] (nothing_read IsEnough 0 old old old []) failed
+    (λ e. empty_goes_on c.copies_have_one_course.ensures e.1) (omega arith))
     (fault.Read Failed 0) (copy_not_read [] Failed marker.Ended 0 refl (λ t. absurd cc) empty_gives_none))
 
 pub returns-then-count-eq0-clause-refused : goal.returns-then-count-eq0-clause-refused
@@ -51,30 +53,37 @@ returns-then-count-eq0-clause-refused g c =
     let read = IfOk-at_ok _ was c.read_some.ensures.read in
     let room : length c.read_some.new.into ≡ 4096 = search rules in
     refused_for old new [] Whole
-    (read_to_end IsEnough 0 old old new [] 4096 (take c.in_ok-count.count c.read_some.new.into) (nothing_read IsEnough 0 old old old []) (rw room at read)
-    (ap (λ (k : ℕ). take k c.read_some.new.into) c.if-count-eq0.true) (λ e. empty_goes_on c.copies_have_one_course.ensures e.1) (omega arith) (omega arith) (omega arith))
+    (read_to_end IsEnough 0 old old new [] 4096 (take c.in_ok-count.count c.read_some.new.into) (nothing_read IsEnough 0 old old old [])
+    (rw room at read)
+    (ap (λ (k : ℕ). take k c.read_some.new.into) c.if-count-eq0.true) (λ e. empty_goes_on c.copies_have_one_course.ensures e.1)
+    (omega arith) (omega arith) (omega arith))
     (fault.NoPicture marker.Ended 0) (no_picture [] marker.Ended 0 refl empty_gives_none)
 
 pub returns-in_ok-read_text-clause-form : goal.returns-in_ok-read_text-clause-form
 returns-in_ok-read_text-clause-form g c =
     let all = c.in_ok-read_text.ensures.read _
-    (first_gave g (goal.at.returns-in_ok-read_text-clause-form g c).After-prefix-first IsEnough (λ e. empty_goes_on c.copies_have_one_course.ensures e.1)) in
+    (first_gave g (goal.at.returns-in_ok-read_text-clause-form g c).After-prefix-first IsEnough
+    (λ e. empty_goes_on c.copies_have_one_course.ensures e.1)) in
     record { events = all.events; grew = all.grew; they_are = (all.they_are, c.in_ok-read_text.ensures.text) }
 
 pub returns-in_err-read_text-clause-refused : goal.returns-in_err-read_text-clause-refused
 returns-in_err-read_text-clause-refused g c =
     let p = err_from_is_err_and c.from_residual-in_err-read_text.result c.from_residual-in_err-read_text.ensures.1 in
     rw (p.1, p.2) (c.in_err-read_text.ensures.refused _
-    (first_gave g (goal.at.returns-in_err-read_text-clause-refused g c).After-prefix-first IsEnough (λ e. empty_goes_on c.copies_have_one_course.ensures e.1)))
+    (first_gave g (goal.at.returns-in_err-read_text-clause-refused g c).After-prefix-first IsEnough
+    (λ e. empty_goes_on c.copies_have_one_course.ensures e.1)))
 
 pub returns-in_ok-read-clause-form : goal.returns-in_ok-read-clause-form
 returns-in_ok-read-clause-form g c =
-    c.in_ok-read.ensures.given _ (first_gave g (goal.at.returns-in_ok-read-clause-form g c).After-prefix-first IsCopyDone (empty_goes_on c.copies_have_one_course.ensures))
+    c.in_ok-read.ensures.given _ (first_gave g (goal.at.returns-in_ok-read-clause-form g c).After-prefix-first IsCopyDone
+    (empty_goes_on c.copies_have_one_course.ensures))
 
 pub returns-in_err-read-clause-refused : goal.returns-in_err-read-clause-refused
 returns-in_err-read-clause-refused g c =
     let p = err_from_is_err_and c.from_residual-in_err-read.result c.from_residual-in_err-read.ensures.1 in
-    rw (p.1, p.2) (c.in_err-read.ensures.refused _ (first_gave g (goal.at.returns-in_err-read-clause-refused g c).After-prefix-first IsCopyDone (empty_goes_on c.copies_have_one_course.ensures)))
+    rw (p.1, p.2) (c.in_err-read.ensures.refused _
+    (first_gave g (goal.at.returns-in_err-read-clause-refused g c).After-prefix-first IsCopyDone
+    (empty_goes_on c.copies_have_one_course.ensures)))
 
 -- the first read took what it gave from the known bytes
 first_taken : (g : Over) (c : After-prefix-first g)
@@ -86,7 +95,8 @@ first_taken g c =
 
 pub returns-in_err-count-clause-known_refused : goal.returns-in_err-count-clause-known_refused
 returns-in_err-count-clause-known_refused g c =
-    let made = error_at _ (λ _. fault.Read Failed 0) (λ e r made. search rules) c.read_some.result c.map_err.result c.in_err-count.field-0.0 c.map_err.ensures.cases c.in_err-count.was in
+    let made = error_at _ (λ _. fault.Read Failed 0) (λ e r made. search rules) c.read_some.result c.map_err.result c.in_err-count.field-0.0
+    c.map_err.ensures.cases c.in_err-count.was in
     let p = err_from_is_err_and c.from_residual.result c.from_residual.ensures.1 in
     rw (p.1, p.2, made.1) (none_read (g.S.Source.remaining c.args.device.now))
 
@@ -103,12 +113,14 @@ returns-then-count-eq0-clause-known_refused g c =
 pub returns-in_err-read_text-clause-known_refused : goal.returns-in_err-read_text-clause-known_refused
 returns-in_err-read_text-clause-known_refused g c =
     let p = err_from_is_err_and c.from_residual-in_err-read_text.result c.from_residual-in_err-read_text.ensures.1 in
-    rw (p.1, p.2) (c.in_err-read_text.ensures.known_refused _ (first_taken g (goal.at.returns-in_err-read_text-clause-known_refused g c).After-prefix-first))
+    rw (p.1, p.2) (c.in_err-read_text.ensures.known_refused _
+    (first_taken g (goal.at.returns-in_err-read_text-clause-known_refused g c).After-prefix-first))
 
 pub returns-in_err-read-clause-known_refused : goal.returns-in_err-read-clause-known_refused
 returns-in_err-read-clause-known_refused g c =
     let p = err_from_is_err_and c.from_residual-in_err-read.result c.from_residual-in_err-read.ensures.1 in
-    rw (p.1, p.2) (c.in_err-read.ensures.known_refused _ (first_taken g (goal.at.returns-in_err-read-clause-known_refused g c).After-prefix-first))
+    rw (p.1, p.2) (c.in_err-read.ensures.known_refused _
+    (first_taken g (goal.at.returns-in_err-read-clause-known_refused g c).After-prefix-first))
 
 pub returns-in_ok-read_text-clause-known_count : goal.returns-in_ok-read_text-clause-known_count
 returns-in_ok-read_text-clause-known_count g c = text_counted (g.S.Source.remaining c.args.device.now)

@@ -23,8 +23,10 @@ returns-in_err-partial-in-Text-clause-refused g c =
     let new = g.S.Device.history c.read_form.new.device in
     let bytes = c.read_form.new.text.items in
     let form = subst (λ (f : InputForm). GrewBy (IsForm c.args.source bytes f) old new) c.in-Text.is c.in_ok-form.ensures.form in
-    let made = error_at _ input_fault_of (λ e r made. search rules) c.from_bytes.result c.map_err.result c.in_err-partial-in-Text.field-0.0 c.map_err.ensures.cases c.in_err-partial-in-Text.was in
-    let exact = subst (λ (t : List ℕ). GivesText (λ q. q) c.from_bytes.result (read_text t)) c.deref.ensures.value c.from_bytes.ensures.exact in
+    let made = error_at _ input_fault_of (λ e r made. search rules) c.from_bytes.result c.map_err.result c.in_err-partial-in-Text.field-0.0
+    c.map_err.ensures.cases c.in_err-partial-in-Text.was in
+    let exact = subst (λ (t : List ℕ). GivesText (λ q. q) c.from_bytes.result (read_text t)) c.deref.ensures.value
+    c.from_bytes.ensures.exact in
     let fails = subst (λ (r : Result PartialPicture TextFault). GivesText (λ q. q) r (read_text bytes)) made.2 exact in
     let p = err_from_is_err_and c.from_residual-in_err-partial-in-Text.result c.from_residual-in_err-partial-in-Text.ensures.1 in
     rw (p.1, p.2, made.1) (refused_by old new bytes form.they_are.1 (all_read c.args.source old new bytes form) made.0 fails)
@@ -43,7 +45,8 @@ returns-in-Text-clause-given g c =
 
 pub returns-clause-known_copy : goal.returns-clause-known_copy
 returns-clause-known_copy g c copied =
-    subst (λ (f : InputForm). IfSome (g.S.Source.remaining c.args.device.now) (IsGivenBy c.args.source f)) c.in-Copy.is c.in_ok-form.ensures.known_copy
+    subst (λ (f : InputForm). IfSome (g.S.Source.remaining c.args.device.now) (IsGivenBy c.args.source f)) c.in-Copy.is
+    c.in_ok-form.ensures.known_copy
 
 pub returns-in_err-partial-in-Text-clause-known_refused : goal.returns-in_err-partial-in-Text-clause-known_refused
 returns-in_err-partial-in-Text-clause-known_refused g c =
@@ -53,8 +56,10 @@ returns-in_err-partial-in-Text-clause-known_refused g c =
     let bytes = c.read_form.new.text.items in
     let form = subst (λ (f : InputForm). GrewBy (IsForm c.args.source bytes f) old new) c.in-Text.is c.in_ok-form.ensures.form in
     let all = subst (λ (f : InputForm). IsAllOf left bytes f) c.in-Text.is c.in_ok-form.ensures.known in
-    let made = error_at _ input_fault_of (λ e r made. search rules) c.from_bytes.result c.map_err.result c.in_err-partial-in-Text.field-0.0 c.map_err.ensures.cases c.in_err-partial-in-Text.was in
-    let exact = subst (λ (t : List ℕ). GivesText (λ q. q) c.from_bytes.result (read_text t)) c.deref.ensures.value c.from_bytes.ensures.exact in
+    let made = error_at _ input_fault_of (λ e r made. search rules) c.from_bytes.result c.map_err.result c.in_err-partial-in-Text.field-0.0
+    c.map_err.ensures.cases c.in_err-partial-in-Text.was in
+    let exact = subst (λ (t : List ℕ). GivesText (λ q. q) c.from_bytes.result (read_text t)) c.deref.ensures.value
+    c.from_bytes.ensures.exact in
     let fails = subst (λ (r : Result PartialPicture TextFault). GivesText (λ q. q) r (read_text bytes)) made.2 exact in
     let p = err_from_is_err_and c.from_residual-in_err-partial-in-Text.result c.from_residual-in_err-partial-in-Text.ensures.1 in
     rw (p.1, p.2, made.1) (text_refused bytes form.they_are.1 left all made.0 fails)

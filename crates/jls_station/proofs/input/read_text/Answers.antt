@@ -50,7 +50,8 @@ pub returns-in-Whole-clause-known : goal.returns-in-Whole-clause-known
 returns-in-Whole-clause-known g c before h =
     let remaining = g.S.Source.remaining in
     known_all before (remaining c.read_text_on.new.device) c.read_text_on.new.bytes.items
-    (c.in_ok-stop.ensures.known before (rw (first_held c.clear.ensures.items c.in_ok-extend_from_slice.ensures.items) at h)) (c.in_ok-stop.ensures.end c.in-Whole.is)
+    (c.in_ok-stop.ensures.known before (rw (first_held c.clear.ensures.items c.in_ok-extend_from_slice.ensures.items) at h))
+    (c.in_ok-stop.ensures.end c.in-Whole.is)
 
 pub returns-in_err-extend_from_slice-clause-known_refused : goal.returns-in_err-extend_from_slice-clause-known_refused
 returns-in_err-extend_from_slice-clause-known_refused g c before h =

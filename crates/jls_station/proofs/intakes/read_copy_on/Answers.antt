@@ -6,4 +6,5 @@ returns-clause-begins g c fed was some = copy_begins c.read_on.result c.read_on.
 
 pub returns-clause-known : goal.returns-clause-known
 returns-clause-known g c before fed was h =
-    copy_known c.read_on.result c.read_on.new.held before (g.S.Source.remaining c.read_on.new.device) (c.read_on.ensures.known before fed was h) c.read_on.ensures.end
+    copy_known c.read_on.result c.read_on.new.held before (g.S.Source.remaining c.read_on.new.device)
+    (c.read_on.ensures.known before fed was h) c.read_on.ensures.end

@@ -17,7 +17,8 @@ returns-clause-text g c =
 pub returns-clause-read : goal.returns-clause-read
 returns-clause-read g c before h =
     let bytes = c.args.bytes.now.items in
-    so_of_text c.read_on.result c.read_on.new.held.items (λ stop t. GrewBy (λ reads. IsRead IsEnough reads t stop) before (g.S.Device.history c.read_on.new.device))
+    so_of_text c.read_on.result c.read_on.new.held.items
+    (λ stop t. GrewBy (λ reads. IsRead IsEnough reads t stop) before (g.S.Device.history c.read_on.new.device))
     (c.read_on.ensures.read before bytes (text_held bytes c.requires.text) h)
 
 pub returns-clause-refused : goal.returns-clause-refused
@@ -31,4 +32,5 @@ returns-clause-known g c before h =
     (c.read_on.ensures.known before bytes (text_held bytes c.requires.text) h)
 
 pub returns-clause-end : goal.returns-clause-end
-returns-clause-end g c = text_at_end c.read_on.result c.read_on.new.held.items (g.S.Source.remaining c.read_on.new.device) c.read_on.ensures.end
+returns-clause-end g c = text_at_end c.read_on.result c.read_on.new.held.items (g.S.Source.remaining c.read_on.new.device)
+    c.read_on.ensures.end

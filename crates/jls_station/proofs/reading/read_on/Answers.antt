@@ -14,31 +14,41 @@ pub returns-in-Err-clause-read : goal.returns-in-Err-clause-read
 returns-in-Err-clause-read g c before fed was h =
     let history = g.S.Device.history in
     let i = c.loop.invariant in
-    of_reader (λ bytes. GrewBy (λ reads. IsRead g.I.Intake.IsEnough reads bytes Failed) before (history c.read_some.new.self)) (g.I.Intake.fed c.loop.held) i.bytes i.is
-    (read_to_failure g.I.Intake.IsEnough c.loop.counter before (history c.loop.device) (history c.read_some.new.self) i.bytes (i.so_far before fed was h) c.in-Err.ensures.failed
-    (goes_on g.I.Intake.IsEnough c.is_enough.result (g.I.Intake.fed c.loop.held) i.bytes i.is c.is_enough.ensures c.if-is_enough.false) (omega arith))
+    of_reader (λ bytes. GrewBy (λ reads. IsRead g.I.Intake.IsEnough reads bytes Failed) before (history c.read_some.new.self))
+    (g.I.Intake.fed c.loop.held) i.bytes i.is
+    (read_to_failure g.I.Intake.IsEnough c.loop.counter before (history c.loop.device) (history c.read_some.new.self) i.bytes
+    (i.so_far before fed was h) c.in-Err.ensures.failed
+    (goes_on g.I.Intake.IsEnough c.is_enough.result (g.I.Intake.fed c.loop.held) i.bytes i.is c.is_enough.ensures c.if-is_enough.false)
+    (omega arith))
 
 pub returns-then-n-eq0-clause-read : goal.returns-then-n-eq0-clause-read
 returns-then-n-eq0-clause-read g c before fed was h =
     let history = g.S.Device.history in
     let i = c.loop.invariant in
     let room : length c.read_some.new.into ≡ 4096 = search rules in
-    of_reader (λ bytes. GrewBy (λ reads. IsRead g.I.Intake.IsEnough reads bytes Whole) before (history c.read_some.new.self)) (g.I.Intake.fed c.loop.held) i.bytes i.is
-    (read_to_end g.I.Intake.IsEnough c.loop.counter before (history c.loop.device) (history c.read_some.new.self) i.bytes 4096 (take c.in-Ok.n c.read_some.new.into)
+    of_reader (λ bytes. GrewBy (λ reads. IsRead g.I.Intake.IsEnough reads bytes Whole) before (history c.read_some.new.self))
+    (g.I.Intake.fed c.loop.held) i.bytes i.is
+    (read_to_end g.I.Intake.IsEnough c.loop.counter before (history c.loop.device) (history c.read_some.new.self) i.bytes 4096
+    (take c.in-Ok.n c.read_some.new.into)
     (i.so_far before fed was h) (rw room at c.in-Ok.ensures.read) (ap (λ (k : ℕ). take k c.read_some.new.into) c.if-n-eq0.true)
-    (goes_on g.I.Intake.IsEnough c.is_enough.result (g.I.Intake.fed c.loop.held) i.bytes i.is c.is_enough.ensures c.if-is_enough.false) (omega arith) (omega arith) (omega arith))
+    (goes_on g.I.Intake.IsEnough c.is_enough.result (g.I.Intake.fed c.loop.held) i.bytes i.is c.is_enough.ensures c.if-is_enough.false)
+    (omega arith) (omega arith) (omega arith))
 
 pub returns-in_err-put-clause-refused : goal.returns-in_err-put-clause-refused
 returns-in_err-put-clause-refused g c before fed was h =
     let history = g.S.Device.history in
     let i = c.loop.invariant in
     let room : length c.read_some.new.into ≡ 4096 = search rules in
-    let some : 0 < length (take c.in-Ok.n c.read_some.new.into) = omega (arith, length-take c.in-Ok.n c.read_some.new.into, c.in-Ok.ensures.within, c.if-n-eq0.false) in
+    let some : 0 < length (take c.in-Ok.n c.read_some.new.into) =
+    omega (arith, length-take c.in-Ok.n c.read_some.new.into, c.in-Ok.ensures.within, c.if-n-eq0.false) in
     on_error c.from_residual.result (GrewBy (IsReadInPart g.I.Intake.IsEnough) before (history c.read_some.new.self))
-    (read_in_part g.I.Intake.IsEnough (c.loop.counter + 1) before (history c.read_some.new.self) (history c.read_some.new.self) (i.bytes ++ take c.in-Ok.n c.read_some.new.into)
-    (one_read_more g.I.Intake.IsEnough c.loop.counter before (history c.loop.device) (history c.read_some.new.self) i.bytes 4096 (take c.in-Ok.n c.read_some.new.into)
+    (read_in_part g.I.Intake.IsEnough (c.loop.counter + 1) before (history c.read_some.new.self) (history c.read_some.new.self)
+    (i.bytes ++ take c.in-Ok.n c.read_some.new.into)
+    (one_read_more g.I.Intake.IsEnough c.loop.counter before (history c.loop.device) (history c.read_some.new.self) i.bytes 4096
+    (take c.in-Ok.n c.read_some.new.into)
     (i.so_far before fed was h) (rw room at c.in-Ok.ensures.read)
-    (goes_on g.I.Intake.IsEnough c.is_enough.result (g.I.Intake.fed c.loop.held) i.bytes i.is c.is_enough.ensures c.if-is_enough.false) (omega arith) some
+    (goes_on g.I.Intake.IsEnough c.is_enough.result (g.I.Intake.fed c.loop.held) i.bytes i.is c.is_enough.ensures c.if-is_enough.false)
+    (omega arith) some
     (subst AreBytes c.prefix.ensures.prefix c.prefix.ensures.bytes)) (omega arith))
 
 pub loop-preserved : goal.loop-preserved
@@ -50,10 +60,12 @@ loop-preserved g c =
     let room : length c.read_some.new.into ≡ 4096 = search rules in
     let n = length-take c.in-Ok.n c.read_some.new.into in
     let some : 0 < length (take c.in-Ok.n c.read_some.new.into) = omega (arith, n, c.in-Ok.ensures.within, c.if-n-eq0.false) in
-    one_more g.I.Intake.IsEnough (fed c.args.held.now) (fed c.loop.held) (fed c.put.new.held) c.args.made c.loop.counter (history c.args.device.now) (history c.loop.device) (history c.read_some.new.self)
+    one_more g.I.Intake.IsEnough (fed c.args.held.now) (fed c.loop.held) (fed c.put.new.held) c.args.made c.loop.counter
+    (history c.args.device.now) (history c.loop.device) (history c.read_some.new.self)
     4096 (take c.in-Ok.n c.read_some.new.into) (remaining c.args.device.now) (remaining c.loop.device) (remaining c.read_some.new.self) i
     (c.in_ok-put.ensures i.bytes i.is ∙ ap (λ (t : List ℕ). Some (i.bytes ++ t)) c.prefix.ensures.prefix) (rw room at c.in-Ok.ensures.read)
-    (goes_on g.I.Intake.IsEnough c.is_enough.result (fed c.loop.held) i.bytes i.is c.is_enough.ensures c.if-is_enough.false) (omega arith) some (omega (arith, n, room))
+    (goes_on g.I.Intake.IsEnough c.is_enough.result (fed c.loop.held) i.bytes i.is c.is_enough.ensures c.if-is_enough.false) (omega arith)
+    some (omega (arith, n, room))
     (subst AreBytes c.prefix.ensures.prefix c.prefix.ensures.bytes) c.in-Ok.ensures.bytes.0
 
 pub returns-then-n-eq0-clause-known : goal.returns-then-n-eq0-clause-known
@@ -68,7 +80,8 @@ returns-then-n-eq0-clause-known g c before fed was h =
 
 pub loop-init : goal.loop-init
 loop-init g c =
-    none_more g.I.Intake.IsEnough (g.I.Intake.fed c.args.held.now) c.args.made (g.S.Device.history c.args.device.now) (g.S.Source.remaining c.args.device.now)
+    none_more g.I.Intake.IsEnough (g.I.Intake.fed c.args.held.now) c.args.made (g.S.Device.history c.args.device.now)
+    (g.S.Source.remaining c.args.device.now)
     c.requires.fed_few
 
 pub put-requires : goal.put-requires
@@ -88,14 +101,18 @@ pub returns-then-is_enough-clause-read : goal.returns-then-is_enough-clause-read
 returns-then-is_enough-clause-read g c before fed was h =
     let history = g.S.Device.history in
     let i = c.loop.invariant in
-    of_reader (λ bytes. GrewBy (λ reads. IsRead g.I.Intake.IsEnough reads bytes Whole) before (history c.loop.device)) (g.I.Intake.fed c.loop.held) i.bytes i.is
-    (read_enough g.I.Intake.IsEnough c.loop.counter before (history c.loop.device) (history c.loop.device) i.bytes (i.so_far before fed was h)
-    (is_over g.I.Intake.IsEnough c.is_enough.result (g.I.Intake.fed c.loop.held) i.bytes i.is c.is_enough.ensures c.if-is_enough.true) (omega arith))
+    of_reader (λ bytes. GrewBy (λ reads. IsRead g.I.Intake.IsEnough reads bytes Whole) before (history c.loop.device))
+    (g.I.Intake.fed c.loop.held) i.bytes i.is
+    (read_enough g.I.Intake.IsEnough c.loop.counter before (history c.loop.device) (history c.loop.device) i.bytes
+    (i.so_far before fed was h)
+    (is_over g.I.Intake.IsEnough c.is_enough.result (g.I.Intake.fed c.loop.held) i.bytes i.is c.is_enough.ensures c.if-is_enough.true)
+    (omega arith))
 
 pub returns-then-is_enough-clause-known : goal.returns-then-is_enough-clause-known
 returns-then-is_enough-clause-known g c before fed was h =
     let i = c.loop.invariant in
-    of_reader (λ bytes. Consumes before (g.S.Source.remaining c.loop.device) bytes) (g.I.Intake.fed c.loop.held) i.bytes i.is (i.known before fed was h)
+    of_reader (λ bytes. Consumes before (g.S.Source.remaining c.loop.device) bytes) (g.I.Intake.fed c.loop.held) i.bytes i.is
+    (i.known before fed was h)
 
 pub returns-then-is_enough-clause-end : goal.returns-then-is_enough-clause-end
 returns-then-is_enough-clause-end g c whole =
@@ -131,20 +148,25 @@ pub returns-then-is_enough-2-clause-read : goal.returns-then-is_enough-2-clause-
 returns-then-is_enough-2-clause-read g c before fed was h =
     let history = g.S.Device.history in
     let i = c.loop.invariant in
-    of_reader (λ bytes. GrewBy (λ reads. IsRead g.I.Intake.IsEnough reads bytes Whole) before (history c.loop.device)) (g.I.Intake.fed c.loop.held) i.bytes i.is
-    (read_enough g.I.Intake.IsEnough c.loop.counter before (history c.loop.device) (history c.loop.device) i.bytes (i.so_far before fed was h)
-    (is_over g.I.Intake.IsEnough c.is_enough-2.result (g.I.Intake.fed c.loop.held) i.bytes i.is c.is_enough-2.ensures c.if-is_enough-2.true) (omega arith))
+    of_reader (λ bytes. GrewBy (λ reads. IsRead g.I.Intake.IsEnough reads bytes Whole) before (history c.loop.device))
+    (g.I.Intake.fed c.loop.held) i.bytes i.is
+    (read_enough g.I.Intake.IsEnough c.loop.counter before (history c.loop.device) (history c.loop.device) i.bytes
+    (i.so_far before fed was h)
+    (is_over g.I.Intake.IsEnough c.is_enough-2.result (g.I.Intake.fed c.loop.held) i.bytes i.is c.is_enough-2.ensures c.if-is_enough-2.true)
+    (omega arith))
 
 pub returns-then-is_enough-2-clause-known : goal.returns-then-is_enough-2-clause-known
 returns-then-is_enough-2-clause-known g c before fed was h =
     let i = c.loop.invariant in
-    of_reader (λ bytes. Consumes before (g.S.Source.remaining c.loop.device) bytes) (g.I.Intake.fed c.loop.held) i.bytes i.is (i.known before fed was h)
+    of_reader (λ bytes. Consumes before (g.S.Source.remaining c.loop.device) bytes) (g.I.Intake.fed c.loop.held) i.bytes i.is
+    (i.known before fed was h)
 
 pub returns-then-is_enough-2-clause-end : goal.returns-then-is_enough-2-clause-end
 returns-then-is_enough-2-clause-end g c whole =
     let i = c.loop.invariant in
     inl (of_reader g.I.Intake.IsEnough (g.I.Intake.fed c.loop.held) i.bytes i.is
-    (is_over g.I.Intake.IsEnough c.is_enough-2.result (g.I.Intake.fed c.loop.held) i.bytes i.is c.is_enough-2.ensures c.if-is_enough-2.true))
+    (is_over g.I.Intake.IsEnough c.is_enough-2.result (g.I.Intake.fed c.loop.held) i.bytes i.is c.is_enough-2.ensures
+    c.if-is_enough-2.true))
 
 pub returns-else-is_enough-2-clause-longer : goal.returns-else-is_enough-2-clause-longer
 returns-else-is_enough-2-clause-longer g c fed was =
@@ -155,11 +177,15 @@ pub returns-else-is_enough-2-clause-read : goal.returns-else-is_enough-2-clause-
 returns-else-is_enough-2-clause-read g c before fed was h =
     let history = g.S.Device.history in
     let i = c.loop.invariant in
-    of_reader (λ bytes. GrewBy (λ reads. IsRead g.I.Intake.IsEnough reads bytes Turns) before (history c.loop.device)) (g.I.Intake.fed c.loop.held) i.bytes i.is
-    (read_to_turns g.I.Intake.IsEnough c.loop.counter before (history c.loop.device) (history c.loop.device) i.bytes (i.so_far before fed was h)
-    (goes_on g.I.Intake.IsEnough c.is_enough-2.result (g.I.Intake.fed c.loop.held) i.bytes i.is c.is_enough-2.ensures c.if-is_enough-2.false) (omega arith))
+    of_reader (λ bytes. GrewBy (λ reads. IsRead g.I.Intake.IsEnough reads bytes Turns) before (history c.loop.device))
+    (g.I.Intake.fed c.loop.held) i.bytes i.is
+    (read_to_turns g.I.Intake.IsEnough c.loop.counter before (history c.loop.device) (history c.loop.device) i.bytes
+    (i.so_far before fed was h)
+    (goes_on g.I.Intake.IsEnough c.is_enough-2.result (g.I.Intake.fed c.loop.held) i.bytes i.is c.is_enough-2.ensures
+    c.if-is_enough-2.false) (omega arith))
 
 pub returns-else-is_enough-2-clause-known : goal.returns-else-is_enough-2-clause-known
 returns-else-is_enough-2-clause-known g c before fed was h =
     let i = c.loop.invariant in
-    of_reader (λ bytes. Consumes before (g.S.Source.remaining c.loop.device) bytes) (g.I.Intake.fed c.loop.held) i.bytes i.is (i.known before fed was h)
+    of_reader (λ bytes. Consumes before (g.S.Source.remaining c.loop.device) bytes) (g.I.Intake.fed c.loop.held) i.bytes i.is
+    (i.known before fed was h)

@@ -6,4 +6,5 @@ invariant-loop g l =
     let history = g.S.Device.history in
     let remaining = g.S.Source.remaining in
     let fed = g.I.Intake.fed in
-    SoFar g.I.Intake.IsEnough (fed l.fn.held) (fed l.held) l.made l.counter (history l.fn.device) (history l.device) (remaining l.fn.device) (remaining l.device)
+    SoFar g.I.Intake.IsEnough (fed l.fn.held) (fed l.held) l.made l.counter (history l.fn.device) (history l.device) (remaining l.fn.device)
+    (remaining l.device)

@@ -15,10 +15,13 @@ pub returns-in_err-stop-clause-refused : goal.returns-in_err-stop-clause-refused
 returns-in_err-stop-clause-refused g c =
     let old = g.S.Device.history c.args.device.now in
     let new = g.S.Device.history c.read_copy_on.new.device in
-    let made = error_at _ (λ _. take.OutOfMemory) (λ e r made. search rules) c.read_copy_on.result c.map_err.result c.in_err-stop.field-0.0 c.map_err.ensures.cases c.in_err-stop.was in
-    let in_part = IfErr-at_err _ made.2 (c.read_copy_on.ensures.refused old [] c.new-reader.ensures (nothing_read IsCopyDone 0 old old old [])) in
+    let made = error_at _ (λ _. take.OutOfMemory) (λ e r made. search rules) c.read_copy_on.result c.map_err.result c.in_err-stop.field-0.0
+    c.map_err.ensures.cases c.in_err-stop.was in
+    let in_part = IfErr-at_err _ made.2
+    (c.read_copy_on.ensures.refused old [] c.new-reader.ensures (nothing_read IsCopyDone 0 old old old [])) in
     let p = err_from_is_err_and c.from_residual.result c.from_residual.ensures.1 in
-    rw (p.1, p.2, made.1) (grew_as (IsReadInPart IsCopyDone) (CopyStops take.OutOfMemory) old new (λ reads h. between_reads reads h) in_part)
+    rw (p.1, p.2, made.1) (grew_as (IsReadInPart IsCopyDone) (CopyStops take.OutOfMemory) old new (λ reads h. between_reads reads h)
+    in_part)
 
 pub map_err-requires-2 : goal.map_err-requires-2
 map_err-requires-2 g c = λ fault is.
@@ -44,13 +47,15 @@ returns-clause-refused g c =
     let was = value_at _ c.read_copy_on.result c.map_err.result c.in_ok-stop.stop c.map_err.ensures.cases c.in_ok-stop.was in
     let read = IfOk-at_ok _ was (c.read_copy_on.ensures.read old [] c.new-reader.ensures (nothing_read IsCopyDone 0 old old old [])) in
     error_as _ c.read_of_copy.result c.map_err-2.result _ _
-    (λ fault taken made h. whole_copy_stops c.args.source c.in_ok-stop.stop old new c.read_copy_on.new.reader fault taken read h (search rules))
+    (λ fault taken made h. whole_copy_stops c.args.source c.in_ok-stop.stop old new c.read_copy_on.new.reader fault taken read h
+    (search rules))
     c.map_err-2.ensures.cases c.read_of_copy.ensures.refused
 
 pub returns-in_err-stop-clause-known_refused : goal.returns-in_err-stop-clause-known_refused
 returns-in_err-stop-clause-known_refused g c held =
     let before = g.S.Source.remaining c.args.device.now in
-    let made = error_at _ (λ _. take.OutOfMemory) (λ e r made. search rules) c.read_copy_on.result c.map_err.result c.in_err-stop.field-0.0 c.map_err.ensures.cases c.in_err-stop.was in
+    let made = error_at _ (λ _. take.OutOfMemory) (λ e r made. search rules) c.read_copy_on.result c.map_err.result c.in_err-stop.field-0.0
+    c.map_err.ensures.cases c.in_err-stop.was in
     let p = err_from_is_err_and c.from_residual.result c.from_residual.ensures.1 in
     rw (p.1, p.2, made.1) (ran_out c.args.source held before)
 
@@ -69,7 +74,8 @@ returns-clause-known_refused g c held =
     let was = value_at _ c.read_copy_on.result c.map_err.result c.in_ok-stop.stop c.map_err.ensures.cases c.in_ok-stop.was in
     let prefix = IfOk-at_ok _ was (c.read_copy_on.ensures.known before [] c.new-reader.ensures (consumes_nothing before)) in
     error_as _ c.read_of_copy.result c.map_err-2.result _ _
-    (λ fault taken made h. known_copy_stops c.args.source held c.in_ok-stop.stop before c.read_copy_on.new.reader fault taken prefix h (search rules))
+    (λ fault taken made h. known_copy_stops c.args.source held c.in_ok-stop.stop before c.read_copy_on.new.reader fault taken prefix h
+    (search rules))
     c.map_err-2.ensures.cases c.read_of_copy.ensures.refused
 
 pub returns-clause-known_count : goal.returns-clause-known_count

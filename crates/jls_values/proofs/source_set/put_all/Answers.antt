@@ -20,9 +20,12 @@ loop-number-preserved c =
     let left = c.move_up_to-left.result.now in
     let old = set.from_list {R = nat_cmp} (c.args.numbers.now.items ++ c.args.above.now) in
     record {
-      sources = c.put.ensures.sources left (subst IsSourceList (sym c.move_up_to-left.ensures.moved) c.loop-number.invariant.sources) c.move_up_to-left.ensures.above;
+      sources = c.put.ensures.sources left (subst IsSourceList (sym c.move_up_to-left.ensures.moved) c.loop-number.invariant.sources)
+          c.move_up_to-left.ensures.above;
       held = from_list-insert-before c.move_up_to-left.new.numbers.items c.put.new.numbers.items left x c.put.ensures.held
-          ∙ ap (λ (s : set.OrderedSet nat_cmp). set.insert s x) (ap set.from_list c.move_up_to-left.ensures.moved ∙ c.loop-number.invariant.held)
-          ∙ sym (insert_all-append old (take k others) (x ∷ [])) ∙ ap (set.insert_all old) (sym (take_more others k 0 c.loop-number-test.true));
+          ∙ ap (λ (s : set.OrderedSet nat_cmp). set.insert s x)
+          (ap set.from_list c.move_up_to-left.ensures.moved ∙ c.loop-number.invariant.held)
+          ∙ sym (insert_all-append old (take k others) (x ∷ []))
+          ∙ ap (set.insert_all old) (sym (take_more others k 0 c.loop-number-test.true));
       room = omega arith;
     }

@@ -13,7 +13,8 @@ with_scan-requires c =
     let o = c.args.options.now in
     let end = c.scan_count-first-end.ensures.value in
     subst (λ n. IsScanFrom pic o c.loop-first.first n) (sym c.components_of_scan-count.ensures)
-    (scan_fits pic o c.loop-first.first c.requires.fit c.scan_count-first-end.ensures.ranges c.requires.params (omega (arith, end, c.loop-first-test.true)))
+    (scan_fits pic o c.loop-first.first c.requires.fit c.scan_count-first-end.ensures.ranges c.requires.params
+    (omega (arith, end, c.loop-first-test.true)))
 
 pub loop-first-preserved : goal.loop-first-preserved
 loop-first-preserved c =
@@ -21,7 +22,8 @@ loop-first-preserved c =
     let o = c.args.options.now in
     let before = c.loop-first.file.front.items ++ c.loop-first.file.back.items in
     let after = c.in_ok-file.file.front.items ++ c.in_ok-file.file.back.items in
-    let more = subst (λ n. after ≡ before ++ scan_bytes pic (scan_from pic o c.loop-first.first n)) c.components_of_scan-count.ensures c.in_ok-file.ensures in
+    let more = subst (λ n. after ≡ before ++ scan_bytes pic (scan_from pic o c.loop-first.first n)) c.components_of_scan-count.ensures
+    c.in_ok-file.ensures in
     joined_more (λ first. scan_bytes pic (scan_from pic o first (components_of_scan pic.shape o))) c.loop-first.first
     (c.args.begun.front.items ++ c.args.begun.back.items) before after c.loop-first.invariant more
 
@@ -33,4 +35,5 @@ returns c =
     let f : ℕ → List ℕ = λ first. scan_bytes pic (scan_from pic o first (components_of_scan pic.shape o)) in
     let end = c.scan_count-first-end.ensures.value in
     let at : c.loop-first.first ≡ scan_count pic o = omega (arith, end) in
-    c.loop-first.invariant ∙ (ap (λ n. begun ++ flat_map f (range_with_len 0 n)) at ∙ ap (λ t. begun ++ t) (sym (made_of_scans (λ components. scan_bytes pic (scan_of pic o components)) pic o)))
+    c.loop-first.invariant ∙ (ap (λ n. begun ++ flat_map f (range_with_len 0 n)) at
+    ∙ ap (λ t. begun ++ t) (sym (made_of_scans (λ components. scan_bytes pic (scan_of pic o components)) pic o)))

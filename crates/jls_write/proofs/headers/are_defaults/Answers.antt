@@ -21,4 +21,5 @@ returns-clause-value c =
     let high = c.precision.ensures.ranges.precision_at_most in
     let given = defaults_are c.precision.result (omega (arith, value, low)) (omega (arith, value, high)) in
     let is : c.in-Ok.defaults ≡ in_force c.precision.result no_presets = one_value c.new.result _ _ c.in-Ok.is (c.new.ensures ∙ given) in
-    c.same_values.ensures ∙ ap (λ (d : CodingParameters). are_values_of d c.args.params.now) (is ∙ ap (λ (n : ℕ). in_force n no_presets) value)
+    c.same_values.ensures ∙ ap (λ (d : CodingParameters). are_values_of d c.args.params.now)
+    (is ∙ ap (λ (n : ℕ). in_force n no_presets) value)

@@ -15,17 +15,21 @@ rows_are : (pic : WholePicture) (s : Scan) (k first end : ℕ) (lines : List (Li
     → lines ≡ flat_map (spec.row_lines pic s.components) (range_with_len first (end - first)) → lines ≡ spec.interval_lines pic s k
 rows_are pic s k first end lines first_is end_is is =
     let size : end - first ≡ row_count s k = omega arith in
-    is ∙ ap (λ n. flat_map (spec.row_lines pic s.components) (range_with_len first n)) size ∙ ap (λ n. flat_map (spec.row_lines pic s.components) (range_with_len n (row_count s k))) first_is
+    is ∙ ap (λ n. flat_map (spec.row_lines pic s.components) (range_with_len first n)) size
+    ∙ ap (λ n. flat_map (spec.row_lines pic s.components) (range_with_len n (row_count s k))) first_is
 
 pub encode_interval-requires : goal.encode_interval-requires
 encode_interval-requires c =
     let part = c.args.part.now in
     let pic = part.picture.now in
     let width_is : c.width-width.result ≡ pic.shape.width = c.width-width.ensures.value ∙ ap (λ shape. shape.width) c.shape.ensures in
-    let deref_is : map (λ line. line.now) c.deref.result.now ≡ map (λ line. line.now) c.in_ok-lines.lines.items = ap (map (λ line. line.now)) c.deref.ensures.value in
-    let lines_are = rows_are pic (scan_from pic part.options part.first part.count) c.args.interval c.rows-first.result.0 c.rows-first.result.1 (map (λ line. line.now) c.in_ok-lines.lines.items)
+    let deref_is : map (λ line. line.now) c.deref.result.now ≡ map (λ line. line.now) c.in_ok-lines.lines.items =
+    ap (map (λ line. line.now)) c.deref.ensures.value in
+    let lines_are = rows_are pic (scan_from pic part.options part.first part.count) c.args.interval c.rows-first.result.0
+    c.rows-first.result.1 (map (λ line. line.now) c.in_ok-lines.lines.items)
     c.rows-first.ensures.first c.rows-first.ensures.count c.in_ok-lines.ensures.lines in
-    let fit = lines_fit pic part.options part.first part.count c.args.interval (map (λ line. line.now) c.in_ok-lines.lines.items) c.requires.part c.requires.interval lines_are c.in_ok-lines.ensures.each in
+    let fit = lines_fit pic part.options part.first part.count c.args.interval (map (λ line. line.now) c.in_ok-lines.lines.items)
+    c.requires.part c.requires.interval lines_are c.in_ok-lines.ensures.each in
     rw (width_is, c.params.ensures, deref_is) fit
 
 pub returns : goal.returns
@@ -33,13 +37,20 @@ returns c =
     let part = c.args.part.now in
     let pic = part.picture.now in
     let width_is : c.width-width.result ≡ pic.shape.width = c.width-width.ensures.value ∙ ap (λ shape. shape.width) c.shape.ensures in
-    let deref_is : map (λ line. line.now) c.deref.result.now ≡ map (λ line. line.now) c.in_ok-lines.lines.items = ap (map (λ line. line.now)) c.deref.ensures.value in
-    let lines_are = rows_are pic (scan_from pic part.options part.first part.count) c.args.interval c.rows-first.result.0 c.rows-first.result.1 (map (λ line. line.now) c.in_ok-lines.lines.items)
+    let deref_is : map (λ line. line.now) c.deref.result.now ≡ map (λ line. line.now) c.in_ok-lines.lines.items =
+    ap (map (λ line. line.now)) c.deref.ensures.value in
+    let lines_are = rows_are pic (scan_from pic part.options part.first part.count) c.args.interval c.rows-first.result.0
+    c.rows-first.result.1 (map (λ line. line.now) c.in_ok-lines.lines.items)
     c.rows-first.ensures.first c.rows-first.ensures.count c.in_ok-lines.ensures.lines in
-    let code_is : packed c.params.result c.width-width.result part.count (map (λ line. line.now) c.deref.result.now) ≡ spec.interval_code pic (scan_from pic part.options part.first part.count) c.args.interval =
+    let code_is : packed c.params.result c.width-width.result part.count (map (λ line. line.now) c.deref.result.now)
+    ≡ spec.interval_code pic (scan_from pic part.options part.first part.count) c.args.interval =
     ap (λ (p : CodingParameters). packed p c.width-width.result part.count (map (λ line. line.now) c.deref.result.now)) c.params.ensures
     ∙ ap (λ w. packed part.options.params w part.count (map (λ line. line.now) c.deref.result.now)) width_is
     ∙ ap (packed part.options.params pic.shape.width part.count) (deref_is ∙ lines_are)
-    ∙ ap (λ n. packed part.options.params pic.shape.width n (spec.interval_lines pic (scan_from pic part.options part.first part.count) c.args.interval)) (sym (length_range part.first part.count)) in
-    IfOk-weaker c.encode_interval.result (λ bytes. bytes.items ≡ packed c.params.result c.width-width.result part.count (map (λ line. line.now) c.deref.result.now))
-    (λ bytes. bytes.items ≡ spec.interval_code pic (scan_from pic part.options part.first part.count) c.args.interval) (λ bytes is. is ∙ code_is) c.encode_interval.ensures.packed
+    ∙ ap (λ n. packed part.options.params pic.shape.width n
+    (spec.interval_lines pic (scan_from pic part.options part.first part.count) c.args.interval))
+    (sym (length_range part.first part.count)) in
+    IfOk-weaker c.encode_interval.result
+    (λ bytes. bytes.items ≡ packed c.params.result c.width-width.result part.count (map (λ line. line.now) c.deref.result.now))
+    (λ bytes. bytes.items ≡ spec.interval_code pic (scan_from pic part.options part.first part.count) c.args.interval)
+    (λ bytes is. is ∙ code_is) c.encode_interval.ensures.packed

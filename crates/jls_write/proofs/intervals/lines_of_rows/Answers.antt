@@ -11,7 +11,8 @@ loop-row-preserved c =
     let components = range_with_len part.first part.count in
     let low : c.args.first ≤ row = omega arith in
     record {
-      lines = c.in_ok-push_row.ensures.lines ∙ ap (λ (t : List (List ℕ)). t ++ spec.row_lines part.picture.now components row) c.loop-row.invariant.lines
+      lines = c.in_ok-push_row.ensures.lines
+          ∙ ap (λ (t : List (List ℕ)). t ++ spec.row_lines part.picture.now components row) c.loop-row.invariant.lines
           ∙ sym (flat_map_from_more (spec.row_lines part.picture.now components) c.args.first row low);
       each = c.in_ok-push_row.ensures.each c.loop-row.invariant.each;
     }

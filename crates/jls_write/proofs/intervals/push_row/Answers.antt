@@ -20,11 +20,15 @@ loop-component-preserved c =
     ∙ ap (λ (t : List ℕ). before ++ t ∷ []) c.line.ensures.value in
     let is_line : IsLine part.options.params pic.shape.width line = (
       ap length (sym c.line.ensures.value) ∙ c.line.ensures.width,
-      all_by (λ sample. sample ≤ part.options.params.maxval) line (c.requires.part.fit.samples k (let within = c.requires.part.within in omega arith) c.args.row c.requires.row),
+      all_by (λ sample. sample ≤ part.options.params.maxval) line
+          (c.requires.part.fit.samples k (let within = c.requires.part.within in omega arith) c.args.row c.requires.row),
     ) in
     record {
       lines = new_is ∙ ap (λ (t : List (List ℕ)). t ++ line ∷ []) c.loop-component.invariant.lines
-          ∙ append_assoc (map (λ line. line.now) c.args.lines.now.items) (map (λ i. line_of pic i c.args.row) (range_with_len part.first (k - part.first))) (line ∷ [])
-          ∙ ap (λ (t : List (List ℕ)). map (λ line. line.now) c.args.lines.now.items ++ t) (sym (map_more (λ i. line_of pic i c.args.row) part.first k low));
-      each = λ old. subst (AllByRecursion (IsLine part.options.params pic.shape.width)) (sym new_is) (all_more (IsLine part.options.params pic.shape.width) before line (c.loop-component.invariant.each old) is_line);
+          ∙ append_assoc (map (λ line. line.now) c.args.lines.now.items)
+          (map (λ i. line_of pic i c.args.row) (range_with_len part.first (k - part.first))) (line ∷ [])
+          ∙ ap (λ (t : List (List ℕ)). map (λ line. line.now) c.args.lines.now.items ++ t)
+          (sym (map_more (λ i. line_of pic i c.args.row) part.first k low));
+      each = λ old. subst (AllByRecursion (IsLine part.options.params pic.shape.width)) (sym new_is)
+          (all_more (IsLine part.options.params pic.shape.width) before line (c.loop-component.invariant.each old) is_line);
     }

@@ -8,5 +8,6 @@ returns-clause-value c =
     let width : c.from-width.result ≡ shape.width = cc in
     let at : c.from.result * c.from-width.result ≡ c.args.line * shape.width = cc in
     let start = c.from.result * c.from-width.result in
-    cut_out start (start + c.from-width.result - start) shape.width c.args.line c.component_of-lines.result.now _ at (omega (arith, width)) c.component_of-lines.ensures.value
+    cut_out start (start + c.from-width.result - start) shape.width c.args.line c.component_of-lines.result.now _ at (omega (arith, width))
+    c.component_of-lines.ensures.value
     ∙ sym (lent_line shape c.args.samples.now c.args.component c.args.line c.requires.component_in c.requires.line_in)

@@ -21,4 +21,5 @@ pub returns-clause-width : goal.returns-clause-width
 returns-clause-width c = (fits_shape c.args.partial.now.shape c.args.component c.args.line c.reading.result.now c.reading.ensures.fitting).0
 
 pub returns-clause-samples : goal.returns-clause-samples
-returns-clause-samples c = (fits_shape c.args.partial.now.shape c.args.component c.args.line c.reading.result.now c.reading.ensures.fitting).1
+returns-clause-samples c = (fits_shape c.args.partial.now.shape c.args.component c.args.line c.reading.result.now
+    c.reading.ensures.fitting).1

@@ -4,4 +4,5 @@ use Rattle.jls_write.specs.Picture.{line_of}
 use Rattle.jls_write.proofs.options.is_within.Given as goal
 
 abbrev pub invariant-loop-component : goal.invariant-loop-component
-invariant-loop-component l = (k : ℕ) → k < l.component → (line : ℕ) → line < l.picture.shape.height → All (λ sample. sample ≤ l.most) (line_of l.picture k line)
+invariant-loop-component l = (k : ℕ) → k < l.component → (line : ℕ) → line < l.picture.shape.height
+    → All (λ sample. sample ≤ l.most) (line_of l.picture k line)

@@ -12,7 +12,8 @@ put_sample-requires c =
     let room = c.requires.room in
     record {
       room = omega (arith, so_far, few, room);
-      fits = λ narrow. fits c.args.wide c.args.lines.now c.args.column c.loop-line.line-index _ c.requires.they_fit c.loop-line-test.true narrow;
+      fits = λ narrow. fits c.args.wide c.args.lines.now c.args.column c.loop-line.line-index _ c.requires.they_fit c.loop-line-test.true
+          narrow;
     }
 
 pub loop-line-preserved : goal.loop-line-preserved
@@ -20,7 +21,8 @@ loop-line-preserved c =
     let so_far = c.loop-line.invariant.len in
     let len = c.put_sample.ensures.len in
     record {
-      items = put_more c.args.wide c.args.lines.now c.args.column c.loop-line.line-index _ c.args.bytes.now.items c.loop-line.bytes.items c.put_sample.new.bytes.items
+      items = put_more c.args.wide c.args.lines.now c.args.column c.loop-line.line-index _ c.args.bytes.now.items c.loop-line.bytes.items
+          c.put_sample.new.bytes.items
           c.loop-line-test.true c.loop-line.invariant.items c.put_sample.ensures.items;
       len = omega (arith, so_far, len);
     }

@@ -10,7 +10,8 @@ put_column-requires c =
     let inside = c.loop-column-test.true in
     record {
       room = omega (arith, so_far, inside, c.requires.few, c.requires.room);
-      they_fit = lines_to_fewer c.args.wide c.args.end (c.loop-column.column + 1) (lent c.args.lines.now) (omega (arith, inside)) c.requires.they_fit;
+      they_fit = lines_to_fewer c.args.wide c.args.end (c.loop-column.column + 1) (lent c.args.lines.now) (omega (arith, inside))
+          c.requires.they_fit;
     }
 
 pub loop-column-preserved : goal.loop-column-preserved
@@ -19,7 +20,8 @@ loop-column-preserved c =
     let len = c.put_column.ensures.len in
     let low = c.loop-column.auto.column in
     record {
-      items = put_from_more (column_bytes c.args.wide (lent c.args.lines.now)) c.args.start c.loop-column.column c.args.bytes.now.items c.loop-column.bytes.items c.put_column.new.bytes.items
+      items = put_from_more (column_bytes c.args.wide (lent c.args.lines.now)) c.args.start c.loop-column.column c.args.bytes.now.items
+          c.loop-column.bytes.items c.put_column.new.bytes.items
           low c.loop-column.invariant.items c.put_column.ensures.items;
       len = omega (arith, so_far, len, low);
     }

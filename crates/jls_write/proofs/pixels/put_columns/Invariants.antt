@@ -5,6 +5,7 @@ use Rattle.jls_write.proofs.pixels.put_columns.Given as goal
 
 abbrev pub invariant-loop-column : goal.invariant-loop-column
 invariant-loop-column l = record {
-  items : l.bytes.items ≡ l.fn.bytes.items ++ flat_map (column_bytes l.wide (map (λ line. line.now) l.lines)) (range_with_len l.start (l.column - l.start));
+  items : l.bytes.items ≡ l.fn.bytes.items
+      ++ flat_map (column_bytes l.wide (map (λ line. line.now) l.lines)) (range_with_len l.start (l.column - l.start));
   len : length l.bytes.items ≤ length l.fn.bytes.items + 8 * (l.column - l.start);
 }

@@ -24,7 +24,8 @@ loop-column-preserved c =
     let low = c.loop-column.auto.column in
     let of : ℕ → List ℕ = λ column. sample_bytes c.args.wide (get_or c.args.line.now column 0) in
     record {
-      items = put_from_more of c.args.start c.loop-column.column c.args.bytes.now.items c.loop-column.bytes.items c.put_sample.new.bytes.items
+      items = put_from_more of c.args.start c.loop-column.column c.args.bytes.now.items c.loop-column.bytes.items
+          c.put_sample.new.bytes.items
           low c.loop-column.invariant.items c.put_sample.ensures.items;
       len = omega (arith, so_far, len, low);
     }

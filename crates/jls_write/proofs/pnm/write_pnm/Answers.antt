@@ -13,11 +13,14 @@ returns-clause-all g c =
     let pic = c.args.picture.now in
     let waits = c.write_raster.new.waiting.bytes.items in
     let put = c.in_ok-write_raster.ensures.all in
-    let header_is : c.of-waiting.result.bytes.items ≡ pnm_header pic.shape = c.of-waiting.ensures.items ∙ c.deref.ensures.0 ∙ c.pnm_header.ensures ∙ ap pnm_header c.shape.ensures in
+    let header_is : c.of-waiting.result.bytes.items ≡ pnm_header pic.shape = c.of-waiting.ensures.items ∙ c.deref.ensures.0
+    ∙ c.pnm_header.ensures ∙ ap pnm_header c.shape.ensures in
     let all_is : put.out ++ waits ≡ pnm pic = sym put.all ∙ ap (λ (t : List ℕ). t ++ raster pic) header_is in
     on_ok_weaker c.hand_out.result (λ rest.
-    subst (λ (t : List ℕ). HandedOut (history c.args.sink.now) (history c.hand_out.new.sink) (contents c.args.sink.now) (contents c.hand_out.new.sink) t) all_is
-    (handed_on (history c.args.sink.now) (history c.write_raster.new.sink) (history c.hand_out.new.sink) (contents c.args.sink.now) (contents c.write_raster.new.sink) (contents c.hand_out.new.sink)
+    subst (λ (t : List ℕ). HandedOut (history c.args.sink.now) (history c.hand_out.new.sink) (contents c.args.sink.now)
+    (contents c.hand_out.new.sink) t) all_is
+    (handed_on (history c.args.sink.now) (history c.write_raster.new.sink) (history c.hand_out.new.sink) (contents c.args.sink.now)
+    (contents c.write_raster.new.sink) (contents c.hand_out.new.sink)
     put.out waits put.handed rest)) c.hand_out.ensures.all
 
 pub returns-clause-prefix : goal.returns-clause-prefix
@@ -30,10 +33,16 @@ returns-clause-prefix g c =
     let put = c.in_ok-write_raster.ensures.all in
     let begun = c.of-waiting.ensures.gone in
     let counted = put.counted in
-    let header_is : c.of-waiting.result.bytes.items ≡ pnm_header pic.shape = c.of-waiting.ensures.items ∙ c.deref.ensures.0 ∙ c.pnm_header.ensures ∙ ap pnm_header c.shape.ensures in
-    let all_is : pnm pic ≡ put.out ++ waits ++ [] = sym (append-nil (put.out ++ waits) ∙ sym put.all ∙ ap (λ (t : List ℕ). t ++ raster pic) header_is) in
+    let header_is : c.of-waiting.result.bytes.items ≡ pnm_header pic.shape = c.of-waiting.ensures.items ∙ c.deref.ensures.0
+    ∙ c.pnm_header.ensures ∙ ap pnm_header c.shape.ensures in
+    let all_is : pnm pic ≡ put.out ++ waits ++ [] =
+    sym (append-nil (put.out ++ waits) ∙ sym put.all ∙ ap (λ (t : List ℕ). t ++ raster pic) header_is) in
     if_err_weaker c.hand_out.result
-    (λ fault. StoppedBy fault gone (HandedPrefix (history c.write_raster.new.sink) (history c.hand_out.new.sink) (contents c.write_raster.new.sink) (contents c.hand_out.new.sink) waits))
-    (λ fault. StoppedBy fault 0 (HandedPrefix (history c.args.sink.now) (history c.hand_out.new.sink) (contents c.args.sink.now) (contents c.hand_out.new.sink) (pnm pic)))
-    (λ fault stopped. stopped_on (history c.args.sink.now) (history c.write_raster.new.sink) (history c.hand_out.new.sink) (contents c.args.sink.now) (contents c.write_raster.new.sink) (contents c.hand_out.new.sink)
+    (λ fault. StoppedBy fault gone
+    (HandedPrefix (history c.write_raster.new.sink) (history c.hand_out.new.sink) (contents c.write_raster.new.sink)
+    (contents c.hand_out.new.sink) waits))
+    (λ fault. StoppedBy fault 0 (HandedPrefix (history c.args.sink.now) (history c.hand_out.new.sink) (contents c.args.sink.now)
+    (contents c.hand_out.new.sink) (pnm pic)))
+    (λ fault stopped. stopped_on (history c.args.sink.now) (history c.write_raster.new.sink) (history c.hand_out.new.sink)
+    (contents c.args.sink.now) (contents c.write_raster.new.sink) (contents c.hand_out.new.sink)
     fault 0 gone put.out waits [] (pnm pic) (omega (arith, counted, begun)) all_is put.handed stopped) c.hand_out.ensures.prefix

@@ -18,10 +18,12 @@ write_row-requires-clause-early g c =
     let few = subst (λ (s : PictureShape). length s.ids ≤ 4) c.shape-2.ensures c.height-row-end.ensures.ranges.ids_at_most in
     let narrow = subst (λ (s : PictureShape). s.width < 2 ^ 16) c.shape-2.ensures c.height-row-end.ensures.ranges.width_below in
     let low = subst (λ (s : PictureShape). s.height < 2 ^ 16) c.shape-2.ensures c.height-row-end.ensures.ranges.height_below in
-    let height_is : c.height-row-end.result ≡ pic.shape.height = c.height-row-end.ensures.value ∙ ap (λ (s : PictureShape). s.height) c.shape-2.ensures in
+    let height_is : c.height-row-end.result ≡ pic.shape.height = c.height-row-end.ensures.value
+    ∙ ap (λ (s : PictureShape). s.height) c.shape-2.ensures in
     let so_far = length-flat_map-le (row_bytes pic) 524280 (λ row. row_at_most pic row few narrow) 0 c.loop-row.row in
     let gone = gone_at_most (history c.args.sink.now) (history c.loop-row.sink) (contents c.args.sink.now) (contents c.loop-row.sink)
-    c.args.waiting.now.bytes.items c.args.waiting.now.gone c.loop-row.waiting.bytes.items c.loop-row.waiting.gone (flat_map (row_bytes pic) (range_with_len 0 c.loop-row.row)) c.loop-row.invariant.put in
+    c.args.waiting.now.bytes.items c.args.waiting.now.gone c.loop-row.waiting.bytes.items c.loop-row.waiting.gone
+    (flat_map (row_bytes pic) (range_with_len 0 c.loop-row.row)) c.loop-row.invariant.put in
     omega (arith, so_far, gone, low, height_is, c.loop-row-test.true, c.requires.begun, c.requires.few)
 
 pub returns-in_err-write_row-clause-prefix : goal.returns-in_err-write_row-clause-prefix
@@ -30,14 +32,19 @@ returns-in_err-write_row-clause-prefix g c =
     let contents = g.W.Sink.contents in
     let pic = c.args.picture.now in
     let row = c.loop-row.row in
-    let height_is : c.height-row-end.result ≡ pic.shape.height = c.height-row-end.ensures.value ∙ ap (λ (s : PictureShape). s.height) c.shape-2.ensures in
+    let height_is : c.height-row-end.result ≡ pic.shape.height = c.height-row-end.ensures.value
+    ∙ ap (λ (s : PictureShape). s.height) c.shape-2.ensures in
     let low : row ≤ row + 1 = omega arith in
     let high : row + 1 ≤ pic.shape.height = omega (arith, height_is, c.loop-row-test.true) in
     let p = err_from_is_err_and c.from_residual.result c.from_residual.ensures.1 in
-    rw (p.1, p.2) (stopped_after (history c.args.sink.now) (history c.loop-row.sink) (history c.write_row.new.sink) (contents c.args.sink.now) (contents c.loop-row.sink) (contents c.write_row.new.sink)
-    c.in_err-write_row.field-0.0 c.args.waiting.now.bytes.items c.args.waiting.now.gone c.loop-row.waiting.bytes.items c.loop-row.waiting.gone
-    (flat_map (row_bytes pic) (range_with_len 0 row)) (row_bytes pic row) (flat_map (row_bytes pic) (range_with_len (row + 1) (pic.shape.height - (row + 1)))) (raster pic)
-    (three_parts (row_bytes pic) row (row + 1) pic.shape.height (row_bytes pic row) low high (sym (flat_map_one (row_bytes pic) row))) c.loop-row.invariant.put c.in_err-write_row.ensures.prefix)
+    rw (p.1, p.2) (stopped_after (history c.args.sink.now) (history c.loop-row.sink) (history c.write_row.new.sink)
+    (contents c.args.sink.now) (contents c.loop-row.sink) (contents c.write_row.new.sink)
+    c.in_err-write_row.field-0.0 c.args.waiting.now.bytes.items c.args.waiting.now.gone c.loop-row.waiting.bytes.items
+    c.loop-row.waiting.gone
+    (flat_map (row_bytes pic) (range_with_len 0 row)) (row_bytes pic row)
+    (flat_map (row_bytes pic) (range_with_len (row + 1) (pic.shape.height - (row + 1)))) (raster pic)
+    (three_parts (row_bytes pic) row (row + 1) pic.shape.height (row_bytes pic row) low high (sym (flat_map_one (row_bytes pic) row)))
+    c.loop-row.invariant.put c.in_err-write_row.ensures.prefix)
 
 pub loop-row-preserved : goal.loop-row-preserved
 loop-row-preserved g c =
@@ -47,10 +54,14 @@ loop-row-preserved g c =
     let row = c.loop-row.row in
     record {
       few = c.in_ok-write_row.ensures.few;
-      put = subst (λ (t : List ℕ). PutAfter (history c.args.sink.now) (history c.write_row.new.sink) (contents c.args.sink.now) (contents c.write_row.new.sink)
-          c.args.waiting.now.bytes.items c.args.waiting.now.gone c.write_row.new.waiting.bytes.items c.write_row.new.waiting.gone t) (sym (flat_map_more (row_bytes pic) row))
-          (put_on (history c.args.sink.now) (history c.loop-row.sink) (history c.write_row.new.sink) (contents c.args.sink.now) (contents c.loop-row.sink) (contents c.write_row.new.sink)
-          c.args.waiting.now.bytes.items c.args.waiting.now.gone c.loop-row.waiting.bytes.items c.loop-row.waiting.gone c.write_row.new.waiting.bytes.items c.write_row.new.waiting.gone
+      put = subst (λ (t : List ℕ). PutAfter (history c.args.sink.now) (history c.write_row.new.sink) (contents c.args.sink.now)
+          (contents c.write_row.new.sink)
+          c.args.waiting.now.bytes.items c.args.waiting.now.gone c.write_row.new.waiting.bytes.items c.write_row.new.waiting.gone t)
+          (sym (flat_map_more (row_bytes pic) row))
+          (put_on (history c.args.sink.now) (history c.loop-row.sink) (history c.write_row.new.sink) (contents c.args.sink.now)
+          (contents c.loop-row.sink) (contents c.write_row.new.sink)
+          c.args.waiting.now.bytes.items c.args.waiting.now.gone c.loop-row.waiting.bytes.items c.loop-row.waiting.gone
+          c.write_row.new.waiting.bytes.items c.write_row.new.waiting.gone
           (flat_map (row_bytes pic) (range_with_len 0 row)) (row_bytes pic row) c.loop-row.invariant.put c.in_ok-write_row.ensures.all);
     }
 
@@ -62,8 +73,10 @@ returns-clause-early g c =
     let few = subst (λ (s : PictureShape). length s.ids ≤ 4) c.shape-2.ensures c.height-row-end.ensures.ranges.ids_at_most in
     let narrow = subst (λ (s : PictureShape). s.width < 2 ^ 16) c.shape-2.ensures c.height-row-end.ensures.ranges.width_below in
     let low = subst (λ (s : PictureShape). s.height < 2 ^ 16) c.shape-2.ensures c.height-row-end.ensures.ranges.height_below in
-    let height_is : c.height-row-end.result ≡ pic.shape.height = c.height-row-end.ensures.value ∙ ap (λ (s : PictureShape). s.height) c.shape-2.ensures in
+    let height_is : c.height-row-end.result ≡ pic.shape.height = c.height-row-end.ensures.value
+    ∙ ap (λ (s : PictureShape). s.height) c.shape-2.ensures in
     let so_far = length-flat_map-le (row_bytes pic) 524280 (λ row. row_at_most pic row few narrow) 0 c.loop-row.row in
     let gone = gone_at_most (history c.args.sink.now) (history c.loop-row.sink) (contents c.args.sink.now) (contents c.loop-row.sink)
-    c.args.waiting.now.bytes.items c.args.waiting.now.gone c.loop-row.waiting.bytes.items c.loop-row.waiting.gone (flat_map (row_bytes pic) (range_with_len 0 c.loop-row.row)) c.loop-row.invariant.put in
+    c.args.waiting.now.bytes.items c.args.waiting.now.gone c.loop-row.waiting.bytes.items c.loop-row.waiting.gone
+    (flat_map (row_bytes pic) (range_with_len 0 c.loop-row.row)) c.loop-row.invariant.put in
     omega (arith, so_far, gone, low, height_is, c.loop-row.auto.row-end, c.requires.begun, c.requires.few)

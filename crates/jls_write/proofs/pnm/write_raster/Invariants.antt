@@ -11,5 +11,6 @@ invariant-loop-row g l =
     record {
       few : length l.waiting.bytes.items < 4096;
       put : PutAfter (history l.fn.sink) (history l.sink) (contents l.fn.sink) (contents l.sink)
-          l.fn.waiting.bytes.items l.fn.waiting.gone l.waiting.bytes.items l.waiting.gone (flat_map (row_bytes l.picture) (range_with_len 0 l.row));
+          l.fn.waiting.bytes.items l.fn.waiting.gone l.waiting.bytes.items l.waiting.gone
+          (flat_map (row_bytes l.picture) (range_with_len 0 l.row));
     }

@@ -12,7 +12,8 @@ invariant-loop-start g l =
       within : l.start ≤ l.picture.shape.width;
       few : length l.waiting.bytes.items < 4096;
       put : PutAfter (history l.fn.sink) (history l.sink) (contents l.fn.sink) (contents l.sink)
-          l.fn.waiting.bytes.items l.fn.waiting.gone l.waiting.bytes.items l.waiting.gone (flat_map (pixel_bytes l.picture l.row) (range_with_len 0 l.start));
+          l.fn.waiting.bytes.items l.fn.waiting.gone l.waiting.bytes.items l.waiting.gone
+          (flat_map (pixel_bytes l.picture l.row) (range_with_len 0 l.start));
     }
 
 abbrev pub decreases-loop-start : goal.decreases-loop-start

@@ -16,7 +16,8 @@ write_part-requires-in-Ok g c =
     let part = c.args.part.now in
     let pic = part.picture.now in
     let s = scan_from pic part.options part.first part.count in
-    let most = marked_at_most pic part.options part.first part.count c.args.interval c.requires.part.fit c.requires.part.shape c.requires.part.params c.requires.part.of_scan in
+    let most = marked_at_most pic part.options part.first part.count c.args.interval c.requires.part.fit c.requires.part.shape
+    c.requires.part.params c.requires.part.of_scan in
     let both = length-append (before_interval pic s c.args.interval) (interval_code pic s c.args.interval) in
     let mark = ap length (c.deref.ensures.value ∙ c.in-Ok.ensures.before) in
     let code = ap length (c.deref-in-Ok.ensures.value ∙ c.in-Ok.ensures.code) in
@@ -27,7 +28,8 @@ pub returns-in-Err-clause-stops : goal.returns-in-Err-clause-stops
 returns-in-Err-clause-stops g c =
     let part = c.args.part.now in
     let pic = part.picture.now in
-    stops_at_once (g.W.Device.history c.args.sink.now) (g.W.Sink.contents c.args.sink.now) c.args.before (marked_interval pic (scan_from pic part.options part.first part.count) c.args.interval)
+    stops_at_once (g.W.Device.history c.args.sink.now) (g.W.Sink.contents c.args.sink.now) c.args.before
+    (marked_interval pic (scan_from pic part.options part.first part.count) c.args.interval)
     (marked_some pic part.options part.first part.count c.args.interval)
 
 pub returns-in_ok-count-in-Ok-clause-all : goal.returns-in_ok-count-in-Ok-clause-all
@@ -39,10 +41,13 @@ returns-in_ok-count-in-Ok-clause-all g c =
     let mark = c.deref.result.now in
     let code = c.deref-in-Ok.result.now in
     let all_is : mark ++ code ≡ marked_interval part.picture.now s c.args.interval =
-    ap (λ (t : List ℕ). t ++ code) (c.deref.ensures.value ∙ c.in-Ok.ensures.before) ∙ ap (λ (t : List ℕ). before_interval part.picture.now s c.args.interval ++ t) (c.deref-in-Ok.ensures.value ∙ c.in-Ok.ensures.code) in
+    ap (λ (t : List ℕ). t ++ code) (c.deref.ensures.value ∙ c.in-Ok.ensures.before)
+    ∙ ap (λ (t : List ℕ). before_interval part.picture.now s c.args.interval ++ t) (c.deref-in-Ok.ensures.value ∙ c.in-Ok.ensures.code) in
     on_ok_weaker c.write_part-in-Ok.result (λ second.
-    subst (λ (t : List ℕ). HandedOut (history c.args.sink.now) (history c.write_part-in-Ok.new.sink) (contents c.args.sink.now) (contents c.write_part-in-Ok.new.sink) t) all_is
-    (handed_on (history c.args.sink.now) (history c.write_part.new.sink) (history c.write_part-in-Ok.new.sink) (contents c.args.sink.now) (contents c.write_part.new.sink) (contents c.write_part-in-Ok.new.sink)
+    subst (λ (t : List ℕ). HandedOut (history c.args.sink.now) (history c.write_part-in-Ok.new.sink) (contents c.args.sink.now)
+    (contents c.write_part-in-Ok.new.sink) t) all_is
+    (handed_on (history c.args.sink.now) (history c.write_part.new.sink) (history c.write_part-in-Ok.new.sink) (contents c.args.sink.now)
+    (contents c.write_part.new.sink) (contents c.write_part-in-Ok.new.sink)
     mark code c.in_ok-count-in-Ok.ensures.all second)) c.write_part-in-Ok.ensures.all
 
 pub returns-in_ok-count-in-Ok-clause-stops : goal.returns-in_ok-count-in-Ok-clause-stops
@@ -55,11 +60,18 @@ returns-in_ok-count-in-Ok-clause-stops g c =
     let code = c.deref-in-Ok.result.now in
     let marked = marked_interval part.picture.now s c.args.interval in
     let all_is : mark ++ code ≡ marked =
-    ap (λ (t : List ℕ). t ++ code) (c.deref.ensures.value ∙ c.in-Ok.ensures.before) ∙ ap (λ (t : List ℕ). before_interval part.picture.now s c.args.interval ++ t) (c.deref-in-Ok.ensures.value ∙ c.in-Ok.ensures.code) in
+    ap (λ (t : List ℕ). t ++ code) (c.deref.ensures.value ∙ c.in-Ok.ensures.before)
+    ∙ ap (λ (t : List ℕ). before_interval part.picture.now s c.args.interval ++ t) (c.deref-in-Ok.ensures.value ∙ c.in-Ok.ensures.code) in
     if_err_weaker c.write_part-in-Ok.result
-    (λ fault. StoppedBy fault c.in_ok-count-in-Ok.count (HandedPrefix (history c.write_part.new.sink) (history c.write_part-in-Ok.new.sink) (contents c.write_part.new.sink) (contents c.write_part-in-Ok.new.sink) code))
-    (λ fault. StopsIn fault c.args.before (history c.args.sink.now) (history c.write_part-in-Ok.new.sink) (contents c.args.sink.now) (contents c.write_part-in-Ok.new.sink) marked)
-    (λ fault stopped. stops_on (history c.args.sink.now) (history c.write_part.new.sink) (history c.write_part-in-Ok.new.sink) (contents c.args.sink.now) (contents c.write_part.new.sink) (contents c.write_part-in-Ok.new.sink)
-    fault c.args.before c.in_ok-count-in-Ok.count mark code [] marked c.in_ok-count-in-Ok.ensures.count (sym (append-nil (mark ++ code) ∙ all_is)) c.in_ok-count-in-Ok.ensures.all
-    (stops_by (history c.write_part.new.sink) (history c.write_part-in-Ok.new.sink) (contents c.write_part.new.sink) (contents c.write_part-in-Ok.new.sink) fault c.in_ok-count-in-Ok.count code stopped))
+    (λ fault. StoppedBy fault c.in_ok-count-in-Ok.count
+    (HandedPrefix (history c.write_part.new.sink) (history c.write_part-in-Ok.new.sink) (contents c.write_part.new.sink)
+    (contents c.write_part-in-Ok.new.sink) code))
+    (λ fault. StopsIn fault c.args.before (history c.args.sink.now) (history c.write_part-in-Ok.new.sink) (contents c.args.sink.now)
+    (contents c.write_part-in-Ok.new.sink) marked)
+    (λ fault stopped. stops_on (history c.args.sink.now) (history c.write_part.new.sink) (history c.write_part-in-Ok.new.sink)
+    (contents c.args.sink.now) (contents c.write_part.new.sink) (contents c.write_part-in-Ok.new.sink)
+    fault c.args.before c.in_ok-count-in-Ok.count mark code [] marked c.in_ok-count-in-Ok.ensures.count
+    (sym (append-nil (mark ++ code) ∙ all_is)) c.in_ok-count-in-Ok.ensures.all
+    (stops_by (history c.write_part.new.sink) (history c.write_part-in-Ok.new.sink) (contents c.write_part.new.sink)
+    (contents c.write_part-in-Ok.new.sink) fault c.in_ok-count-in-Ok.count code stopped))
     c.write_part-in-Ok.ensures.prefix

@@ -19,9 +19,12 @@ returns-in_err-count-in-Ok-clause-stops g c =
     let rest = scans_bytes pic o ++ 0xFF ∷ 0xD9 ∷ [] in
     let all_is : header ++ rest ≡ written_file pic o = ap (λ (t : List ℕ). t ++ rest) (c.deref.ensures.value ∙ c.in-Ok.ensures.value) in
     let p = err_from_is_err_and c.from_residual.result c.from_residual.ensures.1 in
-    rw (p.1, p.2) (subst (λ (t : List ℕ). StopsIn c.in_err-count-in-Ok.field-0.0 0 (history c.args.sink.now) (history c.write_part.new.sink) (contents c.args.sink.now) (contents c.write_part.new.sink) t) all_is
-    (stops_first (history c.args.sink.now) (history c.write_part.new.sink) (contents c.args.sink.now) (contents c.write_part.new.sink) c.in_err-count-in-Ok.field-0.0 0 header rest
-    (stops_by (history c.args.sink.now) (history c.write_part.new.sink) (contents c.args.sink.now) (contents c.write_part.new.sink) c.in_err-count-in-Ok.field-0.0 0 header c.in_err-count-in-Ok.ensures.prefix)))
+    rw (p.1, p.2) (subst (λ (t : List ℕ). StopsIn c.in_err-count-in-Ok.field-0.0 0 (history c.args.sink.now) (history c.write_part.new.sink)
+    (contents c.args.sink.now) (contents c.write_part.new.sink) t) all_is
+    (stops_first (history c.args.sink.now) (history c.write_part.new.sink) (contents c.args.sink.now) (contents c.write_part.new.sink)
+    c.in_err-count-in-Ok.field-0.0 0 header rest
+    (stops_by (history c.args.sink.now) (history c.write_part.new.sink) (contents c.args.sink.now) (contents c.write_part.new.sink)
+    c.in_err-count-in-Ok.field-0.0 0 header c.in_err-count-in-Ok.ensures.prefix)))
 
 pub write_scans-requires-clause-early : goal.write_scans-requires-clause-early
 write_scans-requires-clause-early g c =
@@ -42,8 +45,10 @@ returns-in_err-count-in-Ok-2-clause-stops g c =
     let all_is : written_file pic o ≡ header ++ scans ++ eoi =
     ap (λ (t : List ℕ). t ++ (scans ++ eoi)) (sym (c.deref.ensures.value ∙ c.in-Ok.ensures.value)) ∙ sym (append_assoc header scans eoi) in
     let p = err_from_is_err_and c.from_residual-in_err-count-in-Ok-2.result c.from_residual-in_err-count-in-Ok-2.ensures.1 in
-    rw (p.1, p.2) (stops_on (history c.args.sink.now) (history c.write_part.new.sink) (history c.write_scans.new.sink) (contents c.args.sink.now) (contents c.write_part.new.sink) (contents c.write_scans.new.sink)
-    c.in_err-count-in-Ok-2.field-0.0 0 c.in_ok-count-in-Ok.count header scans eoi (written_file pic o) c.in_ok-count-in-Ok.ensures.count all_is c.in_ok-count-in-Ok.ensures.all c.in_err-count-in-Ok-2.ensures.stops)
+    rw (p.1, p.2) (stops_on (history c.args.sink.now) (history c.write_part.new.sink) (history c.write_scans.new.sink)
+    (contents c.args.sink.now) (contents c.write_part.new.sink) (contents c.write_scans.new.sink)
+    c.in_err-count-in-Ok-2.field-0.0 0 c.in_ok-count-in-Ok.count header scans eoi (written_file pic o) c.in_ok-count-in-Ok.ensures.count
+    all_is c.in_ok-count-in-Ok.ensures.all c.in_err-count-in-Ok-2.ensures.stops)
 
 pub write_part-requires-in-Ok : goal.write_part-requires-in-Ok
 write_part-requires-in-Ok g c =
@@ -64,8 +69,10 @@ returns-in_err-write_part-in-Ok-clause-stops g c =
     let scans = scans_bytes pic o in
     let eoi : List ℕ = 0xFF ∷ 0xD9 ∷ [] in
     let all_is : written_file pic o ≡ (header ++ scans) ++ eoi ++ [] =
-    ap (λ (t : List ℕ). t ++ (scans ++ eoi)) (sym (c.deref.ensures.value ∙ c.in-Ok.ensures.value)) ∙ sym (append_assoc header scans eoi) ∙ sym (append-nil ((header ++ scans) ++ eoi)) in
-    let both = handed_on (history c.args.sink.now) (history c.write_part.new.sink) (history c.write_scans.new.sink) (contents c.args.sink.now) (contents c.write_part.new.sink) (contents c.write_scans.new.sink)
+    ap (λ (t : List ℕ). t ++ (scans ++ eoi)) (sym (c.deref.ensures.value ∙ c.in-Ok.ensures.value)) ∙ sym (append_assoc header scans eoi)
+    ∙ sym (append-nil ((header ++ scans) ++ eoi)) in
+    let both = handed_on (history c.args.sink.now) (history c.write_part.new.sink) (history c.write_scans.new.sink)
+    (contents c.args.sink.now) (contents c.write_part.new.sink) (contents c.write_scans.new.sink)
     header scans c.in_ok-count-in-Ok.ensures.all c.in_ok-count-in-Ok-2.ensures.all in
     let sizes = length-append header scans in
     let first = c.in_ok-count-in-Ok.ensures.count in
@@ -73,9 +80,11 @@ returns-in_err-write_part-in-Ok-clause-stops g c =
     let counted : c.in_ok-count-in-Ok-2.count ≡ 0 + length (header ++ scans) = omega (arith, sizes, first, second) in
     let p = err_from_is_err_and c.from_residual-in_err-write_part-in-Ok.result c.from_residual-in_err-write_part-in-Ok.ensures.1 in
     let fault = c.in_err-write_part-in-Ok.field-0.0 in
-    rw (p.1, p.2) (stops_on (history c.args.sink.now) (history c.write_scans.new.sink) (history c.write_part-in-Ok.new.sink) (contents c.args.sink.now) (contents c.write_scans.new.sink) (contents c.write_part-in-Ok.new.sink)
+    rw (p.1, p.2) (stops_on (history c.args.sink.now) (history c.write_scans.new.sink) (history c.write_part-in-Ok.new.sink)
+    (contents c.args.sink.now) (contents c.write_scans.new.sink) (contents c.write_part-in-Ok.new.sink)
     fault 0 c.in_ok-count-in-Ok-2.count (header ++ scans) eoi [] (written_file pic o) counted all_is both
-    (stops_by (history c.write_scans.new.sink) (history c.write_part-in-Ok.new.sink) (contents c.write_scans.new.sink) (contents c.write_part-in-Ok.new.sink) fault c.in_ok-count-in-Ok-2.count eoi c.in_err-write_part-in-Ok.ensures.prefix))
+    (stops_by (history c.write_scans.new.sink) (history c.write_part-in-Ok.new.sink) (contents c.write_scans.new.sink)
+    (contents c.write_part-in-Ok.new.sink) fault c.in_ok-count-in-Ok-2.count eoi c.in_err-write_part-in-Ok.ensures.prefix))
 
 pub returns-in_ok-write_part-in-Ok-clause-all : goal.returns-in_ok-write_part-in-Ok-clause-all
 returns-in_ok-write_part-in-Ok-clause-all g c =
@@ -86,9 +95,13 @@ returns-in_ok-write_part-in-Ok-clause-all g c =
     let header = c.deref.result.now in
     let scans = scans_bytes pic o in
     let eoi : List ℕ = 0xFF ∷ 0xD9 ∷ [] in
-    let all_is : header ++ (scans ++ eoi) ≡ written_file pic o = ap (λ (t : List ℕ). t ++ (scans ++ eoi)) (c.deref.ensures.value ∙ c.in-Ok.ensures.value) in
-    let rest = handed_on (history c.write_part.new.sink) (history c.write_scans.new.sink) (history c.write_part-in-Ok.new.sink) (contents c.write_part.new.sink) (contents c.write_scans.new.sink) (contents c.write_part-in-Ok.new.sink)
+    let all_is : header ++ (scans ++ eoi) ≡ written_file pic o =
+    ap (λ (t : List ℕ). t ++ (scans ++ eoi)) (c.deref.ensures.value ∙ c.in-Ok.ensures.value) in
+    let rest = handed_on (history c.write_part.new.sink) (history c.write_scans.new.sink) (history c.write_part-in-Ok.new.sink)
+    (contents c.write_part.new.sink) (contents c.write_scans.new.sink) (contents c.write_part-in-Ok.new.sink)
     scans eoi c.in_ok-count-in-Ok-2.ensures.all c.in_ok-write_part-in-Ok.ensures.all in
-    subst (λ (t : List ℕ). HandedOut (history c.args.sink.now) (history c.write_part-in-Ok.new.sink) (contents c.args.sink.now) (contents c.write_part-in-Ok.new.sink) t) all_is
-    (handed_on (history c.args.sink.now) (history c.write_part.new.sink) (history c.write_part-in-Ok.new.sink) (contents c.args.sink.now) (contents c.write_part.new.sink) (contents c.write_part-in-Ok.new.sink)
+    subst (λ (t : List ℕ). HandedOut (history c.args.sink.now) (history c.write_part-in-Ok.new.sink) (contents c.args.sink.now)
+    (contents c.write_part-in-Ok.new.sink) t) all_is
+    (handed_on (history c.args.sink.now) (history c.write_part.new.sink) (history c.write_part-in-Ok.new.sink) (contents c.args.sink.now)
+    (contents c.write_part.new.sink) (contents c.write_part-in-Ok.new.sink)
     header (scans ++ eoi) c.in_ok-count-in-Ok.ensures.all rest)

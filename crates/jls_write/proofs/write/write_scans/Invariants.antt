@@ -11,7 +11,8 @@ invariant-loop-first g l =
     let history = g.W.Device.history in
     let contents = g.W.Sink.contents in
     let pic = l.picture in
-    let so_far = flat_map (λ first. scan_bytes pic (scan_from pic l.options first (components_of_scan pic.shape l.options))) (range_with_len 0 l.first) in
+    let so_far = flat_map (λ first. scan_bytes pic (scan_from pic l.options first (components_of_scan pic.shape l.options)))
+    (range_with_len 0 l.first) in
     record {
       counted : l.done ≡ l.fn.before + length so_far;
       out : HandedOut (history l.fn.sink) (history l.sink) (contents l.fn.sink) (contents l.sink) so_far;

@@ -12,14 +12,19 @@ returns-then-self-eq0-clause-none c =
     e ∙ ap (λ z. replicate z false) (sym (length-bits n v) ∙ ap length c.self.view_is)
 
 pub overflow_sub-result : goal.overflow_sub-result
-overflow_sub-result c = let l = below_place c.self.inside.count c.ilog2-first.result c.self.inside.value c.ilog2-first.ensures.power_le c.self.invariant.1 in omega (arith, l)
+overflow_sub-result c = let l =
+    below_place c.self.inside.count c.ilog2-first.result c.self.inside.value c.ilog2-first.ensures.power_le c.self.invariant.1 in
+    omega (arith, l)
 
 pub overflow_sub-result-2 : goal.overflow_sub-result-2
-overflow_sub-result-2 c = let l = below_place c.self.inside.count c.ilog2-first.result c.self.inside.value c.ilog2-first.ensures.power_le c.self.invariant.1 in omega (arith, l)
+overflow_sub-result-2 c = let l =
+    below_place c.self.inside.count c.ilog2-first.result c.self.inside.value c.ilog2-first.ensures.power_le c.self.invariant.1 in
+    omega (arith, l)
 
 pub returns-clause-some : goal.returns-clause-some
 returns-clause-some c =
     let n : ℕ = c.self.inside.count in let b : ℕ = c.ilog2-first.result in let v : ℕ = c.self.inside.value in
     let l = below_place n b v c.ilog2-first.ensures.power_le c.self.invariant.1 in
     let o : 1 * 2 ^ b % 18446744073709551616 ≡ 2 ^ b = one_of_64 b (let a = c.self.invariant.0 in omega arith) in
-    sym c.self.view_is ∙ after_first n b v l c.ilog2-first.ensures.power_le c.ilog2-first.ensures.next_power_gt ∙ ap (λ z. replicate (n - b - 1) false ++ true ∷ bits b (v % z)) (sym o)
+    sym c.self.view_is ∙ after_first n b v l c.ilog2-first.ensures.power_le c.ilog2-first.ensures.next_power_gt
+    ∙ ap (λ z. replicate (n - b - 1) false ++ true ∷ bits b (v % z)) (sym o)

@@ -8,10 +8,14 @@ use Rattle.jls_bits.proofs.chunk.Chunk.take_short.Goals.{then-limit-zeros-via-th
 use Rattle.jls_bits.proofs.chunk.Chunk.take_short.Goals.{then-limit-zeros-via-else-limit-zeros+then-first-k}
 
 pub overflow_sub-zeros : goal.overflow_sub-zeros
-overflow_sub-zeros c = let l = below_place c.self.inside.count c.ilog2-first.result c.self.inside.value c.ilog2-first.ensures.power_le c.self.invariant.1 in omega (arith, l)
+overflow_sub-zeros c = let l =
+    below_place c.self.inside.count c.ilog2-first.result c.self.inside.value c.ilog2-first.ensures.power_le c.self.invariant.1 in
+    omega (arith, l)
 
 pub overflow_sub-zeros-2 : goal.overflow_sub-zeros-2
-overflow_sub-zeros-2 c = let l = below_place c.self.inside.count c.ilog2-first.result c.self.inside.value c.ilog2-first.ensures.power_le c.self.invariant.1 in omega (arith, l)
+overflow_sub-zeros-2 c = let l =
+    below_place c.self.inside.count c.ilog2-first.result c.self.inside.value c.ilog2-first.ensures.power_le c.self.invariant.1 in
+    omega (arith, l)
 
 pub overflow_cast-result : goal.overflow_cast-result
 overflow_cast-result c =
@@ -21,7 +25,8 @@ overflow_cast-result c =
 
 pub returns-clause-number : goal.returns-clause-number
 returns-clause-number c =
-    one_and_bits c.ilog2-first.result c.args.k c.self.inside.value c.ilog2-first.ensures.power_le c.ilog2-first.ensures.next_power_gt (omega (arith, c.if-first-k.false))
+    one_and_bits c.ilog2-first.result c.args.k c.self.inside.value c.ilog2-first.ensures.power_le c.ilog2-first.ensures.next_power_gt
+    (omega (arith, c.if-first-k.false))
 
 pub returns-clause-some : goal.returns-clause-some
 returns-clause-some c =
@@ -31,15 +36,23 @@ returns-clause-some c =
     let n = one_and_bits b k v c.ilog2-first.ensures.power_le c.ilog2-first.ensures.next_power_gt h in
     let o : v / 2 ^ (b - k) % 2 ^ k ≡ v / 2 ^ (b - k) - 2 ^ k = without_one k (v / 2 ^ (b - k)) n.0 n.1 in
     let p : 1 * 2 ^ (b - k) % 18446744073709551616 ≡ 2 ^ (b - k) = one_of_64 (b - k) (let a = c.self.invariant.0 in omega arith) in
-    sym c.self.view_is ∙ short_prefix c.self.inside.count b k v l c.ilog2-first.ensures.power_le c.ilog2-first.ensures.next_power_gt h ∙ ap (λ z. replicate (c.self.inside.count - b - 1) false ++ true ∷ (bits k z ++ bits (b - k) (v % 2 ^ (b - k)))) o ∙ ap (λ z. replicate (c.self.inside.count - b - 1) false ++ true ∷ (bits k (v / 2 ^ (b - k) - 2 ^ k) ++ bits (b - k) (v % z))) (sym p)
+    sym c.self.view_is ∙ short_prefix c.self.inside.count b k v l c.ilog2-first.ensures.power_le c.ilog2-first.ensures.next_power_gt h
+    ∙ ap (λ z. replicate (c.self.inside.count - b - 1) false ++ true ∷ (bits k z ++ bits (b - k) (v % 2 ^ (b - k)))) o
+    ∙ ap (λ z. replicate (c.self.inside.count - b - 1) false ++ true ∷ (bits k (v / 2 ^ (b - k) - 2 ^ k) ++ bits (b - k) (v % z))) (sym p)
 
 pub returns-then-self-eq0-clause-none_stands : goal.returns-then-self-eq0-clause-none_stands
 returns-then-self-eq0-clause-none_stands c =
-    subst (NoShortPrefix c.args.limit c.args.k) c.self.view_is (no_one c.self.inside.count c.self.inside.value c.args.limit c.args.k c.if-self-eq0.true)
+    subst (NoShortPrefix c.args.limit c.args.k) c.self.view_is
+    (no_one c.self.inside.count c.self.inside.value c.args.limit c.args.k c.if-self-eq0.true)
 
 pub returns-then-limit-zeros-clause-none_stands : goal.returns-then-limit-zeros-clause-none_stands
 returns-then-limit-zeros-clause-none_stands c =
     let b : ℕ = c.ilog2-first.result in let v : ℕ = c.self.inside.value in let n : ℕ = c.self.inside.count in
     let l = below_place n b v c.ilog2-first.ensures.power_le c.self.invariant.1 in
     let none = no_short n b v c.args.limit c.args.k l c.ilog2-first.ensures.power_le c.ilog2-first.ensures.next_power_gt in
-    subst (NoShortPrefix c.args.limit c.args.k) c.self.view_is (none (elim c.then-limit-zeros.branch [ then-limit-zeros-via-then-limit-zeros w ↦ inl (omega arith) | then-limit-zeros-via-else-limit-zeros+then-first-k w ↦ inr (omega arith) ]))
+    subst (NoShortPrefix c.args.limit c.args.k) c.self.view_is
+    (none (elim c.then-limit-zeros.branch [
+      | then-limit-zeros-via-then-limit-zeros w ↦ inl (omega arith)
+      | then-limit-zeros-via-else-limit-zeros+then-first-k w ↦
+          inr (omega arith)
+    ]))

@@ -9,7 +9,8 @@ use Rattle.jls_bits.proofs.golomb_reader.GolombReader.push.Goals as goal
 
 pub unreachable-requires : goal.unreachable-requires
 unreachable-requires c =
-    begun_is_open c.self.inside.k c.self.inside.g c.self.inside.qbpp c.self.invariant.g_fits.0 c.self.inside.progress c.self.invariant.progress_is (subst (λ v. BeginsCode v.k v.g v.qbpp v.pushed) (sym c.self.view_is) c.requires) c.in_default.not-Open
+    begun_is_open c.self.inside.k c.self.inside.g c.self.inside.qbpp c.self.invariant.g_fits.0 c.self.inside.progress
+    c.self.invariant.progress_is (subst (λ v. BeginsCode v.k v.g v.qbpp v.pushed) (sym c.self.view_is) c.requires) c.in_default.not-Open
 
 pub returns-in-More-clause-done : goal.returns-in-More-clause-done
 returns-in-More-clause-done c =

@@ -6,16 +6,24 @@ use Rattle.jls_bits.proofs.packing.Packing.append.Goals as goal
 
 pub overflow_add-self : goal.overflow_add-self
 overflow_add-self c =
-    let s = c.args.self.now in let w = waiting_shifted s.count s.waiting c.args.count c.args.value c.requires.place c.requires.packing.waiting c.requires.value in
+    let s = c.args.self.now in let w =
+    waiting_shifted s.count s.waiting c.args.count c.args.value c.requires.place c.requires.packing.waiting c.requires.value in
     omega (arith, w.0, w.1)
 
 pub returns-clause-packing : goal.returns-clause-packing
 returns-clause-packing c =
     let s = c.args.self.now in let p = c.requires.packing in
-    record { filled = p.filled; last = p.last; count = c.requires.place; waiting = waiting_small s.count s.waiting c.args.count c.args.value c.requires.place p.waiting c.requires.value }
+    record {
+      filled = p.filled;
+      last = p.last;
+      count = c.requires.place;
+      waiting =
+          waiting_small s.count s.waiting c.args.count c.args.value c.requires.place p.waiting c.requires.value;
+    }
 
 pub returns-clause-bits : goal.returns-clause-bits
 unfolding bits_put
 returns-clause-bits c =
     let s = c.args.self.now in
-    waiting_bits s.count s.waiting c.args.count c.args.value c.requires.place c.requires.packing.waiting c.requires.value (bits_read s.bytes.items)
+    waiting_bits s.count s.waiting c.args.count c.args.value c.requires.place c.requires.packing.waiting c.requires.value
+    (bits_read s.bytes.items)

@@ -9,7 +9,13 @@ use Rattle.jls_bits.proofs.packing.Packing.new.Goals as goal
 pub returns-clause-packing : goal.returns-clause-packing
 returns-clause-packing c =
     let w = width_bounds 0 in
-    record { filled = subst AreFilled (sym c.new.ensures.items) (record { are_bytes = tt; whole = whole_end 0 }); last = sym (ap (last_after 0) c.new.ensures.items); count = omega (arith, w); waiting = omega arith }
+    record {
+      filled = subst AreFilled (sym c.new.ensures.items) (record { are_bytes = tt; whole = whole_end 0 });
+      last =
+          sym (ap (last_after 0) c.new.ensures.items);
+      count = omega (arith, w);
+      waiting = omega arith;
+    }
 
 pub returns-clause-none : goal.returns-clause-none
 unfolding bits_put

@@ -9,7 +9,8 @@ loop-left-preserved c =
     let l = c.loop-left in let i = l.invariant in let e = c.put_bits.ensures in
     record {
       packing = e.packing;
-      put = ap (λ z. z ++ replicate (l.left - 32) false) e.bits ∙ zeros_more (bits_put l.self) l.left 32 (omega (arith, c.loop-left-test.true)) ∙ i.put;
+      put = ap (λ z. z ++ replicate (l.left - 32) false) e.bits
+          ∙ zeros_more (bits_put l.self) l.left 32 (omega (arith, c.loop-left-test.true)) ∙ i.put;
       left = omega (arith, i.left);
       capacity = e.capacity ∙ i.capacity;
       growth = omega (arith, e.growth, i.growth, c.loop-left-test.true);

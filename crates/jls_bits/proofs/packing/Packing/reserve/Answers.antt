@@ -6,7 +6,13 @@ use Rattle.jls_bits.proofs.packing.Packing.reserve.Goals as goal
 
 pub returns-clause-packing : goal.returns-clause-packing
 returns-clause-packing c =
-    record { filled = subst AreFilled (sym c.reserve.ensures.items) c.requires.filled; last = c.requires.last ∙ sym (ap (last_after 0) c.reserve.ensures.items); count = c.requires.count; waiting = c.requires.waiting }
+    record {
+      filled = subst AreFilled (sym c.reserve.ensures.items) c.requires.filled;
+      last = c.requires.last
+          ∙ sym (ap (last_after 0) c.reserve.ensures.items);
+      count = c.requires.count;
+      waiting = c.requires.waiting;
+    }
 
 pub returns-clause-bits : goal.returns-clause-bits
 unfolding bits_put

@@ -20,5 +20,6 @@ returns-in-Some-clause-some c =
     let b = bits_none c.self.inside.byte in
     let v = ap (λ (z : Unread). z.left) c.self.view_is in
     let d = c.in-Some.ensures.bits in
-    let e = first_bit c.in-Some.count c.in-Some.byte (bits_read_after c.in-Some.byte c.in-Some.rest.now) (omega (arith, c.in-Some.ensures.count)) in
+    let e = first_bit c.in-Some.count c.in-Some.byte (bits_read_after c.in-Some.byte c.in-Some.rest.now)
+    (omega (arith, c.in-Some.ensures.count)) in
     cc

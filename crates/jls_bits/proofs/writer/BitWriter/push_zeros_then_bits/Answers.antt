@@ -8,4 +8,5 @@ append-requires-clause-value c = (zeros_in_prefix c.args.zeros c.args.count c.ar
 
 pub returns-then-has_place-clause-ok : goal.returns-then-has_place-clause-ok
 returns-then-has_place-clause-ok c =
-    c.append.ensures.bits ∙ ap (λ z. z ++ bits (c.args.zeros + c.args.count) c.args.value) c.self.view_is ∙ ap (λ z. c.args.self.now ++ z) (zeros_in_prefix c.args.zeros c.args.count c.args.value c.requires.value).0
+    c.append.ensures.bits ∙ ap (λ z. z ++ bits (c.args.zeros + c.args.count) c.args.value) c.self.view_is
+    ∙ ap (λ z. c.args.self.now ++ z) (zeros_in_prefix c.args.zeros c.args.count c.args.value c.requires.value).0

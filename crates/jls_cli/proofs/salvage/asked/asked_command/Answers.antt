@@ -37,7 +37,8 @@ returns-then-eq-3 c =
     let rows = rows_of found in
     let file = c.get_str-then-eq-3.ensures ∙ first_value-rows found (codes "FILE") in
     let entered = entered_rows m name rows (sym c.in-Some.ensures.name) (sym c.in-Some.ensures.rows) in
-    let named = asks_show name rows (sym c.eq.ensures ∙ c.if-eq.false) (sym c.eq-else-eq.ensures ∙ c.if-eq-2.false) (sym c.eq-else-eq-2.ensures ∙ c.if-eq-3.true) in
+    let named = asks_show name rows (sym c.eq.ensures ∙ c.if-eq.false) (sym c.eq-else-eq.ensures ∙ c.if-eq-2.false)
+    (sym c.eq-else-eq-2.ensures ∙ c.if-eq-3.true) in
     c.asked_show.ensures ∙ ((λ i. spec.asked_show (file i)) ∙ sym (asked_entered m name rows _ entered named))
 
 pub returns-then-eq-4 : goal.returns-then-eq-4
@@ -55,4 +56,5 @@ returns-then-eq-4 c =
     let entered = entered_rows m name rows (sym c.in-Some.ensures.name) (sym c.in-Some.ensures.rows) in
     let named = asks_write name rows (sym c.eq.ensures ∙ c.if-eq.false) (sym c.eq-else-eq.ensures ∙ c.if-eq-2.false)
     (sym c.eq-else-eq-2.ensures ∙ c.if-eq-3.false) (sym c.eq-else-eq-3.ensures ∙ c.if-eq-4.true) in
-    c.asked_write.ensures ∙ ((λ i. spec.asked_write (format i) (options i) (out i) (file i)) ∙ sym (asked_entered m name rows _ entered named))
+    c.asked_write.ensures ∙ ((λ i. spec.asked_write (format i) (options i) (out i) (file i))
+    ∙ sym (asked_entered m name rows _ entered named))

@@ -27,9 +27,12 @@ top_of a = a.top
 pub returns : goal.returns
 unfolding passed_on
 returns c =
-    let named : app_of c.version.result ≡ versioned (new_app (codes "jls-salvage")) = ap app_of_fields c.version.ensures ∙ ap versioned c.bare-bare.ensures.app in
-    let telling : app_of c.propagate_version-versioned.result ≡ passed_on (versioned (new_app (codes "jls-salvage"))) = ap app_of_fields c.propagate_version-versioned.ensures ∙ ap passed_on named in
-    let bare : app_of c.subcommand_required-salvage.result ≡ bare_app = ap app_of_fields c.subcommand_required-salvage.ensures ∙ ap must_name telling in
+    let named : app_of c.version.result ≡ versioned (new_app (codes "jls-salvage")) = ap app_of_fields c.version.ensures
+    ∙ ap versioned c.bare-bare.ensures.app in
+    let telling : app_of c.propagate_version-versioned.result ≡ passed_on (versioned (new_app (codes "jls-salvage"))) =
+    ap app_of_fields c.propagate_version-versioned.ensures ∙ ap passed_on named in
+    let bare : app_of c.subcommand_required-salvage.result ≡ bare_app = ap app_of_fields c.subcommand_required-salvage.ensures
+    ∙ ap must_name telling in
     let check : shape_of c.in_ok-check_command.field-0 ≡ check_app.top = ap top_of c.in_ok-check_command.ensures.app in
     let show : shape_of c.in_ok-show_command.field-0 ≡ show_app.top = ap top_of c.in_ok-show_command.ensures.app in
     let join : shape_of c.in_ok-join_command.field-0 ≡ join_app.top = ap top_of c.in_ok-join_command.ensures.app in
@@ -37,4 +40,5 @@ returns c =
     let checks = one_more _ _ _ _ _ (c.in_ok-checks.ensures.shape c.in_ok-check_command.ensures.local) bare check in
     let shows = one_more _ _ _ _ _ (c.in_ok-shows.ensures.shape c.in_ok-show_command.ensures.local) checks show in
     let joins = one_more _ _ _ _ _ (c.in_ok-joins.ensures.shape c.in_ok-join_command.ensures.local) shows join in
-    IfOk-weaker c.subcommand-4.result _ _ (λ r added. one_more _ _ _ _ _ (added.shape c.in_ok-write_command.ensures.local) joins write) c.subcommand-4.ensures
+    IfOk-weaker c.subcommand-4.result _ _ (λ r added. one_more _ _ _ _ _ (added.shape c.in_ok-write_command.ensures.local) joins write)
+    c.subcommand-4.ensures

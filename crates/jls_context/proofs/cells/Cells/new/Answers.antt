@@ -13,7 +13,8 @@ invariant_of-result c = record {
     maxval_below = maxval_small c.args.params.now c.initial-cell.ensures.ranges;
     reset_below = reset_small c.args.params.now c.initial-cell.ensures.ranges;
     length_is = length-replicate 365 c.initial-cell.result;
-    regular = λ k d within. subst (λ (cell : Cell). IsCell c.args.params.now.reset cell) (sym (get_or-replicate 365 k c.initial-cell.result d within)) c.initial-cell.ensures.cell;
+    regular = λ k d within. subst (λ (cell : Cell). IsCell c.args.params.now.reset cell)
+        (sym (get_or-replicate 365 k c.initial-cell.result d within)) c.initial-cell.ensures.cell;
     run_other = c.initial.ensures.cell;
     run_same = c.initial-2.ensures.cell;
   };
@@ -21,7 +22,11 @@ invariant_of-result c = record {
 }
 
 pub code-requires : goal.code-requires
-code-requires c = record { cell = (c.args.params.now.reset, reset_small c.args.params.now c.initial-cell.ensures.ranges, c.initial-cell.ensures.cell) }
+code-requires c = record {
+  cell =
+      (c.args.params.now.reset, reset_small c.args.params.now c.initial-cell.ensures.ranges, c.initial-cell.ensures.cell);
+}
 
 pub returns-clause-cells : goal.returns-clause-cells
-returns-clause-cells c = λ cell. cell_at-start c.args.params.now c.initial-cell.result c.initial.result c.initial-2.result cell c.initial-cell.ensures.value
+returns-clause-cells c = λ cell. cell_at-start c.args.params.now c.initial-cell.result c.initial.result c.initial-2.result cell
+    c.initial-cell.ensures.value

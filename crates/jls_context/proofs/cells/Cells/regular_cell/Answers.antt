@@ -7,7 +7,8 @@ pub returns-clause-value : goal.returns-clause-value
 unfolding cell_at
 returns-clause-value c =
     let length_is = c.self.invariant.variables.length_is in
-    rw c.from.ensures (get_or_default c.self.inside.regular c.args.cell _ _ (omega arith)) ∙ ap (λ (v : Variables). cell_at v c.args.cell) c.self.view_is
+    rw c.from.ensures (get_or_default c.self.inside.regular c.args.cell _ _ (omega arith))
+    ∙ ap (λ (v : Variables). cell_at v c.args.cell) c.self.view_is
 
 pub returns-clause-cell : goal.returns-clause-cell
 returns-clause-cell c =

@@ -6,13 +6,27 @@ use Rattle.jls_copy.proofs.Gathering.{held_shape, reading_on, of_fed, bytes_betw
 use Rattle.jls_copy.proofs.reader.CopyReader.feed.Goals as goal
 
 pub loop-at-init : goal.loop-at-init
-loop-at-init c = record { within = omega arith; not_failed = c.if-self.false; fed = sym (append-nil c.self.inside.bytes.list); reading = c.self.invariant c.if-self.false }
+loop-at-init c = record {
+  within = omega arith;
+  not_failed = c.if-self.false;
+  fed = sym (append-nil c.self.inside.bytes.list);
+  reading =
+      c.self.invariant c.if-self.false;
+}
 
 pub take-requires-clause-few : goal.take-requires-clause-few
 take-requires-clause-few c =
     let r = c.self.inside in let xs : List ℕ = c.args.slice.now in let at : ℕ = c.loop-at.at in let v = c.loop-at.invariant in
     let small = of_fed r.failed r.bytes.list _ (λ bytes. length bytes + length xs ≤ 2 ^ 63 - 1) c.self.view_is c.if-self.false c.requires in
-    omega (arith, v.within, v.reading.count_is, ap length v.fed, length-append r.bytes.list (take at xs), length-take-le at xs v.within, length-drop at xs)
+    omega (
+      arith,
+      v.within,
+      v.reading.count_is,
+      ap length v.fed,
+      length-append r.bytes.list (take at xs),
+      length-take-le at xs v.within,
+      length-drop at xs,
+    )
 
 pub take-requires-clause-machine : goal.take-requires-clause-machine
 take-requires-clause-machine c =
@@ -28,14 +42,27 @@ take-requires-clause-machine c =
 
 pub loop-at-preserved : goal.loop-at-preserved
 loop-at-preserved c =
-    let r = c.self.inside in let xs : List ℕ = c.args.slice.now in let at : ℕ = c.loop-at.at in let n : ℕ = c.in-Ok.count in let v = c.loop-at.invariant in
+    let r = c.self.inside in let xs : List ℕ = c.args.slice.now in let at : ℕ = c.loop-at.at in let n : ℕ = c.in-Ok.count in
+    let v = c.loop-at.invariant in
     let rest : List ℕ = take (length xs - at) (drop at xs) in let now : List ℕ = c.loop-at.self-inside.bytes.list in
     let all : rest ≡ drop at xs = take_all (length xs - at) (drop at xs) (omega (arith, length-drop at xs)) in
     let small = of_fed r.failed r.bytes.list _ (λ bytes. length bytes + length xs ≤ 2 ^ 63 - 1) c.self.view_is c.if-self.false c.requires in
-    let few : length now + length rest ≤ 2 ^ 63 - 1 = omega (arith, v.within, ap length v.fed, length-append r.bytes.list (take at xs), length-take-le at xs v.within, length-drop at xs, ap length all) in
+    let few : length now + length rest ≤ 2 ^ 63 - 1 =
+    omega (
+      arith,
+      v.within,
+      ap length v.fed,
+      length-append r.bytes.list (take at xs),
+      length-take-le at xs v.within,
+      length-drop at xs,
+      ap length all,
+    ) in
     record {
       within = (let w = c.in-Ok.ensures.within in omega (arith, v.within, length-drop at xs, ap length all));
       not_failed = v.not_failed;
-      fed = c.note_all.ensures ∙ ap (λ t. now ++ take n t) all ∙ ap (λ z. z ++ take n (drop at xs)) v.fed ∙ append_assoc r.bytes.list (take at xs) (take n (drop at xs)) ∙ ap (λ z. r.bytes.list ++ z) (sym (take-add at n xs));
-      reading = rw c.note_all.ensures (reading_on c.loop-at.self-inside.machine c.take.new.self now rest n v.reading c.in-Ok.ensures few (bytes_between n (length xs - at) at xs (λ k. omega (arith, c.type_inv.slice k))));
+      fed = c.note_all.ensures ∙ ap (λ t. now ++ take n t) all ∙ ap (λ z. z ++ take n (drop at xs)) v.fed
+          ∙ append_assoc r.bytes.list (take at xs) (take n (drop at xs)) ∙ ap (λ z. r.bytes.list ++ z) (sym (take-add at n xs));
+      reading = rw c.note_all.ensures
+          (reading_on c.loop-at.self-inside.machine c.take.new.self now rest n v.reading c.in-Ok.ensures few
+          (bytes_between n (length xs - at) at xs (λ k. omega (arith, c.type_inv.slice k))));
     }

@@ -7,4 +7,5 @@ use Rattle.jls_interval.proofs.interval_decoder.IntervalDecoder.finish.Goals as 
 pub returns-clause-read : goal.returns-clause-read
 returns-clause-read c =
     let v = c.args.self in let result : Result (Vec (Vec ℕ Global) Global) PieceFault = c.outcome.result in
-    read_of v.parameters v.width v.components (v.rows * v.components) c.outcome.ensures.in_range c.outcome.ensures.width result (result ≡ Err OutOfMemory) v.bytes c.outcome.ensures.outcome
+    read_of v.parameters v.width v.components (v.rows * v.components) c.outcome.ensures.in_range c.outcome.ensures.width result
+    (result ≡ Err OutOfMemory) v.bytes c.outcome.ensures.outcome

@@ -18,16 +18,48 @@ invariant_of-result-2 c =
     let least : 1 ≤ m = omega (arith, c.from-3.ensures, c.requires.components_at_least) in
     let any : 0 < count = (let l = mul-le 1 1 c.args.rows m c.requires.rows least in omega arith) in
     let same : m ≡ n = c.from-3.ensures ∙ sym c.from-2.ensures in
-    let start : IsWorking p w n count (bits_read []) [] [] coder.cells coder.run_indices NotBegun = working_start p w n count some any coder.cells coder.run_indices c.new-2.ensures.cells c.new-2.ensures.run_indices in
-    let lined : IsWorking p w n count (bits_read []) (items c.new-4.result.items) c.new-3.result.items coder.cells coder.run_indices NotBegun = subst (λ z. IsWorking p w n count (bits_read []) (items z) c.new-3.result.items coder.cells coder.run_indices NotBegun) (sym c.new-4.ensures.items) (subst (λ z. IsWorking p w n count (bits_read []) [] z coder.cells coder.run_indices NotBegun) (sym c.new-3.ensures.items) start) in
-    let none : length c.new-4.result.items ≡ 0 = ap length c.new-4.ensures.items in let begun : length c.new-3.result.items ≡ 0 = ap length c.new-3.ensures.items in
+    let start : IsWorking p w n count (bits_read []) [] [] coder.cells coder.run_indices NotBegun =
+    working_start p w n count some any coder.cells coder.run_indices c.new-2.ensures.cells c.new-2.ensures.run_indices in
+    let lined : IsWorking p w n count (bits_read []) (items c.new-4.result.items) c.new-3.result.items coder.cells coder.run_indices
+    NotBegun = subst (λ z. IsWorking p w n count (bits_read []) (items z) c.new-3.result.items coder.cells coder.run_indices NotBegun)
+    (sym c.new-4.ensures.items) (subst (λ z. IsWorking p w n count (bits_read []) [] z coder.cells coder.run_indices NotBegun)
+    (sym c.new-3.ensures.items) start) in
+    let none : length c.new-4.result.items ≡ 0 = ap length c.new-4.ensures.items in
+    let begun : length c.new-3.result.items ≡ 0 = ap length c.new-3.ensures.items in
     let wide : HaveWidth w (items c.new-4.result.items) = subst (λ z. HaveWidth w (items z)) (sym c.new-4.ensures.items) tt in
-    let samples : w * n * c.args.rows ≤ 2 ^ 28 = subst (λ z. z * n * c.args.rows ≤ 2 ^ 28) (sym c.from.ensures) (subst (λ z. c.args.width * z * c.args.rows ≤ 2 ^ 28) (sym c.from-2.ensures) c.requires.samples) in
+    let samples : w * n * c.args.rows ≤ 2 ^ 28 =
+    subst (λ z. z * n * c.args.rows ≤ 2 ^ 28) (sym c.from.ensures)
+    (subst (λ z. c.args.width * z * c.args.rows ≤ 2 ^ 28) (sym c.from-2.ensures) c.requires.samples) in
     record {
       in_range = c.maxval-maxval.ensures.ranges;
       width_at_least = some;
       are_bytes = subst (AllByRecursion (λ x. x < 256)) (sym e) tt;
       count_is = ap (λ z. c.args.rows * z) same;
       samples_at_most = samples;
-      decoding = λ f. record { ended_is = λ o. (let a : false ≡ true = o in cc); whole = λ o. ap is_whole e ∙ whole_end 0; reading = λ o. record { parameters = ap (λ (v : Variables). v.parameters) c.new-2.ensures.cells; width_at_least = some; components_at_least = omega (arith, c.from-2.ensures, c.requires.components_at_least); components_at_most = omega (arith, c.from-2.ensures, c.requires.components_at_most); lines_at_most = omega arith; lines_paid = omega arith; lines_wide = wide; line_at_most = omega arith; state_is = subst (λ z. IsWorking p w n count (bits_read z) (items c.new-4.result.items) c.new-3.result.items coder.cells coder.run_indices NotBegun) (sym e) lined }; lines_paid = omega arith; lines_at_most = omega arith; lines_wide = wide; line_at_most = omega arith };
+      decoding = λ f. record {
+        ended_is = λ o. (let a : false ≡ true = o in cc);
+        whole = λ o. ap is_whole e ∙ whole_end 0;
+        reading =
+            λ o. record {
+              parameters = ap (λ (v : Variables). v.parameters) c.new-2.ensures.cells;
+              width_at_least = some;
+              components_at_least =
+                  omega (arith, c.from-2.ensures, c.requires.components_at_least);
+              components_at_most =
+                  omega (arith, c.from-2.ensures, c.requires.components_at_most);
+              lines_at_most = omega arith;
+              lines_paid = omega arith;
+              lines_wide =
+                  wide;
+              line_at_most = omega arith;
+              state_is =
+                  subst (λ z. IsWorking p w n count (bits_read z) (items c.new-4.result.items) c.new-3.result.items coder.cells
+                  coder.run_indices
+                  NotBegun) (sym e) lined;
+            };
+        lines_paid = omega arith;
+        lines_at_most = omega arith;
+        lines_wide = wide;
+        line_at_most = omega arith;
+      };
     }

@@ -19,13 +19,15 @@ said : (p : CodingParameters) (w n rows count : ℕ) (refused : Bool) (bytes : L
     → IfSome z.bytes (λ bytes. ReadsNoMore (interval_asked z) bytes)
 said p w n rows count refused bytes z e k view h =
     subst (λ (z : IntervalBytes). IfSome z.bytes (λ bytes. ReadsNoMore (interval_asked z) bytes)) view
-    (subst (λ r. IfSome (bytes_of r bytes) (λ b. ReadsNoMore (interval_shape p w n (rows * n)) b)) (sym e) (subst (λ m. ReadsNoMore (interval_shape p w n m) bytes) k h))
+    (subst (λ r. IfSome (bytes_of r bytes) (λ b. ReadsNoMore (interval_shape p w n (rows * n)) b)) (sym e)
+    (subst (λ m. ReadsNoMore (interval_shape p w n m) bytes) k h))
 
 pub returns-then-self-2 : goal.returns-then-self-2
 returns-then-self-2 c = λ _.
     let i = c.self.inside in let d = i.reader in let v = c.self.invariant in
     said i.params d.reader.width d.components i.rows d.count i.refused i.unstuffer _ c.if-self.false v.count_is c.self.view_is
-    (unwhole_reads_no_more i.params d.reader.width d.components d.count i.unstuffer ((v.decoding c.if-self.false).ended_is c.if-self-2.true))
+    (unwhole_reads_no_more i.params d.reader.width d.components d.count i.unstuffer
+    ((v.decoding c.if-self.false).ended_is c.if-self-2.true))
 
 -- what the state of a reading says, at the state that was matched
 at_state : (p : CodingParameters) (w n count : ℕ) (given : List Bool) (lines : List (List ℕ)) (r : LineReader) (s t : State) → s ≡ t

@@ -15,21 +15,32 @@ returns-then-not-is_working-clause-no c = λ _ p given h.
 
 pub event_goes_on-requires-clause-above : goal.event_goes_on-requires-clause-above
 event_goes_on-requires-clause-above c =
-    let d = c.args.self.now in let n : ℕ = d.components in let L = items d.lines.items in let p = c.requires.0 in let given = c.requires.1 in let h = c.requires.2 in
-    let up : Above = above_of c.after-place.result in let up_is : up ≡ above n L = c.after-place.ensures.above ∙ ap (λ z. above n (items z)) c.deref.ensures.value in
+    let d = c.args.self.now in let n : ℕ = d.components in let L = items d.lines.items in let p = c.requires.0 in
+    let given = c.requires.1 in let h = c.requires.2 in
+    let up : Above = above_of c.after-place.result in
+    let up_is : up ≡ above n L = c.after-place.ensures.above ∙ ap (λ z. above n (items z)) c.deref.ensures.value in
     let work = working p d given h (c.is_working.ensures.0 c.if-not-is_working.false) in
-    subst (λ (q : CodingParameters). AllByRecursion (λ s. s ≤ q.maxval) up.line_above) (sym h.parameters) (subst (λ (z : Above). AllByRecursion (λ s. s ≤ p.maxval) z.line_above) (sym up_is) (small_back p L n work.samples.0))
+    subst (λ (q : CodingParameters). AllByRecursion (λ s. s ≤ q.maxval) up.line_above) (sym h.parameters)
+    (subst (λ (z : Above). AllByRecursion (λ s. s ≤ p.maxval) z.line_above) (sym up_is) (small_back p L n work.samples.0))
 
 pub returns-clause-yes : goal.returns-clause-yes
 returns-clause-yes c = λ e p given h.
-    let d = c.args.self.now in let n : ℕ = d.components in let L = items d.lines.items in let maps = length-map d.lines.items (λ (v : Vec ℕ Global). v.items) in
-    let k : ℕ = c.after-place.result.component in let k_is : k ≡ length L % n = c.after-place.ensures.component ∙ ap (λ z. length z % n) c.deref.ensures.value ∙ ap (λ z. z % n) (sym maps) in
-    let up : Above = above_of c.after-place.result in let up_is : up ≡ above n L = c.after-place.ensures.above ∙ ap (λ z. above n (items z)) c.deref.ensures.value in
+    let d = c.args.self.now in let n : ℕ = d.components in let L = items d.lines.items in
+    let maps = length-map d.lines.items (λ (v : Vec ℕ Global). v.items) in
+    let k : ℕ = c.after-place.result.component in
+    let k_is : k ≡ length L % n = c.after-place.ensures.component ∙ ap (λ z. length z % n) c.deref.ensures.value
+    ∙ ap (λ z. z % n) (sym maps) in
+    let up : Above = above_of c.after-place.result in
+    let up_is : up ≡ above n L = c.after-place.ensures.above ∙ ap (λ z. above n (items z)) c.deref.ensures.value in
     reading_cut p d given h (c.is_working.ensures.0 c.if-not-is_working.false) k k_is up up_is (c.event_goes_on.ensures.yes e)
 
 pub returns-clause-no : goal.returns-clause-no
 returns-clause-no c = λ e p given h.
-    let d = c.args.self.now in let n : ℕ = d.components in let L = items d.lines.items in let maps = length-map d.lines.items (λ (v : Vec ℕ Global). v.items) in
-    let k : ℕ = c.after-place.result.component in let k_is : k ≡ length L % n = c.after-place.ensures.component ∙ ap (λ z. length z % n) c.deref.ensures.value ∙ ap (λ z. z % n) (sym maps) in
-    let up : Above = above_of c.after-place.result in let up_is : up ≡ above n L = c.after-place.ensures.above ∙ ap (λ z. above n (items z)) c.deref.ensures.value in
+    let d = c.args.self.now in let n : ℕ = d.components in let L = items d.lines.items in
+    let maps = length-map d.lines.items (λ (v : Vec ℕ Global). v.items) in
+    let k : ℕ = c.after-place.result.component in
+    let k_is : k ≡ length L % n = c.after-place.ensures.component ∙ ap (λ z. length z % n) c.deref.ensures.value
+    ∙ ap (λ z. z % n) (sym maps) in
+    let up : Above = above_of c.after-place.result in
+    let up_is : up ≡ above n L = c.after-place.ensures.above ∙ ap (λ z. above n (items z)) c.deref.ensures.value in
     reading_stuck p d given h (c.is_working.ensures.0 c.if-not-is_working.false) k k_is up up_is (c.event_goes_on.ensures.no e)

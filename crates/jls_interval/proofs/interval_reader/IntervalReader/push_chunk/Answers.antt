@@ -12,18 +12,23 @@ use Rattle.jls_interval.proofs.IntervalReading.{taking_more, taking_all, taking_
 use Rattle.jls_interval.proofs.interval_reader.IntervalReader.push_chunk.Goals as goal
 
 -- samples that were taken into the line in work, of which this is the place, after the bits taken before
-module _ {old d : IntervalReader} (new : LineReader) {all chunk unread : List Bool} {lines : List (Vec ℕ Global)} {k : ℕ} {up : Above} (before : TakesFirst old all d chunk) (state : d.state ≡ Working)
-    (same : lines ≡ d.lines.items) (k_is : k ≡ length lines % d.components) (up_is : up ≡ above d.components (items lines)) (wide : new.width ≡ d.reader.width) (params : new.coder.cells.parameters ≡ d.reader.coder.cells.parameters) (t : TakesInLine k up d.reader new chunk unread) where
+module _ {old d : IntervalReader} (new : LineReader) {all chunk unread : List Bool} {lines : List (Vec ℕ Global)} {k : ℕ} {up : Above}
+    (before : TakesFirst old all d chunk) (state : d.state ≡ Working)
+    (same : lines ≡ d.lines.items) (k_is : k ≡ length lines % d.components) (up_is : up ≡ above d.components (items lines))
+    (wide : new.width ≡ d.reader.width) (params : new.coder.cells.parameters ≡ d.reader.coder.cells.parameters)
+    (t : TakesInLine k up d.reader new chunk unread) where
   samples : TakesFirst d chunk (record d { reader = new }) unread
   samples = λ p given h.
       let n : ℕ = d.components in let maps = length-map d.lines.items (λ (v : Vec ℕ Global). v.items) in
-      samples_taken p d given h state new chunk unread k (k_is ∙ ap (λ z. length z % n) same ∙ ap (λ z. z % n) (sym maps)) up (up_is ∙ ap (λ z. above n (items z)) same) wide params t
+      samples_taken p d given h state new chunk unread k (k_is ∙ ap (λ z. length z % n) same ∙ ap (λ z. z % n) (sym maps)) up
+      (up_is ∙ ap (λ z. above n (items z)) same) wide params t
 
   first : TakesFirst old all (record d { reader = new }) unread
   first = taking_then old d (record d { reader = new }) all chunk before unread samples
 
   fewer : (p : CodingParameters) (given : List Bool) → IsReading p given old → length unread ≤ length chunk
-  fewer p given h = let a = before p given h in taking_fewer d (record d { reader = new }) chunk unread samples p (given ++ a.taken) a.reading
+  fewer p given h = let a = before p given h in
+      taking_fewer d (record d { reader = new }) chunk unread samples p (given ++ a.taken) a.reading
 
 pub events-init : goal.events-init
 events-init c = record { shape = shape_none c.args.self.now; taking = taking_none c.args.self.now c.args.chunk.now }
@@ -42,43 +47,58 @@ take_samples-requires c =
 pub push_event-requires-clause-reading : goal.push_event-requires-clause-reading
 push_event-requires-clause-reading c =
     let h = c.requires in let place = c.after-place.ensures in let s = c.take_samples.ensures in
-    let so_far = first c.take_samples.new.reader c.events.invariant.taking (c.is_working.ensures.0 c.events-test.true) c.deref.ensures.value place.component place.above s.width s.parameters c.in_ok-take_samples.ensures.taken in
+    let so_far = first c.take_samples.new.reader c.events.invariant.taking (c.is_working.ensures.0 c.events-test.true) c.deref.ensures.value
+    place.component place.above s.width s.parameters c.in_ok-take_samples.ensures.taken in
     (h.0, _, (so_far h.0 h.1 h.2).reading)
 
 pub returns-then-len-fewest-clause-shape : goal.returns-then-len-fewest-clause-shape
 returns-then-len-fewest-clause-shape c =
     let d = c.events.self in let s = c.take_samples in
-    shape_then c.args.self.now d (record d { reader = s.new.reader }) c.events.invariant.shape (record { width = s.ensures.width; components = refl; count = refl })
+    shape_then c.args.self.now d (record d { reader = s.new.reader }) c.events.invariant.shape
+    (record { width = s.ensures.width; components = refl; count = refl })
 
 pub returns-then-len-fewest-clause-bits : goal.returns-then-len-fewest-clause-bits
 returns-then-len-fewest-clause-bits c =
     let place = c.after-place.ensures in let s = c.take_samples.ensures in
-    first c.take_samples.new.reader c.events.invariant.taking (c.is_working.ensures.0 c.events-test.true) c.deref.ensures.value place.component place.above s.width s.parameters c.in_ok-take_samples.ensures.taken
+    first c.take_samples.new.reader c.events.invariant.taking (c.is_working.ensures.0 c.events-test.true) c.deref.ensures.value
+    place.component place.above s.width s.parameters c.in_ok-take_samples.ensures.taken
 
 pub returns-then-not-goes_on-clause-bits : goal.returns-then-not-goes_on-clause-bits
 returns-then-not-goes_on-clause-bits c =
     let place = c.after-place.ensures in let s = c.take_samples.ensures in
-    let so_far = first c.take_samples.new.reader c.events.invariant.taking (c.is_working.ensures.0 c.events-test.true) c.deref.ensures.value place.component place.above s.width s.parameters c.in_ok-take_samples.ensures.taken in
-    taking_all c.args.self.now _ c.push_event.new.self c.args.chunk.now _ so_far c.new.result c.new.ensures (subst (TakesEvent _ c.push_event.new.self _ c.push_event.new.chunk) c.if-not-goes_on.true c.in_ok-goes_on.ensures.bits)
+    let so_far = first c.take_samples.new.reader c.events.invariant.taking (c.is_working.ensures.0 c.events-test.true) c.deref.ensures.value
+    place.component place.above s.width s.parameters c.in_ok-take_samples.ensures.taken in
+    taking_all c.args.self.now _ c.push_event.new.self c.args.chunk.now _ so_far c.new.result c.new.ensures
+    (subst (TakesEvent _ c.push_event.new.self _ c.push_event.new.chunk) c.if-not-goes_on.true c.in_ok-goes_on.ensures.bits)
 
 pub events-smaller : goal.events-smaller
 events-smaller c =
     let h = c.requires in let place = c.after-place.ensures in let s = c.take_samples.ensures in
-    let so_far = first c.take_samples.new.reader c.events.invariant.taking (c.is_working.ensures.0 c.events-test.true) c.deref.ensures.value place.component place.above s.width s.parameters c.in_ok-take_samples.ensures.taken in
-    let no_more = fewer c.take_samples.new.reader c.events.invariant.taking (c.is_working.ensures.0 c.events-test.true) c.deref.ensures.value place.component place.above s.width s.parameters c.in_ok-take_samples.ensures.taken h.0 h.1 h.2 in
-    let shorter = taking_shorter c.args.self.now _ c.push_event.new.self c.args.chunk.now _ so_far c.push_event.new.chunk (subst (TakesEvent _ c.push_event.new.self _ c.push_event.new.chunk) c.if-not-goes_on.false c.in_ok-goes_on.ensures.bits) h.0 h.1 h.2 in
+    let so_far = first c.take_samples.new.reader c.events.invariant.taking (c.is_working.ensures.0 c.events-test.true) c.deref.ensures.value
+    place.component place.above s.width s.parameters c.in_ok-take_samples.ensures.taken in
+    let no_more = fewer c.take_samples.new.reader c.events.invariant.taking (c.is_working.ensures.0 c.events-test.true)
+    c.deref.ensures.value place.component place.above s.width s.parameters c.in_ok-take_samples.ensures.taken h.0 h.1 h.2 in
+    let shorter = taking_shorter c.args.self.now _ c.push_event.new.self c.args.chunk.now _ so_far c.push_event.new.chunk
+    (subst (TakesEvent _ c.push_event.new.self _ c.push_event.new.chunk) c.if-not-goes_on.false c.in_ok-goes_on.ensures.bits) h.0 h.1
+    h.2 in
     omega arith
 
 pub events-preserved : goal.events-preserved
 events-preserved c =
     let place = c.after-place.ensures in let s = c.take_samples.ensures in
-    let so_far = first c.take_samples.new.reader c.events.invariant.taking (c.is_working.ensures.0 c.events-test.true) c.deref.ensures.value place.component place.above s.width s.parameters c.in_ok-take_samples.ensures.taken in
+    let so_far = first c.take_samples.new.reader c.events.invariant.taking (c.is_working.ensures.0 c.events-test.true) c.deref.ensures.value
+    place.component place.above s.width s.parameters c.in_ok-take_samples.ensures.taken in
     let now : IntervalReader = record c.events.self { reader = c.take_samples.new.reader } in
     record {
-      shape = shape_then c.args.self.now now c.push_event.new.self (shape_then c.args.self.now c.events.self now c.events.invariant.shape (record { width = s.width; components = refl; count = refl })) c.push_event.ensures.shape;
-      taking = taking_more c.args.self.now now c.push_event.new.self c.args.chunk.now c.take_samples.new.chunk so_far c.push_event.new.chunk (subst (TakesEvent now c.push_event.new.self c.take_samples.new.chunk c.push_event.new.chunk) c.if-not-goes_on.false c.in_ok-goes_on.ensures.bits);
+      shape = shape_then c.args.self.now now c.push_event.new.self
+          (shape_then c.args.self.now c.events.self now c.events.invariant.shape
+          (record { width = s.width; components = refl; count = refl })) c.push_event.ensures.shape;
+      taking = taking_more c.args.self.now now c.push_event.new.self c.args.chunk.now c.take_samples.new.chunk so_far c.push_event.new.chunk
+          (subst (TakesEvent now c.push_event.new.self c.take_samples.new.chunk c.push_event.new.chunk) c.if-not-goes_on.false
+          c.in_ok-goes_on.ensures.bits);
     }
 
 pub returns-clause-bits : goal.returns-clause-bits
 returns-clause-bits c =
-    taking_all c.args.self.now c.events.self c.count_bits.new.self c.args.chunk.now c.events.chunk c.events.invariant.taking c.new-2.result c.new-2.ensures (c.count_bits.ensures.bits (λ e. (let a : true ≡ false = sym (c.is_working.ensures.1 e) ∙ c.events-test.false in cc)))
+    taking_all c.args.self.now c.events.self c.count_bits.new.self c.args.chunk.now c.events.chunk c.events.invariant.taking c.new-2.result
+    c.new-2.ensures (c.count_bits.ensures.bits (λ e. (let a : true ≡ false = sym (c.is_working.ensures.1 e) ∙ c.events-test.false in cc)))

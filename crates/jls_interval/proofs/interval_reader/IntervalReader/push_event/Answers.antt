@@ -21,11 +21,15 @@ use Rattle.jls_interval.proofs.interval_reader.IntervalReader.push_event.Goals a
 -- what a step says of the line in work, whose place this is
 abbrev Pushes : LineReader → LineReader → List Bool → List Bool → ℕ → Above → EventStep → Type 0
 Pushes old new chunk unread k up step =
-    (fed : List Bool) (earlier : List Event) → IsAfter old.coder.cells.parameters old.coder.cells old.coder.run_indices earlier → Holds k up old fed → EventPushed k up old new fed chunk unread earlier step
+    (fed : List Bool) (earlier : List Event) → IsAfter old.coder.cells.parameters old.coder.cells old.coder.run_indices earlier
+    → Holds k up old fed → EventPushed k up old new fed chunk unread earlier step
 
 -- What an event says of a reader at work, in the place after its lines
-module _ {p : CodingParameters} {given : List Bool} {d : IntervalReader} {new : LineReader} {chunk unread : List Bool} {lines : List (Vec ℕ Global)} {k : ℕ} {up : Above} {step : EventStep} (h : IsReading p given d) (state : d.state ≡ Working)
-    (same : lines ≡ d.lines.items) (component : k ≡ length lines % d.components) (above_is : up ≡ above d.components (items lines)) (wide : new.width ≡ d.reader.width) (parameters : new.coder.cells.parameters ≡ d.reader.coder.cells.parameters) (pushed : Pushes d.reader new chunk unread k up step) where
+module _ {p : CodingParameters} {given : List Bool} {d : IntervalReader} {new : LineReader} {chunk unread : List Bool}
+    {lines : List (Vec ℕ Global)} {k : ℕ} {up : Above} {step : EventStep} (h : IsReading p given d) (state : d.state ≡ Working)
+    (same : lines ≡ d.lines.items) (component : k ≡ length lines % d.components) (above_is : up ≡ above d.components (items lines))
+    (wide : new.width ≡ d.reader.width) (parameters : new.coder.cells.parameters ≡ d.reader.coder.cells.parameters)
+    (pushed : Pushes d.reader new chunk unread k up step) where
   abbrev w : ℕ
   w = d.reader.width
 
@@ -52,7 +56,8 @@ module _ {p : CodingParameters} {given : List Bool} {d : IntervalReader} {new : 
 
   -- a reader with these lines, this line in work and this state
   reads : (l : Vec ℕ Global) (below : new.width < 2 ^ 16) (ls : Vec (Vec ℕ Global) Global) (bits : List Bool) (s : State)
-      → length ls.items ≤ d.count → length ls.items ≤ length given + length bits → HaveWidth w (items ls.items) → length l.items ≤ w → Is bits (items ls.items) l.items s
+      → length ls.items ≤ d.count → length ls.items ≤ length given + length bits → HaveWidth w (items ls.items) → length l.items ≤ w
+      → Is bits (items ls.items) l.items s
       → IsReading p (given ++ bits) (record d { reader = record new { line = l; width_below = below }; lines = ls; state = s })
   reads l below ls bits s at_most paid widths short is = record {
     parameters = parameters ∙ h.parameters;
@@ -63,7 +68,8 @@ module _ {p : CodingParameters} {given : List Bool} {d : IntervalReader} {new : 
     lines_paid = (let sum = length-append given bits in omega arith);
     lines_wide = wide_same w new.width (items ls.items) wide widths;
     line_at_most = omega arith;
-    state_is = subst (λ z. StateIs p z n d.count (given ++ bits) (items ls.items) l.items new.coder.cells new.coder.run_indices new.open_event s) (sym wide) is;
+    state_is = subst (λ z. StateIs p z n d.count (given ++ bits) (items ls.items) l.items new.coder.cells new.coder.run_indices
+        new.open_event s) (sym wide) is;
   }
 
   -- the event isn't whole
@@ -71,14 +77,18 @@ module _ {p : CodingParameters} {given : List Bool} {d : IntervalReader} {new : 
   more e =
       let all = subst (Pushes d.reader new chunk unread k up) e pushed in let a = h.line_at_most in let paid = h.lines_paid in
       let kept = more_same p d given h state new chunk unread k k_is up up_is all in let b = ap length kept.0 in
-      reads new.line new.width_below d.lines chunk d.state h.lines_at_most (omega arith) h.lines_wide (omega arith) (state_same p n d.count L d.state w w (given ++ chunk) (given ++ chunk) line line' d.reader.coder.cells new.coder.cells d.reader.coder.run_indices new.coder.run_indices new.open_event refl refl kept.0 kept.1 kept.2 (more_state p d given h state new chunk unread k k_is up up_is all))
+      reads new.line new.width_below d.lines chunk d.state h.lines_at_most (omega arith) h.lines_wide (omega arith)
+      (state_same p n d.count L d.state w w (given ++ chunk) (given ++ chunk) line line' d.reader.coder.cells new.coder.cells
+      d.reader.coder.run_indices new.coder.run_indices new.open_event refl refl kept.0 kept.1 kept.2
+      (more_state p d given h state new chunk unread k k_is up up_is all))
 
   -- no event can come
   refused : step ≡ Refused → IsReading p (given ++ chunk) (record d { reader = new; state = NoCode })
   refused e =
       let all = subst (Pushes d.reader new chunk unread k up) e pushed in let a = h.line_at_most in let paid = h.lines_paid in
       let b = ap length (refused_same p d given h state new chunk unread k k_is up up_is all) in
-      reads new.line new.width_below d.lines chunk NoCode h.lines_at_most (omega arith) h.lines_wide (omega arith) (refused_state p d given h state new chunk unread k k_is up up_is all)
+      reads new.line new.width_below d.lines chunk NoCode h.lines_at_most (omega arith) h.lines_wide (omega arith)
+      (refused_state p d given h state new chunk unread k k_is up up_is all)
 
   -- the event is whole
   module _ (moved : step ≡ Moved) where
@@ -88,11 +98,14 @@ module _ {p : CodingParameters} {given : List Bool} {d : IntervalReader} {new : 
     abbrev ok : AreCodingParameters p
     ok = in_range p d given h state
 
-    m : (taken : List Bool) × (chunk ≡ taken ++ unread) × EventDone p w (length L % n) (above n L) line line' new.coder.cells new.coder.run_indices (work.fed ++ taken) work.earlier × (new.open_event ≡ NotBegun)
+    m : (taken : List Bool) × (chunk ≡ taken ++ unread)
+        × EventDone p w (length L % n) (above n L) line line' new.coder.cells new.coder.run_indices (work.fed ++ taken) work.earlier
+        × (new.open_event ≡ NotBegun)
     m = moved_taken p d given h state new chunk unread k k_is up up_is (subst (Pushes d.reader new chunk unread k up) moved pushed)
 
     some : 0 < length m.0
-    some = working_takes p ok w n d.count h.width_at_least given L line d.reader.coder.cells d.reader.coder.run_indices d.reader.open_event work m.0 line' new.coder.cells new.coder.run_indices m.2
+    some = working_takes p ok w n d.count h.width_at_least given L line d.reader.coder.cells d.reader.coder.run_indices d.reader.open_event
+        work m.0 line' new.coder.cells new.coder.run_indices m.2
 
     takes : {next : IntervalReader} → IsReading p (given ++ m.0) next → Takes p given next chunk unread
     takes r = record { taken = m.0; chunk_is = m.1; some = some; reading = r }
@@ -100,14 +113,20 @@ module _ {p : CodingParameters} {given : List Bool} {d : IntervalReader} {new : 
     -- the line goes on
     unfinished : (length line' ≡ w → ⊥) → Takes p given (record d { reader = new }) chunk unread
     unfinished ne =
-        let most = line_fits p w (length L % n) (above n L) line line' new.coder.cells new.coder.run_indices (work.fed ++ m.0) work.earlier m.2 work.unfinished in let short : length line' < w = omega arith in let paid = h.lines_paid in
-        let on = working_on p ok w n d.count h.width_at_least given L line d.reader.coder.cells d.reader.coder.run_indices d.reader.open_event work m.0 line' new.coder.cells new.coder.run_indices m.2 short in
-        takes (reads new.line new.width_below d.lines m.0 d.state h.lines_at_most (omega arith) h.lines_wide most (subst (Is m.0 L line') (sym state) (subst (λ z. IsWorking p w n d.count (given ++ m.0) L line' new.coder.cells new.coder.run_indices z) (sym m.3) on)))
+        let most = line_fits p w (length L % n) (above n L) line line' new.coder.cells new.coder.run_indices (work.fed ++ m.0) work.earlier
+        m.2 work.unfinished in let short : length line' < w = omega arith in let paid = h.lines_paid in
+        let on = working_on p ok w n d.count h.width_at_least given L line d.reader.coder.cells d.reader.coder.run_indices
+        d.reader.open_event work m.0 line' new.coder.cells new.coder.run_indices m.2 short in
+        takes (reads new.line new.width_below d.lines m.0 d.state h.lines_at_most (omega arith) h.lines_wide most
+        (subst (Is m.0 L line') (sym state)
+        (subst (λ z. IsWorking p w n d.count (given ++ m.0) L line' new.coder.cells new.coder.run_indices z) (sym m.3) on)))
 
     -- the line is whole, and another one begins
-    module _ {l none v : Vec ℕ Global} (whole : length line' ≡ w) (ls : Vec (Vec ℕ Global) Global) (l_is : l ≡ none) (empty : none.items ≡ []) (v_is : v ≡ new.line) (ls_is : ls.items ≡ d.lines.items ++ v ∷ []) where
+    module _ {l none v : Vec ℕ Global} (whole : length line' ≡ w) (ls : Vec (Vec ℕ Global) Global) (l_is : l ≡ none)
+        (empty : none.items ≡ []) (v_is : v ≡ new.line) (ls_is : ls.items ≡ d.lines.items ++ v ∷ []) where
       grown : items ls.items ≡ L ++ line' ∷ []
-      grown = ap items ls_is ∙ map-append (λ (v : Vec ℕ Global). v.items) d.lines.items (v ∷ []) ∙ ap (λ (z : Vec ℕ Global). L ++ z.items ∷ []) v_is
+      grown = ap items ls_is ∙ map-append (λ (v : Vec ℕ Global). v.items) d.lines.items (v ∷ [])
+          ∙ ap (λ (z : Vec ℕ Global). L ++ z.items ∷ []) v_is
 
       begun : l.items ≡ []
       begun = ap (λ (z : Vec ℕ Global). z.items) l_is ∙ empty
@@ -115,44 +134,62 @@ module _ {p : CodingParameters} {given : List Bool} {d : IntervalReader} {new : 
       number : length ls.items ≡ length (L ++ line' ∷ [])
       number = sym (length-map ls.items (λ (v : Vec ℕ Global). v.items)) ∙ ap length grown
 
-      ended : {below : new.width < 2 ^ 16} (s : State) → Is m.0 (L ++ line' ∷ []) [] s → Takes p given (record d { reader = record new { line = l; width_below = below }; lines = ls; state = s }) chunk unread
+      ended : {below : new.width < 2 ^ 16} (s : State) → Is m.0 (L ++ line' ∷ []) [] s
+          → Takes p given (record d { reader = record new { line = l; width_below = below }; lines = ls; state = s }) chunk unread
       ended {below} s is =
-          let few = work.few in let paid = h.lines_paid in let one = some in let a = number in let b = length-append L (line' ∷ []) in let maps = length-map d.lines.items (λ (v : Vec ℕ Global). v.items) in let zero = ap length begun in
-          takes (reads l below ls m.0 s (omega arith) (omega arith) (subst (HaveWidth w) (sym grown) (wide_more w L line' h.lines_wide whole)) (omega arith) (subst (λ z. Is m.0 z l.items s) (sym grown) (subst (λ z. Is m.0 (L ++ line' ∷ []) z s) (sym begun) is)))
+          let few = work.few in let paid = h.lines_paid in let one = some in let a = number in let b = length-append L (line' ∷ []) in
+          let maps = length-map d.lines.items (λ (v : Vec ℕ Global). v.items) in let zero = ap length begun in
+          takes (reads l below ls m.0 s (omega arith) (omega arith)
+          (subst (HaveWidth w) (sym grown) (wide_more w L line' h.lines_wide whole)) (omega arith)
+          (subst (λ z. Is m.0 z l.items s) (sym grown) (subst (λ z. Is m.0 (L ++ line' ∷ []) z s) (sym begun) is)))
 
-      complete : {below : new.width < 2 ^ 16} → d.count ≤ length ls.items → Takes p given (record d { reader = record new { line = l; width_below = below }; lines = ls; state = Complete 0 }) chunk unread
+      complete : {below : new.width < 2 ^ 16} → d.count ≤ length ls.items
+          → Takes p given (record d { reader = record new { line = l; width_below = below }; lines = ls; state = Complete 0 }) chunk unread
       complete all =
           let a = number in
-          ended (Complete 0) (working_over p ok w n d.count h.width_at_least given L line d.reader.coder.cells d.reader.coder.run_indices d.reader.open_event work m.0 line' new.coder.cells new.coder.run_indices m.2 whole (omega arith))
+          ended (Complete 0) (working_over p ok w n d.count h.width_at_least given L line d.reader.coder.cells d.reader.coder.run_indices
+          d.reader.open_event work m.0 line' new.coder.cells new.coder.run_indices m.2 whole (omega arith))
 
-      goes_on : {below : new.width < 2 ^ 16} → (length ls.items ≡ d.count → ⊥) → Takes p given (record d { reader = record new { line = l; width_below = below }; lines = ls }) chunk unread
+      goes_on : {below : new.width < 2 ^ 16} → (length ls.items ≡ d.count → ⊥)
+          → Takes p given (record d { reader = record new { line = l; width_below = below }; lines = ls }) chunk unread
       goes_on ne =
           let few = work.few in let a = number in let b = length-append L (line' ∷ []) in
           let more_lines : length (L ++ line' ∷ []) < d.count = omega arith in
-          let on = working_line p ok w n d.count h.width_at_least given L line d.reader.coder.cells d.reader.coder.run_indices d.reader.open_event work m.0 line' new.coder.cells new.coder.run_indices m.2 whole more_lines in
-          ended d.state (subst (Is m.0 (L ++ line' ∷ []) []) (sym state) (subst (λ z. IsWorking p w n d.count (given ++ m.0) (L ++ line' ∷ []) [] new.coder.cells new.coder.run_indices z) (sym m.3) on))
+          let on = working_line p ok w n d.count h.width_at_least given L line d.reader.coder.cells d.reader.coder.run_indices
+          d.reader.open_event work m.0 line' new.coder.cells new.coder.run_indices m.2 whole more_lines in
+          ended d.state (subst (Is m.0 (L ++ line' ∷ []) []) (sym state)
+          (subst (λ z. IsWorking p w n d.count (given ++ m.0) (L ++ line' ∷ []) [] new.coder.cells new.coder.run_indices z) (sym m.3) on))
 
 pub returns-in-More-clause-bits : goal.returns-in-More-clause-bits
 returns-in-More-clause-bits c = λ p given h.
     let place = c.after-place.ensures in let e = c.push_to_event.ensures in
-    more h c.requires.state c.deref.ensures.value place.component place.above e.width e.parameters c.in_ok-push_to_event.ensures.step c.in-More.is
+    more h c.requires.state c.deref.ensures.value place.component place.above e.width e.parameters c.in_ok-push_to_event.ensures.step
+    c.in-More.is
 
 pub returns-in-Refused-clause-bits : goal.returns-in-Refused-clause-bits
 returns-in-Refused-clause-bits c = λ p given h.
     let place = c.after-place.ensures in let e = c.push_to_event.ensures in
-    refused h c.requires.state c.deref.ensures.value place.component place.above e.width e.parameters c.in_ok-push_to_event.ensures.step c.in-Refused.is
+    refused h c.requires.state c.deref.ensures.value place.component place.above e.width e.parameters c.in_ok-push_to_event.ensures.step
+    c.in-Refused.is
 
 pub returns-else-len-self-clause-bits : goal.returns-else-len-self-clause-bits
 returns-else-len-self-clause-bits c = λ p given h.
     let place = c.after-place.ensures in let e = c.push_to_event.ensures in
-    unfinished h c.requires.state c.deref.ensures.value place.component place.above e.width e.parameters c.in_ok-push_to_event.ensures.step c.in-Moved.is (λ o. (let f = c.if-len-self.false in let l = c.len.ensures in omega arith))
+    unfinished h c.requires.state c.deref.ensures.value place.component place.above e.width e.parameters c.in_ok-push_to_event.ensures.step
+    c.in-Moved.is (λ o. (let f = c.if-len-self.false in let l = c.len.ensures in omega arith))
 
 pub returns-then-len-self-2-clause-bits : goal.returns-then-len-self-2-clause-bits
 returns-then-len-self-2-clause-bits c = λ p given h.
     let place = c.after-place.ensures in let e = c.push_to_event.ensures in
-    complete h c.requires.state c.deref.ensures.value place.component place.above e.width e.parameters c.in_ok-push_to_event.ensures.step c.in-Moved.is (let f = c.if-len-self.true in let l = c.len.ensures in omega arith) c.push.new.self c.replace-line.ensures.after c.in_ok-next-in-Moved.ensures.items c.replace-line.ensures.value c.in_ok-push-in-Moved.ensures.items (let f = c.if-len-self-2.true in let l = c.len-then-len-self.ensures in omega arith)
+    complete h c.requires.state c.deref.ensures.value place.component place.above e.width e.parameters c.in_ok-push_to_event.ensures.step
+    c.in-Moved.is (let f = c.if-len-self.true in let l = c.len.ensures in omega arith) c.push.new.self c.replace-line.ensures.after
+    c.in_ok-next-in-Moved.ensures.items c.replace-line.ensures.value c.in_ok-push-in-Moved.ensures.items
+    (let f = c.if-len-self-2.true in let l = c.len-then-len-self.ensures in omega arith)
 
 pub returns-else-len-self-2-clause-bits : goal.returns-else-len-self-2-clause-bits
 returns-else-len-self-2-clause-bits c = λ p given h.
     let place = c.after-place.ensures in let e = c.push_to_event.ensures in
-    goes_on h c.requires.state c.deref.ensures.value place.component place.above e.width e.parameters c.in_ok-push_to_event.ensures.step c.in-Moved.is (let f = c.if-len-self.true in let l = c.len.ensures in omega arith) c.push.new.self c.replace-line.ensures.after c.in_ok-next-in-Moved.ensures.items c.replace-line.ensures.value c.in_ok-push-in-Moved.ensures.items (λ o. (let f = c.if-len-self-2.false in let l = c.len-then-len-self.ensures in omega arith))
+    goes_on h c.requires.state c.deref.ensures.value place.component place.above e.width e.parameters c.in_ok-push_to_event.ensures.step
+    c.in-Moved.is (let f = c.if-len-self.true in let l = c.len.ensures in omega arith) c.push.new.self c.replace-line.ensures.after
+    c.in_ok-next-in-Moved.ensures.items c.replace-line.ensures.value c.in_ok-push-in-Moved.ensures.items
+    (λ o. (let f = c.if-len-self-2.false in let l = c.len-then-len-self.ensures in omega arith))

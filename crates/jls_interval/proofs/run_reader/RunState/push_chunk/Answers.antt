@@ -7,12 +7,16 @@ loop-bit-init c = record { state = c.requires; taking = taking_none c.args.width
 pub loop-bit-preserved : goal.loop-bit-preserved
 loop-bit-preserved c = record {
   state = c.in-More.ensures.state;
-  taking = taking_more c.args.width c.args.self c.args.chunk.now c.loop-bit.state c.loop-bit.chunk c.take_bit.new.self c.in-Some.bit c.loop-bit.invariant.taking c.in-Some.ensures.some c.in-More.next c.in-More.ensures.step;
+  taking = taking_more c.args.width c.args.self c.args.chunk.now c.loop-bit.state c.loop-bit.chunk c.take_bit.new.self c.in-Some.bit
+      c.loop-bit.invariant.taking c.in-Some.ensures.some c.in-More.next c.in-More.ensures.step;
 }
 
 pub returns-in_default-push-clause-step : goal.returns-in_default-push-clause-step
 returns-in_default-push-clause-step c =
-    taking_end c.args.width c.args.self c.args.chunk.now c.loop-bit.state c.loop-bit.chunk c.take_bit.new.self c.in-Some.bit c.loop-bit.invariant.taking c.in-Some.ensures.some c.push.result c.push.ensures.step (not_more c.push.result c.in_default-push.not-More)
+    taking_end c.args.width c.args.self c.args.chunk.now c.loop-bit.state c.loop-bit.chunk c.take_bit.new.self c.in-Some.bit
+    c.loop-bit.invariant.taking c.in-Some.ensures.some c.push.result c.push.ensures.step
+    (not_more c.push.result c.in_default-push.not-More)
 
 pub returns-clause-step : goal.returns-clause-step
-returns-clause-step c = taking_all c.args.width c.args.self c.args.chunk.now c.loop-bit.state c.loop-bit.chunk c.take_bit.new.self c.loop-bit.invariant.taking c.in_default.ensures.none
+returns-clause-step c = taking_all c.args.width c.args.self c.args.chunk.now c.loop-bit.state c.loop-bit.chunk c.take_bit.new.self
+    c.loop-bit.invariant.taking c.in_default.ensures.none

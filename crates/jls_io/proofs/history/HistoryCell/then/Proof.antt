@@ -36,7 +36,8 @@ then_spec 𝓤 𝓛 𝓜 𝓡 wired =
       (Goes-dropped 𝓛 3 (RefOf (1 ∷ []) tt (plain (λ κs. Noted (named_lft 3 2 tt κs))) (λ _. tt)) yes (λ κs x w. refl), tt),
     )
     f.Key.name code.function (code.unfolded 𝓤 𝓛.H 𝓜 𝓡 wired)
-    (λ κs. (shr_vals, (shr_vals, tt))) (λ κs. (shr_Tells (named 0) κs.0 Cell, (shr_Tells (named 1) κs.1.0 (Noted (named_lft 3 2 tt κs)), tt))) (λ κs qs bounds a g are.
+    (λ κs. (shr_vals, (shr_vals, tt)))
+    (λ κs. (shr_Tells (named 0) κs.0 Cell, (shr_Tells (named 1) κs.1.0 (Noted (named_lft 3 2 tt κs)), tt))) (λ κs qs bounds a g are.
     let y : W.Ghost = ((κs, qs, bounds, a, (shr_vals a.0, (shr_vals a.1.0, tt))), g) in
     let next = a.0.now.history ++ event_of a.1.0.now ∷ [] in
     qed 𝓛 ((raw (alive 𝓛 f.signature κs qs) ⊛ ‵ (owns (types_at f.signature.params κs) a y.0.4)) ∷ ‵ ftrue ∷ []) ∵

@@ -12,8 +12,10 @@ pub returns-clause-exactly : goal.returns-clause-exactly
 returns-clause-exactly c =
     let p = c.args.self.now in
     let q = c.args.other.now in
-    let shape : p.shape ≡ q.shape = sym c.shape.ensures.value ∙ shapes_from_test c.shape.result.now c.shape-2.result.now c.ne.result c.ne.ensures c.if-ne.false ∙ c.shape-2.ensures.value in (
-      λ e. sym (partial_again p c.shape.ensures.marks_held) ∙ (λ i. partial_of (shape i) (c.same_entries.ensures.0 e i)) ∙ partial_again q c.shape-2.ensures.marks_held,
+    let shape : p.shape ≡ q.shape = sym c.shape.ensures.value
+    ∙ shapes_from_test c.shape.result.now c.shape-2.result.now c.ne.result c.ne.ensures c.if-ne.false ∙ c.shape-2.ensures.value in (
+      λ e. sym (partial_again p c.shape.ensures.marks_held) ∙ (λ i. partial_of (shape i) (c.same_entries.ensures.0 e i))
+          ∙ partial_again q c.shape-2.ensures.marks_held,
       λ same. c.same_entries.ensures.1 (ap entries same),
     )
 

@@ -9,11 +9,13 @@ use Rattle.jls_partial.proofs.line_store.Store.lines_at.Goals as goal
 
 pub of-requires : goal.of-requires
 of-requires c =
-    slots_found c.self.inside.packed (rows_of c.self.inside.pages.entries) c.args.at c.in-Some.slots.now c.self.invariant.rows_packed (sym c.in-Some.ensures)
+    slots_found c.self.inside.packed (rows_of c.self.inside.pages.entries) c.args.at c.in-Some.slots.now c.self.invariant.rows_packed
+    (sym c.in-Some.ensures)
 
 pub returns-in-Some : goal.returns-in-Some
 returns-in-Some c =
-    ap Some c.of.ensures ∙ sym (lookup_seen c.self.inside.packed (rows_of c.self.inside.pages.entries) c.args.at (Some c.in-Some.slots.now) (sym c.in-Some.ensures))
+    ap Some c.of.ensures ∙ sym (lookup_seen c.self.inside.packed (rows_of c.self.inside.pages.entries) c.args.at (Some c.in-Some.slots.now)
+    (sym c.in-Some.ensures))
     ∙ ap (λ (s : StoredLines). lookup (is_at (place_cmp c.args.at)) s.entries) c.self.view_is
 
 pub returns-in-None : goal.returns-in-None

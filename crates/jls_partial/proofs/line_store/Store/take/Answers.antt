@@ -9,7 +9,8 @@ use Rattle.jls_partial.proofs.line_store.Store.take.Goals as goal
 pub returns-clause-ordered : goal.returns-clause-ordered
 returns-clause-ordered c =
     let ps = c.take_at.new.pages.entries in
-    on_ok_weaker c.take_at.result (λ _. ordered_seen c.take_at.new.packed (rows_of ps) (all_rise ps c.take_at.ensures.pages.pages)) c.take_at.ensures.ok
+    on_ok_weaker c.take_at.result (λ _. ordered_seen c.take_at.new.packed (rows_of ps) (all_rise ps c.take_at.ensures.pages.pages))
+    c.take_at.ensures.ok
 
 pub returns-clause-no_memory : goal.returns-clause-no_memory
 returns-clause-no_memory c = λ h e.

@@ -13,7 +13,8 @@ use Rattle.jls_partial.proofs.lines.Lines.sources.Goals as goal
 
 pub sources-requires : goal.sources-requires
 sources-requires c =
-    let many = length_kept c.self.inside.packed.now.precision c.self.inside.packed.now.width c.self.inside.packed.now.samples.items (slots_of c.self.inside.slots.now) c.args.self.now c.self.invariant c.self.view_is in
+    let many = length_kept c.self.inside.packed.now.precision c.self.inside.packed.now.width c.self.inside.packed.now.samples.items
+    (slots_of c.self.inside.slots.now) c.args.self.now c.self.invariant c.self.view_is in
     let below = c.requires in
     omega (arith, many, below)
 
@@ -30,7 +31,10 @@ returns c =
     let line = take w (drop s.start packed) in
     let many_lines : length (lines_of w packed slots) ≡ length slots = length-map slots (λ (t : Slot). take w (drop t.start packed)) in
     let read : slice_get (sets.items c.args.self.now.lines) c.args.i ≡ Some line =
-    ap (λ (xs : List (List ℕ)). slice_get xs c.args.i) (lines_kept c.self.inside.packed.now.precision w packed slots c.args.self.now c.self.invariant c.self.view_is)
-    ∙ slice_get_read (lines_of w packed slots) (length (lines_of w packed slots)) c.args.i line refl (omega (arith, many_lines, lt)) (sym (line_at w packed slots c.args.i s line lt is)) in
+    ap (λ (xs : List (List ℕ)). slice_get xs c.args.i)
+    (lines_kept c.self.inside.packed.now.precision w packed slots c.args.self.now c.self.invariant c.self.view_is)
+    ∙ slice_get_read (lines_of w packed slots) (length (lines_of w packed slots)) c.args.i line refl (omega (arith, many_lines, lt))
+    (sym (line_at w packed slots c.args.i s line lt is)) in
     subst (λ o. IfSome o (λ samples. c.sources.result.now ≡ line_sources c.args.self.now samples)) (sym read)
-    (c.sources.ensures ∙ sym (sources_lent c.self.inside.packed.now.precision w packed slots c.args.self.now c.args.i s c.self.invariant c.self.view_is lt is))
+    (c.sources.ensures ∙ sym (sources_lent c.self.inside.packed.now.precision w packed slots c.args.self.now c.args.i s c.self.invariant
+    c.self.view_is lt is))

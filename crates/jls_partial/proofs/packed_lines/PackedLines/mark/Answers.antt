@@ -13,7 +13,9 @@ returns-clause-slots c =
     let packed = c.args.self.now in
     let slots = slots_of c.args.slots.now in
     subst (IsLineSet packed.precision packed.width packed.samples.items) (sym c.in_ok-add_sources.ensures.ok)
-    (sourced_kept packed.precision packed.width packed.samples.items (get_or (lines_of packed.width packed.samples.items slots) c.args.i []) slots c.args.i (c.args.source ∷ []) c.requires.slots c.requires.within (line_found packed.width packed.samples.items slots c.args.i c.requires.within))
+    (sourced_kept packed.precision packed.width packed.samples.items (get_or (lines_of packed.width packed.samples.items slots) c.args.i [])
+    slots c.args.i (c.args.source ∷ []) c.requires.slots c.requires.within
+    (line_found packed.width packed.samples.items slots c.args.i c.requires.within))
 
 pub returns-clause-ok : goal.returns-clause-ok
 returns-clause-ok c =
@@ -26,11 +28,15 @@ returns-clause-ok c =
     let small = c.len.ensures.small in
     record {
       puts = λ samples got.
-          let found = line_got (lines_of packed.width packed.samples.items slots) c.args.i samples (ap (λ (xs : List (List ℕ)). slice_get xs c.args.i) (sym (lines_kept packed.precision packed.width packed.samples.items slots before c.requires.slots (λ _. before))) ∙ got) in
+          let found = line_got (lines_of packed.width packed.samples.items slots) c.args.i samples
+          (ap (λ (xs : List (List ℕ)). slice_get xs c.args.i)
+          (sym (lines_kept packed.precision packed.width packed.samples.items slots before c.requires.slots (λ _. before))) ∙ got) in
           record {
             new_is = ap (seen_lines packed.precision packed.width packed.samples.items) c.in_ok-add_sources.ensures.ok
-                ∙ sourced_seen packed.precision packed.width packed.samples.items samples slots c.args.i (c.args.source ∷ []) c.requires.slots c.requires.within found;
+                ∙ sourced_seen packed.precision packed.width packed.samples.items samples slots c.args.i (c.args.source ∷ [])
+                c.requires.slots c.requires.within found;
             countable = omega (arith, many, small);
-            marks_held = λ x t h. marks_held packed.precision packed.width packed.samples.items (slots_of c.add_sources.new.self) after (λ _. after) x t h;
+            marks_held = λ x t h. marks_held packed.precision packed.width packed.samples.items (slots_of c.add_sources.new.self) after
+                (λ _. after) x t h;
           };
     }

@@ -9,4 +9,5 @@ pub returns-clause-found : goal.returns-clause-found
 returns-clause-found c = is_found c.args.bytes.now c.read_partial.result (λ i. omega (arith, c.type_inv.bytes i)) c.read_partial.ensures
 
 pub returns-clause-only : goal.returns-clause-only
-returns-clause-only c = λ p is. subst (λ (f : Result PartialPicture TextFault). GivesText (λ q. q) c.read_partial.result f) (read_again c.args.bytes.now p is) c.read_partial.ensures
+returns-clause-only c = λ p is. subst (λ (f : Result PartialPicture TextFault). GivesText (λ q. q) c.read_partial.result f)
+    (read_again c.args.bytes.now p is) c.read_partial.ensures

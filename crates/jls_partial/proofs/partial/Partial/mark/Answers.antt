@@ -8,7 +8,8 @@ pub returns-clause-marked : goal.returns-clause-marked
 returns-clause-marked c =
     let p = c.args.self.now in
     c.in_ok-mark_components.ensures.ok
-    ∙ marked_by_lines p c.args.source (length p.shape.ids) (λ r h. place_exists p.shape r.component r.line r.samples (c.mark_components.ensures.fitting r.component r.line r.samples h))
+    ∙ marked_by_lines p c.args.source (length p.shape.ids)
+    (λ r h. place_exists p.shape r.component r.line r.samples (c.mark_components.ensures.fitting r.component r.line r.samples h))
 
 pub returns-in_err-mark_components-clause-completed : goal.returns-in_err-mark_components-clause-completed
 returns-in_err-mark_components-clause-completed c =

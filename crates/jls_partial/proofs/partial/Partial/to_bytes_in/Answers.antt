@@ -11,4 +11,5 @@ returns c =
     let head = c.in_ok-put_head.ensures ∙ (λ i. c.clear.ensures.items i ++ head_text Two (c.shape.ensures.value i)) in
     let count = c.to_be_bytes.ensures ∙ ap (to_be_bytes w32) c.entry_count.ensures in
     c.in_ok-put_entries.ensures
-    ∙ ap (λ (t : List ℕ). t ++ flat_map (entry_text Two) (entries p)) (c.in_ok-reserve.ensures.items ∙ c.in_ok-extend_from_slice.ensures.items ∙ (λ i. head i ++ count i))
+    ∙ ap (λ (t : List ℕ). t ++ flat_map (entry_text Two) (entries p))
+    (c.in_ok-reserve.ensures.items ∙ c.in_ok-extend_from_slice.ensures.items ∙ (λ i. head i ++ count i))

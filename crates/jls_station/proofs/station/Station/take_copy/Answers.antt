@@ -20,7 +20,8 @@ returns-in_err-given-clause-refused g c =
     let history = g.S.Device.history in
     let fault = c.in_err-given.field-0.0 in
     let p = err_from_is_err_and c.from_residual.result c.from_residual.ensures.1 in
-    rw (p.1, p.2) (grew_as (CopyStops fault) (RefusesCopy c.args.source c.args.self.now c.args.self.now fault) (history c.args.device.now) (history c.read_from_start.new.device)
+    rw (p.1, p.2) (grew_as (CopyStops fault) (RefusesCopy c.args.source c.args.self.now c.args.self.now fault) (history c.args.device.now)
+    (history c.read_from_start.new.device)
     (λ reads h. gives_none c.args.source c.args.self.now fault reads h) c.in_err-given.ensures.refused)
 
 pub returns-in-Err-ShapeDiffers-clause-refused : goal.returns-in-Err-ShapeDiffers-clause-refused
@@ -28,18 +29,25 @@ returns-in-Err-ShapeDiffers-clause-refused g c =
     let history = g.S.Device.history in
     let given = c.in_ok-given.given in
     let is = ap (λ e. Err e) c.in-Err-ShapeDiffers.field-0-is in
-    subst (λ (new : PartialPicture). GrewBy (RefusesCopy c.args.source c.args.self.now new take.ShapeDiffers) (history c.args.device.now) (history c.read_from_start.new.device))
+    subst (λ (new : PartialPicture). GrewBy (RefusesCopy c.args.source c.args.self.now new take.ShapeDiffers) (history c.args.device.now)
+    (history c.read_from_start.new.device))
     (sym (c.in-Err-ShapeDiffers.ensures.unchanged is))
-    (grew_as (CopyGives c.args.source given.partial given.report) (RefusesCopy c.args.source c.args.self.now c.args.self.now take.ShapeDiffers) (history c.args.device.now) (history c.read_from_start.new.device)
-    (λ reads h. other_shape c.args.source c.args.self.now given.partial given.report reads h (c.in-Err-ShapeDiffers.ensures.shape_differs.0 is)) c.in_ok-given.ensures.given)
+    (grew_as (CopyGives c.args.source given.partial given.report)
+    (RefusesCopy c.args.source c.args.self.now c.args.self.now take.ShapeDiffers) (history c.args.device.now)
+    (history c.read_from_start.new.device)
+    (λ reads h. other_shape c.args.source c.args.self.now given.partial given.report reads h
+    (c.in-Err-ShapeDiffers.ensures.shape_differs.0 is)) c.in_ok-given.ensures.given)
 
 pub returns-in-Err-OutOfMemory-clause-refused : goal.returns-in-Err-OutOfMemory-clause-refused
 returns-in-Err-OutOfMemory-clause-refused g c =
     let history = g.S.Device.history in
     let given = c.in_ok-given.given in
     let f = c.in-Err-OutOfMemory.field-0 in
-    let same = not_false-true (has_same_shape c.args.self.now given.partial) (λ e. not_both (Err f) f refl c.in-Err-OutOfMemory.field-0-is (c.in-Err-OutOfMemory.ensures.shape_differs.1 e)) in
-    grew_as (CopyGives c.args.source given.partial given.report) (RefusesCopy c.args.source c.args.self.now c.take.new.self take.OutOfMemory) (history c.args.device.now) (history c.read_from_start.new.device)
+    let same = not_false-true (has_same_shape c.args.self.now given.partial)
+    (λ e. not_both (Err f) f refl c.in-Err-OutOfMemory.field-0-is (c.in-Err-OutOfMemory.ensures.shape_differs.1 e)) in
+    grew_as (CopyGives c.args.source given.partial given.report)
+    (RefusesCopy c.args.source c.args.self.now c.take.new.self take.OutOfMemory) (history c.args.device.now)
+    (history c.read_from_start.new.device)
     (λ reads h. no_memory c.args.source c.args.self.now c.take.new.self given.partial given.report reads h same
     (c.in-Err-OutOfMemory.ensures.out_of_memory (ap (λ e. Err e) c.in-Err-OutOfMemory.field-0-is))) c.in_ok-given.ensures.given
 
@@ -47,8 +55,10 @@ pub returns-clause-taken : goal.returns-clause-taken
 returns-clause-taken g c =
     let history = g.S.Device.history in
     let given = c.in_ok-given.given in
-    grew_as (CopyGives c.args.source given.partial given.report) (TakesCopy c.args.source c.args.self.now c.take.new.self given.report) (history c.args.device.now) (history c.read_from_start.new.device)
-    (λ reads h. record { given = given.partial; gives = h; one_shape = c.in-Ok.ensures.ok_same_shape; union_is = c.in-Ok.ensures.ok }) c.in_ok-given.ensures.given
+    grew_as (CopyGives c.args.source given.partial given.report) (TakesCopy c.args.source c.args.self.now c.take.new.self given.report)
+    (history c.args.device.now) (history c.read_from_start.new.device)
+    (λ reads h. record { given = given.partial; gives = h; one_shape = c.in-Ok.ensures.ok_same_shape; union_is = c.in-Ok.ensures.ok })
+    c.in_ok-given.ensures.given
 
 pub returns-in_err-given-clause-known_refused : goal.returns-in_err-given-clause-known_refused
 returns-in_err-given-clause-known_refused g c =
@@ -59,7 +69,8 @@ pub returns-in-Err-ShapeDiffers-clause-known_refused : goal.returns-in-Err-Shape
 returns-in-Err-ShapeDiffers-clause-known_refused g c =
     let given = c.in_ok-given.given in
     let is = ap (λ e. Err e) c.in-Err-ShapeDiffers.field-0-is in
-    some_then (g.S.Source.remaining c.args.device.now) (BytesGive c.args.source given.partial given.report.stop) (λ bytes. RefusesBytes c.args.source c.args.self.now bytes take.ShapeDiffers)
+    some_then (g.S.Source.remaining c.args.device.now) (BytesGive c.args.source given.partial given.report.stop)
+    (λ bytes. RefusesBytes c.args.source c.args.self.now bytes take.ShapeDiffers)
     (λ bytes b. (given.partial, given.report.stop, b, c.in-Err-ShapeDiffers.ensures.shape_differs.0 is)) c.in_ok-given.ensures.known
 
 pub returns-in-Err-OutOfMemory-clause-known_refused : goal.returns-in-Err-OutOfMemory-clause-known_refused
@@ -68,5 +79,7 @@ returns-in-Err-OutOfMemory-clause-known_refused g c = ran_out c.args.source c.ar
 pub returns-clause-known : goal.returns-clause-known
 returns-clause-known g c =
     let given = c.in_ok-given.given in
-    some_then (g.S.Source.remaining c.args.device.now) (BytesGive c.args.source given.partial given.report.stop) (TakesBytes c.args.source c.args.self.now c.take.new.self given.report.stop)
-    (λ bytes b. record { given = given.partial; gives = b; one_shape = c.in-Ok.ensures.ok_same_shape; union_is = c.in-Ok.ensures.ok }) c.in_ok-given.ensures.known
+    some_then (g.S.Source.remaining c.args.device.now) (BytesGive c.args.source given.partial given.report.stop)
+    (TakesBytes c.args.source c.args.self.now c.take.new.self given.report.stop)
+    (λ bytes b. record { given = given.partial; gives = b; one_shape = c.in-Ok.ensures.ok_same_shape; union_is = c.in-Ok.ensures.ok })
+    c.in_ok-given.ensures.known

@@ -6,4 +6,5 @@ use Rattle.jls_station.proofs.station.Station.take_text.Goals as goal
 pub returns-clause-between : goal.returns-clause-between
 returns-clause-between c p is =
     let held : c.self.inside.held ≡ c.args.self.now = cc in
-    subst (λ (old : PartialPicture). OnErr c.merge_text.result (IsBetween union old c.merge_text.new.self (union old p))) held (c.merge_text.ensures.between p is)
+    subst (λ (old : PartialPicture). OnErr c.merge_text.result (IsBetween union old c.merge_text.new.self (union old p))) held
+    (c.merge_text.ensures.between p is)

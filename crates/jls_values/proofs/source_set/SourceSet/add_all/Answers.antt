@@ -11,7 +11,8 @@ put_all-requires-clause-sources c =
     let whole : c.truncate.new.self.items ++ c.deref-3.result.now ≡ c.self.inside.numbers.items =
     cut_again c.self.inside.numbers.items c.truncate.new.self.items c.deref-3.result.now n
     (c.truncate.ensures.items ∙ ap (take n) c.in_ok-reserve.ensures.items)
-    (c.deref-3.ensures.value ∙ c.in_ok-above.ensures.items ∙ ap (λ (xs : List ℕ). take (length xs - n) (drop n xs)) c.deref-2.ensures.value) in
+    (c.deref-3.ensures.value ∙ c.in_ok-above.ensures.items
+    ∙ ap (λ (xs : List ℕ). take (length xs - n) (drop n xs)) c.deref-2.ensures.value) in
     subst IsSourceList (sym whole) c.self.invariant
 
 pub returns-clause-held : goal.returns-clause-held
@@ -20,7 +21,8 @@ returns-clause-held c =
     let whole : c.truncate.new.self.items ++ c.deref-3.result.now ≡ c.self.inside.numbers.items =
     cut_again c.self.inside.numbers.items c.truncate.new.self.items c.deref-3.result.now n
     (c.truncate.ensures.items ∙ ap (take n) c.in_ok-reserve.ensures.items)
-    (c.deref-3.ensures.value ∙ c.in_ok-above.ensures.items ∙ ap (λ (xs : List ℕ). take (length xs - n) (drop n xs)) c.deref-2.ensures.value) in
+    (c.deref-3.ensures.value ∙ c.in_ok-above.ensures.items
+    ∙ ap (λ (xs : List ℕ). take (length xs - n) (drop n xs)) c.deref-2.ensures.value) in
     c.put_all.ensures.held
     ∙ ap (λ (xs : List ℕ). set.insert_all (set.from_list {R = nat_cmp} xs) c.args.sources.now) whole
     ∙ ap (λ (s : set.OrderedSet nat_cmp). set.insert_all s c.args.sources.now) c.self.view_is

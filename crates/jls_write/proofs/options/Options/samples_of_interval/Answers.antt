@@ -17,5 +17,6 @@ overflow_mul-result c =
     let few : c.from-2.result ≤ 4 = omega (arith, c.from-2.ensures, c.components_of_scan.ensures.few) in
     let row : c.from.result * c.from-2.result ≤ 262140 = product_at_most c.from.result c.from-2.result 65535 4 width few in
     let rows : c.from-3.result ≤ 65535 = omega (arith, c.from-3.ensures, c.rows_of_interval.type_inv) in
-    let all : c.from.result * c.from-2.result * c.from-3.result ≤ 17179344900 = product_at_most (c.from.result * c.from-2.result) c.from-3.result 262140 65535 row rows in
+    let all : c.from.result * c.from-2.result * c.from-3.result ≤ 17179344900 =
+    product_at_most (c.from.result * c.from-2.result) c.from-3.result 262140 65535 row rows in
     omega (arith, all)

@@ -4,7 +4,8 @@ use Rattle.jls_write.specs.Picture.{WholePicture, line_of}
 use Rattle.jls_write.proofs.picture.Picture.line.Goals as goal
 
 pub line-requires-clause-component_in : goal.line-requires-clause-component_in
-line-requires-clause-component_in c = subst (λ (pic : WholePicture). c.args.component < length pic.shape.ids) (sym c.self.view_is) c.requires.component_in
+line-requires-clause-component_in c =
+    subst (λ (pic : WholePicture). c.args.component < length pic.shape.ids) (sym c.self.view_is) c.requires.component_in
 
 pub line-requires-clause-line_in : goal.line-requires-clause-line_in
 line-requires-clause-line_in c = subst (λ (pic : WholePicture). c.args.line < pic.shape.height) (sym c.self.view_is) c.requires.line_in
@@ -17,4 +18,5 @@ returns-clause-width c = c.line.ensures.width ∙ ap (λ (pic : WholePicture). p
 
 pub returns-clause-samples : goal.returns-clause-samples
 returns-clause-samples c =
-    subst (λ (pic : WholePicture). AllByRecursion (λ sample. sample < 2 ^ pic.shape.precision) c.line.result.now) c.self.view_is c.line.ensures.samples
+    subst (λ (pic : WholePicture). AllByRecursion (λ sample. sample < 2 ^ pic.shape.precision) c.line.result.now) c.self.view_is
+    c.line.ensures.samples
