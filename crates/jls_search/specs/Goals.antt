@@ -22,15 +22,15 @@ abbrev pub IsFileFor : Option ℕ → List Part → Goal → List ℕ → Type 0
 IsFileFor ceiling parts Whole choices = IsSought ceiling (prefix_of parts choices)
 IsFileFor ceiling parts (Group setting) choices = ReadsInGroup parts setting.group choices
 
--- there is one for each part, and elsewhere they are the copy's
+-- choices make such a file. There is one for each part; where no ways are tried they are the copy's
 abbrev pub MakesFor : Option ℕ → List Part → Goal → List ℕ → Type 0
 MakesFor ceiling parts goal choices = IsSetWholeFor parts goal choices × IsFileFor ceiling parts goal choices
 
--- so are choices that a search is after. What they make is bytes
+-- a search is after choices that make such a file, of bytes
 abbrev pub IsSoughtFor : Option ℕ → List Part → Goal → List ℕ → Type 0
 IsSoughtFor ceiling parts goal choices = MakesFor ceiling parts goal choices × AllByRecursion (λ b. b < 256) (prefix_of parts choices)
 
--- a search of a group may pass by such choices, and one of whole files never does
+-- choices that a search passes by. One of whole files passes by none
 abbrev pub IsPassedFor : List Part → Goal → List ℕ → Type 0
 IsPassedFor parts Whole choices = ⊥
 IsPassedFor parts (Group setting) choices = IsPassedBy parts setting.group choices
@@ -48,7 +48,8 @@ pub record Stands (ceiling : Option ℕ) (parts : List Part) (goal : Goal) (path
 -- it is at its path if it goes on. If not, all that it is after is settled
 abbrev pub GoesOn : Option ℕ → List Part → Goal → List ℕ → List (List ℕ) → Bool → Type 0
 GoesOn ceiling parts goal path found true = Stands ceiling parts goal path found
-GoesOn ceiling parts goal path found false = (choices : List ℕ) → IsSoughtFor ceiling parts goal choices → IsSettledFor parts goal found choices
+GoesOn ceiling parts goal path found false =
+    (choices : List ℕ) → IsSoughtFor ceiling parts goal choices → IsSettledFor parts goal found choices
 
 -- nothing is found; or the path is, which makes a file that is sought and was not found before
 abbrev pub AddsFor : Option ℕ → List Part → Goal → List ℕ → List (List ℕ) → List (List ℕ) → Type 0

@@ -24,7 +24,7 @@ pub(crate) enum Sight {
     Dead,
     /// Such choices may come. The reader was fed what the path makes. There is none where its copy has ended.
     Open(Option<CopyReader>),
-    /// The path has a choice for each part, and makes a file that is sought. If it is the first whole file, there is a reader that was fed it.
+    /// The path has a choice for each part, and makes a file that is sought. The first whole file comes with a reader that was fed it.
     Found(Option<CopyReader>),
 }
 
