@@ -15,7 +15,7 @@ use crate::lines::put_progress;
 use crate::options::SearchOptions;
 use jls_diff::Parts;
 use jls_io::{Sink, write_all};
-use jls_search::{Searched, WholeSearch};
+use jls_search::{Search, Searched};
 use std::alloc::{AllocError, Global};
 
 /// After how many tries a search tells how far it is.
@@ -53,7 +53,7 @@ fn print_line<E: Sink>(faults: &mut E, line: &[u8])
 fn tell<E: Sink>(
     alloc: Global,
     options: SearchOptions,
-    walk: &WholeSearch,
+    walk: &Search,
     faults: &mut E,
 ) -> Result<(), AllocError>
     ensures reported { OnOk result (GrewBy (TellsLine options.tells walk.now.tries (length (lists_of walk.now.splices.items)))
@@ -74,7 +74,7 @@ fn go_on<E: Sink>(
     alloc: Global,
     parts: &Parts<'_>,
     options: SearchOptions,
-    walk: &mut WholeSearch,
+    walk: &mut Search,
     faults: &mut E,
 ) -> Result<(), AllocError>
     requires some_way { AllByRecursion HasSomeWay parts.now }
@@ -100,7 +100,7 @@ fn search_parts<E: Sink>(
     parts: &Parts<'_>,
     options: SearchOptions,
     faults: &mut E,
-) -> Result<WholeSearch, AllocError>
+) -> Result<Search, AllocError>
     requires some_way { AllByRecursion HasSomeWay parts.now }
     requires short { IsShort parts.now }
     ensures stands { IfOk result (λ walk. IsSearch parts.now walk) }
@@ -111,7 +111,7 @@ fn search_parts<E: Sink>(
     ensures reported { IfOk result (λ walk. GrewBy (HasReported options walk) (E.history faults.old) (E.history faults.new)) }
     ensures reported_some { OnErr result (GrewBy (ReportedSome options.tries options.tells) (E.history faults.old) (E.history faults.new)) }
 {
-    let mut walk = WholeSearch::begin(alloc, parts, options.ceiling)?;
+    let mut walk = Search::begin(alloc, parts, options.ceiling)?;
     while walk.can_go_on(options.tries) {
         go_on(alloc, parts, options, &mut walk, faults)?;
     }

@@ -5,7 +5,7 @@ use Rattle.jls_search.specs.Choices.{prefix_of}
 use Rattle.jls_search.specs.Faultless.{IsSought}
 use Rattle.jls_search.proofs.EarlyReads.{fed_none, fed_some}
 use Rattle.jls_search.proofs.Prefixes.{of_some}
-use Rattle.jls_search.proofs.Searching.{dead_prefix, faulty_file}
+use Rattle.jls_search.proofs.WholeSplices.{dead_prefix, faulty_file}
 use Rattle.jls_search.proofs.looking.look_at_file.Goals as goal
 
 pub returns-then-sought : goal.returns-then-sought
@@ -19,11 +19,11 @@ returns-then-sought c =
 
 pub returns : goal.returns
 returns c =
-    faulty_file (IsSought c.args.judge.now.ceiling) c.args.parts.now c.args.path.now c.requires.whole
+    faulty_file c.args.judge.now.ceiling c.args.parts.now c.args.path.now c.requires.whole
     (of_some c.in-Some.reader (prefix_of c.args.parts.now c.args.path.now) (λ bytes. AllByRecursion (λ b. b < 256) bytes → IsSought c.args.judge.now.ceiling bytes → ⊥)
     (fed_some c.args.parts.now c.args.path.now c.in_ok-reader.field-0 c.in-Some.reader c.in-Some.is c.in_ok-reader.ensures.living) (c.in_ok-sought.ensures.unsought c.if-sought.false))
 
 pub returns-in_default : goal.returns-in_default
 returns-in_default c =
-    dead_prefix (IsSought c.args.judge.now.ceiling) c.args.parts.now c.args.path.now c.requires.path
+    dead_prefix c.args.judge.now.ceiling c.args.parts.now c.args.path.now c.requires.path
     (λ more low sought. fed_none c.args.parts.now c.args.path.now c.in_ok-reader.field-0 (search rules) c.in_ok-reader.ensures.dead more low sought.0)

@@ -30,7 +30,7 @@ returns-clause-is_made g c =
       };
       within = let e = same.tries in let within = c.in_ok-walk.ensures.reported.they_are.within in omega (arith, e, within);
       used_up = λ yes.
-          elim (used_up walk options.tries c.in_ok-walk.ensures.stops c.in_ok-walk.ensures.reported.they_are.within c.in_ok-walk.ensures.stands.1 (sym same.used_up ∙ yes)) [
+          elim (used_up parts walk options.tries c.in_ok-walk.ensures.stands c.in_ok-walk.ensures.stops c.in_ok-walk.ensures.reported.they_are.within (sym same.used_up ∙ yes)) [
             | inl all ↦ inl (same.tries ∙ all)
             | inr full ↦ inr (ap (λ (v : Vec (Vec ℕ Global) Global). length (lists_of v.items)) same.splices ∙ full)
           ];
