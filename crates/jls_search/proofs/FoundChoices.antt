@@ -51,7 +51,8 @@ abbrev pub Added : List Part → Setting → List (List ℕ) → List (List ℕ)
 Added ps s before found =
     (more : List (List ℕ)) × (found ≡ before ++ more) × AllByRecursion (ReadsWith ps s.group s.copy) more
 
-added_more : (ceiling : Option ℕ) (ps : List Part) (s : Setting) (path : List ℕ) (first before found : List (List ℕ)) → Added ps s first before
+added_more : (ceiling : Option ℕ) (ps : List Part) (s : Setting) (path : List ℕ) (first before found : List (List ℕ))
+    → Added ps s first before
     → AddsFor ceiling ps (Group s) path before found → Added ps s first found
 added_more ceiling ps s path first before found (more, e, each) (inl same) = (more, same ∙ e, each)
 added_more ceiling ps s path first before found (more, e, each) (inr (is, new, added)) = (

@@ -53,8 +53,10 @@ module _ {X : Type 0} where
 -- Settings ---------------------------------------------------------------------------------------------------------
 
 -- more tries of the group, and more splices
-module _ (limit t u : ℕ) (ps : List Part) (m n more : List (List ℕ)) (tried : t ≤ u) (within : u ≤ limit) (on : n ≡ m ++ more) (few : length n ≤ 4096) where
-  setting_later : (group : Group) (copy : ℕ) (s : SettingSearched) → IsSettingSearched limit t ps m group copy s → IsSettingSearched limit u ps n group copy s
+module _ (limit t u : ℕ) (ps : List Part) (m n more : List (List ℕ)) (tried : t ≤ u) (within : u ≤ limit) (on : n ≡ m ++ more)
+    (few : length n ≤ 4096) where
+  setting_later : (group : Group) (copy : ℕ) (s : SettingSearched) → IsSettingSearched limit t ps m group copy s
+      → IsSettingSearched limit u ps n group copy s
   setting_later group copy s is = record {
     few = is.few;
     each = is.each;
@@ -77,10 +79,12 @@ module _ (limit copies : ℕ) (ps : List Part) (m n more : List (List ℕ)) (on 
   group_later g is = record {
     each_copy = is.each_copy;
     within = is.within;
-    each = λ copy s at. setting_later limit (tries_in g.settings) (tries_in g.settings) ps m n more (omega arith) is.within on few g.group copy s (is.each copy s at);
+    each = λ copy s at. setting_later limit (tries_in g.settings) (tries_in g.settings) ps m n more (omega arith) is.within on few g.group
+        copy s (is.each copy s at);
   }
 
-  groups_later : (gs : List GroupSearched) → AllByRecursion (IsGroupSearched limit copies ps m) gs → AllByRecursion (IsGroupSearched limit copies ps n) gs
+  groups_later : (gs : List GroupSearched) → AllByRecursion (IsGroupSearched limit copies ps m) gs
+      → AllByRecursion (IsGroupSearched limit copies ps n) gs
   groups_later [] each = tt
   groups_later (g ∷ gs) each = (group_later g each.0, groups_later gs each.1)
 
@@ -90,7 +94,8 @@ pub went : (limit : ℕ) (ps : List Part) (s : Setting) (before more : Searched)
     → length more.splices.items ≤ min (length before.splices.items + 64) 4096 → (cut ≡ false → before.tries < more.tries)
     → (cut ≡ true → (more.tries ≡ limit) ⊎ (min (length before.splices.items + 64) 4096 ≤ length more.splices.items))
     → more.is_used_up ≡ (cut || before.is_used_up)
-    → (cut ≡ false → (choices : List ℕ) → IsSoughtFor None ps (ForGroup s) choices → IsSettledFor ps (ForGroup s) (lists_of more.splices.items) choices)
+    → (cut ≡ false → (choices : List ℕ) → IsSoughtFor None ps (ForGroup s) choices
+    → IsSettledFor ps (ForGroup s) (lists_of more.splices.items) choices)
     → GoesThrough limit ps s before more
 went limit ps s before more cut tried within (added, on, each) few some full used settled = record {
   came_to = record { tries = more.tries - before.tries; splices = added; is_cut_off = cut };
@@ -143,7 +148,8 @@ goes_first limit ps group s untried few = record {
 }
 
 -- one copy more
-pub goes_more : (limit copies : ℕ) (ps : List Part) (group : Group) (before mid more : Searched) → GoesThroughCopies limit copies ps group before mid
+pub goes_more : (limit copies : ℕ) (ps : List Part) (group : Group) (before mid more : Searched)
+    → GoesThroughCopies limit copies ps group before mid
     → GoesThrough limit ps (record { group = group; copy = copies }) mid more → GoesThroughCopies limit (copies + 1) ps group before more
 goes_more limit copies ps group before mid more h g =
     let ss : List SettingSearched = h.settings in
@@ -159,7 +165,8 @@ goes_more limit copies ps group before mid more h g =
         within = within;
         each =
             numbered_push (IsSettingSearched limit (tries_in (ss ++ s ∷ [])) ps (lists_of more.splices.items) group) ss s
-            (λ copy t at. setting_later limit (tries_in ss) (tries_in (ss ++ s ∷ [])) ps (lists_of mid.splices.items) (lists_of more.splices.items)
+            (λ copy t at. setting_later limit (tries_in ss) (tries_in (ss ++ s ∷ [])) ps (lists_of mid.splices.items)
+            (lists_of more.splices.items)
             s.splices rose within g.found g.few group copy t (h.is.each copy t at))
             (subst (λ n. IsSettingSearched limit (tries_in (ss ++ s ∷ [])) ps (lists_of more.splices.items) group n s) (sym h.is.each_copy)
             (subst (λ t. IsSettingSearched limit t ps (lists_of more.splices.items) group copies s) tries g.is));
@@ -222,7 +229,8 @@ one_more_group limit copies ps groups i d tries sum begun more within h g sum_is
           (IsPermutation-append_left (group ∷ []) (take i groups) (map (λ (x : GroupSearched). x.group) gs) h.in_some_order));
       each =
           all_more (IsGroupSearched limit copies ps (lists_of more.splices.items)) gs one
-          (groups_later limit copies ps (lists_of begun.splices.items) (lists_of more.splices.items) (given_in g.settings) g.found g.few gs h.each)
+          (groups_later limit copies ps (lists_of begun.splices.items) (lists_of more.splices.items) (given_in g.settings) g.found g.few gs
+          h.each)
           g.is;
       tries_are = omega (arith, a, b, e, sum_is);
       found_are =

@@ -34,7 +34,8 @@ module _ (ceiling : Option ℕ) (ps : List Part) (s : Setting) (path : List ℕ)
         | inr b ↦ inr b
         | inl begins ↦ (
             let low : AllByRecursion (λ b. b < 256) (prefix_of ps (take (length path) choices)) =
-            all_prefix (λ b. b < 256) (prefix_of ps (take (length path) choices)) (prefix_of (drop (length path) ps) (drop (length path) choices))
+            all_prefix (λ b. b < 256) (prefix_of ps (take (length path) choices))
+            (prefix_of (drop (length path) ps) (drop (length path) choices))
             (subst (AllByRecursion (λ b. b < 256)) (prefix_and_rest ps choices (length path) sought.0.0.0.0) sought.1) in
             inl (inr (
               length path,

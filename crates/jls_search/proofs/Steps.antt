@@ -68,7 +68,8 @@ module _ (ceiling : Option ℕ) (ps : List Part) (g : Goal) where
       let a = ap length added ∙ length-append before (path ∷ []) in (omega (arith, a), omega (arith, a))
 
   -- a path that is passed by
-  pub turned_step : (r : Result Bool AllocError) (path next : List ℕ) (before found : List (List ℕ)) → AddsFor ceiling ps g path before found
+  pub turned_step : (r : Result Bool AllocError) (path next : List ℕ) (before found : List (List ℕ))
+      → AddsFor ceiling ps g path before found
       → IfOk r (λ more. more ≡ true → IsLater path next) → IfOk r (λ more. IsStep ceiling ps g path before next found more)
   turned_step (Ok more) path next before found adds h = (adds, λ t. inr (h t))
   turned_step (Err e) path next before found adds h = tt

@@ -12,7 +12,8 @@ use Rattle.jls_search.proofs.Steps.{one_at_most}
 
 module _ (ps : List Part) (old new : Search) (at : IsAt ps old) (alike : IsAlike old new) where
   module _ (next : GoesOn old.judge.ceiling ps old.goal new.path.items (lists_of new.splices.items) new.goes_on)
-      (step : IsStep old.judge.ceiling ps old.goal old.path.items (lists_of old.splices.items) new.path.items (lists_of new.splices.items) new.goes_on)
+      (step : IsStep old.judge.ceiling ps old.goal old.path.items (lists_of old.splices.items) new.path.items (lists_of new.splices.items)
+      new.goes_on)
       (kept : AreKept ps new.judge) (room : length (lists_of old.splices.items) < old.most) where
     at_next : IsAt ps new
     at_next = record {
@@ -23,9 +24,11 @@ module _ (ps : List Part) (old new : Search) (at : IsAt ps old) (alike : IsAlike
       files =
           subst (λ c. AreFilesFor c ps new.goal (lists_of new.splices.items)) (sym alike.1)
           (subst (λ g. AreFilesFor old.judge.ceiling ps g (lists_of new.splices.items)) (sym alike.0)
-          (files_more old.judge.ceiling ps old.goal old.path.items (lists_of old.splices.items) (lists_of new.splices.items) at.goal at.files step.0));
+          (files_more old.judge.ceiling ps old.goal old.path.items (lists_of old.splices.items) (lists_of new.splices.items) at.goal
+          at.files step.0));
       few =
-          (let n = one_at_most old.judge.ceiling ps old.goal old.path.items (lists_of old.splices.items) (lists_of new.splices.items) step.0 in
+          (let n = one_at_most old.judge.ceiling ps old.goal old.path.items (lists_of old.splices.items) (lists_of new.splices.items)
+          step.0 in
           let m = n.1 in let same = alike.2 in omega (arith, m, same, room));
       kept = kept;
     }

@@ -23,7 +23,8 @@ came_to parts s h =
     (subst (λ g. GoesOn s.judge.ceiling parts g s.path.items found s.goes_on) h.goal_is h.is_at.goes)
 
 -- one that stopped while there was more to try has made all its tries, or found as many files as it finds at most
-pub stopped : (s : Search) (limit : ℕ) → (CanGoOn s limit → ⊥) → s.tries ≤ limit → length (lists_of s.splices.items) ≤ s.most → s.goes_on ≡ true
+pub stopped : (s : Search) (limit : ℕ) → (CanGoOn s limit → ⊥) → s.tries ≤ limit → length (lists_of s.splices.items) ≤ s.most → s.goes_on
+    ≡ true
     → (s.tries ≡ limit) ⊎ (length (lists_of s.splices.items) ≡ s.most)
 stopped s limit stops within few more =
     elim (cases_lt s.tries limit) [

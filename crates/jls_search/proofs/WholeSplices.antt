@@ -39,7 +39,8 @@ first_with ways x zero = inl (λ i l e. omega (arith, l))
 first_with ways x (suc n) =
     elim (first_with ways x n) [
       | inr r ↦ inr (r.0, omega (arith, r.1), r.2, r.3)
-      | inl none ↦ elim (same (get_or ways n []) x) [ inl e ↦ inr (n, omega arith, e, none) | inr here ↦ inl (none_more ways x n none here) ]
+      | inl none ↦ elim (same (get_or ways n []) x)
+          [ inl e ↦ inr (n, omega arith, e, none) | inr here ↦ inl (none_more ways x n none here) ]
     ]
 
 first_way : (ways : List (List ℕ)) (j : ℕ) → j < length ways → (c : ℕ) × IsFirstWay (Differ ways) c × (get_or ways c [] ≡ get_or ways j [])
@@ -86,7 +87,11 @@ begins_or_after (p ∷ ps) (c ∷ path) [] h k t = absurd t
 begins_or_after (p ∷ ps) (c ∷ path) (d ∷ cs) h k (inl less) = inr (inl less)
 begins_or_after (p ∷ ps) (c ∷ path) (d ∷ cs) h k (inr (e, t)) =
     elim (begins_or_after ps path cs h.1 k.1 t) [
-      | inl r ↦ inl (r.0, ap (λ z. way z p ++ prefix_of ps cs) (sym e) ∙ ap (λ z. way c p ++ z) r.1 ∙ sym (append_assoc (way c p) (prefix_of ps path) r.0))
+      | inl r ↦ inl (
+        r.0,
+        ap (λ z. way z p ++ prefix_of ps cs) (sym e) ∙ ap (λ z. way c p ++ z) r.1
+            ∙ sym (append_assoc (way c p) (prefix_of ps path) r.0),
+      )
       | inr b ↦ inr (inr (e, b))
     ]
 

@@ -123,6 +123,7 @@ fn begin(
 /// What it came to. It was cut off where there is more to try, or another was before.
 fn went(search: Search, was_cut: bool) -> Gone
     ensures searched { result.searched ≡ record {
+      ceiling = None;
       splices = search.splices;
       reader = None;
       tries = search.tries;
@@ -140,6 +141,7 @@ fn went(search: Search, was_cut: bool) -> Gone
     let Judge { begin, .. } = judge;
     Gone {
         searched: Searched {
+            ceiling: None,
             splices,
             reader: None,
             tries,
@@ -230,6 +232,7 @@ fn search_in_turn(
 {
     let mut kept = no_readers(alloc, extent.copies)?;
     let mut searched = Searched {
+        ceiling: None,
         splices: Vec::new(alloc),
         reader: None,
         tries: 0,

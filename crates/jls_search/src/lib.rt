@@ -50,7 +50,6 @@
 mod adding;
 mod ceiling;
 mod choosing;
-mod copies;
 mod cut;
 mod faultless;
 mod feeding;
@@ -83,7 +82,6 @@ mod taking;
 mod whole_search;
 
 pub use choosing::next_way_at;
-pub use copies::SearchedCopies;
 pub use cut::settle_with_cut;
 pub use faultless::{is_dead, is_faultless, is_read_faultless, is_sought};
 pub use feeding::{feed_prefix, reader_of};

@@ -154,6 +154,7 @@ impl Search {
     pub fn into_searched(self) -> Searched
         ensures came_to { (parts : List SpecPart) → IsSearch parts self
             → CameTo (IsSought self.judge.ceiling) parts (lists_of result.splices.items) result.is_used_up }
+        ensures ceiling { result.ceiling ≡ self.judge.ceiling }
         ensures tries { result.tries ≡ self.tries }
         ensures splices { result.splices ≡ self.splices }
         ensures used_up { result.is_used_up ≡ self.goes_on }
@@ -166,8 +167,9 @@ impl Search {
             judge,
             ..
         } = self;
-        let Judge { found, .. } = judge;
+        let Judge { ceiling, found, .. } = judge;
         Searched {
+            ceiling,
             splices,
             reader: found,
             tries,

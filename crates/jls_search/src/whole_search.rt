@@ -18,6 +18,8 @@ pub const MOST_FOUND: usize = 64;
 /// What a search came to.
 #[derive(Drop)]
 pub struct Searched {
+    /// The greatest sample that a file may have that was sought, if there is a limit.
+    pub ceiling: Option<u16>,
     /// The splices that were sought and found, each as its choices, one for each part.
     pub splices: Vec<Vec<usize>>,
     /// The reader of the first of them, if it is kept. It was fed all of it.
@@ -41,6 +43,7 @@ pub fn search(
 ) -> Result<Searched, AllocError>
     requires some_way { AllByRecursion HasSomeWay parts.now }
     requires short { IsShort parts.now }
+    ensures ceiling { IfOk result (λ searched. searched.ceiling ≡ ceiling) }
     ensures files { IfOk result (λ searched. MakeFiles (IsSought ceiling) parts.now (lists_of searched.splices.items)) }
     ensures all { IfOk result (λ searched. searched.is_used_up ≡ false
         → HasEachSplice (IsSought ceiling) parts.now (files_of parts.now (lists_of searched.splices.items))) }

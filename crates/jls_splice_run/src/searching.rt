@@ -7,7 +7,7 @@ ghost use Rattle.jls_io.specs.Writing.{Printed};
 ghost use Rattle.jls_diff.specs.PartsOf.{parts_of};
 ghost use Rattle.jls_search.specs.Choices.{HasSomeWay};
 ghost use Rattle.jls_search.specs.Search.{CanGoOn, IsKept, IsSearch, IsShort, Tried, lists_of};
-ghost use Rattle.jls_splice_run.specs.Limits.{IsSearchMade, made_under};
+ghost use Rattle.jls_splice_run.specs.Limits.{IsSearchMade, search_made};
 ghost use Rattle.jls_splice_run.specs.Lines.{progress_line};
 ghost use Rattle.jls_splice_run.specs.Telling.{GoesOn, HasReported, IsReported, TellsLine, ReportedSome, WasBegun};
 
@@ -128,7 +128,8 @@ pub(crate) fn search_once<E: Sink>(
 ) -> Result<Searched, AllocError>
     requires some_way { AllByRecursion HasSomeWay parts.now }
     requires short { IsShort parts.now }
-    ensures is_made { IfOk result (λ s. IsSearchMade parts.now options.tries (made_under options.ceiling s)) }
+    ensures is_made { IfOk result (λ s. IsSearchMade parts.now options.tries (search_made s)) }
+    ensures ceiling { IfOk result (λ s. s.ceiling ≡ options.ceiling) }
     ensures reader { IfOk result (λ s. IfSome s.reader (IsKept parts.now)) }
     ensures reported { IfOk result (λ s. GrewBy (IsReported options.tells s.tries (length (lists_of s.splices.items)))
         (E.history faults.old) (E.history faults.new)) }

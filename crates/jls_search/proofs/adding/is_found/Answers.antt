@@ -26,5 +26,6 @@ returns c =
     let end = c.loop-number-test.false in (
       λ t. absurd cc,
       λ among. absurd (not_found c.args.path.now c.args.found.now
-          (subst (NoneIs c.args.path.now) (take_all c.loop-number.number c.args.found.now (omega (arith, end))) c.loop-number.invariant) among),
+          (subst (NoneIs c.args.path.now) (take_all c.loop-number.number c.args.found.now (omega (arith, end))) c.loop-number.invariant)
+          among),
     )

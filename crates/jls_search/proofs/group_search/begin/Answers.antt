@@ -14,7 +14,8 @@ returns-clause-stands c =
     let found = lists_of c.args.searched.splices.items in
     record {
       goal = c.requires.setting;
-      goes = begun None c.args.parts.now (Group c.args.setting) c.new-path.result.items c.follow.new.path.items found c.new-path.ensures.items
+      goes = begun None c.args.parts.now (Group c.args.setting) c.new-path.result.items c.follow.new.path.items found
+          c.new-path.ensures.items
           c.in_ok-follow.ensures.path c.in_ok-follow.ensures.stop c.in_ok-follow.ensures.kept;
       files = c.requires.splices;
       few =

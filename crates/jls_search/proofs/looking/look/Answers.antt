@@ -8,5 +8,6 @@ look_in_group-requires-clause-setting c = subst (IsGoal c.args.parts.now) c.in-G
 
 pub returns-in-Group : goal.returns-in-Group
 returns-in-Group c =
-    subst (λ g. IfOk c.look_in_group.result (λ sight. IsSeenFor c.args.judge.now.ceiling c.args.parts.now g c.args.path.now sight)) (sym c.in-Group.is)
+    subst (λ g. IfOk c.look_in_group.result (λ sight. IsSeenFor c.args.judge.now.ceiling c.args.parts.now g c.args.path.now sight))
+    (sym c.in-Group.is)
     (c.look_in_group.ensures c.args.judge.now.ceiling)

@@ -17,10 +17,10 @@ returns-clause-is_made g c =
     let were = c.in_ok-walk.ensures.tried in
     record {
       came_to = subst (λ ceiling. CameTo (IsSought ceiling) parts (lists_of c.into_searched.result.splices.items) c.into_searched.result.is_used_up)
-          c.in_ok-walk.ensures.ceiling (same.came_to parts c.in_ok-walk.ensures.stands);
+          (sym same.ceiling) (same.came_to parts c.in_ok-walk.ensures.stands);
       tried = record {
         begun = were.0;
-        ceiling_is = were.4;
+        ceiling_is = were.4 ∙ sym (same.ceiling ∙ c.in_ok-walk.ensures.ceiling);
         is_begun = were.1;
         stands = were.2;
         last = walk;
@@ -35,6 +35,9 @@ returns-clause-is_made g c =
             | inr full ↦ inr (ap (λ (v : Vec (Vec ℕ Global) Global). length (lists_of v.items)) same.splices ∙ full)
           ];
     }
+
+pub returns-clause-ceiling : goal.returns-clause-ceiling
+returns-clause-ceiling g c = c.into_searched.ensures.ceiling ∙ c.in_ok-walk.ensures.ceiling
 
 pub returns-clause-reported : goal.returns-clause-reported
 returns-clause-reported g c =

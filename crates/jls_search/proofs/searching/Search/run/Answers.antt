@@ -15,7 +15,8 @@ pub try_next-requires-clause-stands : goal.try_next-requires-clause-stands
 try_next-requires-clause-stands c =
     let can = c.can_go_on.ensures.0 c.loop-alloc-test.true in
     let s = c.loop-alloc.self in
-    when_on s.judge.ceiling c.args.parts.now s.goal s.path.items (lists_of s.splices.items) s.goes_on can.0 c.loop-alloc.invariant.stands.goes
+    when_on s.judge.ceiling c.args.parts.now s.goal s.path.items (lists_of s.splices.items) s.goes_on can.0
+    c.loop-alloc.invariant.stands.goes
 
 pub try_next-requires-clause-kept : goal.try_next-requires-clause-kept
 try_next-requires-clause-kept c = c.loop-alloc.invariant.stands.kept

@@ -20,6 +20,7 @@ returns-in_ok-add_found-in-Found-clause-next c =
     let seen : IsSeenFor ceiling ps g path (Found c.in-Found.reader) =
     subst (λ (s : Sight). IsSeenFor ceiling ps g path s) c.in-Found.is
     (subst (λ p. IsSeenFor ceiling ps g p c.in_ok-sight.sight) c.deref.ensures.value c.in_ok-sight.ensures) in
-    let adds : IsAddedOnce old path new = subst (λ p. IsAddedOnce old p new) c.deref-in-Found-2.ensures.value c.in_ok-add_found-in-Found.ensures in
+    let adds : IsAddedOnce old path new =
+    subst (λ p. IsAddedOnce old p new) c.deref-in-Found-2.ensures.value c.in_ok-add_found-in-Found.ensures in
     turned_on ceiling ps g path next old c.requires.stands new (found_after ceiling ps g path next old c.requires.stands new adds seen.0)
     c.turn.result c.turn.ensures.path c.turn.ensures.stop c.turn.ensures.to_come c.turn.ensures.none
