@@ -2,15 +2,15 @@
 
 ghost use Rattle.std.specs.Prelude.{◌≡◌, ◌<◌, length, IfOk};
 ghost use Rattle.jls_diff.specs.Parts.{AreParts};
-ghost use Rattle.jls_diff.specs.PartsOf.{bytes_of};
+ghost use Rattle.jls_diff.specs.PartsOf.{bytes_of, parts_of};
 ghost use Rattle.jls_search.specs.Faultless.{IsSought};
 ghost use Rattle.jls_search.specs.Search.{CameTo, lists_of};
 ghost use Rattle.jls_search.specs.SearchLaws.{AreShort};
 
 use crate::met::{Met, Stopped, Tally};
 use crate::pairs::{half_lost_pair, mended_pair};
-use jls_diff::{Part, find_parts};
-use jls_search::{SearchedCopies, are_short, complete_by_groups, parts_can_be_searched, search};
+use jls_diff::{Part, Parts, find_parts};
+use jls_search::{Searched, are_short, complete_by_groups, parts_can_be_searched, search};
 use std::alloc::{AllocError, Global};
 use std::process::Abort;
 
@@ -70,22 +70,17 @@ fn searched<'a>(
     alloc: Global,
     copies: &[&'a [u8]],
     limit: u32,
-) -> Result<SearchedCopies<'a>, AllocError>
+) -> Result<(Parts<'a>, Searched), AllocError>
     requires some_copy { 0 < length copies.now }
     requires short { AreShort (bytes_of copies.now) }
-    ensures parts { IfOk result (λ found. AreParts (bytes_of copies.now) found.parts) }
+    ensures parts { IfOk result (λ found. AreParts (bytes_of copies.now) found.0) }
     ensures searched { IfOk result (λ found.
-        CameTo (IsSought found.ceiling) found.parts (lists_of found.searched.splices.items) found.searched.is_used_up) }
+        CameTo (IsSought found.1.ceiling) found.0 (lists_of found.1.splices.items) found.1.is_used_up) }
 {
     parts_can_be_searched();
     let parts = find_parts(alloc, copies)?;
-    let ceiling = Some(255);
-    let searched = search(alloc, &parts, ceiling, limit)?;
-    Ok(SearchedCopies {
-        parts,
-        ceiling,
-        searched,
-    })
+    let searched = search(alloc, &parts, Some(255), limit)?;
+    Ok((parts, searched))
 }
 
 /// How many splices both searches come to.
@@ -93,8 +88,8 @@ fn splices_of(alloc: Global, copies: &[&[u8]]) -> Result<usize, AllocError> {
     if copies.is_empty() || !are_short(copies) {
         return Err(AllocError);
     }
-    let all = searched(alloc, copies, 4096)?;
-    let found = complete_by_groups(alloc, copies, all, 4096)?;
+    let (parts, all) = searched(alloc, copies, 4096)?;
+    let found = complete_by_groups(alloc, copies, parts, all, 4096)?;
     Ok(found.splices.len())
 }
 

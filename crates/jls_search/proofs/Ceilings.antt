@@ -32,7 +32,8 @@ in_line : (ceiling c l : ℕ) (r : Reading) (xs : List (List ℕ)) → ((i : ℕ
     → list_any (eq_by_cmp reading_cmp r) (map (reading_of c l) xs) ≡ true → AreWithin ceiling r.samples
 in_line ceiling c l r [] each e = absurd cc
 in_line ceiling c l r (x ∷ xs) each e =
-    either (AreWithin ceiling r.samples) (eq_by_cmp reading_cmp r (reading_of c l x)) (list_any (eq_by_cmp reading_cmp r) (map (reading_of c l) xs))
+    either (AreWithin ceiling r.samples) (eq_by_cmp reading_cmp r (reading_of c l x))
+    (list_any (eq_by_cmp reading_cmp r) (map (reading_of c l) xs))
     (λ here. subst (λ (y : Reading). AreWithin ceiling y.samples) (sym (same_reading r (reading_of c l x) here)) (each 0 (omega arith)))
     (λ later. in_line ceiling c l r xs (λ i m. each (suc i) (omega (arith, m))) later) e
 
@@ -47,7 +48,8 @@ module _ (p : PartialPicture) (ceiling : ℕ) where
   pub held_within : IsFitting p → IsPictureWithin ceiling p → (r : Reading) → set.contains p.readings r ≡ true → AreWithin ceiling r.samples
   held_within fits each r held =
       let range = line_of_fit p.shape r.component r.line r.samples (fits r.component r.line r.samples held) in
-      in_line ceiling r.component r.line r (readings_at p r.component r.line) (each r.component range.0 r.line range.1) (in_its_line p r held)
+      in_line ceiling r.component r.line r (readings_at p r.component r.line) (each r.component range.0 r.line range.1)
+      (in_its_line p r held)
 
 -- What was read ----------------------------------------------------------------------------------------------------
 

@@ -16,7 +16,8 @@ use Rattle.jls_search.proofs.SeenFiles.{file_of}
 use Rattle.jls_search.proofs.TakenFiles.{shape_kept, takes_more}
 
 -- a station of its shape took the files, and then it
-pub cut_taken : (source : Option ℕ) (files : List (List ℕ)) (cut : List ℕ) (read : ReadCopy) (shape : PictureShape) (before after : PartialPicture)
+pub cut_taken : (source : Option ℕ) (files : List (List ℕ)) (cut : List ℕ) (read : ReadCopy) (shape : PictureShape)
+    (before after : PartialPicture)
     → CopyReads cut read → shape ≡ read.partial.shape → TakesFiles source files (nothing_known shape) before
     → TakesFiles source (cut ∷ []) before after
     → HasShape after.shape cut × TakesFiles source (files ++ cut ∷ []) (nothing_known after.shape) after
@@ -28,7 +29,8 @@ cut_taken source files cut read shape before after reads is taken takes =
     )
 
 -- a file without a fault was seen
-pub faultless_seen : (copies splices : List (List ℕ)) (cut : List ℕ) (seen : List Seen) (shape : PictureShape) → AreSeen (copies ++ splices) seen
+pub faultless_seen : (copies splices : List (List ℕ)) (cut : List ℕ) (seen : List Seen) (shape : PictureShape)
+    → AreSeen (copies ++ splices) seen
     → Contains seen (Faultless shape) → TakesNoCut copies splices cut
 faultless_seen copies splices cut seen shape are some =
     let here = file_of (copies ++ splices) seen (Faultless shape) are some in inl (here.0, here.1, here.2.1)

@@ -117,7 +117,8 @@ pub fed_some : (ps : List Part) (path : List ℕ) (fed : Option (Option (List �
     → IfSome fed (λ r. r ≡ Some (prefix_of ps path)) → reader ≡ Some (prefix_of ps path)
 fed_some ps path fed reader is h = subst (λ o. IfSome o (λ r. r ≡ Some (prefix_of ps path))) is h
 
-pub fed_none : (ps : List Part) (path : List ℕ) (fed : Option (Option (List ℕ))) → fed ≡ None → IfNone fed (IsDead IsFaultless (prefix_of ps path))
+pub fed_none : (ps : List Part) (path : List ℕ) (fed : Option (Option (List ℕ))) → fed ≡ None
+    → IfNone fed (IsDead IsFaultless (prefix_of ps path))
     → IsDead IsFaultless (prefix_of ps path)
 fed_none ps path fed is h = subst (λ o. IfNone o (IsDead IsFaultless (prefix_of ps path))) is h
 

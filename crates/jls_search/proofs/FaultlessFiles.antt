@@ -27,7 +27,8 @@ use Rattle.jls_station.proofs.KnownCopies.{some_then}
 
 -- Pieces -----------------------------------------------------------------------------------------------------------
 
-pub lines_or_fault : (p : FoundPiece) (lines : List (List ℕ)) (kind : PieceKind) → HasScan p → IsOutcome p (Lines lines) → IsOutcome p (Fault kind) → ⊥
+pub lines_or_fault : (p : FoundPiece) (lines : List (List ℕ)) (kind : PieceKind) → HasScan p → IsOutcome p (Lines lines)
+    → IsOutcome p (Fault kind) → ⊥
 lines_or_fault p lines kind scan a b =
     let e = one_outcome p.plan p.number p.bytes (Lines lines) (Fault kind) scan a b in absurd cc
 
@@ -69,7 +70,8 @@ module _ (law : RecordsAreOfFaultyPieces) (bytes : List ℕ) (read : ReadCopy) (
       let each : AllByRecursion HasLines (pieces h.course) = subst (λ (c : Course). AllByRecursion HasLines (pieces c)) e f.each in (
         r.3 ∙ none_faulty (pieces h.course) r.0 (course_has bytes h.course low h.is_course) each r.1,
         subst EndsWell (sym h.ended_is) (subst (λ (c : Course). EndsWell c.end) e f.ends),
-        lines_read bytes read h low (subst (λ (s : PictureShape). GivesEachLine s h.course) (same_shape f e) (subst (GivesEachLine f.shape) e f.whole)),
+        lines_read bytes read h low (subst (λ (s : PictureShape). GivesEachLine s h.course) (same_shape f e)
+            (subst (GivesEachLine f.shape) e f.whole)),
       )
 
 pub faulty_without_frame : (fed : Option (List ℕ)) (f : MarkerFault) (n : ℕ) → IfSome fed (λ bytes. CopyGivesNone bytes (NoPicture f n))
@@ -82,7 +84,8 @@ faulty_without_frame (Some bytes) f n h = λ low faultless.
 
 -- Prefixes -----------------------------------------------------------------------------------------------------------
 
-pub dead_if_broken : PrefixesStayBroken → (fed : Option (List ℕ)) → IfSome fed (λ bytes. IsPieceBroken bytes) → IfSome fed (λ bytes. IsDead IsFaultless bytes)
+pub dead_if_broken : PrefixesStayBroken → (fed : Option (List ℕ)) → IfSome fed (λ bytes. IsPieceBroken bytes)
+    → IfSome fed (λ bytes. IsDead IsFaultless bytes)
 dead_if_broken stay None h = tt
 dead_if_broken stay (Some prefix) h = λ more low f.
     let p = stay prefix more low h f.course f.is_course in
@@ -114,13 +117,15 @@ dead_if_done stay (Some prefix) done t h has_fault = λ more low f.
 
 -- Answers ----------------------------------------------------------------------------------------------------------
 
-pub never_faultless : (fed : Option (List ℕ)) (fault : CopyFault) (r : Result Bool AllocError) → IfOk r (λ answer. IsAnswerWithoutFrame fault answer)
+pub never_faultless : (fed : Option (List ℕ)) (fault : CopyFault) (r : Result Bool AllocError)
+    → IfOk r (λ answer. IsAnswerWithoutFrame fault answer)
     → IfOk r (λ answer. answer ≡ true → IfSome fed (λ bytes. IsFaultless bytes))
 never_faultless fed (NoPicture f n) (Ok answer) h = λ t. absurd cc
 never_faultless fed OutOfMemory (Ok answer) h = absurd h
 never_faultless fed fault (Err e) h = tt
 
-pub ever_faulty : (fed : Option (List ℕ)) (fault : CopyFault) (r : Result Bool AllocError) → IfOk r (λ answer. IsAnswerWithoutFrame fault answer)
+pub ever_faulty : (fed : Option (List ℕ)) (fault : CopyFault) (r : Result Bool AllocError)
+    → IfOk r (λ answer. IsAnswerWithoutFrame fault answer)
     → IfSome fed (λ bytes. CopyGivesNone bytes fault)
     → IfOk r (λ answer. answer ≡ false → IfSome fed (λ bytes. AllByRecursion (λ b. b < 256) bytes → IsFaultless bytes → ⊥))
 ever_faulty fed (NoPicture f n) (Ok answer) h none = λ _. faulty_without_frame fed f n none

@@ -1,4 +1,5 @@
--- Two copies without a frame, worked out by hand: the empty one, and SOI alone. They have no shape, the fault that is reported is that of the
+-- Two copies without a frame, worked out by hand: the empty one, and SOI alone. They have no shape, the fault that is reported is that of
+-- the
 -- first one, and they give a station nothing.
 use Rattle.std.proofs.Common.{ℕ, List, [], ◌∷◌, None, refl}
 use Rattle.std.specs.List.{AllByRecursion}
@@ -38,6 +39,7 @@ no_shape_found = (each_has_a_fault, no_frames, (without_units 0 (Header Ended 0)
 nothing_taken : (shape : PictureShape) → TakesFiles None copies (nothing_known shape) (nothing_known shape)
 nothing_taken shape = record {
   given = [];
-  give = gives_nothing [] (soi ∷ []) [] (no_shape shape [] empty_has_none) (gives_nothing soi [] [] (no_shape shape soi soi_has_none) no_file);
+  give = gives_nothing [] (soi ∷ []) [] (no_shape shape [] empty_has_none)
+      (gives_nothing soi [] [] (no_shape shape soi soi_has_none) no_file);
   union_is = refl;
 }

@@ -18,7 +18,8 @@ made_of_path count (Same b ∷ parts) (c ∷ cs) some ways path e =
 made_of_path count (Differ ws ∷ parts) (c ∷ cs) some ways path e =
     (c, subst (λ n. c < n) ways.0 path.0.0, prefix_of parts cs, refl, made_of_path count parts cs some ways.1 path.1 (omega (arith, e)))
 
-found_are : (Sought : List ℕ → Type 0) (count : ℕ) (parts : List Part) (found : List (List ℕ)) → 0 < count → AllByRecursion (HasWays count) parts → MakeFiles Sought parts found
+found_are : (Sought : List ℕ → Type 0) (count : ℕ) (parts : List Part) (found : List (List ℕ)) → 0 < count
+    → AllByRecursion (HasWays count) parts → MakeFiles Sought parts found
     → AllByRecursion (λ file. IsSplice count parts file × Sought file) (files_of parts found)
 found_are Sought count parts [] some ways made = tt
 found_are Sought count parts (c ∷ found) some ways made =

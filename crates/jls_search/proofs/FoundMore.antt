@@ -37,8 +37,10 @@ module _ (vs more : List (Vec ℕ Global)) (n : ℕ) (at : n ≡ length vs) wher
       ∙ drop-append_seam (lists_of vs) (lists_of more)
 
   -- a search by groups that found those after them
-  pub group_search : (limit copies : ℕ) (ps : List Part) (gs : List Group) (reported : GroupsReported) → AllByRecursion (IsGroup ps) gs → CoverParts ps gs
-      → reported.groups ≡ length gs → IsOnce (lists_of more) → AreGroupsSearched limit copies ps gs reported.tries (lists_of more) reported.is_used_up
+  pub group_search : (limit copies : ℕ) (ps : List Part) (gs : List Group) (reported : GroupsReported) → AllByRecursion (IsGroup ps) gs
+      → CoverParts ps gs
+      → reported.groups ≡ length gs → IsOnce (lists_of more)
+      → AreGroupsSearched limit copies ps gs reported.tries (lists_of more) reported.is_used_up
       → IsGroupSearch limit copies ps (by_groups_of (drop n (lists_of (vs ++ more))) reported)
   group_search limit copies ps gs reported groups cover count once searched = record {
     groups = gs;
@@ -60,7 +62,8 @@ none_is : (vs : List (Vec ℕ Global)) → lists_of vs ≡ [] → length vs ≡ 
 none_is [] e = refl
 none_is (v ∷ vs) e = absurd cc
 
-module _ (ceiling : Option ℕ) (copies : List (List ℕ)) (ps : List Part) (vs : List (Vec ℕ Global)) (n : ℕ) (used : Bool) (are : AreParts copies ps)
+module _ (ceiling : Option ℕ) (copies : List (List ℕ)) (ps : List Part) (vs : List (Vec ℕ Global)) (n : ℕ) (used : Bool)
+    (are : AreParts copies ps)
     (came : CameTo (IsSought ceiling) ps (lists_of vs) used) (at : n ≡ length vs) where
   pub found_whole : used ≡ false → (n ≡ 0 → ⊥)
       → IsFound ceiling copies (record { parts = ps; choices = take n (lists_of vs); is_used_up = used; by_groups = None })
@@ -117,11 +120,13 @@ module _ (ps : List Part) where
   whole_of_groups [] each = tt
   whole_of_groups (choices ∷ found) each = (each.0.is.whole, whole_of_groups found each.1)
 
-  all_append : (xs ys : List (List ℕ)) → AllByRecursion (IsWhole ps) xs → AllByRecursion (IsWhole ps) ys → AllByRecursion (IsWhole ps) (xs ++ ys)
+  all_append : (xs ys : List (List ℕ)) → AllByRecursion (IsWhole ps) xs → AllByRecursion (IsWhole ps) ys
+      → AllByRecursion (IsWhole ps) (xs ++ ys)
   all_append [] ys h j = j
   all_append (x ∷ xs) ys h j = (h.0, all_append xs ys h.1 j)
 
-  pub whole_of_both : (Sought : List ℕ → Type 0) (vs more : List (Vec ℕ Global)) → MakeFiles Sought ps (lists_of vs) → AllByRecursion (IsOfGroup ps) (lists_of more)
+  pub whole_of_both : (Sought : List ℕ → Type 0) (vs more : List (Vec ℕ Global)) → MakeFiles Sought ps (lists_of vs)
+      → AllByRecursion (IsOfGroup ps) (lists_of more)
       → AllByRecursion (IsWhole ps) (lists_of (vs ++ more))
   whole_of_both Sought vs more files each =
       subst (AllByRecursion (IsWhole ps)) (sym (lists_append vs more))

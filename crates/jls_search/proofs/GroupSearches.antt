@@ -1,14 +1,14 @@
 -- A search by groups, one try more, one copy more outside of a group and one group more.
 use Rattle.std.proofs.Common.{◌≡◌, ℕ, zero, suc, ◌+◌, ◌-◌, ◌^◌, ◌<◌, ◌≤◌, ◌⊎◌, ◌||◌, Bool, true, false, List, [], ◌∷◌, ◌++◌, length, map}
 use Rattle.std.proofs.Common.{min, take}
-use Rattle.std.proofs.Common.{get_or, refl, sym, ap, ◌∙◌, subst, arith, inl, inr, length-append, append_assoc, Some, Vec}
+use Rattle.std.proofs.Common.{get_or, refl, sym, ap, ◌∙◌, subst, arith, inl, inr, length-append, append_assoc, Some, None, Vec}
 use Rattle.std.proofs.Common.{Global}
 use Rattle.std.specs.Prelude.{slice_get}
 use Rattle.std.specs.List.{AllByRecursion, Contains, flat_map, list_any}
 use Rattle.std.specs.List.Sorted.{IsPermutation}
 use Rattle.std.proofs.lemmas.Grind.{flat_map-append}
 use Rattle.std.proofs.lemmas.List.{append-nil, map-append, take_more}
-use Rattle.std.proofs.lemmas.List.Elements.{Contains-append_left, Contains-push_cases}
+use Rattle.std.proofs.lemmas.List.Elements.{Contains-append_left}
 use Rattle.std.proofs.lemmas.List.Folds.{list_any-append}
 use Rattle.std.proofs.lemmas.List.Sorted.{IsPermutation-append_left, IsPermutation-refl, IsPermutation-trans}
 use Rattle.std.proofs.lemmas.List.Sums.{sum_by_push}
@@ -16,12 +16,14 @@ use Rattle.jls_diff.specs.Parts.{Part}
 use Rattle.jls_diff.specs.declared.group.Group.{Group}
 use Rattle.jls_search.specs.GroupTries.{SettingSearched, GroupSearched, tries_in, given_in, is_cut_in, IsSettingSearched, IsGroupSearched}
 use Rattle.jls_search.specs.GroupTries.{AreGroupsSearched, GoesThrough, GoesThroughCopies}
-use Rattle.jls_search.specs.OfGroups.{AddsOne, AreOfGroups, IsOfGroup, IsOnce, IsSetting, IsSettled, IsSoughtWith, ReadsWith}
+use Rattle.jls_search.specs.Goals.{IsSettledFor, IsSoughtFor}
+use Rattle.jls_search.specs.declared.setting.Goal.TheVariants.{Group as ForGroup}
 use Rattle.jls_search.specs.declared.setting.Setting.{Setting}
 use Rattle.jls_search.specs.declared.whole_search.Searched.{Searched}
 use Rattle.jls_search.specs.Search.{lists_of}
-use Rattle.jls_values.proofs.Lists.{is_first, in_rest, none_in, all_more}
+use Rattle.jls_values.proofs.Lists.{all_more}
 use Rattle.jls_values.specs.OrderedSetLaws.{or_false, or_comm}
+use Rattle.jls_search.proofs.FoundChoices.{Added}
 use Rattle.jls_search.proofs.Paths.{length-map, order}
 
 pub count_of : (vs : List (Vec ℕ Global)) → length (lists_of vs) ≡ length vs
@@ -48,53 +50,13 @@ module _ {X : Type 0} where
   numbered_push P (z ∷ xs) x each last zero y e = each zero y e
   numbered_push P (z ∷ xs) x each last (suc i) y e = numbered_push (λ k. P (suc k)) xs x (λ k w at. each (suc k) w at) last i y e
 
--- Choices that were found ------------------------------------------------------------------------------------------
-
-once_push : (found : List (List ℕ)) (choices : List ℕ) → IsOnce found → (Contains found choices → ⊥) → IsOnce (found ++ choices ∷ [])
-once_push [] choices once new = (none_in choices, tt)
-once_push (other ∷ found) choices once new = (
-  λ among. elim (Contains-push_cases found choices other among) [
-    | inl was ↦ once.0 was
-    | inr e ↦ new (subst (Contains (other ∷ found)) (sym e) (is_first other found))
-  ],
-  once_push found choices once.1 (λ was. new (in_rest choices other found was)),
-)
-
--- these were found with a setting, after those before
-abbrev pub Added : List Part → Setting → List (List ℕ) → List (List ℕ) → Type 0
-Added ps s before found =
-    (more : List (List ℕ)) × (found ≡ before ++ more) × AllByRecursion (ReadsWith ps s.group s.copy) more
-
-pub none_added : (ps : List Part) (s : Setting) (before : List (List ℕ)) → Added ps s before before
-none_added ps s before = ([], sym (append-nil before), tt)
-
-module _ (ps : List Part) (s : Setting) (old new : List (List ℕ)) where
-  pub added_more : (before : List (List ℕ)) → Added ps s before old → AddsOne ps s old new → Added ps s before new
-  added_more before (more, e, each) (inl same) = (more, same ∙ e, each)
-  added_more before (more, e, each) (inr (choices, is, not, added)) = (
-    more ++ choices ∷ [],
-    added ∙ ap (λ xs. xs ++ choices ∷ []) e ∙ append_assoc before more (choices ∷ []),
-    all_more (ReadsWith ps s.group s.copy) more choices each is,
-  )
-
-  pub of_groups_more : IsSetting ps s → AreOfGroups ps old → AddsOne ps s old new → AreOfGroups ps new
-  of_groups_more setting are (inl same) = subst (AreOfGroups ps) (sym same) are
-  of_groups_more setting are (inr (choices, is, not, added)) =
-      subst (AreOfGroups ps) (sym added) (
-        all_more (IsOfGroup ps) old choices are.0
-            (record { group = s.group; is_group = setting.0; copy = s.copy; is_copy = setting.1; is = is }),
-        once_push old choices are.1 not,
-      )
-
-  pub one_at_most : AddsOne ps s old new → length new ≤ length old + 1
-  one_at_most (inl same) = (let a = ap length same in omega (arith, a))
-  one_at_most (inr (choices, is, not, added)) = (let a = ap length added ∙ length-append old (choices ∷ []) in omega (arith, a))
-
 -- Settings ---------------------------------------------------------------------------------------------------------
 
 -- more tries of the group, and more splices
-module _ (limit t u : ℕ) (ps : List Part) (m n more : List (List ℕ)) (tried : t ≤ u) (within : u ≤ limit) (on : n ≡ m ++ more) (few : length n ≤ 4096) where
-  setting_later : (group : Group) (copy : ℕ) (s : SettingSearched) → IsSettingSearched limit t ps m group copy s → IsSettingSearched limit u ps n group copy s
+module _ (limit t u : ℕ) (ps : List Part) (m n more : List (List ℕ)) (tried : t ≤ u) (within : u ≤ limit) (on : n ≡ m ++ more)
+    (few : length n ≤ 4096) where
+  setting_later : (group : Group) (copy : ℕ) (s : SettingSearched) → IsSettingSearched limit t ps m group copy s
+      → IsSettingSearched limit u ps n group copy s
   setting_later group copy s is = record {
     few = is.few;
     each = is.each;
@@ -117,10 +79,12 @@ module _ (limit copies : ℕ) (ps : List Part) (m n more : List (List ℕ)) (on 
   group_later g is = record {
     each_copy = is.each_copy;
     within = is.within;
-    each = λ copy s at. setting_later limit (tries_in g.settings) (tries_in g.settings) ps m n more (omega arith) is.within on few g.group copy s (is.each copy s at);
+    each = λ copy s at. setting_later limit (tries_in g.settings) (tries_in g.settings) ps m n more (omega arith) is.within on few g.group
+        copy s (is.each copy s at);
   }
 
-  groups_later : (gs : List GroupSearched) → AllByRecursion (IsGroupSearched limit copies ps m) gs → AllByRecursion (IsGroupSearched limit copies ps n) gs
+  groups_later : (gs : List GroupSearched) → AllByRecursion (IsGroupSearched limit copies ps m) gs
+      → AllByRecursion (IsGroupSearched limit copies ps n) gs
   groups_later [] each = tt
   groups_later (g ∷ gs) each = (group_later g each.0, groups_later gs each.1)
 
@@ -130,7 +94,8 @@ pub went : (limit : ℕ) (ps : List Part) (s : Setting) (before more : Searched)
     → length more.splices.items ≤ min (length before.splices.items + 64) 4096 → (cut ≡ false → before.tries < more.tries)
     → (cut ≡ true → (more.tries ≡ limit) ⊎ (min (length before.splices.items + 64) 4096 ≤ length more.splices.items))
     → more.is_used_up ≡ (cut || before.is_used_up)
-    → (cut ≡ false → (choices : List ℕ) → IsSoughtWith ps s choices → IsSettled ps s.group (lists_of more.splices.items) choices)
+    → (cut ≡ false → (choices : List ℕ) → IsSoughtFor None ps (ForGroup s) choices
+    → IsSettledFor ps (ForGroup s) (lists_of more.splices.items) choices)
     → GoesThrough limit ps s before more
 went limit ps s before more cut tried within (added, on, each) few some full used settled = record {
   came_to = record { tries = more.tries - before.tries; splices = added; is_cut_off = cut };
@@ -139,7 +104,7 @@ went limit ps s before more cut tried within (added, on, each) few some full use
     each = each;
     some = λ e. let l : before.tries < more.tries = some e in omega (arith, l);
     cut_off = λ e. elim (full e) [ inl spent ↦ inl spent | inr most ↦ inr (end most) ];
-    all = λ e choices reads low. settled e choices (reads, low);
+    all = λ e choices reads low. settled e choices ((((reads.whole.0, reads.outside), reads.whole.1), reads.reads), low);
   };
   tries = omega (arith, tried);
   within = within;
@@ -183,7 +148,8 @@ goes_first limit ps group s untried few = record {
 }
 
 -- one copy more
-pub goes_more : (limit copies : ℕ) (ps : List Part) (group : Group) (before mid more : Searched) → GoesThroughCopies limit copies ps group before mid
+pub goes_more : (limit copies : ℕ) (ps : List Part) (group : Group) (before mid more : Searched)
+    → GoesThroughCopies limit copies ps group before mid
     → GoesThrough limit ps (record { group = group; copy = copies }) mid more → GoesThroughCopies limit (copies + 1) ps group before more
 goes_more limit copies ps group before mid more h g =
     let ss : List SettingSearched = h.settings in
@@ -199,7 +165,8 @@ goes_more limit copies ps group before mid more h g =
         within = within;
         each =
             numbered_push (IsSettingSearched limit (tries_in (ss ++ s ∷ [])) ps (lists_of more.splices.items) group) ss s
-            (λ copy t at. setting_later limit (tries_in ss) (tries_in (ss ++ s ∷ [])) ps (lists_of mid.splices.items) (lists_of more.splices.items)
+            (λ copy t at. setting_later limit (tries_in ss) (tries_in (ss ++ s ∷ [])) ps (lists_of mid.splices.items)
+            (lists_of more.splices.items)
             s.splices rose within g.found g.few group copy t (h.is.each copy t at))
             (subst (λ n. IsSettingSearched limit (tries_in (ss ++ s ∷ [])) ps (lists_of more.splices.items) group n s) (sym h.is.each_copy)
             (subst (λ t. IsSettingSearched limit t ps (lists_of more.splices.items) group copies s) tries g.is));
@@ -262,7 +229,8 @@ one_more_group limit copies ps groups i d tries sum begun more within h g sum_is
           (IsPermutation-append_left (group ∷ []) (take i groups) (map (λ (x : GroupSearched). x.group) gs) h.in_some_order));
       each =
           all_more (IsGroupSearched limit copies ps (lists_of more.splices.items)) gs one
-          (groups_later limit copies ps (lists_of begun.splices.items) (lists_of more.splices.items) (given_in g.settings) g.found g.few gs h.each)
+          (groups_later limit copies ps (lists_of begun.splices.items) (lists_of more.splices.items) (given_in g.settings) g.found g.few gs
+          h.each)
           g.is;
       tries_are = omega (arith, a, b, e, sum_is);
       found_are =

@@ -27,7 +27,8 @@ total-add f g h (suc n) e =
     let first = e 0 in
     let r = total-add (λ j. f (suc j)) (λ j. g (suc j)) (λ j. h (suc j)) n (λ j. e (suc j)) in omega (arith, first, r)
 
-total-of_list : (f : ℕ → ℕ) (cs : List (List ℕ)) → ((j : ℕ) → j < length cs → f j ≡ length (get_or cs j [])) → total f (length cs) ≡ sum_by length cs
+total-of_list : (f : ℕ → ℕ) (cs : List (List ℕ)) → ((j : ℕ) → j < length cs → f j ≡ length (get_or cs j [])) → total f (length cs)
+    ≡ sum_by length cs
 unfolding total
 total-of_list f [] e = refl
 total-of_list f (c ∷ cs) e =
@@ -52,7 +53,8 @@ prefix_within count (p ∷ ps) (c ∷ cs) some ways path =
     let here = way_within count p c some ways.0 (path.0, tt) in
     let after = prefix_within count ps cs some ways.1 path.1 in
     let sum =
-    total-add (λ j. length (way j p)) (λ j. length (made j ps)) (λ j. length (made j (p ∷ ps))) count (λ j. length-append (way j p) (made j ps)) in
+    total-add (λ j. length (way j p)) (λ j. length (made j ps)) (λ j. length (made j (p ∷ ps))) count
+    (λ j. length-append (way j p) (made j ps)) in
     let l = length-append (way c p) (prefix_of ps cs) in omega (arith, here, after, sum, l)
 
 -- Parts ------------------------------------------------------------------------------------------------------------

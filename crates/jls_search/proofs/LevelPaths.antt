@@ -30,7 +30,8 @@ one_path [] (c ∷ cs) (d ∷ ds) from pa pb l e same = absurd pa
 one_path (p ∷ ps) (c ∷ cs) (d ∷ ds) zero pa pb l e same =
     let here : Differs p → ⊥ = same zero (omega arith) (omega arith) in
     let first : c ≡ d = only_way p c here pa.0 ∙ sym (only_way p d here pb.0) in
-    let rest = one_path ps cs ds zero pa.1 pb.1 (omega (arith, l)) refl (λ place least less. same (suc place) (omega arith) (omega (arith, less))) in
+    let rest = one_path ps cs ds zero pa.1 pb.1 (omega (arith, l)) refl
+    (λ place least less. same (suc place) (omega arith) (omega (arith, less))) in
     ap (λ x. x ∷ cs) first ∙ ap (λ xs. d ∷ xs) rest
 one_path (p ∷ ps) (c ∷ cs) (d ∷ ds) (suc from) pa pb l e same =
     let first : c ≡ d = cc in
@@ -117,7 +118,8 @@ module _ (Sought : List ℕ → Type 0) (ps : List Part) where
     pub each_taken : AllByRecursion (IsNext ps (length begin)) old → AllByRecursion (IsNext ps (length begin)) new
     each_taken each =
         elim t.added [
-          | inl e ↦ subst (AllByRecursion (IsNext ps (length begin))) (sym e) (all_more (IsNext ps (length begin)) old t.path each t.is_next)
+          | inl e ↦ subst (AllByRecursion (IsNext ps (length begin))) (sym e)
+              (all_more (IsNext ps (length begin)) old t.path each t.is_next)
           | inr r ↦ subst (AllByRecursion (IsNext ps (length begin))) (sym r.0) each
         ]
 

@@ -4,7 +4,7 @@ pub mod Prefixes
 mod LinesRead
 mod Ceilings
 mod FaultlessFiles
-pub mod Searching
+pub mod WholeSplices
 pub mod Walks
 mod Lengths
 mod KeptReaders
@@ -13,11 +13,15 @@ mod NextLevels
 pub mod FoundFiles
 mod Lists
 mod Sets
-mod SettingPaths
+mod GroupSights
+mod Steps
+mod Tries
 mod Records
 mod EarlyReads
 mod BorderOffsets
+mod FoundChoices
 mod GroupSearches
+mod GroupRuns
 mod Orders
 pub mod FoundMore
 pub mod NoGroups

@@ -27,11 +27,14 @@ use Rattle.jls_search.specs.Faultless.{GivesEachLine, IsEachLineRead}
 
 -- Sets of readings -------------------------------------------------------------------------------------------------
 
-made_tells : (rs : List Reading) (r : Reading) → set.contains (set.insert_all {R = reading_cmp} set.empty rs) r ≡ list_any (eq_by_cmp reading_cmp r) rs
-made_tells rs r = contains-insert_all reading_total set.empty rs r ∙ ap (λ b. b || list_any (eq_by_cmp reading_cmp r) rs) (contains-empty reading_cmp r)
+made_tells : (rs : List Reading) (r : Reading) → set.contains (set.insert_all {R = reading_cmp} set.empty rs) r
+    ≡ list_any (eq_by_cmp reading_cmp r) rs
+made_tells rs r = contains-insert_all reading_total set.empty rs r
+    ∙ ap (λ b. b || list_any (eq_by_cmp reading_cmp r) rs) (contains-empty reading_cmp r)
 
 -- a line that has readings has one that is held
-some_held : (p : PartialPicture) (c l : ℕ) → 0 < length (readings_at p c l) → (x : List ℕ) × (set.contains p.readings (reading_of c l x) ≡ true)
+some_held : (p : PartialPicture) (c l : ℕ) → 0 < length (readings_at p c l) → (x : List ℕ)
+    × (set.contains p.readings (reading_of c l x) ≡ true)
 some_held p c l some = by (readings_at p c l) refl some
   where
     by : (xs : List (List ℕ)) → readings_at p c l ≡ xs → 0 < length xs → (x : List ℕ) × (set.contains p.readings (reading_of c l x) ≡ true)
@@ -115,7 +118,8 @@ module _ (file : List ℕ) (read : ReadCopy) (h : CopyReads file read) where
 
   pub held_is_given : (r : Reading) → set.contains read.partial.readings r ≡ true → Gives h.course r
   held_is_given r held =
-      elim (Contains-append_cases (readings (pieces h.course) h.outcomes) (head_readings (cut_pieces h.course) h.head) r (member_of_any all r (sym (tells r) ∙ held))) [
+      elim (Contains-append_cases (readings (pieces h.course) h.outcomes) (head_readings (cut_pieces h.course) h.head) r
+      (member_of_any all r (sym (tells r) ∙ held))) [
         | inl m ↦ (let g = listed (pieces h.course) h.outcomes r h.each m in inl (g.0, g.1, g.2.0, g.2.1, g.2.2))
         | inr m ↦ (let g = head_listed (cut_pieces h.course) h.head r h.head_is m in inr (g.0, g.1, g.2.0, g.2.1, g.2.2))
       ]
@@ -126,7 +130,8 @@ module _ (file : List ℕ) (read : ReadCopy) (h : CopyReads file read) where
       let rs = readings (pieces h.course) h.outcomes in
       let heads = head_readings (cut_pieces h.course) h.head in
       tells r ∙ any_of_member all r (elim g [
-        | inl (p, m, lines, reads, has) ↦ Contains-append_left rs heads r (given (pieces h.course) h.outcomes p r scans h.each m (lines, reads, has))
+        | inl (p, m, lines, reads, has) ↦
+            Contains-append_left rs heads r (given (pieces h.course) h.outcomes p r scans h.each m (lines, reads, has))
         | inr (p, m, head, is, has) ↦ Contains-append_right rs heads r
             (head_given (cut_pieces h.course) h.head p r (cut_short h.course) (cut_has h.course scans) h.head_is m (head, is, has))
       ])
@@ -134,7 +139,8 @@ module _ (file : List ℕ) (read : ReadCopy) (h : CopyReads file read) where
   -- where each line has a reading, the course gives each line
   pub lines_given : IsEachLineRead read.partial → GivesEachLine h.shape h.course
   lines_given each component line k l =
-      let s = some_held read.partial component line (each component (subst (λ s. component < length s.ids) (sym shape_is) k) line (subst (λ s. line < s.height) (sym shape_is) l)) in
+      let s = some_held read.partial component line
+      (each component (subst (λ s. component < length s.ids) (sym shape_is) k) line (subst (λ s. line < s.height) (sym shape_is) l)) in
       (s.0, held_is_given (reading_of component line s.0) s.1)
 
   -- and the other way round

@@ -24,20 +24,23 @@ some_not_none P None is = absurd cc
 some_not_none P (Some x) is = tt
 
 -- what holds of each that the code holds
-pub of_lists_at : (P : List ℕ → Type 0) (vs : List (Vec ℕ Global)) (i : ℕ) (v d : Vec ℕ Global) → AllByRecursion P (lists_of vs) → i < length vs
+pub of_lists_at : (P : List ℕ → Type 0) (vs : List (Vec ℕ Global)) (i : ℕ) (v d : Vec ℕ Global) → AllByRecursion P (lists_of vs) → i
+    < length vs
     → v ≡ get_or vs i d → P v.items
 of_lists_at P [] i v d h l e = absurd (omega (arith, l))
 of_lists_at P (w ∷ vs) zero v d h l e = subst (λ (x : Vec ℕ Global). P x.items) (sym e) h.0
 of_lists_at P (w ∷ vs) (suc i) v d h l e = of_lists_at P vs i v d h.1 (omega (arith, l)) e
 
-pub of_lists : (P : List ℕ → Type 0) (vs : List (Vec ℕ Global)) → AllByRecursion (λ (v : Vec ℕ Global). P v.items) vs → AllByRecursion P (lists_of vs)
+pub of_lists : (P : List ℕ → Type 0) (vs : List (Vec ℕ Global)) → AllByRecursion (λ (v : Vec ℕ Global). P v.items) vs
+    → AllByRecursion P (lists_of vs)
 of_lists P [] h = tt
 of_lists P (v ∷ vs) h = (h.0, of_lists P vs h.1)
 
 -- Items of a level ------------------------------------------------------------------------------------------------
 
 -- each path that the code goes through is of the level
-module _ (vs xs : List (Vec ℕ Global)) (i : ℕ) (v : Vec ℕ Global) (path : List ℕ) (are : xs ≡ vs) (within : i < length xs) (item : v ≡ get_or xs i v)
+module _ (vs xs : List (Vec ℕ Global)) (i : ℕ) (v : Vec ℕ Global) (path : List ℕ) (are : xs ≡ vs) (within : i < length xs)
+    (item : v ≡ get_or xs i v)
     (items : path ≡ v.items) where
   in_vs : i < length vs
   in_vs = subst (λ (ws : List (Vec ℕ Global)). i < length ws) are within
@@ -55,7 +58,8 @@ module _ (vs xs : List (Vec ℕ Global)) (i : ℕ) (v : Vec ℕ Global) (path : 
       → AllByRecursion (λ (w : Vec ℕ Global). AreJudged Sought ps from new w.items) (take (i + 1) vs)
   judged_one_more Sought ps from old new still so_far judged =
       all_one_more (λ (w : Vec ℕ Global). AreJudged Sought ps from new w.items) vs i v
-      (all_weaker (λ (w : Vec ℕ Global). AreJudged Sought ps from old w.items) (λ (w : Vec ℕ Global). AreJudged Sought ps from new w.items) (take i vs)
+      (all_weaker (λ (w : Vec ℕ Global). AreJudged Sought ps from old w.items) (λ (w : Vec ℕ Global). AreJudged Sought ps from new w.items)
+      (take i vs)
       (λ w h. judged_more Sought ps from w.items old new still h) so_far)
       in_vs
       (subst (λ (w : Vec ℕ Global). AreJudged Sought ps from new w.items) item_of_vs (subst (AreJudged Sought ps from new) items judged))
@@ -79,11 +83,14 @@ module _ (Sought : List ℕ → Type 0) (ps : List Part) (path : List ℕ) (choi
       (subst (AreJudged Sought ps (length begin) new) is (judged_taken Sought ps begin old new taken))
 
   -- ways before it were taken too
-  pub ways_up_to : ((c : ℕ) → c < choice → IsFirstWay (get_or ps (length path) (Same [])) c → AreJudged Sought ps (length path + 1) old (path ++ c ∷ []))
-      → (c : ℕ) → IsFirstWay (get_or ps (length path) (Same [])) c → (choice < c → ⊥) → AreJudged Sought ps (length path + 1) new (path ++ c ∷ [])
+  pub ways_up_to : ((c : ℕ) → c < choice → IsFirstWay (get_or ps (length path) (Same [])) c
+      → AreJudged Sought ps (length path + 1) old (path ++ c ∷ []))
+      → (c : ℕ) → IsFirstWay (get_or ps (length path) (Same [])) c → (choice < c → ⊥)
+      → AreJudged Sought ps (length path + 1) new (path ++ c ∷ [])
   ways_up_to before c first not =
       elim (order c choice) [
-        | inl less ↦ judged_more Sought ps (length path + 1) (path ++ c ∷ []) old new (still_lives Sought ps begin old new taken) (before c less first)
+        | inl less ↦ judged_more Sought ps (length path + 1) (path ++ c ∷ []) old new (still_lives Sought ps begin old new taken)
+            (before c less first)
         | inr r ↦ elim r [
           | inl e ↦ subst (λ k. AreJudged Sought ps (length path + 1) new (path ++ k ∷ [])) (sym e) here
           | inr more ↦ absurd (not more)
@@ -135,7 +142,8 @@ module _ (Sought : List ℕ → Type 0) (ps : List Part) where
           let least = next.from_on in
           let l : length (take count path) ≡ count = length-take-le count path (omega (arith, least)) in
           elim (level.others (take count path) (first_choices ps path count next.is_path) l) [
-            | inl lives ↦ all_at (AreJudged Sought ps (count + 1) living) old (take count path) judged lives path next (ap (λ k. take k path) l)
+            | inl lives ↦ all_at (AreJudged Sought ps (count + 1) living) old (take count path) judged lives path next
+                (ap (λ k. take k path) l)
             | inr dead ↦ inr (dead_on Sought ps path count next.is_path dead)
           ]
 

@@ -20,8 +20,10 @@ comes_to : (parts : List Part) (choices : List (List ℕ)) (file : List ℕ) →
 comes_to parts [] file (k, l, e) none = omega (arith, l)
 comes_to parts (c ∷ choices) file among none = absurd cc
 
-pub splices_of_all : (ceiling : Option ℕ) (copies : List (List ℕ)) (f : Found) (file : List ℕ) → IsFound ceiling copies f → f.is_used_up ≡ false
+pub splices_of_all : (ceiling : Option ℕ) (copies : List (List ℕ)) (f : Found) (file : List ℕ) → IsFound ceiling copies f → f.is_used_up
+    ≡ false
     → Contains (files_of f.parts f.choices) file → splices_in f ≡ files_of f.parts f.choices
 splices_of_all ceiling copies f file is enough among =
-    let none : choices_by f.by_groups ≡ [] = none_given f.by_groups (not_needed f is.searched enough (comes_to f.parts f.choices file among)) in
+    let none : choices_by f.by_groups ≡ [] =
+    none_given f.by_groups (not_needed f is.searched enough (comes_to f.parts f.choices file among)) in
     ap (λ (more : List (List ℕ)). files_of f.parts (f.choices ++ more)) none ∙ ap (files_of f.parts) (append-nil f.choices)

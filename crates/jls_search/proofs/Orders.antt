@@ -5,7 +5,8 @@ use Rattle.std.proofs.lemmas.List.{take_more}
 use Rattle.std.proofs.lemmas.List.Sorted.{IsPermutation-append_comm, IsPermutation-append_left, IsPermutation-append_right}
 use Rattle.std.proofs.lemmas.List.Sorted.{IsPermutation-trans}
 
-module _ {X : Type 0} (xs firsts others : List X) (i : ℕ) (d : X) (within : i < length xs) (same : IsPermutation (take i xs) (firsts ++ others)) where
+module _ {X : Type 0} (xs firsts others : List X) (i : ℕ) (d : X) (within : i < length xs)
+    (same : IsPermutation (take i xs) (firsts ++ others)) where
   pub one_other : IsPermutation (take (i + 1) xs) (firsts ++ (others ++ get_or xs i d ∷ []))
   one_other =
       subst (λ ys. IsPermutation ys (firsts ++ (others ++ get_or xs i d ∷ []))) (sym (take_more xs i d within))

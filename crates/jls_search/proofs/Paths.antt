@@ -8,7 +8,8 @@ use Rattle.jls_diff.specs.Parts.{Part, Same, Differ}
 use Rattle.jls_search.specs.Choices.{IsFirstWay, IsPath, HasSomeWay}
 use Rattle.jls_search.specs.Order.{IsToCome, IsLater}
 
-pub get_or-map : {X Y : Type 0} (f : X → Y) (d : X) (e : Y) (xs : List X) (i : ℕ) → i < length xs → get_or (map f xs) i e ≡ f (get_or xs i d)
+pub get_or-map : {X Y : Type 0} (f : X → Y) (d : X) (e : Y) (xs : List X) (i : ℕ) → i < length xs → get_or (map f xs) i e
+    ≡ f (get_or xs i d)
 get_or-map f d e [] i l = absurd (omega (arith, l))
 get_or-map f d e (x ∷ xs) zero l = refl
 get_or-map f d e (x ∷ xs) (suc i) l = get_or-map f d e xs i (omega (arith, l))
@@ -39,7 +40,8 @@ path_back (p ∷ ps) [] c h = (tt, omega arith, h.0)
 path_back [] (d ∷ cs) c h = absurd h
 path_back (p ∷ ps) (d ∷ cs) c h = let r = path_back ps cs c h.1 in ((h.0, r.0), omega (arith, r.1), r.2)
 
-pub path_more : (ps : List Part) (cs : List ℕ) (c : ℕ) → IsPath ps cs → length cs < length ps → IsFirstWay (get_or ps (length cs) (Same [])) c
+pub path_more : (ps : List Part) (cs : List ℕ) (c : ℕ) → IsPath ps cs → length cs < length ps
+    → IsFirstWay (get_or ps (length cs) (Same [])) c
     → IsPath ps (cs ++ c ∷ [])
 path_more [] cs c h l f = absurd (omega (arith, l))
 path_more (p ∷ ps) [] c h l f = (f, tt)

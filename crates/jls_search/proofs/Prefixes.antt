@@ -41,34 +41,37 @@ pub after_then : (fed : Option (List ℕ)) (xs ys : List ℕ) → after (after f
 after_then None xs ys = refl
 after_then (Some bytes) xs ys = ap Some (append_assoc bytes xs ys)
 
-module _ (start reader : Option (List ℕ)) (ps : List Part) (cs : List ℕ) (at : ℕ) (bytes : List ℕ) (path : IsPath ps cs) (l : at < length cs) (fed : way (get_or cs at 0) (get_or ps at (Same [])) ≡ bytes) (is : reader ≡ after start (prefix_of ps (take at cs))) where
-  more_is : prefix_of ps (take (at + 1) cs) ≡ prefix_of ps (take at cs) ++ bytes
-  more_is =
-      let e : at + 1 ≡ suc at = omega arith in
-      rw e (prefix_more ps cs at path l ∙ ap (λ z. prefix_of ps (take at cs) ++ z) fed)
+module _ (start reader : Option (List ℕ)) (ps : List Part) (cs : List ℕ) (at : ℕ) (bytes : List ℕ) (path : IsPath ps cs)
+    (l : at < length cs) (fed : way (get_or cs at 0) (get_or ps at (Same [])) ≡ bytes)
+    (is : reader ≡ after start (prefix_of ps (take at cs)))
+  where
+    more_is : prefix_of ps (take (at + 1) cs) ≡ prefix_of ps (take at cs) ++ bytes
+    more_is =
+        let e : at + 1 ≡ suc at = omega arith in
+        rw e (prefix_more ps cs at path l ∙ ap (λ z. prefix_of ps (take at cs) ++ z) fed)
 
-  -- what is fed then
-  pub fed_more : after reader bytes ≡ after start (prefix_of ps (take (at + 1) cs))
-  fed_more = ap (λ r. after r bytes) is ∙ after_then start (prefix_of ps (take at cs)) bytes ∙ ap (after start) (sym more_is)
+    -- what is fed then
+    pub fed_more : after reader bytes ≡ after start (prefix_of ps (take (at + 1) cs))
+    fed_more = ap (λ r. after r bytes) is ∙ after_then start (prefix_of ps (take at cs)) bytes ∙ ap (after start) (sym more_is)
 
-  -- and it is all bytes
-  pub bytes_more : AllByRecursion (λ b. b < 256) (prefix_of ps (take at cs)) → AllByRecursion (λ b. b < 256) bytes
-      → AllByRecursion (λ b. b < 256) (prefix_of ps (take (at + 1) cs))
-  bytes_more h low = subst (AllByRecursion (λ b. b < 256)) (sym more_is) (bytes_append (prefix_of ps (take at cs)) bytes h low)
+    -- and it is all bytes
+    pub bytes_more : AllByRecursion (λ b. b < 256) (prefix_of ps (take at cs)) → AllByRecursion (λ b. b < 256) bytes
+        → AllByRecursion (λ b. b < 256) (prefix_of ps (take (at + 1) cs))
+    bytes_more h low = subst (AllByRecursion (λ b. b < 256)) (sym more_is) (bytes_append (prefix_of ps (take at cs)) bytes h low)
 
-  -- and there is room for it
-  pub room : (most : ℕ) → IfSome start (λ before. length before + length (prefix_of ps cs) ≤ most)
-      → IfSome reader (λ before. length before + length bytes ≤ most)
-  room most h = subst (λ o. IfSome o (λ before. length before + length bytes ≤ most)) (sym is) (by start h)
-    where
-      by : (o : Option (List ℕ)) → IfSome o (λ before. length before + length (prefix_of ps cs) ≤ most)
-          → IfSome (after o (prefix_of ps (take at cs))) (λ before. length before + length bytes ≤ most)
-      by None h = tt
-      by (Some before) h =
-          let a = length-append before (prefix_of ps (take at cs)) in
-          let b = ap length more_is ∙ length-append (prefix_of ps (take at cs)) bytes in
-          let n = prefix_at_most ps cs (at + 1) path in
-          omega (arith, a, b, n, h)
+    -- and there is room for it
+    pub room : (most : ℕ) → IfSome start (λ before. length before + length (prefix_of ps cs) ≤ most)
+        → IfSome reader (λ before. length before + length bytes ≤ most)
+    room most h = subst (λ o. IfSome o (λ before. length before + length bytes ≤ most)) (sym is) (by start h)
+      where
+        by : (o : Option (List ℕ)) → IfSome o (λ before. length before + length (prefix_of ps cs) ≤ most)
+            → IfSome (after o (prefix_of ps (take at cs))) (λ before. length before + length bytes ≤ most)
+        by None h = tt
+        by (Some before) h =
+            let a = length-append before (prefix_of ps (take at cs)) in
+            let b = ap length more_is ∙ length-append (prefix_of ps (take at cs)) bytes in
+            let n = prefix_at_most ps cs (at + 1) path in
+            omega (arith, a, b, n, h)
 
 -- a new reader
 pub room_at_first : (reader : Option (List ℕ)) (prefix : List ℕ) (most : ℕ) → reader ≡ Some [] → length prefix ≤ most

@@ -42,7 +42,8 @@ all_reported : (n : ℕ) (rs reported : List PieceRecord) → reported ≡ take 
 all_reported n rs reported e l = e ∙ take_all n rs (let t = take_at_most n rs in let a = ap length e in omega (arith, t, a, l))
 
 module _ (law : RecordsAreOfFaultyPieces) (from : ℕ) (to : Option ℕ) (file : List ℕ) (read : ReadCopy) (h : CopyReads file read) where
-  pub read_between : read.piece_count ≡ length read.pieces → NoneBetween from to read.pieces → Reaches from to read.ended → ReadsBetween from to file
+  pub read_between : read.piece_count ≡ length read.pieces → NoneBetween from to read.pieces → Reaches from to read.ended
+      → ReadsBetween from to file
   read_between count none reaches =
       let r = law file read h in
       let e : read.pieces ≡ r.0 = all_reported 4096 r.0 read.pieces r.2 (sym r.3 ∙ count) in
@@ -73,7 +74,8 @@ piece_of _ _ r (faulty p ps r' rs is rest) (suc k, l, e) =
     let q = piece_of ps rs r rest (k, omega (arith, l), e) in (q.0, in_rest q.0 p ps q.1, q.2)
 
 -- a file has many faults, of which not all are reported
-pub many_faults : RecordsAreOfFaultyPieces → (file : List ℕ) (read : ReadCopy) → CopyReads file read → (read.piece_count ≡ length read.pieces → ⊥)
+pub many_faults : RecordsAreOfFaultyPieces → (file : List ℕ) (read : ReadCopy) → CopyReads file read
+    → (read.piece_count ≡ length read.pieces → ⊥)
     → HasManyFaults file
 many_faults law file read h not =
     let r = law file read h in
@@ -96,7 +98,8 @@ module _ (law : RecordsAreOfFaultyPieces) (from : ℕ) (to : Option ℕ) (file :
       let p = piece_of (pieces h.course) r.0 reported r.1 (in_more 4096 r.0 reported (subst (λ rs. Contains rs reported) r.2 among)) in
       let each : AllByRecursion (λ q. IsBetween from to q.offset → HasLines q) (pieces h.course) =
       subst (λ (c : Course). AllByRecursion (λ q. IsBetween from to q.offset → HasLines q) (pieces c)) one between.each in
-      let lines = all_at (λ q. IsBetween from to q.offset → HasLines q) (pieces h.course) p.0 each p.1 (subst (IsBetween from to) p.2.offset here) in
+      let lines = all_at (λ q. IsBetween from to q.offset → HasLines q) (pieces h.course) p.0 each p.1
+      (subst (IsBetween from to) p.2.offset here) in
       let scan = all_at HasScan (pieces h.course) p.0 (course_has file h.course low h.is_course) p.1 in
       lines_or_fault p.0 lines.0 reported.kind scan lines.1 p.2.kind
 
@@ -104,14 +107,17 @@ module _ (law : RecordsAreOfFaultyPieces) (from : ℕ) (to : Option ℕ) (file :
   does_reach = subst (Reaches from to) (sym h.ended_is) (subst (λ (c : Course). Reaches from to c.end) one between.reaches)
 
 -- a file that has no frame reads nowhere
-pub framed_between : (from : ℕ) (to : Option ℕ) (file : List ℕ) (f : MarkerFault) (n : ℕ) → CopyGivesNone file (NoPicture f n) → ReadsBetween from to file → ⊥
+pub framed_between : (from : ℕ) (to : Option ℕ) (file : List ℕ) (f : MarkerFault) (n : ℕ) → CopyGivesNone file (NoPicture f n)
+    → ReadsBetween from to file → ⊥
 framed_between from to file f n h between =
     let e : h.0 ≡ between.course = one_course file h.0 between.course h.1 between.is_course in
     let framed : h.0.headers.frame ≡ Some between.shape = ap (λ (c : Course). c.headers.frame) e ∙ between.framed in
     let none = h.2 in absurd cc
 
-pub unread_without_frame : (from : ℕ) (to : Option ℕ) (fed : Option (List ℕ)) (fault : CopyFault) (f : MarkerFault) (n : ℕ) → fault ≡ NoPicture f n
+pub unread_without_frame : (from : ℕ) (to : Option ℕ) (fed : Option (List ℕ)) (fault : CopyFault) (f : MarkerFault) (n : ℕ) → fault
+    ≡ NoPicture f n
     → IfSome fed (λ bytes. CopyGivesNone bytes fault)
     → IfSome fed (λ file. AllByRecursion (λ b. b < 256) file → ReadsBetween from to file → ⊥)
 unread_without_frame from to None fault f n e h = tt
-unread_without_frame from to (Some file) fault f n e h = λ low between. framed_between from to file f n (subst (CopyGivesNone file) e h) between
+unread_without_frame from to (Some file) fault f n e h =
+    λ low between. framed_between from to file f n (subst (CopyGivesNone file) e h) between

@@ -229,7 +229,8 @@ copy_named copies seen copy are (inr (none, zero_is)) =
 
 -- What is found ----------------------------------------------------------------------------------------------------
 
-pub none_faultless : (files : List (List ℕ)) (seen : List Seen) → AreSeen files seen → AllByRecursion IsNotFaultless seen → NoneIsFaultless files
+pub none_faultless : (files : List (List ℕ)) (seen : List Seen) → AreSeen files seen → AllByRecursion IsNotFaultless seen
+    → NoneIsFaultless files
 none_faultless files seen are none file m f =
     let s = seen_of files seen file are m in faulty_seen file s.0 s.2 (all_at IsNotFaultless seen s.0 none s.1) f
 

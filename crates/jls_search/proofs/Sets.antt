@@ -18,13 +18,15 @@ abbrev pub TakesCopy : List Part → ℕ → ℕ → ℕ → Type 0
 TakesCopy ps copy place choice = way choice (get_or ps place (Same [])) ≡ way copy (get_or ps place (Same []))
 
 module _ (ps : List Part) (g : Goal) (cs : List ℕ) (c : ℕ) where
-  outside_more : IsCopyElsewhere ps g cs → ((IsTried g (length cs) → ⊥) → TakesCopy ps (copy_of g) (length cs) c) → IsCopyElsewhere ps g (cs ++ c ∷ [])
+  outside_more : IsCopyElsewhere ps g cs → ((IsTried g (length cs) → ⊥) → TakesCopy ps (copy_of g) (length cs) c)
+      → IsCopyElsewhere ps g (cs ++ c ∷ [])
   outside_more h here = λ place l out.
       elim (order place (length cs)) [
         | inl less ↦ subst (TakesCopy ps (copy_of g) place) (sym (get_or-append cs (c ∷ []) 0 place less)) (h place less out)
         | inr r ↦ elim r [
           | inl e ↦ subst (λ n. TakesCopy ps (copy_of g) n (get_or (cs ++ c ∷ []) n 0)) (sym e)
-              (subst (TakesCopy ps (copy_of g) (length cs)) (sym (get_or-append_seam cs c [] 0)) (here (subst (λ n. IsTried g n → ⊥) e out)))
+              (subst (TakesCopy ps (copy_of g) (length cs)) (sym (get_or-append_seam cs c [] 0))
+              (here (subst (λ n. IsTried g n → ⊥) e out)))
           | inr more ↦ absurd (let a = length-append cs (c ∷ []) in omega (arith, l, more, a))
         ]
       ]
@@ -90,7 +92,8 @@ module _ (ps : List Part) (g : Goal) (ds : List ℕ) (set : IsSetFor ps g ds) (n
   -- each choice there is the copy's, if the part isn't one of the group
   pub same_choice : TakesCopy ps (copy_of g) n c → (IsFree ps g n → ⊥) → get_or ds n 0 ≡ c
   same_choice takes out =
-      one_way (get_or ps n (Same [])) (get_or ds n 0) c (path_at ps ds n set.0 l).1 first (λ differ. set.1 n l (λ tried. out (tried, differ)) ∙ sym takes)
+      one_way (get_or ps n (Same [])) (get_or ds n 0) c (path_at ps ds n set.0 l).1 first
+      (λ differ. set.1 n l (λ tried. out (tried, differ)) ∙ sym takes)
 
   -- none is before the first
   pub none_before : ((IsTried g n → ⊥) → TakesCopy ps (copy_of g) n c) → (IsTried g n → c ≡ 0) → get_or ds n 0 < c → ⊥

@@ -102,7 +102,8 @@ module _ (source : Option ℕ) (old : PartialPicture) where
       where
         not : HasShape old.shape file → ⊥
         not h =
-            let same : partial.shape ≡ old.shape = shape_is ∙ one_shape_of read.partial.shape old.shape file (shape_read file read reads) h in
+            let same : partial.shape ≡ old.shape = shape_is
+            ∙ one_shape_of read.partial.shape old.shape file (shape_read file read reads) h in
             let yes : same_shape old.shape partial.shape ≡ true =
             subst (λ (s : PictureShape). same_shape old.shape s ≡ true) (sym same) (shape_itself old.shape) in
             let both : true ≡ false = sym yes ∙ differs in cc

@@ -1,29 +1,48 @@
 -- What a search that stopped has come to.
-use Rattle.std.proofs.Common.{◌≡◌, ℕ, ◌≤◌, Bool, true, false, List, length, arith, ◌⊎◌, inl, inr}
+use Rattle.std.proofs.Common.{◌≡◌, ℕ, ◌≤◌, Bool, true, false, List, length, subst, arith, ◌⊎◌, inl, inr, Option}
 use Rattle.std.proofs.lemmas.Bool.{cases_lt}
 use Rattle.jls_diff.specs.Parts.{Part}
 use Rattle.jls_search.specs.Faultless.{IsSought}
-use Rattle.jls_search.specs.Search.{CameTo, CanGoOn, GoesOn, IsSearch, lists_of}
-use Rattle.jls_search.specs.declared.whole_search.WholeSearch.{WholeSearch}
-use Rattle.jls_search.proofs.Searching.{has_each_splice}
+use Rattle.jls_search.specs.Goals.{GoesOn}
+use Rattle.jls_search.specs.Search.{AreFilesFor, CameTo, CanGoOn, IsSearch, MakeFiles, lists_of}
+use Rattle.jls_search.specs.declared.searching.Search.{Search}
+use Rattle.jls_search.specs.declared.setting.Goal.TheVariants.{Whole}
+use Rattle.jls_search.proofs.WholeSplices.{has_each_splice}
 
-came : (Sought : List ℕ → Type 0) (parts : List Part) (path : List ℕ) (found : List (List ℕ)) (more : Bool)
-    → GoesOn Sought parts path found more → CameTo Sought parts found more
-came Sought parts path found true h = record { files = h.files; all = λ e. absurd cc }
-came Sought parts path found false h = record { files = h.files; all = λ e. has_each_splice Sought parts found h }
+came : (ceiling : Option ℕ) (parts : List Part) (path : List ℕ) (found : List (List ℕ)) (more : Bool)
+    → MakeFiles (IsSought ceiling) parts found → GoesOn ceiling parts Whole path found more → CameTo (IsSought ceiling) parts found more
+came ceiling parts path found true files h = record { files = files; all = λ e. absurd cc }
+came ceiling parts path found false files h = record { files = files; all = λ e. has_each_splice ceiling parts found h }
 
-pub came_to : (parts : List Part) (s : WholeSearch) → IsSearch parts s
+pub came_to : (parts : List Part) (s : Search) → IsSearch parts s
     → CameTo (IsSought s.judge.ceiling) parts (lists_of s.splices.items) s.goes_on
-came_to parts s h = came (IsSought s.judge.ceiling) parts s.path.items (lists_of s.splices.items) s.goes_on h.0
+came_to parts s h =
+    let found = lists_of s.splices.items in
+    came s.judge.ceiling parts s.path.items found s.goes_on
+    (subst (λ g. AreFilesFor s.judge.ceiling parts g found) h.goal_is h.is_at.files)
+    (subst (λ g. GoesOn s.judge.ceiling parts g s.path.items found s.goes_on) h.goal_is h.is_at.goes)
 
--- one that stopped while there was more to try has made all its tries, or found 64 files
-pub used_up : (s : WholeSearch) (limit : ℕ) → (CanGoOn s limit → ⊥) → s.tries ≤ limit → length (lists_of s.splices.items) ≤ 64 → s.goes_on ≡ true
-    → (s.tries ≡ limit) ⊎ (length (lists_of s.splices.items) ≡ 64)
-used_up s limit stops within few more =
+-- one that stopped while there was more to try has made all its tries, or found as many files as it finds at most
+pub stopped : (s : Search) (limit : ℕ) → (CanGoOn s limit → ⊥) → s.tries ≤ limit → length (lists_of s.splices.items) ≤ s.most → s.goes_on
+    ≡ true
+    → (s.tries ≡ limit) ⊎ (length (lists_of s.splices.items) ≡ s.most)
+stopped s limit stops within few more =
     elim (cases_lt s.tries limit) [
-      | inl less ↦ elim (cases_lt (length (lists_of s.splices.items)) 64) [
+      | inl less ↦ elim (cases_lt (length (lists_of s.splices.items)) s.most) [
         | inl fewer ↦ absurd (stops (more, less, fewer))
         | inr many ↦ inr (omega (arith, many, few))
       ]
       | inr all ↦ inl (omega (arith, all, within))
     ]
+
+-- which are 64 for whole files
+pub used_up : (parts : List Part) (s : Search) (limit : ℕ) → IsSearch parts s → (CanGoOn s limit → ⊥) → s.tries ≤ limit → s.goes_on ≡ true
+    → (s.tries ≡ limit) ⊎ (length (lists_of s.splices.items) ≡ 64)
+used_up parts s limit is stops within more =
+    elim (stopped s limit stops within is.is_at.few more) [
+      | inl all ↦ inl all
+      | inr full ↦ inr (let most = is.most_is in omega (arith, full, most))
+    ]
+
+pub at_most : (parts : List Part) (s : Search) → IsSearch parts s → length (lists_of s.splices.items) ≤ 64
+at_most parts s is = (let few = is.is_at.few in let most = is.most_is in omega (arith, few, most))

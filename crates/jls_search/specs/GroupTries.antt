@@ -7,6 +7,8 @@ use Rattle.jls_diff.specs.declared.group.Group.{Group}
 use Rattle.jls_search.specs.Choices.{prefix_of}
 use Rattle.jls_search.specs.OfGroups.{IsPassedBy, ReadsWith}
 use Rattle.jls_search.specs.Search.{lists_of}
+use Rattle.jls_search.specs.declared.searching.Search.{Search}
+use Rattle.jls_search.specs.declared.setting.Goal.TheVariants.{Group as ForGroup}
 use Rattle.jls_search.specs.declared.setting.Setting.{Setting}
 use Rattle.jls_search.specs.declared.whole_search.Searched.{Searched}
 
@@ -66,6 +68,12 @@ pub record AreGroupsSearched (limit copies : ℕ) (parts : List Part) (groups : 
   pub used_up : is_used_up ≡ list_any (λ g. is_cut_in g.settings) searched
 
 -- Inside the crate -------------------------------------------------------------------------------------------------
+
+-- a search of a group with this copy outside of it begins after what was found so far
+abbrev pub IsGroupBegun : Setting → Searched → Search → Type 0
+IsGroupBegun setting before s =
+    (s.goal ≡ ForGroup setting) × (s.goes_on ≡ true) × (s.tries ≡ before.tries) × (s.splices ≡ before.splices)
+    × (s.most ≡ min (length before.splices.items + 64) 4096)
 
 -- a search of a group went on with one copy more outside of it
 pub record GoesThrough (limit : ℕ) (parts : List Part) (setting : Setting) (before more : Searched) : Type 0 where

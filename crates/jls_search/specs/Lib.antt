@@ -8,6 +8,7 @@ pub mod Places
 pub mod ReadsBetween
 pub mod OfGroups
 pub mod Tried
+pub mod Goals
 pub mod GroupTries
 pub mod Found
 pub mod Files

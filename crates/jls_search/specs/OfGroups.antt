@@ -1,9 +1,8 @@
 -- What a search by groups comes to.
-use Rattle.std.specs.Prelude.{◌≡◌, ℕ, ◌<◌, ◌≤◌, Bool, true, false, List, [], ◌∷◌, ◌++◌, length, get_or, take, Some, None, IfSome, ◌⊎◌}
+use Rattle.std.specs.Prelude.{◌≡◌, ℕ, ◌<◌, ◌≤◌, true, List, [], ◌∷◌, ◌++◌, length, get_or, take, Some, None, ◌⊎◌}
 use Rattle.std.specs.List.{AllByRecursion, Contains}
 use Rattle.jls_diff.specs.Parts.{Part, Same, Differ, way}
 use Rattle.jls_search.specs.Choices.{IsPath, IsWhole, prefix_of}
-use Rattle.jls_search.specs.Order.{IsToCome}
 use Rattle.jls_copy.specs.Course.{Course, IsCourse}
 use Rattle.jls_copy.specs.CopyReads.{IsDone}
 use Rattle.jls_copy.specs.Prefixes.{IsPieceBroken}
@@ -14,8 +13,6 @@ use Rattle.jls_diff.specs.Groups.{IsGroup, IsInside}
 use Rattle.jls_search.specs.Places.{offset_of, end_offset_of}
 use Rattle.jls_search.specs.ReadsBetween.{ReadsBetween}
 use Rattle.jls_diff.specs.declared.group.Group.{Group}
-use Rattle.jls_search.specs.declared.looking.Sight.{Sight}
-use Rattle.jls_search.specs.declared.looking.Sight.TheVariants.{Dead, Open, Found}
 use Rattle.jls_search.specs.declared.setting.Setting.{Setting}
 
 -- outside of the group the choices take what this copy has
@@ -77,51 +74,10 @@ IsOnce (choices ∷ found) = (Contains found choices → ⊥) × IsOnce found
 abbrev pub IsSetting : List Part → Setting → Type 0
 IsSetting parts setting = IsGroup parts setting.group × AllByRecursion (HasCopy setting.copy) parts
 
--- a choice for each of the first parts, which outside of the group are the copy's
-abbrev pub IsSet : List Part → Setting → List ℕ → Type 0
-IsSet parts setting path = IsPath parts path × IsCopyOutside parts setting.group setting.copy path
-
--- and one for each part
-abbrev pub IsSetWhole : List Part → Setting → List ℕ → Type 0
-IsSetWhole parts setting choices = IsSet parts setting choices × (length choices ≡ length parts)
-
--- what is seen of a path that has no choice for some part
-abbrev pub IsSeenIn : List Part → Group → List ℕ → Sight → Type 0
-IsSeenIn parts group path Dead = AllByRecursion (λ b. b < 256) (prefix_of parts path) → IsGivenUp parts group path
-IsSeenIn parts group path (Open reader) = IfSome reader (λ fed. fed ≡ Some (prefix_of parts path))
-IsSeenIn parts group path (Found reader) = ⊥
-
--- the choices are found, or passed by
-abbrev pub IsSettled : List Part → Group → List (List ℕ) → List ℕ → Type 0
-IsSettled parts group found choices = Contains found choices ⊎ IsPassedBy parts group choices
-
--- choices that read with the setting, of bytes
-abbrev pub IsSoughtWith : List Part → Setting → List ℕ → Type 0
-IsSoughtWith parts setting choices =
-    ReadsWith parts setting.group setting.copy choices × AllByRecursion (λ b. b < 256) (prefix_of parts choices)
-
--- a search of a setting is at a path: what reads with the setting is settled, or is still to come
-pub record StandsWith (parts : List Part) (setting : Setting) (path : List ℕ) (found : List (List ℕ)) : Type 0 where
-  pub is_set : IsSet parts setting path
-  pub all : (choices : List ℕ) → IsSoughtWith parts setting choices → IsSettled parts setting.group found choices ⊎ IsToCome path choices
-
--- a search of a setting is at its path if it goes on. If not, all that reads with it is settled
-abbrev pub GoesOnWith : List Part → Setting → List ℕ → List (List ℕ) → Bool → Type 0
-GoesOnWith parts setting path found true = StandsWith parts setting path found
-GoesOnWith parts setting path found false =
-    (choices : List ℕ) → IsSoughtWith parts setting choices → IsSettled parts setting.group found choices
-
 -- the choices were found before, and nothing was added; or they weren't, and were added after those that were
 abbrev pub IsAddedOnce : List (List ℕ) → List ℕ → List (List ℕ) → Type 0
 IsAddedOnce before choices found =
     (Contains before choices × (found ≡ before)) ⊎ ((Contains before choices → ⊥) × (found ≡ before ++ choices ∷ []))
-
--- nothing was added, or choices that read with the setting and were not found before
-abbrev pub AddsOne : List Part → Setting → List (List ℕ) → List (List ℕ) → Type 0
-AddsOne parts setting before found =
-    (found ≡ before)
-    ⊎ ((choices : List ℕ) × ReadsWith parts setting.group setting.copy choices × (Contains before choices → ⊥)
-    × (found ≡ before ++ choices ∷ []))
 
 -- splices that a search by groups has found so far: each reads in a group, with a copy outside of it, and none is there twice
 abbrev pub AreOfGroups : List Part → List (List ℕ) → Type 0

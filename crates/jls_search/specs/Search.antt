@@ -6,15 +6,17 @@ use Rattle.std.specs.declared.vec.Vec.{Vec}
 use Rattle.std.specs.declared.alloc.Global.{Global}
 use Rattle.jls_copy.specs.ReadCopy.{after}
 use Rattle.jls_diff.specs.Parts.{Part, HasWays, IsSplice}
-use Rattle.jls_search.specs.Choices.{IsPrefix, IsPath, IsWhole, prefix_of}
+use Rattle.jls_search.specs.Choices.{IsPath, IsWhole, prefix_of}
 use Rattle.jls_search.specs.Faultless.{IsSought}
-use Rattle.jls_search.specs.Order.{Goes, IsToCome, IsLater}
-use Rattle.jls_search.specs.declared.whole_search.WholeSearch.{WholeSearch}
+use Rattle.jls_search.specs.Goals.{AddsFor, GoesOn, IsGoal}
+use Rattle.jls_search.specs.OfGroups.{AreOfGroups}
+use Rattle.jls_search.specs.Order.{Goes, IsLater}
+use Rattle.jls_search.specs.declared.searching.Search.{Search}
 use Rattle.jls_search.specs.declared.kept.BegunReader.{BegunReader}
-use Rattle.jls_search.specs.declared.kept.GroupReaders.{GroupReaders}
+use Rattle.jls_search.specs.declared.kept.Judge.{Judge}
 use Rattle.jls_search.specs.declared.kept.KeptReader.{KeptReader}
-use Rattle.jls_search.specs.declared.looking.Sight.{Sight}
-use Rattle.jls_search.specs.declared.looking.Sight.TheVariants.{Dead, Open, Found}
+use Rattle.jls_search.specs.declared.setting.Goal.{Goal}
+use Rattle.jls_search.specs.declared.setting.Goal.TheVariants.{Whole, Group}
 
 -- each splice that is a file of the kind that is sought is among these files
 abbrev pub HasEachSplice : (List ℕ → Type 0) → List Part → List (List ℕ) → Type 0
@@ -46,81 +48,80 @@ pub record CameTo (Sought : List ℕ → Type 0) (parts : List Part) (found : Li
 
 -- A search that goes on ---------------------------------------------------------------------------------------------
 
--- choices, one for each part, make a file of the kind that is sought
-pub record MakesFile (Sought : List ℕ → Type 0) (parts : List Part) (choices : List ℕ) : Type 0 where
-  pub whole : IsWhole parts choices
-  pub low : AllByRecursion (λ b. b < 256) (prefix_of parts choices)
-  pub sought : Sought (prefix_of parts choices)
-
--- a search is at a path: choices that make a file that is sought are found, or are still to come. The path goes up to a differing part, or
--- to the end
-pub record StandsAt (Sought : List ℕ → Type 0) (parts : List Part) (path : List ℕ) (found : List (List ℕ)) : Type 0 where
-  pub is_path : IsPath parts path
-  pub prefix : IsPrefix parts path
-  pub files : MakeFiles Sought parts found
-  pub all : (choices : List ℕ) → MakesFile Sought parts choices → Contains found choices ⊎ IsToCome path choices
-
--- a search is over: all choices that make a file that is sought are found
-pub record IsOver (Sought : List ℕ → Type 0) (parts : List Part) (found : List (List ℕ)) : Type 0 where
-  pub files : MakeFiles Sought parts found
-  pub all : (choices : List ℕ) → MakesFile Sought parts choices → Contains found choices
-
--- a search is at its path if it goes on, and is over if not
-abbrev pub GoesOn : (List ℕ → Type 0) → List Part → List ℕ → List (List ℕ) → Bool → Type 0
-GoesOn Sought parts path found true = StandsAt Sought parts path found
-GoesOn Sought parts path found false = IsOver Sought parts found
+-- what a search has found so far. For whole files: files that are sought. For a group: splices of groups, none of which is there twice
+abbrev pub AreFilesFor : Option ℕ → List Part → Goal → List (List ℕ) → Type 0
+AreFilesFor ceiling parts Whole found = MakeFiles (IsSought ceiling) parts found
+AreFilesFor ceiling parts (Group setting) found = AreOfGroups parts found
 
 -- one step of a search: the file of its path is found, or nothing is. The next path begins with the path, and has more choices, or comes
 -- after all that begin with it
-abbrev pub IsStep : List ℕ → List (List ℕ) → List ℕ → List (List ℕ) → Bool → Type 0
-IsStep path found next found' more =
-    ((found' ≡ found) ⊎ (found' ≡ found ++ path ∷ [])) × (more ≡ true → Goes path next ⊎ IsLater path next)
+abbrev pub IsStep : Option ℕ → List Part → Goal → List ℕ → List (List ℕ) → List ℕ → List (List ℕ) → Bool → Type 0
+IsStep ceiling parts goal path found next found' more =
+    AddsFor ceiling parts goal path found found' × (more ≡ true → Goes path next ⊎ IsLater path next)
 
 -- a reader that is kept was fed what its choices make
 abbrev pub IsKept : List Part → KeptReader → Type 0
 IsKept parts k = k.reader ≡ Some (prefix_of parts k.choices.items)
 
--- a search over parts has come so far: each splice that is sought under its ceiling is one that it found, or is still to come. The reader
--- that it keeps was fed what its choices make
-abbrev pub IsSearch : List Part → WholeSearch → Type 0
-IsSearch parts s =
-    GoesOn (IsSought s.judge.ceiling) parts s.path.items (lists_of s.splices.items) s.goes_on
-    × (length (lists_of s.splices.items) ≤ 64) × IfSome s.judge.kept (IsKept parts)
+-- so were those that a search goes on from
+abbrev pub AreKept : List Part → Judge → Type 0
+AreKept parts judge = IfSome judge.begin (IsKept parts) × IfSome judge.kept (IsKept parts)
 
--- a search can go on: there is more to try, fewer tries than these were made, and fewer than 64 files were found
-abbrev pub CanGoOn : WholeSearch → ℕ → Type 0
-CanGoOn s limit = (s.goes_on ≡ true) × (s.tries < limit) × (length (lists_of s.splices.items) < 64)
+-- a search over parts has come so far: what it is after is settled, or still to come. The readers that it keeps were fed what their
+-- choices make
+pub record IsAt (parts : List Part) (s : Search) : Type 0 where
+  pub goal : IsGoal parts s.goal
+  pub goes : GoesOn s.judge.ceiling parts s.goal s.path.items (lists_of s.splices.items) s.goes_on
+  pub files : AreFilesFor s.judge.ceiling parts s.goal (lists_of s.splices.items)
+  pub few : length (lists_of s.splices.items) ≤ s.most
+  pub kept : AreKept parts s.judge
 
--- a search made one try more: there was more to try, the count of tries rose by one, the ceiling is the same, and the path made one step
-pub record IsTry (parts : List Part) (old new : WholeSearch) : Type 0 where
+-- a search of whole files has come so far: each splice that is sought under its ceiling is one that it found, or is still to come. It finds
+-- 64 files at most
+pub record IsSearch (parts : List Part) (s : Search) : Type 0 where
+  pub is_at : IsAt parts s
+  pub goal_is : s.goal ≡ Whole
+  pub most_is : s.most ≡ 64
+
+-- a search can go on: there is more to try, fewer tries than these were made, and fewer files were found than it finds at most
+abbrev pub CanGoOn : Search → ℕ → Type 0
+CanGoOn s limit = (s.goes_on ≡ true) × (s.tries < limit) × (length (lists_of s.splices.items) < s.most)
+
+-- its goal, its ceiling and the number of files that it finds at most are the same
+abbrev pub IsAlike : Search → Search → Type 0
+IsAlike old new = (new.goal ≡ old.goal) × (new.judge.ceiling ≡ old.judge.ceiling) × (new.most ≡ old.most)
+
+-- a search made one try more: there was more to try, the count of tries rose by one, and the path made one step
+pub record IsTry (parts : List Part) (old new : Search) : Type 0 where
   pub goes_on : old.goes_on ≡ true
-  pub stands : IsSearch parts new
+  pub stands : IsAt parts new
   pub counted : new.tries ≡ old.tries + 1
-  pub ceiling : new.judge.ceiling ≡ old.judge.ceiling
-  pub step : IsStep old.path.items (lists_of old.splices.items) new.path.items (lists_of new.splices.items) new.goes_on
+  pub alike : IsAlike old new
+  pub step : IsStep old.judge.ceiling parts old.goal old.path.items (lists_of old.splices.items) new.path.items
+      (lists_of new.splices.items) new.goes_on
 
 -- so many tries, one after the other, take a search from the first state to the second
-pub data Tried (parts : List Part) : WholeSearch → WholeSearch → Type 0 where
-  nothing : (s : WholeSearch) → Tried parts s s
-  one_more : (old mid new : WholeSearch) → Tried parts old mid → IsTry parts mid new → Tried parts old new
+pub data Tried (parts : List Part) : Search → Search → Type 0 where
+  nothing : (s : Search) → Tried parts s s
+  one_more : (old mid new : Search) → Tried parts old mid → IsTry parts mid new → Tried parts old new
 
 -- a search has tried nothing
-abbrev pub IsBegun : WholeSearch → Type 0
+abbrev pub IsBegun : Search → Type 0
 IsBegun s = (s.tries ≡ 0) × (s.splices.items ≡ []) × (s.goes_on ≡ true)
 
 -- so many tries, from the begin of a search over parts under this ceiling on, found these
 pub record WereTried (ceiling : Option ℕ) (parts : List Part) (tries : ℕ) (found : List (List ℕ)) : Type 0 where
-  pub begun : WholeSearch
+  pub begun : Search
   pub ceiling_is : begun.judge.ceiling ≡ ceiling
   pub is_begun : IsBegun begun
   pub stands : IsSearch parts begun
-  pub last : WholeSearch
+  pub last : Search
   pub tried : Tried parts begun last
   pub tries_are : last.tries ≡ tries
   pub found_are : lists_of last.splices.items ≡ found
 
 -- a search went on by tries, up to so many in all. It has forgotten none, and has made one at least if it could go on
-pub record GoesFrom (parts : List Part) (old new : WholeSearch) (limit : ℕ) : Type 0 where
+pub record GoesFrom (parts : List Part) (old new : Search) (limit : ℕ) : Type 0 where
   pub tried : Tried parts old new
   pub tries : old.tries ≤ new.tries
   pub files : length (lists_of old.splices.items) ≤ length (lists_of new.splices.items)
@@ -130,18 +131,7 @@ pub record GoesFrom (parts : List Part) (old new : WholeSearch) (limit : ℕ) : 
 
 -- Inside the crate -------------------------------------------------------------------------------------------------
 
--- what is seen of a path
-abbrev pub IsSeen : (List ℕ → Type 0) → List Part → List ℕ → Sight → Type 0
-IsSeen Sought parts path Dead = (choices : List ℕ) → MakesFile Sought parts choices → IsToCome path choices → IsLater path choices
-IsSeen Sought parts path (Open reader) = (length path < length parts) × IfSome reader (λ fed. fed ≡ Some (prefix_of parts path))
-IsSeen Sought parts path (Found reader) =
-    (length path ≡ length parts) × Sought (prefix_of parts path) × IfSome reader (λ fed. fed ≡ Some (prefix_of parts path))
-
--- so were those that a search of a group keeps
-abbrev pub AreKept : List Part → GroupReaders → Type 0
-AreKept parts readers = IfSome readers.begin (IsKept parts) × IfSome readers.last (IsKept parts)
-
--- so was each of these, where there is one
+-- each of these readers, where there is one, was fed what its choices make
 abbrev pub AreEachKept : List Part → List (Option KeptReader) → Type 0
 AreEachKept parts readers = AllByRecursion (λ reader. IfSome reader (IsKept parts)) readers
 

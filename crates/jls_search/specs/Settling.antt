@@ -1,5 +1,5 @@
 -- What comes of the files taken.
-use Rattle.std.specs.Prelude.{ℕ, List, ◌++◌, Option}
+use Rattle.std.specs.Prelude.{◌≡◌, ℕ, List, ◌++◌, Option, None}
 use Rattle.jls_partial.specs.Partial.{nothing_known}
 use Rattle.jls_search.specs.Files.{AreVerdicts}
 use Rattle.jls_search.specs.Shapes.{IsShapeFound}
@@ -22,3 +22,9 @@ abbrev pub HasVerdicts : List (List ℕ) → Settled → Type 0
 HasVerdicts files (Held taken) = AreVerdicts files taken.faultless.items
 HasVerdicts files (Differ copy) = Unit {0}
 HasVerdicts files (NoFrame fault offset) = Unit {0}
+
+-- no cut file was taken with them
+abbrev pub HasNoCut : Settled → Type 0
+HasNoCut (Held taken) = taken.cut ≡ None
+HasNoCut (Differ copy) = Unit {0}
+HasNoCut (NoFrame fault offset) = Unit {0}

@@ -1,6 +1,6 @@
 //! The cut file, which a station takes after the copies and the splices.
 
-ghost use Rattle.std.specs.Prelude.{◌<◌, ◌≤◌, ◌-◌, ◌^◌, ◌∷◌, ◌++◌, [], length, IfOk, IfSome, IfNone};
+ghost use Rattle.std.specs.Prelude.{◌≡◌, ◌<◌, ◌≤◌, ◌-◌, ◌^◌, ◌∷◌, ◌++◌, [], length, Some, IfOk, IfSome, IfNone};
 ghost use Rattle.std.specs.List.{AllByRecursion};
 ghost use Rattle.jls_partial.specs.Partial.{nothing_known};
 ghost use Rattle.jls_copy.specs.CopyReads.{CopyReads};
@@ -71,7 +71,7 @@ fn take_cut(
 }
 
 /// A station that took the copies, the splices and then the cut file, each under the source if there is one. Its shape is the cut file's.
-/// With it comes the verdict on each copy and splice.
+/// With it come the verdict on each copy and splice, and these choices.
 ///
 /// The cut file is what the choices make of the first parts. It is read as a file that ends there.
 ///
@@ -80,27 +80,32 @@ pub fn settle_with_cut(
     alloc: Global,
     source: Option<u32>,
     files: &Files<'_, '_>,
-    cut: &[usize],
+    cut: Vec<usize>,
 ) -> Result<Option<HeldFiles>, AllocError>
     requires some_copy { 0 < length files.now.copies.now }
     requires whole { AllByRecursion (IsWhole files.now.parts.now) (lists_of files.now.splices.now) }
     requires short { IsShort files.now.parts.now }
     requires reader { IfSome files.now.reader.now (IsKept files.now.parts.now) }
-    requires cut { IsPath files.now.parts.now cut.now }
+    requires cut { IsPath files.now.parts.now cut.items }
     ensures taken { IfOk result (λ found. IfSome found (λ taken. TakesCut source (bytes_of files.now.copies.now)
-        (splices_found files.now) (prefix_of files.now.parts.now cut.now) taken.station)) }
+        (splices_found files.now) (prefix_of files.now.parts.now cut.items) taken.station)) }
+    ensures cut { IfOk result (λ found. IfSome found (λ taken. taken.cut ≡ Some cut)) }
     ensures verdicts { IfOk result (λ found. IfSome found (λ taken. AreVerdicts (files_taken files.now) taken.faultless.items)) }
     ensures nothing { IfOk result (λ found. IfNone found (TakesNoCut (bytes_of files.now.copies.now)
-        (splices_found files.now) (prefix_of files.now.parts.now cut.now))) }
+        (splices_found files.now) (prefix_of files.now.parts.now cut.items))) }
 {
     let FilesRead { seen, station } = read_files(alloc, source, files)?;
     match first_faultless(&seen) {
         Some(_) => return Ok(None),
         None => {}
     }
-    let Some(station) = take_cut(alloc, source, files, station, cut)? else {
+    let Some(station) = take_cut(alloc, source, files, station, &cut)? else {
         return Ok(None);
     };
     let faultless = verdicts_of(alloc, &seen)?;
-    Ok(Some(HeldFiles { station, faultless }))
+    Ok(Some(HeldFiles {
+        station,
+        faultless,
+        cut: Some(cut),
+    }))
 }

@@ -10,7 +10,6 @@ ghost use Rattle.jls_search.specs.Search.{CameTo, files_of, lists_of};
 ghost use Rattle.jls_search.specs.SearchLaws.{AreShort};
 ghost use Rattle.jls_search.specs.Found.{IsFound, IsGroupSearch, found_of, splices_in};
 
-use crate::copies::SearchedCopies;
 use crate::group_search::{SearchedGroups, search_groups};
 use crate::kept::KeptReader;
 use crate::whole_search::Searched;
@@ -84,21 +83,21 @@ fn splices_given(by: SearchedGroups) -> Vec<Vec<usize>>
 pub fn complete_by_groups<'a>(
     alloc: Global,
     copies: &[&'a [u8]],
-    found: SearchedCopies<'a>,
+    parts: Parts<'a>,
+    searched: Searched,
     limit: u32,
 ) -> Result<FoundSplices<'a>, AllocError>
     requires some_copy { 0 < length copies.now }
     requires short { AreShort (bytes_of copies.now) }
-    requires parts { AreParts (bytes_of copies.now) found.parts }
-    requires searched { CameTo (IsSought found.ceiling) found.parts (lists_of found.searched.splices.items)
-        found.searched.is_used_up }
-    ensures found { IfOk result (λ more. IsFound found.entry.ceiling (bytes_of copies.now) (found_of more)) }
-    ensures ceiling { IfOk result (λ more. more.ceiling ≡ found.entry.ceiling) }
-    ensures reader { IfOk result (λ more. more.reader ≡ found.entry.searched.reader) }
-    ensures parts_kept { IfOk result (λ more. more.parts ≡ found.entry.parts) }
-    ensures tries { IfOk result (λ more. more.tries ≡ found.entry.searched.tries) }
-    ensures used_up { IfOk result (λ more. more.is_used_up ≡ found.entry.searched.is_used_up) }
-    ensures kept { IfOk result (λ more. (found_of more).choices ≡ lists_of found.entry.searched.splices.items) }
+    requires parts { AreParts (bytes_of copies.now) parts }
+    requires searched { CameTo (IsSought searched.ceiling) parts (lists_of searched.splices.items) searched.is_used_up }
+    ensures found { IfOk result (λ more. IsFound searched.ceiling (bytes_of copies.now) (found_of more)) }
+    ensures ceiling { IfOk result (λ more. more.ceiling ≡ searched.ceiling) }
+    ensures reader { IfOk result (λ more. more.reader ≡ searched.reader) }
+    ensures parts_kept { IfOk result (λ more. more.parts ≡ parts.entry) }
+    ensures tries { IfOk result (λ more. more.tries ≡ searched.tries) }
+    ensures used_up { IfOk result (λ more. more.is_used_up ≡ searched.is_used_up) }
+    ensures kept { IfOk result (λ more. (found_of more).choices ≡ lists_of searched.splices.items) }
     ensures splices { IfOk result
         (λ more. files_of more.parts (lists_of more.splices.items) ≡ splices_in (found_of more)) }
     ensures each { IfOk result (λ more. AllByRecursion (IsWhole more.parts) (lists_of more.splices.items)) }
@@ -106,12 +105,8 @@ pub fn complete_by_groups<'a>(
     ensures by_groups { IfOk result
         (λ more. IfSome (found_of more).by_groups (IsGroupSearch limit (length copies.now) more.parts)) }
 {
-    let SearchedCopies {
-        parts,
-        ceiling,
-        searched,
-    } = found;
     let Searched {
+        ceiling,
         mut splices,
         reader,
         tries,

@@ -1,21 +1,21 @@
 //! The search by groups.
 
-ghost use Rattle.std.specs.Prelude.{◌≡◌, List, ◌+◌, ◌<◌, ◌≤◌, min, length, IfOk, IfSome};
+ghost use Rattle.std.specs.Prelude.{◌≡◌, List, ◌+◌, ◌<◌, ◌≤◌, ◌||◌, min, length, None, IfOk, IfSome};
 ghost use Rattle.std.specs.List.{AllByRecursion};
 ghost use Rattle.jls_diff.specs.Parts.{AreParts, HasWays, Part};
 ghost use Rattle.jls_diff.specs.PartsOf.{bytes_of, parts_of};
 ghost use Rattle.jls_search.specs.SearchLaws.{AreShort};
-ghost use Rattle.jls_search.specs.Search.{AreEachKept, IsKept, IsShort, lists_of};
+ghost use Rattle.jls_search.specs.Search.{AreEachKept, IsAt, IsKept, IsShort, lists_of};
 ghost use Rattle.jls_diff.specs.Groups.{CoverParts, IsGroup};
 ghost use Rattle.jls_search.specs.OfGroups.{AreOfGroups, IsOfGroup, IsOnce, IsSetting};
-ghost use Rattle.jls_search.specs.GroupTries.{AreGroupsSearched, GoesThrough, GoesThroughCopies};
+ghost use Rattle.jls_search.specs.GroupTries.{AreGroupsSearched, GoesThrough, GoesThroughCopies, IsGroupBegun};
 
-use crate::kept::{GroupReaders, KeptReader};
+use crate::kept::{Judge, KeptReader};
 use crate::laws::parts_can_be_searched;
 use crate::order::groups_in_order;
 use crate::path::follow;
+use crate::searching::Search;
 use crate::setting::{Goal, Setting};
-use crate::trying::{GroupWalk, try_next};
 use crate::whole_search::{MOST_FOUND, Searched};
 use jls_diff::{Group, Parts, find_groups};
 use std::alloc::{AllocError, Global};
@@ -79,47 +79,73 @@ fn search_setting(
     ensures kept { IfOk result (λ more. IfSome more.kept (IsKept parts.now)) }
 {
     let Gone { searched, kept } = gone;
-    let Searched {
-        splices,
-        mut tries,
-        is_used_up,
-        ..
-    } = searched;
+    let is_cut = searched.is_used_up;
+    let mut search = begin(alloc, parts, setting, searched, kept)?;
+    search.run(alloc, parts, limit)?;
+    Ok(went(search, is_cut))
+}
+
+/// A search of a group that goes on from what was found so far.
+fn begin(
+    alloc: Global,
+    parts: &Parts<'_>,
+    setting: Setting,
+    searched: Searched,
+    kept: Option<KeptReader>,
+) -> Result<Search, AllocError>
+    requires setting { IsSetting parts.now setting }
+    requires splices { AreOfGroups parts.now (lists_of searched.splices.items) }
+    requires few { length searched.splices.items ≤ 4096 }
+    requires kept { IfSome kept (IsKept parts.now) }
+    ensures stands { IfOk result (λ begun. IsAt parts.now begun) }
+    ensures untried { IfOk result (λ begun. IsGroupBegun setting searched begun) }
+{
+    let Searched { splices, tries, .. } = searched;
     let most = most_after(splices.len());
     let mut path = Vec::new(alloc);
     follow(parts, Goal::Group(setting), &mut path)?;
-    let mut walk = GroupWalk {
+    Ok(Search {
+        goal: Goal::Group(setting),
+        most,
+        splices,
+        tries,
+        goes_on: true,
         path,
-        found: splices,
-        kept: GroupReaders {
+        judge: Judge {
+            ceiling: None,
             begin: kept,
-            last: None,
+            kept: None,
+            found: None,
         },
-    };
-    while tries < limit && walk.found.len() < most {
-        tries += 1;
-        let more = try_next(alloc, parts, setting, &mut walk)?;
-        if !more {
-            return Ok(went(walk, tries, is_used_up));
-        }
-    }
-    Ok(went(walk, tries, true))
+    })
 }
 
-/// What a search of a group came to.
-fn went(walk: GroupWalk, tries: u32, is_used_up: bool) -> Gone
-    ensures searched { result.searched
-        ≡ record { splices = walk.found; reader = None; tries = tries; is_used_up = is_used_up } }
-    ensures kept { result.kept ≡ walk.kept.begin }
+/// What it came to. It was cut off where there is more to try, or another was before.
+fn went(search: Search, was_cut: bool) -> Gone
+    ensures searched { result.searched ≡ record {
+      ceiling = None;
+      splices = search.splices;
+      reader = None;
+      tries = search.tries;
+      is_used_up = search.goes_on || was_cut;
+    } }
+    ensures kept { result.kept ≡ search.judge.begin }
 {
-    let GroupWalk { found, kept, .. } = walk;
-    let GroupReaders { begin, .. } = kept;
+    let Search {
+        splices,
+        tries,
+        goes_on,
+        judge,
+        ..
+    } = search;
+    let Judge { begin, .. } = judge;
     Gone {
         searched: Searched {
-            splices: found,
+            ceiling: None,
+            splices,
             reader: None,
             tries,
-            is_used_up,
+            is_used_up: goes_on || was_cut,
         },
         kept: begin,
     }
@@ -206,6 +232,7 @@ fn search_in_turn(
 {
     let mut kept = no_readers(alloc, extent.copies)?;
     let mut searched = Searched {
+        ceiling: None,
         splices: Vec::new(alloc),
         reader: None,
         tries: 0,

@@ -7,6 +7,7 @@ ghost use Rattle.jls_search.specs.Choices.{IsPath, prefix_of};
 ghost use Rattle.jls_search.specs.Search.{AreKept, IsBegunOn, IsKept, Keeps};
 
 use crate::feeding::feed_way;
+use crate::setting::Goal;
 use jls_copy::CopyReader;
 use jls_diff::Parts;
 use std::alloc::{AllocError, Global};
@@ -20,14 +21,16 @@ pub struct KeptReader {
     pub choices: Vec<usize>,
 }
 
-/// What a search judges paths by.
+/// What a search judges paths by. A path that begins with the choices of a reader is read from there on, and not from its first byte.
 #[derive(Drop)]
 pub struct Judge {
-    /// The greatest sample that a file may have that is sought, if there is a limit.
+    /// The greatest sample that a whole file may have that is sought, if there is a limit.
     pub ceiling: Option<u16>,
-    /// The reader of the last path that was left open. Paths that begin so are read from there on, and not from their first byte.
+    /// The reader of the last path that was left open and doesn't go into a group. A search of whole files has none.
+    pub begin: Option<KeptReader>,
+    /// The reader of the last path that was left open. In a search of a group it goes into it.
     pub kept: Option<KeptReader>,
-    /// The reader of the first file that was found. It was fed all of it.
+    /// The reader of the first whole file that was found. It was fed all of it.
     pub found: Option<KeptReader>,
 }
 
@@ -125,41 +128,38 @@ pub(crate) fn keep(
     Ok(())
 }
 
-/// The readers that a search of a group keeps. A path in the group may begin with the choices of either.
-#[derive(Drop)]
-pub(crate) struct GroupReaders {
-    /// That of the last path that was left open and doesn't go into a group.
-    pub(crate) begin: Option<KeptReader>,
-    /// That of the last path that was left open and goes into the group.
-    pub(crate) last: Option<KeptReader>,
-}
-
 /// The reader from which to go on along the path.
-pub(crate) fn nearest<'a>(readers: &'a GroupReaders, path: &[usize]) -> &'a Option<KeptReader>
-    ensures { (parts : List Part) → AreKept parts readers.now → IfSome result.now (IsKept parts) }
+pub(crate) fn nearest<'a>(judge: &'a Judge, path: &[usize]) -> &'a Option<KeptReader>
+    ensures { (parts : List Part) → AreKept parts judge.now → IfSome result.now (IsKept parts) }
 {
-    if let Some(kept) = &readers.last {
+    if let Some(kept) = &judge.kept {
         if path.starts_with(&kept.choices) {
-            return &readers.last;
+            return &judge.kept;
         }
     }
-    &readers.begin
+    &judge.begin
 }
 
-/// Keeps a reader that was fed what the path makes, if there is one. `is_before` says that the path doesn't go into a group.
-pub(crate) fn keep_one(
+/// Keeps a reader that was fed what the path makes, if there is one. The path was left open.
+pub(crate) fn keep_open(
     alloc: Global,
-    readers: &mut GroupReaders,
-    is_before: bool,
+    judge: &mut Judge,
+    goal: Goal,
     reader: Option<CopyReader>,
     path: &[usize],
 ) -> Result<(), AllocError>
-    ensures { (parts : List Part) → AreKept parts readers.old
-        → IfSome reader (λ fed. fed ≡ Some (prefix_of parts path.now)) → OnOk result (AreKept parts readers.new) }
+    ensures kept { (parts : List Part) → AreKept parts judge.old
+        → IfSome reader (λ fed. fed ≡ Some (prefix_of parts path.now)) → OnOk result (AreKept parts judge.new) }
+    ensures found { judge.new.found ≡ judge.old.found }
+    ensures ceiling { judge.new.ceiling ≡ judge.old.ceiling }
 {
+    let is_before = match goal {
+        Goal::Whole => false,
+        Goal::Group(setting) => path.len().saturating_sub(1) <= setting.group.begin.part,
+    };
     if is_before {
-        keep(alloc, &mut readers.begin, reader, path)
+        keep(alloc, &mut judge.begin, reader, path)
     } else {
-        keep(alloc, &mut readers.last, reader, path)
+        keep(alloc, &mut judge.kept, reader, path)
     }
 }

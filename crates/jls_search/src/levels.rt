@@ -250,6 +250,7 @@ pub fn lone_path(
     }
     let mut judge = Judge {
         ceiling,
+        begin: None,
         kept: None,
         found: None,
     };

@@ -1,23 +1,23 @@
 //! Splices of copies: files each of whose stretches is what one of the copies has there. The search for those without a fault, of whole
 //! files and by groups, and the station of the files taken.
 //!
-//! - `choosing`: choices at a part; `path`: goes through choices of parts in depth-first order, for both searches
-//! - `setting`: what a search goes through: all splices, or a group and the copy that the rest of the file is taken from
+//! - `choosing`: choices at a part; `path`: goes through choices of parts in depth-first order
+//! - `setting`: what a search is after: whole files, or a group and the copy that the rest of the file is taken from
 //! - `feeding`: feeds what they make to a `CopyReader`
 //! - `faultless`: judges it: a file without a fault, or a prefix that none begins with
 //! - `lines`: whether each line of a picture was read
 //! - `ceiling`: whether samples are at most the greatest that a file may have that is sought
 //! - `kept`: the readers that a search keeps, and readers that go on from them
 //! - `living`: readers that are fed as long as a file without a fault may begin so
-//! - `looking`: what is seen of a path
-//! - `whole_search`: the search of whole files, as a value that goes on as far as its caller wants
+//! - `looking`: what is seen of a path; `looking_in_group`: in a search of a group
+//! - `searching`: the search, as a value that goes on as far as its caller wants; `adding`: the choices that it finds
+//! - `whole_search`: the search of whole files
 //! - `levels`: the search level by level, for the last level at which exactly one path lives
 //!
 //! The search by groups: splices that read between two markers, where no splice is without a fault.
 //!
 //! - `offsets`, `reading_between`: the offsets of a group in the file that choices make; whether the file decodes between them
 //! - `reading_group`: whether a file reads in a group, which its first bytes may tell
-//! - `trying`: one try
 //! - `order`, `group_search`: all groups in turn, each with each copy and with tries of its own
 //! - `found`: what both searches found
 //!
@@ -37,7 +37,7 @@
 //! comes with the files. If the shape that is taken is not the first frame's, as after a damaged header, each is decoded once more.
 //!
 //! Definitions: `Choices`, `Faultless`, `Search`, `Order`, `Levels`; `Places`, `ReadsBetween`, `OfGroups`, `GroupTries`, `Found`; `Files`,
-//! `Shapes`, `Stations`, `Settling`, `Cuts`. Inside the crate: `Seen`, `Reading`, `Tried`.
+//! `Shapes`, `Stations`, `Settling`, `Cuts`. Inside the crate: `Seen`, `Reading`, `Tried`, `Goals`.
 //!
 //! Not proved:
 //!
@@ -47,9 +47,9 @@
 //! - How often a file is decoded.
 #![tactic(auto)]
 
+mod adding;
 mod ceiling;
 mod choosing;
-mod copies;
 mod cut;
 mod faultless;
 mod feeding;
@@ -63,6 +63,7 @@ mod levels;
 mod lines;
 mod living;
 mod looking;
+mod looking_in_group;
 mod offsets;
 mod order;
 mod path;
@@ -70,6 +71,7 @@ mod reading_between;
 mod reading_files;
 mod reading_group;
 mod reading_splices;
+mod searching;
 mod seen;
 mod setting;
 mod settling;
@@ -77,11 +79,9 @@ mod shape_found;
 mod shape_rule;
 mod short;
 mod taking;
-mod trying;
 mod whole_search;
 
 pub use choosing::next_way_at;
-pub use copies::SearchedCopies;
 pub use cut::settle_with_cut;
 pub use faultless::{is_dead, is_faultless, is_read_faultless, is_sought};
 pub use feeding::{feed_prefix, reader_of};
@@ -92,7 +92,8 @@ pub use kept::{Judge, KeptReader};
 pub use laws::{parts_can_be_searched, searches_come_to_each_splice};
 pub use levels::lone_path;
 pub use reading_between::reads_between;
+pub use searching::Search;
 pub use settling::{HeldFiles, Settled, settle_files};
 pub use shape_found::ShapeFound;
 pub use short::are_short;
-pub use whole_search::{MOST_FOUND, Searched, WholeSearch, search};
+pub use whole_search::{MOST_FOUND, Searched, search};

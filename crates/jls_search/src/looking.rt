@@ -3,13 +3,16 @@
 ghost use Rattle.std.specs.Prelude.{◌≡◌, ◌-◌, ◌^◌, ◌<◌, ◌≤◌, length, IfOk, IfSome};
 ghost use Rattle.jls_diff.specs.PartsOf.{parts_of};
 ghost use Rattle.jls_search.specs.Choices.{IsPath, prefix_of};
-ghost use Rattle.jls_search.specs.Faultless.{IsSought};
-ghost use Rattle.jls_search.specs.Search.{IsKept, IsSeen};
+ghost use Rattle.jls_search.specs.Goals.{IsGoal, IsSeenFor};
+ghost use Rattle.jls_search.specs.Search.{AreKept, IsKept};
+ghost use Rattle.jls_search.specs.declared.setting.Goal.TheVariants.{Whole};
 
 use crate::ceiling::is_above;
 use crate::faultless::{is_dead, is_sought};
 use crate::kept::Judge;
 use crate::living::living_on;
+use crate::looking_in_group::look_in_group;
+use crate::setting::Goal;
 use jls_copy::CopyReader;
 use jls_diff::Parts;
 use std::alloc::{AllocError, Global};
@@ -17,11 +20,11 @@ use std::alloc::{AllocError, Global};
 /// What is seen of a path.
 #[derive(Drop)]
 pub(crate) enum Sight {
-    /// No choices that begin so make a file that is sought.
+    /// No choices that begin so are tried: none of them makes a file that is sought, or those that do are passed by.
     Dead,
     /// Such choices may come. The reader was fed what the path makes. There is none where its copy has ended.
     Open(Option<CopyReader>),
-    /// The path has a choice for each part, and makes a file that is sought. If it is the first, there is a reader that was fed this file.
+    /// The path has a choice for each part, and makes a file that is sought. The first whole file comes with a reader that was fed it.
     Found(Option<CopyReader>),
 }
 
@@ -36,7 +39,7 @@ fn clone_first(judge: &Judge, reader: &CopyReader) -> Result<Option<CopyReader>,
     Ok(Some(clone))
 }
 
-/// What is seen of a path that has a choice for each part.
+/// What a search of whole files sees of a path that has a choice for each part.
 fn look_at_file(
     alloc: Global,
     parts: &Parts<'_>,
@@ -47,7 +50,7 @@ fn look_at_file(
     requires path { IsPath parts.now path.now }
     requires few { length (prefix_of parts.now path.now) ≤ 2 ^ 63 - 1 }
     requires whole { length path.now ≡ length parts.now }
-    ensures { IfOk result (λ sight. IsSeen (IsSought judge.now.ceiling) parts.now path.now sight) }
+    ensures { IfOk result (λ sight. IsSeenFor judge.now.ceiling parts.now Whole path.now sight) }
 {
     let Some(reader) = living_on(alloc, parts, &judge.kept, path)? else {
         return Ok(Sight::Dead);
@@ -60,7 +63,7 @@ fn look_at_file(
     Ok(Sight::Dead)
 }
 
-/// What is seen of a shorter one.
+/// What it sees of a shorter one.
 fn look_at_prefix(
     alloc: Global,
     parts: &Parts<'_>,
@@ -71,7 +74,7 @@ fn look_at_prefix(
     requires path { IsPath parts.now path.now }
     requires few { length (prefix_of parts.now path.now) ≤ 2 ^ 63 - 1 }
     requires more { length path.now < length parts.now }
-    ensures { IfOk result (λ sight. IsSeen (IsSought judge.now.ceiling) parts.now path.now sight) }
+    ensures { IfOk result (λ sight. IsSeenFor judge.now.ceiling parts.now Whole path.now sight) }
 {
     let Some(reader) = living_on(alloc, parts, &judge.kept, path)? else {
         return Ok(Sight::Dead);
@@ -91,8 +94,8 @@ fn look_at_prefix(
     Ok(Sight::Open(None))
 }
 
-/// Feeds what the path makes to a reader, and tells what is seen. The kept reader saves it the bytes of its own choices.
-pub(crate) fn look(
+/// What a search of whole files sees of a path.
+fn look_for_whole(
     alloc: Global,
     parts: &Parts<'_>,
     judge: &Judge,
@@ -101,11 +104,31 @@ pub(crate) fn look(
     requires kept { IfSome judge.now.kept (IsKept parts.now) }
     requires path { IsPath parts.now path.now }
     requires few { length (prefix_of parts.now path.now) ≤ 2 ^ 63 - 1 }
-    ensures { IfOk result (λ sight. IsSeen (IsSought judge.now.ceiling) parts.now path.now sight) }
+    ensures { IfOk result (λ sight. IsSeenFor judge.now.ceiling parts.now Whole path.now sight) }
 {
     if path.len() < parts.len() {
         look_at_prefix(alloc, parts, judge, path)
     } else {
         look_at_file(alloc, parts, judge, path)
+    }
+}
+
+/// Feeds what the path makes to a reader, and tells what is seen. The kept reader saves it the bytes of its own choices.
+pub(crate) fn look(
+    alloc: Global,
+    parts: &Parts<'_>,
+    goal: Goal,
+    judge: &Judge,
+    path: &[usize],
+) -> Result<Sight, AllocError>
+    requires goal { IsGoal parts.now goal }
+    requires kept { AreKept parts.now judge.now }
+    requires path { IsPath parts.now path.now }
+    requires few { length (prefix_of parts.now path.now) ≤ 2 ^ 63 - 1 }
+    ensures { IfOk result (λ sight. IsSeenFor judge.now.ceiling parts.now goal path.now sight) }
+{
+    match goal {
+        Goal::Whole => look_for_whole(alloc, parts, judge, path),
+        Goal::Group(setting) => look_in_group(alloc, parts, setting, judge, path),
     }
 }

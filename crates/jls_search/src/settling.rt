@@ -8,7 +8,7 @@ ghost use Rattle.jls_search.specs.Choices.{IsWhole};
 ghost use Rattle.jls_search.specs.Search.{IsKept, IsShort, lists_of};
 ghost use Rattle.jls_search.specs.Files.{files_taken, splices_found};
 ghost use Rattle.jls_search.specs.Reading.{HasTaken};
-ghost use Rattle.jls_search.specs.Settling.{HasVerdicts, SettlesFiles};
+ghost use Rattle.jls_search.specs.Settling.{HasNoCut, HasVerdicts, SettlesFiles};
 ghost use Rattle.jls_search.specs.Stations.{TakesFiles};
 
 use crate::files::Files;
@@ -22,13 +22,15 @@ use jls_station::Station;
 use jls_values::Shape;
 use std::alloc::{AllocError, Global};
 
-/// A station that took files, and the verdict on each of these.
+/// A station that took files, the verdict on each of these, and the cut file that it took after them.
 #[derive(Drop)]
 pub struct HeldFiles {
     /// The station.
     pub station: Station,
     /// Whether each file has no fault: the copies, in their order, and then the splices.
     pub faultless: Vec<bool>,
+    /// The choices of the cut file, if it took that too.
+    pub cut: Option<Vec<usize>>,
 }
 
 /// What comes of the files taken: their station, or why there is none.
@@ -81,13 +83,18 @@ pub fn settle_files(
     ensures settled { IfOk result (λ settled.
         SettlesFiles source (bytes_of files.now.copies.now) (splices_found files.now) settled) }
     ensures verdicts { IfOk result (λ settled. HasVerdicts (files_taken files.now) settled) }
+    ensures uncut { IfOk result HasNoCut }
 {
     let FilesRead { seen, station } = read_files(alloc, source, files)?;
     match find_shape(&seen, files) {
         ShapeFound::Taken(shape) => {
             let station = station_of(alloc, source, files, station, shape)?;
             let faultless = verdicts_of(alloc, &seen)?;
-            Ok(Settled::Held(HeldFiles { station, faultless }))
+            Ok(Settled::Held(HeldFiles {
+                station,
+                faultless,
+                cut: None,
+            }))
         }
         ShapeFound::Differ(copy) => Ok(Settled::Differ(copy)),
         ShapeFound::NoFrame(fault, offset) => Ok(Settled::NoFrame(fault, offset)),

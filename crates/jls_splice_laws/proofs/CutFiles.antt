@@ -25,7 +25,7 @@ use Rattle.jls_diff.specs.Parts.{Part, Same, Differ, HasWays, IsSplice}
 use Rattle.jls_search.specs.Choices.{IsPath, prefix_of}
 use Rattle.jls_search.specs.Faultless.{IsSought}
 use Rattle.jls_search.proofs.Paths.{path_len}
-use Rattle.jls_search.proofs.Searching.{same as same_or_other}
+use Rattle.jls_search.proofs.WholeSplices.{same as same_or_other}
 use Rattle.jls_splice_laws.specs.CutLaws.{SoughtFilesBeginWithTheCut, WholeFilesBeginWithTheirLines, CutsAreHeld, CutLinesAreThePicture}
 use Rattle.jls_splice_laws.specs.WholeFiles.{IsWholeFile, WholeFilesAreFaultless}
 use Rattle.jls_splice_laws.proofs.HeldFiles.{files_alone, files_are_held}

@@ -6,7 +6,7 @@ use Rattle.std.proofs.lemmas.Bool.{cases_lt}
 use Rattle.jls_io.specs.Event.{Event}
 use Rattle.jls_diff.specs.Parts.{Part}
 use Rattle.jls_search.specs.Search.{CanGoOn, GoesFrom, Tried, lists_of, nothing, one_more}
-use Rattle.jls_search.specs.declared.whole_search.WholeSearch.{WholeSearch}
+use Rattle.jls_search.specs.declared.searching.Search.{Search}
 use Rattle.jls_splice_run.specs.Telling.{line, nothing_tried, GoesOn, HasReported, IsReported, TellsLine}
 use Rattle.jls_splice_run.specs.declared.options.SearchOptions.{SearchOptions}
 
@@ -27,7 +27,7 @@ reported_more : (tells : Bool) (rounds found tries files : ℕ) (events more : L
 reported_more true rounds found tries files events more reported less near le printed = line rounds found tries files events more reported less near le printed
 reported_more false rounds found tries files events more reported less near le none = ap (λ (xs : List Event). xs ++ more) reported ∙ none
 
-pub reported_on : (options : SearchOptions) (old new : WholeSearch) (events more : List Event) → CanGoOn old options.tries → HasReported options old events
+pub reported_on : (options : SearchOptions) (old new : Search) (events more : List Event) → CanGoOn old options.tries → HasReported options old events
     → GoesOn options old new more → HasReported options new (events ++ more)
 reported_on options old new events more can h g =
     let p = h.paused can in
@@ -42,7 +42,7 @@ reported_on options old new events more can h g =
     }
 
 -- a search that went on to a pause
-pub went_on : (parts : List Part) (options : SearchOptions) (old new : WholeSearch) (pause : ℕ) → pause ≡ min (old.tries + 64) options.tries
+pub went_on : (parts : List Part) (options : SearchOptions) (old new : Search) (pause : ℕ) → pause ≡ min (old.tries + 64) options.tries
     → CanGoOn old options.tries → (CanGoOn new pause → ⊥) → GoesFrom parts old new pause → (events : List Event)
     → TellsLine options.tells new.tries (length (lists_of new.splices.items)) events → GoesOn options old new events
 went_on parts options old new pause at can stops went events reported =
@@ -63,6 +63,6 @@ went_on parts options old new pause at can stops went events reported =
     }
 
 -- tries after tries
-pub tried_on : (parts : List Part) (a b c : WholeSearch) → Tried parts a b → Tried parts b c → Tried parts a c
+pub tried_on : (parts : List Part) (a b c : Search) → Tried parts a b → Tried parts b c → Tried parts a c
 tried_on parts a _ _ t (nothing b) = t
 tried_on parts a _ _ t (one_more b mid c u more) = one_more a mid c (tried_on parts a b mid t u) more

@@ -7,7 +7,6 @@ use Rattle.jls_search.specs.Faultless.{IsSought}
 use Rattle.jls_search.specs.Levels.{IsLone}
 use Rattle.jls_search.specs.Search.{CameTo, IsKept, WereTried, lists_of}
 use Rattle.jls_search.specs.declared.whole_search.Searched.{Searched}
-use Rattle.jls_splice_run.specs.declared.limits.Limited.{Limited}
 
 -- the limits, in turn: for each k from 16 to 31 the greatest whole number that is less than the square root of 2 ^ k
 abbrev pub limits : List ℕ
@@ -96,23 +95,23 @@ IsCutLimit parts limit choices cut = (cut ≡ limit) ⊎ ((limit ≡ None) × (c
 
 -- As the code has it -----------------------------------------------------------------------------------------------
 
--- a search under a limit, if there is one
-abbrev pub made_under : Option ℕ → Searched → SearchMade
-made_under ceiling s = record {
-  ceiling = ceiling;
+-- a search, from what it came to
+abbrev pub search_made : Searched → SearchMade
+search_made s = record {
+  ceiling = s.ceiling;
   tries = s.tries;
   choices = lists_of s.splices.items;
   is_used_up = s.is_used_up;
 }
 
 -- what counts where this is the last search that was not cut off and found a file, if there is one
-abbrev pub last_or : SearchMade → Option Limited → SearchMade
+abbrev pub last_or : SearchMade → Option Searched → SearchMade
 last_or first None = first
-last_or first (Some last) = made_under (Some last.limit) last.searched
+last_or first (Some last) = search_made last
 
 -- the reader that it kept, if it kept one, was fed what its choices make
-abbrev pub HasReader : List Part → Limited → Type 0
-HasReader parts last = IfSome last.searched.reader (IsKept parts)
+abbrev pub HasReader : List Part → Searched → Type 0
+HasReader parts last = IfSome last.reader (IsKept parts)
 
 -- the limit that counts where this is the last one, if there is one
 abbrev pub limit_or : Option ℕ → Option ℕ → Option ℕ

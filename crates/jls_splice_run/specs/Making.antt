@@ -41,7 +41,7 @@ use Rattle.jls_splice_run.specs.Copies.{bytes_read, stops_read}
 use Rattle.jls_splice_run.specs.Files.{count_new}
 use Rattle.jls_splice_run.specs.Listing.{AreNamedAsked, NamedFile, named_files}
 use Rattle.jls_splice_run.specs.Single.{IsSingleAsked}
-use Rattle.jls_splice_run.specs.declared.made.FoundInTurn.{FoundInTurn}
+use Rattle.jls_splice_run.specs.declared.limits.FoundInTurn.{FoundInTurn}
 use Rattle.jls_splice_run.specs.declared.made.Made.{Made as MadeValue}
 
 -- ---- what was found and made

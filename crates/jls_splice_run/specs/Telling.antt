@@ -5,7 +5,7 @@ use Rattle.jls_io.specs.Event.{Event}
 use Rattle.jls_io.specs.Writing.{Printed}
 use Rattle.jls_search.specs.Search.{CanGoOn, IsBegun, IsSearch, Tried, lists_of}
 use Rattle.jls_diff.specs.Parts.{Part}
-use Rattle.jls_search.specs.declared.whole_search.WholeSearch.{WholeSearch}
+use Rattle.jls_search.specs.declared.searching.Search.{Search}
 use Rattle.jls_splice_run.specs.Limits.{AreInTurn, AreSearches, SearchMade, Searches, WentThrough, counting, cut_limit, last_or, limit_or}
 use Rattle.jls_splice_run.specs.Limits.{IsCutLimit, tries_after}
 use Rattle.jls_splice_run.specs.Lines.{progress_line}
@@ -62,7 +62,7 @@ TellsLine true tries files events = Printed (progress_line tries files) events
 TellsLine false tries files events = events ≡ []
 
 -- it went on to the next pause, and reported a line there
-pub record GoesOn (options : SearchOptions) (old new : WholeSearch) (events : List Event) : Type 0 where
+pub record GoesOn (options : SearchOptions) (old new : Search) (events : List Event) : Type 0 where
   pub tries : old.tries < new.tries
   pub near : new.tries ≤ old.tries + 64
   pub within : new.tries ≤ options.tries
@@ -71,15 +71,15 @@ pub record GoesOn (options : SearchOptions) (old new : WholeSearch) (events : Li
   pub reported : TellsLine options.tells new.tries (length (lists_of new.splices.items)) events
 
 -- it has said all so far, and where it can go on it stands at a pause
-pub record HasReported (options : SearchOptions) (walk : WholeSearch) (events : List Event) : Type 0 where
+pub record HasReported (options : SearchOptions) (walk : Search) (events : List Event) : Type 0 where
   pub reported : IsReported options.tells walk.tries (length (lists_of walk.splices.items)) events
   pub within : walk.tries ≤ options.tries
   pub paused : CanGoOn walk options.tries → (rounds : ℕ) × (walk.tries ≡ 64 * rounds)
 
 -- tries have taken it here from its begin, under this ceiling
-abbrev pub WasBegun : Option ℕ → List Part → WholeSearch → Type 0
+abbrev pub WasBegun : Option ℕ → List Part → Search → Type 0
 WasBegun ceiling parts walk =
-    (begun : WholeSearch) × IsBegun begun × IsSearch parts begun × Tried parts begun walk × (begun.judge.ceiling ≡ ceiling)
+    (begun : Search) × IsBegun begun × IsSearch parts begun × Tried parts begun walk × (begun.judge.ceiling ≡ ceiling)
 
 -- searches under these limits in turn, none of which was cut off: how many tries the next one has, what they came to, and what they
 -- reported

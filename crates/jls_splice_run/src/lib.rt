@@ -8,7 +8,7 @@
 //! - `printed_lines`, `noting`: the lines that are printed; those on the fault output, where OUT is standard output
 //! - `handing`: the events that hand out all
 //! - `options`, `searching`: how a search is made; a search that goes on 64 tries at a time, and tells how far it is
-//! - `limits`: all searches of a run: the one that is asked for, and where it is cut off others under limits of samples in turn
+//! - `limits`: all searches of a run: the one that is asked for; where it is cut off, others under limits of samples in turn; and groups
 //! - `shallow`: the limit under which a cut file is sought, where the searches had none and found nothing
 //! - `differences`: where copies differ: the offset in the first copy, and how many bytes that one has there
 //! - `found`, `lines`: what is reported of a search, as one value; its lines, and the line that says how far a search is
@@ -51,7 +51,7 @@ mod task;
 pub use differences::{Difference, differences_of};
 pub use found::{CutEnd, GroupSearch, Promise, SearchReport};
 pub use hosted::Splice;
-pub use limits::{SearchedInTurn, search_and_tell};
+pub use limits::{FoundInTurn, search_and_tell};
 pub use lines::{put_found, put_progress};
 pub use listing::NumberedFile;
 pub use made::Made;

@@ -1,17 +1,19 @@
 //! All searches of a run: the one that is asked for, and where it has no limit of samples and is cut off, others under limits in turn.
 
-ghost use Rattle.std.specs.Prelude.{◌≡◌, ◌*◌, ◌<◌, ℕ, List, Option, None, Some, false, length, map, max, min, IfOk, IfSome, OnErr};
+ghost use Rattle.std.specs.Prelude.{◌≡◌, ◌*◌, ◌<◌, ◌≤◌, ◌^◌, ℕ, List, Option, None, Some, false, length, map, max, min};
+ghost use Rattle.std.specs.Prelude.{IfOk, IfSome, OnErr};
 ghost use Rattle.std.specs.List.{AllByRecursion};
 ghost use Rattle.jls_io.specs.Event.{GrewBy};
-ghost use Rattle.jls_diff.specs.Parts.{AreParts, Part};
+ghost use Rattle.jls_diff.specs.Parts.{Part, made};
 ghost use Rattle.jls_diff.specs.PartsOf.{bytes_of, parts_of};
-ghost use Rattle.jls_search.specs.Choices.{HasSomeWay};
+ghost use Rattle.jls_search.specs.Choices.{HasSomeWay, IsWhole};
 ghost use Rattle.jls_search.specs.Faultless.{IsSought};
 ghost use Rattle.jls_search.specs.Levels.{IsLone};
-ghost use Rattle.jls_search.specs.Search.{IsKept, IsShort, lists_of};
-ghost use Rattle.jls_search.specs.SearchLaws.{AreShort};
-ghost use Rattle.jls_splice_run.specs.Limits.{HasReader, IsCutLimit, IsSearchMade, SearchMade, counting_of, last_or, made_under, next_tries};
+ghost use Rattle.jls_search.specs.Search.{IsKept, IsShort, files_of, lists_of};
+ghost use Rattle.jls_search.specs.Found.{IsFound, IsGroupSearch, found_of, splices_in};
+ghost use Rattle.jls_splice_run.specs.Limits.{HasReader, IsCutLimit, SearchMade, counting_of, last_or, next_tries, search_made};
 ghost use Rattle.jls_splice_run.specs.Limits as spec;
+ghost use Rattle.jls_splice_run.specs.Making.{search_of};
 ghost use Rattle.jls_splice_run.specs.Telling.{HasChosenLimit, HasSearched, ReportedUpTo, TookTurns};
 
 use crate::options::SearchOptions;
@@ -19,7 +21,7 @@ use crate::searching::search_once;
 use crate::shallow::{CutLimit, shallow_limit};
 use jls_diff::{Parts, find_parts};
 use jls_io::Sink;
-use jls_search::{Searched, SearchedCopies, parts_can_be_searched};
+use jls_search::{FoundSplices, Searched, are_short, complete_by_groups, parts_can_be_searched};
 use std::alloc::{AllocError, Global};
 
 /// The limits: for each k from 16 to 31 the greatest whole number that is less than the square root of 2^k.
@@ -33,15 +35,6 @@ const TRIES_AFTER: u64 = 16;
 /// How many tries it has at least, if that many are allowed.
 const FEWEST_AFTER: u64 = 256;
 
-/// A search under a limit of samples.
-#[derive(Drop)]
-pub(crate) struct Limited {
-    /// The greatest sample that a file may have that was sought.
-    limit: u16,
-    /// What the search came to.
-    searched: Searched,
-}
-
 /// What searches under limits in turn came to.
 #[derive(Drop)]
 pub(crate) struct Turned {
@@ -50,14 +43,14 @@ pub(crate) struct Turned {
     /// The limit of the last one that was not cut off.
     whole: Option<u16>,
     /// The last one that was not cut off and found a file.
-    found: Option<Limited>,
+    found: Option<Searched>,
 }
 
-/// What all searches over some copies came to.
+/// What was found in some copies.
 #[derive(Drop)]
-pub struct SearchedInTurn<'a> {
-    /// The parts, and the search that counts, with its limit.
-    pub copies: SearchedCopies<'a>,
+pub struct FoundInTurn<'a> {
+    /// What the search that counts found, and what groups gave.
+    pub splices: FoundSplices<'a>,
     /// The limit under which a cut file is sought, if there is one.
     pub cut_limit: Option<u16>,
     /// The path that `lone_path` finds without a limit, if it was asked for, and there is one.
@@ -82,26 +75,26 @@ fn tries_after(most: u32, tries: u32) -> u32
 }
 
 /// What searches in turn came to with one more that was not cut off.
-fn with_one_more(turned: Turned, limit: u16, searched: Searched, most: u32) -> Turned
+fn with_one_more(turned: Turned, searched: Searched, most: u32) -> Turned
     requires { searched.is_used_up ≡ false }
-    ensures tries { result.tries ≡ next_tries most turned.tries (made_under (Some limit) searched) }
-    ensures whole { result.whole ≡ Some limit }
+    ensures tries { result.tries ≡ next_tries most turned.tries (search_made searched) }
+    ensures whole { result.whole ≡ searched.ceiling }
     ensures found { (first : SearchMade)
-        → last_or first result.found ≡ counting_of (last_or first turned.found) (made_under (Some limit) searched) }
+        → last_or first result.found ≡ counting_of (last_or first turned.found) (search_made searched) }
     ensures reader { (parts : List Part) → IfSome turned.found (HasReader parts) → IfSome searched.reader (IsKept parts)
         → IfSome result.found (HasReader parts) }
 {
     if searched.splices.is_empty() {
         return Turned {
             tries: turned.tries,
-            whole: Some(limit),
+            whole: searched.ceiling,
             found: turned.found,
         };
     }
     Turned {
         tries: tries_after(most, searched.tries),
-        whole: Some(limit),
-        found: Some(Limited { limit, searched }),
+        whole: searched.ceiling,
+        found: Some(searched),
     }
 }
 
@@ -135,7 +128,7 @@ fn search_in_turn<E: Sink>(
         if searched.is_used_up {
             return Ok(turned);
         }
-        turned = with_one_more(turned, *limit, searched, options.tries);
+        turned = with_one_more(turned, searched, options.tries);
     }
     Ok(turned)
 }
@@ -143,8 +136,6 @@ fn search_in_turn<E: Sink>(
 /// The search that counts, and the limit of the last one that was not cut off.
 #[derive(Drop)]
 struct CountingSearch {
-    /// The limit of the search that counts, if it has one.
-    ceiling: Option<u16>,
     /// The limit of the last search that was not cut off, and else that of the first, if it has one.
     cut_limit: Option<u16>,
     /// What the search that counts came to.
@@ -153,27 +144,15 @@ struct CountingSearch {
 
 /// What counts of a search without a limit, and of others under limits in turn.
 fn chosen(first: Searched, turned: Turned) -> CountingSearch
-    ensures counts { made_under result.ceiling result.searched ≡ last_or (made_under None first) turned.found }
+    ensures counts { search_made result.searched ≡ last_or (search_made first) turned.found }
     ensures cut { result.cut_limit ≡ turned.whole }
     ensures reader { (parts : List Part) → IfSome turned.found (HasReader parts) → IfSome first.reader (IsKept parts)
         → IfSome result.searched.reader (IsKept parts) }
 {
-    let Turned {
-        tries: _,
-        whole,
-        found,
-    } = turned;
-    match found {
-        Some(last) => CountingSearch {
-            ceiling: Some(last.limit),
-            cut_limit: whole,
-            searched: last.searched,
-        },
-        None => CountingSearch {
-            ceiling: None,
-            cut_limit: whole,
-            searched: first,
-        },
+    let Turned { whole, found, .. } = turned;
+    CountingSearch {
+        cut_limit: whole,
+        searched: found.unwrap_or(first),
     }
 }
 
@@ -187,7 +166,7 @@ fn search_all<E: Sink>(
     requires some_way { AllByRecursion HasSomeWay parts.now }
     requires short { IsShort parts.now }
     ensures searched { IfOk result (λ all. GrewBy
-        (HasSearched options parts.now (made_under all.ceiling all.searched) all.cut_limit)
+        (HasSearched options parts.now (search_made all.searched) all.cut_limit)
         (E.history faults.old) (E.history faults.new)) }
     ensures reader { IfOk result (λ all. IfSome all.searched.reader (IsKept parts.now)) }
     ensures reported_some { OnErr result (GrewBy (ReportedUpTo options.tries options.tells) (E.history faults.old) (E.history faults.new)) }
@@ -195,7 +174,6 @@ fn search_all<E: Sink>(
     let first = search_once(alloc, parts, options, faults)?;
     if options.ceiling.is_some() || !first.is_used_up {
         return Ok(CountingSearch {
-            ceiling: options.ceiling,
             cut_limit: options.ceiling,
             searched: first,
         });
@@ -229,39 +207,47 @@ fn limit_of_cut(
 
 /// Finds the parts of copies and searches their splices, under the ceiling if there is one, with so many tries at most. Where no ceiling is
 /// given and that search is cut off, it searches under limits in turn, until one of these searches is cut off. The search that counts is
-/// the last that was not cut off and found a file, and else the first.
+/// the last that was not cut off and found a file, and else the first. Where it was cut off or came to nothing, groups are searched.
 ///
-/// If that is asked for, it prints a line on how far each search is, each time that 64 more were tried, and when it is over. A write that
-/// fails is ignored. `are_short` of jls_search tells whether copies are short enough. `Err` comes where memory is refused.
+/// If that is asked for, it prints a line on how far each search of all is, each time that 64 more were tried, and when it is over. A write
+/// that fails is ignored. `Err` comes where memory is refused, and where copies are longer than `are_short` of jls_search allows.
 pub fn search_and_tell<'a, E: Sink>(
     alloc: Global,
     copies: &[&'a [u8]],
     options: SearchOptions,
     faults: &mut E,
-) -> Result<SearchedInTurn<'a>, AllocError>
-    requires some_copy { 0 < length copies.now }
-    requires short { AreShort (bytes_of copies.now) }
-    ensures parts { IfOk result (λ found. AreParts (bytes_of copies.now) found.copies.parts) }
-    ensures searched { IfOk result (λ found. GrewBy (HasChosenLimit options found.copies.parts
-        (made_under found.copies.ceiling found.copies.searched) found.cut_limit)
+) -> Result<FoundInTurn<'a>, AllocError>
+    requires { 0 < length copies.now }
+    ensures found { IfOk result (λ found. IsFound found.splices.ceiling (bytes_of copies.now) (found_of found.splices)) }
+    ensures splices { IfOk result (λ found. files_of found.splices.parts (lists_of found.splices.splices.items)
+        ≡ splices_in (found_of found.splices)) }
+    ensures each { IfOk result (λ found.
+        AllByRecursion (IsWhole found.splices.parts) (lists_of found.splices.splices.items)) }
+    ensures whole { IfOk result (λ found. found.splices.whole ≤ length found.splices.splices.items) }
+    ensures some_way { IfOk result (λ found. AllByRecursion HasSomeWay found.splices.parts) }
+    ensures short { IfOk result (λ found. IsShort found.splices.parts) }
+    ensures small { IfOk result (λ found. length (made 0 found.splices.parts) < 2 ^ 64) }
+    ensures of_groups { IfOk result (λ found. IfSome (found_of found.splices).by_groups
+        (IsGroupSearch options.tries (length copies.now) found.splices.parts)) }
+    ensures searched { IfOk result (λ found. GrewBy (HasChosenLimit options found.splices.parts
+        (search_of found.splices.ceiling (found_of found.splices) found.splices.tries) found.cut_limit)
         (E.history faults.old) (E.history faults.new)) }
-    ensures reader { IfOk result (λ found. IfSome found.copies.searched.reader (IsKept found.copies.parts)) }
     ensures lone { IfOk result (λ found.
-        IfSome found.unlimited (λ path. IsLone (IsSought None) found.copies.parts path.items)) }
+        IfSome found.unlimited (λ path. IsLone (IsSought None) found.splices.parts path.items)) }
+    ensures reader { IfOk result (λ found. IfSome found.splices.reader (IsKept found.splices.parts)) }
     ensures reported_some { OnErr result (GrewBy (ReportedUpTo options.tries options.tells) (E.history faults.old) (E.history faults.new)) }
 {
     parts_can_be_searched();
+    if !are_short(copies) {
+        return Err(AllocError);
+    }
     let parts = find_parts(alloc, copies)?;
     let all = search_all(alloc, &parts, options, faults)?;
     let cut = limit_of_cut(alloc, &parts, &all, options.tries)?;
-    let CutLimit { limit, unlimited } = cut;
-    Ok(SearchedInTurn {
-        copies: SearchedCopies {
-            parts,
-            ceiling: all.ceiling,
-            searched: all.searched,
-        },
-        cut_limit: limit,
-        unlimited,
+    let splices = complete_by_groups(alloc, copies, parts, all.searched, options.tries)?;
+    Ok(FoundInTurn {
+        splices,
+        cut_limit: cut.limit,
+        unlimited: cut.unlimited,
     })
 }

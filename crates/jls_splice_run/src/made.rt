@@ -1,7 +1,7 @@
 //! What is made of the copies, in memory.
 
-ghost use Rattle.std.specs.Prelude.{◌≡◌, ◌<◌, ◌≤◌, ◌^◌, ◌↔◌, ℕ, List, None, Option, length, IfOk, IfErr, IfSome, IfNone, IsTrue, OnErr};
-ghost use Rattle.std.specs.Prelude.{◌++◌, option_map};
+ghost use Rattle.std.specs.Prelude.{◌≡◌, ◌<◌, ◌≤◌, ◌^◌, ◌↔◌, ℕ, List, None, Option, length, IfOk, IfErr, IfSome, IfNone, IsTrue};
+ghost use Rattle.std.specs.Prelude.{option_map};
 ghost use Rattle.std.specs.List.{AllByRecursion};
 ghost use Rattle.std.specs.declared.vec.Vec.{Vec};
 ghost use Rattle.std.specs.declared.alloc.Global.{Global};
@@ -13,14 +13,12 @@ ghost use Rattle.jls_partial.specs.Status.{IsSettled};
 ghost use Rattle.jls_search.specs.Choices.{HasSomeWay, IsPath, IsWhole};
 ghost use Rattle.jls_search.specs.Faultless.{IsSought};
 ghost use Rattle.jls_search.specs.Levels.{IsLone};
-ghost use Rattle.jls_search.specs.Search.{IsKept, IsShort, files_of, lists_of};
-ghost use Rattle.jls_search.specs.Found.{IsFound, IsGroupSearch, by_groups_of, found_of, splices_in};
+ghost use Rattle.jls_search.specs.Search.{IsShort, lists_of};
+ghost use Rattle.jls_search.specs.Found.{by_groups_of, found_of, splices_in};
 ghost use Rattle.jls_search.specs.Files.{AreVerdicts};
 ghost use Rattle.jls_search.specs.Files as given;
 ghost use Rattle.jls_splice_run.specs.Limits.{Searches};
-ghost use Rattle.jls_splice_run.specs.Telling.{HasChosenLimit, ReportedUpTo};
 ghost use Rattle.jls_splice_run.specs.Making.{AreTextsOf, CantMake, FindsNoCut, HoldsMade, IsCut, files_taken, lacks_single, made_of};
-ghost use Rattle.jls_splice_run.specs.Making.{search_of};
 ghost use Rattle.jls_splice_run.specs.Making as spec;
 ghost use Rattle.jls_splice_run.specs.Listing.{AreNamedAsked, named_files};
 ghost use Rattle.jls_splice_run.specs.Single.{IsSingleAsked};
@@ -30,19 +28,16 @@ use crate::copies::slices_of;
 use crate::differences::offset_at;
 use crate::files::count_new;
 use crate::found::{CutEnd, GroupSearch, Promise, SearchReport};
-use crate::limits::search_and_tell;
+use crate::limits::{FoundInTurn, search_and_tell};
 use crate::listing::{NumberedFile, name_files};
 use crate::options::SearchOptions;
 use crate::printed_lines::{lines_of, notes_of};
-use crate::settling::{Taken, settle};
+use crate::settling::settle;
 use crate::single::single_file;
 use crate::task::{Task, want_of_memory};
 use jls_cli::Refusal;
 use jls_io::Sink;
-use jls_search::{
-    Files, FoundSplices, GroupsReported, are_short, complete_by_groups, lone_path,
-    parts_can_be_searched,
-};
+use jls_search::{Files, FoundSplices, GroupsReported, HeldFiles, lone_path};
 use jls_station::CopyFile;
 use std::alloc::{AllocError, Global};
 
@@ -61,58 +56,6 @@ pub struct Made {
     pub files: Vec<NumberedFile>,
     /// Whether each line of the picture is settled.
     pub settled: bool,
-}
-
-/// What was found in the copies, and the limit under which a cut file is sought, if there is one.
-#[derive(Drop)]
-struct FoundInTurn<'c> {
-    /// What was found.
-    splices: FoundSplices<'c>,
-    /// The limit under which a cut file is sought, if there is one.
-    cut_limit: Option<u16>,
-    /// The path that is lone without a limit, if it was asked for, and there is one.
-    unlimited: Option<Vec<usize>>,
-}
-
-/// Searches the splices of the copies, and tells how far it is, if that is asked for. Where the search that counts was cut off or came to
-/// nothing, it searches by groups.
-fn search<'c, E: Sink>(
-    alloc: Global,
-    copies: &[&'c [u8]],
-    options: SearchOptions,
-    faults: &mut E,
-) -> Result<FoundInTurn<'c>, AllocError>
-    requires { 0 < length copies.now }
-    ensures found { IfOk result (λ found. IsFound found.splices.ceiling (bytes_of copies.now) (found_of found.splices)) }
-    ensures splices { IfOk result (λ found. files_of found.splices.parts (lists_of found.splices.splices.items)
-        ≡ splices_in (found_of found.splices)) }
-    ensures each { IfOk result (λ found.
-        AllByRecursion (IsWhole found.splices.parts) (lists_of found.splices.splices.items)) }
-    ensures whole { IfOk result (λ found. found.splices.whole ≤ length found.splices.splices.items) }
-    ensures some_way { IfOk result (λ found. AllByRecursion HasSomeWay found.splices.parts) }
-    ensures short { IfOk result (λ found. IsShort found.splices.parts) }
-    ensures small { IfOk result (λ found. length (made 0 found.splices.parts) < 2 ^ 64) }
-    ensures of_groups { IfOk result (λ found. IfSome (found_of found.splices).by_groups
-        (IsGroupSearch options.tries (length copies.now) found.splices.parts)) }
-    ensures searched { IfOk result (λ found. GrewBy (HasChosenLimit options found.splices.parts
-        (search_of found.splices.ceiling (found_of found.splices) found.splices.tries) found.cut_limit)
-        (E.history faults.old) (E.history faults.new)) }
-    ensures lone { IfOk result (λ found.
-        IfSome found.unlimited (λ path. IsLone (IsSought None) found.splices.parts path.items)) }
-    ensures reader { IfOk result (λ found. IfSome found.splices.reader (IsKept found.splices.parts)) }
-    ensures reported_some { OnErr result (GrewBy (ReportedUpTo options.tries options.tells) (E.history faults.old) (E.history faults.new)) }
-{
-    parts_can_be_searched();
-    if !are_short(copies) {
-        return Err(AllocError);
-    }
-    let found = search_and_tell(alloc, copies, options, faults)?;
-    let more = complete_by_groups(alloc, copies, found.copies, options.tries)?;
-    Ok(FoundInTurn {
-        splices: more,
-        cut_limit: found.cut_limit,
-        unlimited: found.unlimited,
-    })
 }
 
 /// The choices of the cut file, if the search that counts found nothing.
@@ -250,46 +193,38 @@ fn cut_end(found: &FoundInTurn<'_>, cut: &Option<Vec<usize>>) -> Option<CutEnd>
 fn texts_of(
     alloc: Global,
     task: &Task<'_, '_>,
-    copies: &[&[u8]],
+    files: &Files<'_, '_>,
     all: &FoundInTurn<'_>,
-    taken: &Taken,
+    held: &HeldFiles,
 ) -> Result<Made, AllocError>
-    requires splices { files_of all.now.splices.parts (lists_of all.now.splices.splices.items)
-        ≡ splices_in (found_of all.now.splices) }
-    requires each { AllByRecursion (IsWhole all.now.splices.parts) (lists_of all.now.splices.splices.items) }
+    requires splices { given.splices_found files.now ≡ splices_in (found_of all.now.splices) }
+    requires each { AllByRecursion (IsWhole files.now.parts.now) (lists_of files.now.splices.now) }
     requires whole { all.now.splices.whole ≤ length all.now.splices.splices.items }
     requires small { length (made 0 all.now.splices.parts) < 2 ^ 64 }
-    requires path { IfSome taken.now.cut (λ path. IsPath all.now.splices.parts path.items) }
-    requires verdicts { AreVerdicts (bytes_of copies.now ++ files_of all.now.splices.parts (lists_of all.now.splices.splices.items))
-        taken.now.faultless.items }
+    requires path { IfSome held.now.cut (λ path. IsPath all.now.splices.parts path.items) }
+    requires verdicts { AreVerdicts (given.files_taken files.now) held.now.faultless.items }
     ensures texts { IfOk result (λ made. (searches : Searches) → (lone : Option (Vec ℕ Global))
-        → AreTextsOf (task_of task.now) (bytes_of copies.now)
-        (made_of searches all.now lone taken.now.cut taken.now.station made) made) }
-    ensures settled { IfOk result (λ made. IsTrue made.settled ↔ IsSettled taken.now.station) }
+        → AreTextsOf (task_of task.now) (bytes_of files.now.copies.now)
+        (made_of searches all.now lone held.now.cut held.now.station made) made) }
+    ensures settled { IfOk result (λ made. IsTrue made.settled ↔ IsSettled held.now.station) }
     ensures single { IfOk result (λ made. IsSingleAsked (task_of task.now).options.file
-        (files_taken (bytes_of copies.now) (found_of all.now.splices)) (option_map (λ f. f.items) made.file)) }
+        (files_taken (bytes_of files.now.copies.now) (found_of all.now.splices)) (option_map (λ f. f.items) made.file)) }
     ensures named { IfOk result (λ made. AreNamedAsked (task_of task.now).options.files
-        (files_taken (bytes_of copies.now) (found_of all.now.splices)) (named_files made.files.items)) }
+        (files_taken (bytes_of files.now.copies.now) (found_of all.now.splices)) (named_files made.files.items)) }
 {
     let found = &all.splices;
-    let files = Files {
-        copies,
-        parts: &found.parts,
-        splices: &found.splices,
-        reader: &found.reader,
-    };
-    let partial = taken.station.partial();
+    let partial = held.station.partial();
     let settled = partial.is_settled();
-    let verdicts = taken.faultless.as_slice();
-    let file = file_asked(alloc, task.options.file, &files, verdicts)?;
-    let numbered = files_asked(alloc, task.options.files, &files, verdicts)?;
-    let splices = count_new(alloc, copies, &found.parts, &found.splices)?;
+    let verdicts = held.faultless.as_slice();
+    let file = file_asked(alloc, task.options.file, files, verdicts)?;
+    let numbered = files_asked(alloc, task.options.files, files, verdicts)?;
+    let splices = count_new(alloc, files.copies, files.parts, files.splices)?;
     let report = SearchReport {
         splices,
         is_used_up: found.is_used_up,
         limit: limit_reported(task.options.ceiling, found.ceiling),
         by_groups: groups_reported(found.by_groups),
-        before: cut_end(all, &taken.cut),
+        before: cut_end(all, &held.cut),
         files: files_reported(task.options.files, &numbered),
         lacks_single_file: lacks_file(task.options.file, &file),
         promise: promise_of(found, settled),
@@ -305,6 +240,21 @@ fn texts_of(
         files: numbered,
         settled,
     })
+}
+
+/// How the searches of a task are made.
+fn search_options(task: &Task<'_, '_>) -> SearchOptions
+    ensures { result ≡ record {
+      ceiling = task.now.options.ceiling;
+      tries = task.now.options.tries;
+      tells = task.now.options.progress;
+    } }
+{
+    SearchOptions {
+        ceiling: task.options.ceiling,
+        tries: task.options.tries,
+        tells: task.options.progress,
+    }
 }
 
 /// What is made of the copies of a task. The search tells how far it is, if that is asked for.
@@ -325,16 +275,11 @@ pub(crate) fn make<'a, E: Sink>(
         Ok(slices) => slices,
         Err(_) => return Err(want_of_memory(task)),
     };
-    let options = SearchOptions {
-        ceiling: task.options.ceiling,
-        tries: task.options.tries,
-        tells: task.options.progress,
-    };
-    let found = match search(alloc, &slices, options, faults) {
+    let found = match search_and_tell(alloc, &slices, search_options(task), faults) {
         Ok(found) => found,
         Err(_) => return Err(want_of_memory(task)),
     };
-    let cut = match find_cut(alloc, &found, options.tries) {
+    let cut = match find_cut(alloc, &found, task.options.tries) {
         Ok(cut) => cut,
         Err(_) => return Err(want_of_memory(task)),
     };
@@ -344,11 +289,8 @@ pub(crate) fn make<'a, E: Sink>(
         splices: &found.splices.splices,
         reader: &found.splices.reader,
     };
-    let taken = match settle(alloc, task, copies, &files, cut) {
-        Ok(taken) => taken,
-        Err(refusal) => return Err(refusal),
-    };
-    match texts_of(alloc, task, &slices, &found, &taken) {
+    let held = settle(alloc, task, copies, &files, cut)?;
+    match texts_of(alloc, task, &files, &found, &held) {
         Ok(made) => Ok(made),
         Err(_) => Err(want_of_memory(task)),
     }

@@ -7,7 +7,7 @@ ghost use Rattle.jls_io.specs.Writing.{Printed};
 ghost use Rattle.jls_diff.specs.PartsOf.{parts_of};
 ghost use Rattle.jls_search.specs.Choices.{HasSomeWay};
 ghost use Rattle.jls_search.specs.Search.{CanGoOn, IsKept, IsSearch, IsShort, Tried, lists_of};
-ghost use Rattle.jls_splice_run.specs.Limits.{IsSearchMade, made_under};
+ghost use Rattle.jls_splice_run.specs.Limits.{IsSearchMade, search_made};
 ghost use Rattle.jls_splice_run.specs.Lines.{progress_line};
 ghost use Rattle.jls_splice_run.specs.Telling.{GoesOn, HasReported, IsReported, TellsLine, ReportedSome, WasBegun};
 
@@ -15,7 +15,7 @@ use crate::lines::put_progress;
 use crate::options::SearchOptions;
 use jls_diff::Parts;
 use jls_io::{Sink, write_all};
-use jls_search::{Searched, WholeSearch};
+use jls_search::{Search, Searched};
 use std::alloc::{AllocError, Global};
 
 /// After how many tries a search tells how far it is.
@@ -53,7 +53,7 @@ fn print_line<E: Sink>(faults: &mut E, line: &[u8])
 fn tell<E: Sink>(
     alloc: Global,
     options: SearchOptions,
-    walk: &WholeSearch,
+    walk: &Search,
     faults: &mut E,
 ) -> Result<(), AllocError>
     ensures reported { OnOk result (GrewBy (TellsLine options.tells walk.now.tries (length (lists_of walk.now.splices.items)))
@@ -74,7 +74,7 @@ fn go_on<E: Sink>(
     alloc: Global,
     parts: &Parts<'_>,
     options: SearchOptions,
-    walk: &mut WholeSearch,
+    walk: &mut Search,
     faults: &mut E,
 ) -> Result<(), AllocError>
     requires some_way { AllByRecursion HasSomeWay parts.now }
@@ -100,7 +100,7 @@ fn search_parts<E: Sink>(
     parts: &Parts<'_>,
     options: SearchOptions,
     faults: &mut E,
-) -> Result<WholeSearch, AllocError>
+) -> Result<Search, AllocError>
     requires some_way { AllByRecursion HasSomeWay parts.now }
     requires short { IsShort parts.now }
     ensures stands { IfOk result (λ walk. IsSearch parts.now walk) }
@@ -111,7 +111,7 @@ fn search_parts<E: Sink>(
     ensures reported { IfOk result (λ walk. GrewBy (HasReported options walk) (E.history faults.old) (E.history faults.new)) }
     ensures reported_some { OnErr result (GrewBy (ReportedSome options.tries options.tells) (E.history faults.old) (E.history faults.new)) }
 {
-    let mut walk = WholeSearch::begin(alloc, parts, options.ceiling)?;
+    let mut walk = Search::begin(alloc, parts, options.ceiling)?;
     while walk.can_go_on(options.tries) {
         go_on(alloc, parts, options, &mut walk, faults)?;
     }
@@ -128,7 +128,8 @@ pub(crate) fn search_once<E: Sink>(
 ) -> Result<Searched, AllocError>
     requires some_way { AllByRecursion HasSomeWay parts.now }
     requires short { IsShort parts.now }
-    ensures is_made { IfOk result (λ s. IsSearchMade parts.now options.tries (made_under options.ceiling s)) }
+    ensures is_made { IfOk result (λ s. IsSearchMade parts.now options.tries (search_made s)) }
+    ensures ceiling { IfOk result (λ s. s.ceiling ≡ options.ceiling) }
     ensures reader { IfOk result (λ s. IfSome s.reader (IsKept parts.now)) }
     ensures reported { IfOk result (λ s. GrewBy (IsReported options.tells s.tries (length (lists_of s.splices.items)))
         (E.history faults.old) (E.history faults.new)) }

@@ -17,7 +17,7 @@ use crate::task::{Task, want_of_memory};
 use jls_cli::{Cause, Refusal};
 use jls_marker::MarkerFault;
 use jls_search::{Files, HeldFiles, Settled, settle_files, settle_with_cut};
-use jls_station::{CopyFile, ReadStop, Station};
+use jls_station::{CopyFile, ReadStop};
 use std::alloc::Global;
 
 /// Why a run stops over whose files no frame was found, by how the reading of the first copy stopped.
@@ -28,17 +28,6 @@ fn no_picture_cause(stop: ReadStop, fault: MarkerFault, offset: u64) -> Cause
         ReadStop::Whole => Cause::NoPicture(fault, offset),
         ReadStop::Failed | ReadStop::Turns => Cause::NotRead,
     }
-}
-
-/// What took the files of a task.
-#[derive(Drop)]
-pub(crate) struct Taken {
-    /// The station that took them.
-    pub station: Station,
-    /// Whether each of them has no fault: the copies, in their order, and then the splices.
-    pub faultless: Vec<bool>,
-    /// The choices of the cut file, if it took that too.
-    pub cut: Option<Vec<usize>>,
 }
 
 /// The station that takes the files of a task, without a cut file, with the verdict on each of them; or why there is none.
@@ -57,6 +46,7 @@ fn settle_whole<'a>(
     ensures settled { IfOk result (λ taken. IsPictureOfFiles (task_of task.now).options.source
         (bytes_read (copies_of copies.now)) (splices_found files.now) taken.station) }
     ensures verdicts { IfOk result (λ taken. AreVerdicts (files_taken files.now) taken.faultless.items) }
+    ensures uncut { IfOk result (λ taken. taken.cut ≡ None) }
     ensures stopped { IfErr result (λ refusal.
         IsUnsettled (task_of task.now) (copies_of copies.now) (splices_found files.now) refusal) }
 {
@@ -85,7 +75,7 @@ pub(crate) fn settle<'a>(
     copies: &[CopyFile],
     files: &Files<'_, '_>,
     cut: Option<Vec<usize>>,
-) -> Result<Taken, Refusal<'a>>
+) -> Result<HeldFiles, Refusal<'a>>
     requires some_copy { 0 < length copies.now }
     requires names { length task.now.names.now ≡ length copies.now }
     requires copies { bytes_of files.now.copies.now ≡ bytes_read (copies_of copies.now) }
@@ -103,24 +93,11 @@ pub(crate) fn settle<'a>(
         IsUnsettled (task_of task.now) (copies_of copies.now) (splices_found files.now) refusal) }
 {
     if let Some(path) = cut {
-        match settle_with_cut(alloc, task.options.source, files, &path) {
-            Ok(Some(taken)) => {
-                return Ok(Taken {
-                    station: taken.station,
-                    faultless: taken.faultless,
-                    cut: Some(path),
-                });
-            }
+        match settle_with_cut(alloc, task.options.source, files, path) {
+            Ok(Some(taken)) => return Ok(taken),
             Ok(None) => {}
             Err(_) => return Err(want_of_memory(task)),
         }
     }
-    match settle_whole(alloc, task, copies, files) {
-        Ok(taken) => Ok(Taken {
-            station: taken.station,
-            faultless: taken.faultless,
-            cut: None,
-        }),
-        Err(refusal) => Err(refusal),
-    }
+    settle_whole(alloc, task, copies, files)
 }

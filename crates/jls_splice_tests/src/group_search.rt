@@ -71,8 +71,8 @@ fn found_in(alloc: Global, copies: &[&[u8]], limit: u32) -> Result<(Counts, bool
     if copies.is_empty() || !are_short(copies) {
         return Err(Fail::from("no copies that can be searched"));
     }
-    let all = searched(alloc, copies, None, limit)?;
-    let found = complete_by_groups(alloc, copies, all, limit)?;
+    let (parts, all) = searched(alloc, copies, None, limit)?;
+    let found = complete_by_groups(alloc, copies, parts, all, limit)?;
     let (groups, is_used_up) = match found.by_groups {
         Some(reported) => (Some(reported.groups), reported.is_used_up),
         None => (None, false),

@@ -75,8 +75,8 @@ fn check_search(
     }
     let (limit, ceiling, files, is_used_up) = row;
     let found = searched(alloc, copies, ceiling, limit)?;
-    assert_eq!(rt; found.searched.splices.len(), files);
-    assert_eq!(rt; found.searched.is_used_up, is_used_up);
+    assert_eq!(rt; found.1.splices.len(), files);
+    assert_eq!(rt; found.1.is_used_up, is_used_up);
     Ok(())
 }
 

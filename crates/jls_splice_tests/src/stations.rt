@@ -39,9 +39,9 @@ fn outcome_of(alloc: Global, copies: &[&[u8]]) -> Result<Settled, Fail> {
     let found = searched(alloc, copies, None, 4096)?;
     let files = Files {
         copies,
-        parts: &found.parts,
-        splices: &found.searched.splices,
-        reader: &found.searched.reader,
+        parts: &found.0,
+        splices: &found.1.splices,
+        reader: &found.1.reader,
     };
     Ok(settle_files(alloc, Some(7), &files)?)
 }

@@ -13,6 +13,7 @@ returns-in-Ok c = λ above.
     (some_then c.in_ok-fed.fed (λ prefix. CopyReads prefix c.in-Ok.read) Dead
     (λ prefix reads more low sought.
     let read_is = prefix_within prefix c.in-Ok.read reads c.prefixes_keep_readings.ensures c.args.ceiling more low sought in
-    let within : IsTrue c.is_read_within-within.result = c.is_read_within-within.ensures.1 (subst (IsReadWithin c.args.ceiling) (sym c.partial.ensures) read_is) in
+    let within : IsTrue c.is_read_within-within.result =
+    c.is_read_within-within.ensures.1 (subst (IsReadWithin c.args.ceiling) (sym c.partial.ensures) read_is) in
     search rules)
     c.in-Ok.ensures.read)

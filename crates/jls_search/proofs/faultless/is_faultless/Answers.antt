@@ -18,4 +18,5 @@ pub returns-in-Err-clause-faultless : goal.returns-in-Err-clause-faultless
 returns-in-Err-clause-faultless c = never_faultless c.args.reader c.in-Err.fault c.without_frame.result c.without_frame.ensures
 
 pub returns-in-Err-clause-faulty : goal.returns-in-Err-clause-faulty
-returns-in-Err-clause-faulty c = ever_faulty c.args.reader c.in-Err.fault c.without_frame.result c.without_frame.ensures c.in-Err.ensures.none
+returns-in-Err-clause-faulty c =
+    ever_faulty c.args.reader c.in-Err.fault c.without_frame.result c.without_frame.ensures c.in-Err.ensures.none

@@ -19,7 +19,8 @@ pub returns-clause-faultless : goal.returns-clause-faultless
 returns-clause-faultless c = λ yes file reads.
     let well : IsTrue c.ends_well-well_ended.result = search rules in
     let each : IsTrue c.is_each_line_read.result = search rules in
-    read_faultless c.records_are_of_faulty_pieces.ensures file c.args.read.now reads (sym c.piece_count.ensures ∙ c.if-piece_count-ne0.false)
+    read_faultless c.records_are_of_faulty_pieces.ensures file c.args.read.now reads
+    (sym c.piece_count.ensures ∙ c.if-piece_count-ne0.false)
     (subst EndsWell c.ended.ensures (c.ends_well-well_ended.ensures.0 well))
     (subst IsEachLineRead c.partial.ensures (c.is_each_line_read.ensures.0 each))
 

@@ -17,5 +17,6 @@ returns-clause-sought c = λ yes file reads.
 pub returns-clause-unsought : goal.returns-clause-unsought
 returns-clause-unsought c = λ no file reads low sought.
     let read_is = within_read file c.args.read.now reads c.args.ceiling low sought.1 in
-    let reported : IsTrue c.is_read_within.result = c.is_read_within.ensures.1 (subst (IsReadWithin c.args.ceiling) (sym c.partial-2.ensures) read_is) in
+    let reported : IsTrue c.is_read_within.result =
+    c.is_read_within.ensures.1 (subst (IsReadWithin c.args.ceiling) (sym c.partial-2.ensures) read_is) in
     search rules

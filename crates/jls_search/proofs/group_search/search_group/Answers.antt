@@ -23,7 +23,8 @@ loop-copy-preserved c = record {
   kept =
       let ps = c.args.parts.now in
       let before = c.take_first-begin.new.readers.items in
-      let all = all_more (λ reader. IfSome reader (IsKept ps)) before c.in_ok-more.more.kept (c.take_first-begin.ensures ps c.loop-copy.invariant.kept).1
+      let all = all_more (λ reader. IfSome reader (IsKept ps)) before c.in_ok-more.more.kept
+      (c.take_first-begin.ensures ps c.loop-copy.invariant.kept).1
       c.in_ok-more.ensures.kept in
       subst (AreEachKept ps) (sym c.in_ok-push.ensures.items) all;
   goes =

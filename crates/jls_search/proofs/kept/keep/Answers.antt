@@ -6,4 +6,5 @@ pub returns-in_ok-kept_reader : goal.returns-in_ok-kept_reader
 returns-in_ok-kept_reader c =
     let k = c.in_ok-kept_reader.field-0 in
     let is = c.in_ok-kept_reader.ensures in
-    subst (λ (reader : Option (Option (List ℕ))). Keeps c.args.kept.now reader c.args.path.now (Some k)) (sym c.in-Some.is) (k, refl, is.0, is.1)
+    subst (λ (reader : Option (Option (List ℕ))). Keeps c.args.kept.now reader c.args.path.now (Some k)) (sym c.in-Some.is)
+    (k, refl, is.0, is.1)

@@ -10,7 +10,8 @@ use Rattle.jls_search.proofs.levels.is_found_dead.Goals as goal
 pub returns-then-above : goal.returns-then-above
 returns-then-above c = λ _.
     of_some c.in-Some.reader (prefix_of c.args.parts.now c.args.path.now) (λ bytes. IsDead (IsSought c.args.judge.now.ceiling) bytes)
-    (fed_some c.args.parts.now c.args.path.now c.in_ok-reader.field-0 c.in-Some.reader c.in-Some.is c.in_ok-reader.ensures.living) (c.in_ok-above.ensures c.if-above.true)
+    (fed_some c.args.parts.now c.args.path.now c.in_ok-reader.field-0 c.in-Some.reader c.in-Some.is c.in_ok-reader.ensures.living)
+    (c.in_ok-above.ensures c.if-above.true)
 
 pub returns : goal.returns
 returns c =
@@ -18,8 +19,11 @@ returns c =
     let fed = c.in-Some.reader in
     IfOk-weaker c.is_dead.result (λ (dead : Bool). dead ≡ true → IfSome fed (λ bytes. IsDead IsFaultless bytes))
     (λ (dead : Bool). dead ≡ true → IsDead (IsSought c.args.judge.now.ceiling) prefix)
-    (λ dead reported yes more low sought. of_some fed prefix (λ bytes. IsDead IsFaultless bytes) (fed_some c.args.parts.now c.args.path.now c.in_ok-reader.field-0 c.in-Some.reader c.in-Some.is c.in_ok-reader.ensures.living) (reported yes) more low sought.0)
+    (λ dead reported yes more low sought. of_some fed prefix (λ bytes. IsDead IsFaultless bytes)
+    (fed_some c.args.parts.now c.args.path.now c.in_ok-reader.field-0 c.in-Some.reader c.in-Some.is c.in_ok-reader.ensures.living)
+    (reported yes) more low sought.0)
     c.is_dead.ensures
 
 pub returns-in_default : goal.returns-in_default
-returns-in_default c = λ _ more low sought. fed_none c.args.parts.now c.args.path.now c.in_ok-reader.field-0 (search rules) c.in_ok-reader.ensures.dead more low sought.0
+returns-in_default c = λ _ more low sought. fed_none c.args.parts.now c.args.path.now c.in_ok-reader.field-0 (search rules)
+    c.in_ok-reader.ensures.dead more low sought.0

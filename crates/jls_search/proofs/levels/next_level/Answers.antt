@@ -11,14 +11,16 @@ use Rattle.jls_search.proofs.levels.next_level.Goals as goal
 
 pub take_ways-requires-clause-path : goal.take_ways-requires-clause-path
 take_ways-requires-clause-path c =
-    let is = item_of_level c.args.level.now.living.items c.deref-path-items.result.now c.paths.path-index c.path-item.result c.deref.result.now
+    let is = item_of_level c.args.level.now.living.items c.deref-path-items.result.now c.paths.path-index c.path-item.result
+    c.deref.result.now
     c.deref-path-items.ensures.value c.paths-test.true c.path-item.is c.deref.ensures.value c.args.parts.now c.args.level.now.count
     c.requires.level.each in
     is.0
 
 pub take_ways-requires-clause-more : goal.take_ways-requires-clause-more
 take_ways-requires-clause-more c =
-    let is = item_of_level c.args.level.now.living.items c.deref-path-items.result.now c.paths.path-index c.path-item.result c.deref.result.now
+    let is = item_of_level c.args.level.now.living.items c.deref-path-items.result.now c.paths.path-index c.path-item.result
+    c.deref.result.now
     c.deref-path-items.ensures.value c.paths-test.true c.path-item.is c.deref.ensures.value c.args.parts.now c.args.level.now.count
     c.requires.level.each in
     let count = is.2 in
@@ -28,8 +30,10 @@ take_ways-requires-clause-more c =
 pub take_ways-requires-clause-each : goal.take_ways-requires-clause-each
 take_ways-requires-clause-each c =
     let ps : List Part = c.args.parts.now in
-    let is = item_of_level c.args.level.now.living.items c.deref-path-items.result.now c.paths.path-index c.path-item.result c.deref.result.now
-    c.deref-path-items.ensures.value c.paths-test.true c.path-item.is c.deref.ensures.value ps c.args.level.now.count c.requires.level.each in
+    let is = item_of_level c.args.level.now.living.items c.deref-path-items.result.now c.paths.path-index c.path-item.result
+    c.deref.result.now
+    c.deref-path-items.ensures.value c.paths-test.true c.path-item.is c.deref.ensures.value ps c.args.level.now.count
+    c.requires.level.each in
     subst (λ n. AllByRecursion (IsNext ps (n + 1)) (lists_of c.paths.begun.living.items)) (sym is.2) c.paths.invariant.each
 
 pub paths-preserved : goal.paths-preserved
@@ -51,7 +55,8 @@ paths-preserved c =
       spent = omega (arith, so_far.spent, went.spent);
       each = subst (λ n. AllByRecursion (IsNext ps (n + 1)) new) is.2 c.in_ok-all.ensures.each;
       judged = judged_one_more vs c.deref-path-items.result.now c.paths.path-index c.path-item.result path c.deref-path-items.ensures.value
-          c.paths-test.true c.path-item.is c.deref.ensures.value Sought ps (count + 1) old new c.in_ok-all.ensures.still c.paths.invariant.judged
+          c.paths-test.true c.path-item.is c.deref.ensures.value Sought ps (count + 1) old new c.in_ok-all.ensures.still
+          c.paths.invariant.judged
           (subst (λ n. AreJudged Sought ps (n + 1) new path) is.2 (c.in_ok-all.ensures.judged all));
     }
 

@@ -35,7 +35,8 @@ ways-preserved c =
       each = each_way Sought ps path c.ways.choice begin c.in_ok-begin.ensures old new taken so_far.each;
       still = λ other lives. still_lives Sought ps begin old new taken other (so_far.still other lives);
       before = λ way less first.
-          ways_up_to Sought ps path c.ways.choice begin c.in_ok-begin.ensures old new taken so_far.before way first (λ more. next.1 way more less first);
+          ways_up_to Sought ps path c.ways.choice begin c.in_ok-begin.ensures old new taken so_far.before way first
+          (λ more. next.1 way more less first);
     }
 
 pub returns-in-None-clause-still : goal.returns-in-None-clause-still
@@ -50,12 +51,14 @@ returns-in-None-clause-judged c = λ _.
     let path : List ℕ = c.args.path.now in
     let new : List (List ℕ) = lists_of c.take_path.new.living.items in
     all_ways Sought ps path new
-    (λ way first. ways_up_to Sought ps path c.ways.choice c.in_ok-begin.begin.items c.in_ok-begin.ensures (lists_of c.ways.begun.living.items) new
+    (λ way first. ways_up_to Sought ps path c.ways.choice c.in_ok-begin.begin.items c.in_ok-begin.ensures
+    (lists_of c.ways.begun.living.items) new
     c.in_ok-take_path.ensures c.ways.invariant.before way first (λ more. c.in-None.ensures.none way more first))
 
 pub returns-in-None-clause-spent : goal.returns-in-None-clause-spent
 returns-in-None-clause-spent c =
     let so_far = c.ways.invariant in
-    let grew = one_at_most (IsSought c.args.judge.now.ceiling) c.args.parts.now c.in_ok-begin.begin.items (lists_of c.ways.begun.living.items)
+    let grew = one_at_most (IsSought c.args.judge.now.ceiling) c.args.parts.now c.in_ok-begin.begin.items
+    (lists_of c.ways.begun.living.items)
     (lists_of c.take_path.new.living.items) c.in_ok-take_path.ensures in
     omega (arith, so_far.spent, grew, c.ways-test.true)

@@ -10,7 +10,8 @@ feed-requires c =
     let inv = c.loop-rest.invariant in
     let size = c.split_at.ensures.front_len in
     let n = c.min.ensures in
-    room_for_slice c.args.reader.now c.loop-rest.reader c.args.way.now inv.0 c.loop-rest.rest.now c.split_at.result.0.now 9223372036854775807 inv.2 inv.1
+    room_for_slice c.args.reader.now c.loop-rest.reader c.args.way.now inv.0 c.loop-rest.rest.now c.split_at.result.0.now
+    9223372036854775807 inv.2 inv.1
     (omega (arith, size, n)) c.requires
 
 pub returns-then-is_broken : goal.returns-then-is_broken

@@ -1,19 +1,13 @@
-use Rattle.std.proofs.Common.{arith}
-use Rattle.jls_search.proofs.Paths.{path_len}
+use Rattle.std.proofs.Common.{sym, subst}
+use Rattle.std.specs.Prelude.{IfOk}
+use Rattle.jls_search.specs.Goals.{IsGoal, IsSeenFor}
 use Rattle.jls_search.proofs.looking.look.Goals as goal
 
-pub look_at_prefix-requires : goal.look_at_prefix-requires
-look_at_prefix-requires c = record {
-  kept = c.requires.kept;
-  path = c.requires.path;
-  few = c.requires.few;
-  more = omega arith;
-}
+pub look_in_group-requires-clause-setting : goal.look_in_group-requires-clause-setting
+look_in_group-requires-clause-setting c = subst (IsGoal c.args.parts.now) c.in-Group.is c.requires.goal
 
-pub look_at_file-requires : goal.look_at_file-requires
-look_at_file-requires c = record {
-  kept = c.requires.kept;
-  path = c.requires.path;
-  few = c.requires.few;
-  whole = let l = path_len c.args.parts.now c.args.path.now c.requires.path in omega (arith, l);
-}
+pub returns-in-Group : goal.returns-in-Group
+returns-in-Group c =
+    subst (λ g. IfOk c.look_in_group.result (λ sight. IsSeenFor c.args.judge.now.ceiling c.args.parts.now g c.args.path.now sight))
+    (sym c.in-Group.is)
+    (c.look_in_group.ensures c.args.judge.now.ceiling)

@@ -40,7 +40,8 @@ returns-clause-kept c =
     let less : length path < length choices = subst (λ n. length path < n) (sym whole.1) k in
     subst (λ p. IsToCome p choices) (sym c.in_ok-push.ensures.items)
     (to_come_least path choices choice to_come less
-    (none_before ps g choices whole.0 (length path) choice less (subst (λ n. IsFirstWay (get_or ps n (Same [])) choice) at c.first_choice.ensures.first)
+    (none_before ps g choices whole.0 (length path) choice less
+    (subst (λ n. IsFirstWay (get_or ps n (Same [])) choice) at c.first_choice.ensures.first)
     (subst (λ n. (IsTried g n → ⊥) → TakesCopy ps (copy_of g) n choice) at c.first_choice.ensures.same)
     (subst (λ n. IsTried g n → choice ≡ 0) at c.first_choice.ensures.least)))) c.follow.ensures.kept
 
@@ -51,5 +52,6 @@ by_grew (Err x) old mid new choice e h = tt
 
 pub returns-clause-grew : goal.returns-clause-grew
 returns-clause-grew c =
-    by_grew c.follow.result c.args.path.now.items c.push.new.self.items c.follow.new.path.items c.first_choice.result c.in_ok-push.ensures.items
+    by_grew c.follow.result c.args.path.now.items c.push.new.self.items c.follow.new.path.items c.first_choice.result
+    c.in_ok-push.ensures.items
     c.follow.ensures.grew

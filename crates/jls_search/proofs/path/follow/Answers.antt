@@ -38,7 +38,8 @@ loop-path-preserved c =
     let first = subst (λ n. IsFirstWay (get_or ps n (Same [])) choice) at c.fixed_choice.ensures.first in
     let takes = subst (λ n. TakesCopy ps (copy_of g) n choice) at c.fixed_choice.ensures.same in
     record {
-      set = subst (IsSetFor ps g) (sym c.in_ok-push.ensures.items) (set_more ps g path choice c.loop-path.invariant.set k first (λ _. takes));
+      set = subst (IsSetFor ps g) (sym c.in_ok-push.ensures.items)
+          (set_more ps g path choice c.loop-path.invariant.set k first (λ _. takes));
       kept = λ choices whole to_come.
           let less : length path < length choices = subst (λ n. length path < n) (sym whole.1) k in
           subst (λ p. IsToCome p choices) (sym c.in_ok-push.ensures.items)
@@ -49,7 +50,8 @@ loop-path-preserved c =
         c.in_ok-push.ensures.items ∙ ap (λ p. p ++ choice ∷ []) c.loop-path.invariant.grew.1
             ∙ append_assoc c.args.path.now.items c.loop-path.invariant.grew.0 (choice ∷ []),
       );
-      fixed = fixed_more ps g (length c.args.path.now.items) path c.push.new.self.items choice c.in_ok-push.ensures.items out c.loop-path.invariant.fixed;
+      fixed = fixed_more ps g (length c.args.path.now.items) path c.push.new.self.items choice c.in_ok-push.ensures.items out
+          c.loop-path.invariant.fixed;
     }
 
 pub returns-else-not-is_free-clause-stop : goal.returns-else-not-is_free-clause-stop

@@ -12,7 +12,8 @@ pub next_choice-requires : goal.next_choice-requires
 next_choice-requires c =
     let ps : List Part = c.args.parts.now in
     let rest : List ℕ = c.pop.new.self.items in
-    let back = set_back ps c.args.goal rest c.in-Some.choice (subst (IsSetFor ps c.args.goal) c.in-Some.ensures.items c.loop-choice.invariant.set) in
+    let back = set_back ps c.args.goal rest c.in-Some.choice
+    (subst (IsSetFor ps c.args.goal) c.in-Some.ensures.items c.loop-choice.invariant.set) in
     let at = c.len.ensures ∙ c.pop.new.self.ok.0 in
     record {
       place = subst (λ n. n < length c.args.parts.now) (sym at) (back.1);
@@ -23,12 +24,14 @@ pub follow-requires-clause-path : goal.follow-requires-clause-path
 follow-requires-clause-path c =
     let ps : List Part = c.args.parts.now in
     let rest : List ℕ = c.pop.new.self.items in
-    let back = set_back ps c.args.goal rest c.in-Some.choice (subst (IsSetFor ps c.args.goal) c.in-Some.ensures.items c.loop-choice.invariant.set) in
+    let back = set_back ps c.args.goal rest c.in-Some.choice
+    (subst (IsSetFor ps c.args.goal) c.in-Some.ensures.items c.loop-choice.invariant.set) in
     let at = c.len.ensures ∙ c.pop.new.self.ok.0 in
     let next = c.in-Some-next_choice.next in
     let tried = subst (λ n. IsTried c.args.goal n) at c.in-Some-next_choice.ensures.tried in
     subst (IsSetFor ps c.args.goal) (sym c.in_ok-push.ensures.items)
-    (set_more ps c.args.goal rest next back.0 back.1 (subst (λ n. IsFirstWay (get_or ps n (Same [])) next) at c.in-Some-next_choice.ensures.first)
+    (set_more ps c.args.goal rest next back.0 back.1
+    (subst (λ n. IsFirstWay (get_or ps n (Same [])) next) at c.in-Some-next_choice.ensures.first)
     (λ out. absurd (out tried)))
 
 pub returns-in-Some-next_choice-clause-to_come : goal.returns-in-Some-next_choice-clause-to_come
@@ -42,7 +45,8 @@ returns-in-Some-next_choice-clause-to_come c = λ _ choices whole after.
     c.in_ok-follow.ensures.kept choices whole
     (subst (λ p. IsToCome p choices) (sym c.in_ok-push.ensures.items)
     (turned ps rest choices c.in-Some.choice next
-    (subst (λ n. (other : ℕ) → c.in-Some.choice < other → other < next → IsFirstWay (get_or ps n (Same [])) other → ⊥) at c.in-Some-next_choice.ensures.between)
+    (subst (λ n. (other : ℕ) → c.in-Some.choice < other → other < next → IsFirstWay (get_or ps n (Same [])) other → ⊥) at
+    c.in-Some-next_choice.ensures.between)
     whole.0.0 here))
 
 pub loop-choice-init : goal.loop-choice-init
@@ -62,7 +66,8 @@ loop-choice-preserved c =
       after = λ choices whole after.
           after_last rest choices p
           (λ l. none_after ps g choices whole.0 (length rest) p l back.2 (last_takes ps g rest p set)
-          (subst (λ n. IsTried g n → (other : ℕ) → p < other → IsFirstWay (get_or ps n (Same [])) other → ⊥) at c.in_default-next_choice.ensures.none))
+          (subst (λ n. IsTried g n → (other : ℕ) → p < other → IsFirstWay (get_or ps n (Same [])) other → ⊥) at
+          c.in_default-next_choice.ensures.none))
           (subst (λ q. IsLater q choices) c.in-Some.ensures.items (c.loop-choice.invariant.after choices whole after));
       back = λ next after.
           c.loop-choice.invariant.back next (subst (λ q. IsLater q next) (sym c.in-Some.ensures.items) (after_longer rest p next after));

@@ -8,7 +8,8 @@ use Rattle.jls_station.proofs.KnownCopies.{some_then}
 use Rattle.jls_search.proofs.reading_between.told_by.Goals as goal
 
 pub returns-in-Ok-clause-reads : goal.returns-in-Ok-clause-reads
-returns-in-Ok-clause-reads c = λ t. some_then c.args.reader (λ file. CopyReads file c.in-Ok.read) (λ file. ReadsBetween c.args.from c.args.to file)
+returns-in-Ok-clause-reads c =
+    λ t. some_then c.args.reader (λ file. CopyReads file c.in-Ok.read) (λ file. ReadsBetween c.args.from c.args.to file)
     (c.told_between.ensures.reads t) c.in-Ok.ensures.read
 
 pub returns-in-Ok-clause-unread : goal.returns-in-Ok-clause-unread
@@ -17,7 +18,8 @@ returns-in-Ok-clause-unread c = λ f. some_then c.args.reader (λ file. CopyRead
     c.in-Ok.ensures.read
 
 pub returns-in-Ok-clause-many : goal.returns-in-Ok-clause-many
-returns-in-Ok-clause-many c = λ m. some_then c.args.reader (λ file. CopyReads file c.in-Ok.read) HasManyFaults (c.told_between.ensures.many m) c.in-Ok.ensures.read
+returns-in-Ok-clause-many c = λ m. some_then c.args.reader (λ file. CopyReads file c.in-Ok.read) HasManyFaults
+    (c.told_between.ensures.many m) c.in-Ok.ensures.read
 
 pub returns-in-Err-NoPicture-clause-unread : goal.returns-in-Err-NoPicture-clause-unread
 returns-in-Err-NoPicture-clause-unread c = λ _. unread_without_frame c.args.from c.args.to c.args.reader c.in-Err-NoPicture.field-0

@@ -8,5 +8,6 @@ pub returns : goal.returns
 returns c =
     let files = c.args.files.now in
     let copies = c.in_ok-copies in
-    IfOk-weaker c.read_splices.result (ReadsMore c.args.source (splices_found files) copies.copies) (AreRead c.args.source (files_taken files))
+    IfOk-weaker c.read_splices.result (ReadsMore c.args.source (splices_found files) copies.copies)
+    (AreRead c.args.source (files_taken files))
     (λ read more. more (bytes_of files.copies.now) copies.ensures) c.read_splices.ensures

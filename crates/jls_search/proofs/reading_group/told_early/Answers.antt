@@ -15,7 +15,8 @@ returns-clause-reads c =
     let n = c.max.ensures in
     if_ok c.told_by.result (λ told. told ≡ Some true → IfSome reader (λ begin. ReadsBetween from (Some to) begin))
     (λ told. told ≡ Some true → ReadsBetween from (Some to) file)
-    (λ told h e. read_early c.prefixes_settle_pieces.ensures c.every_copy_has_a_course.ensures from to c.max.result (omega (arith, n)) (omega (arith, n))
+    (λ told h e. read_early c.prefixes_settle_pieces.ensures c.every_copy_has_a_course.ensures from to c.max.result (omega (arith, n))
+    (omega (arith, n))
     file c.makes_bytes.ensures reader c.in_ok-feed_past.ensures (h e)) c.told_by.ensures.reads
 
 pub returns-clause-unread : goal.returns-clause-unread
@@ -28,5 +29,6 @@ returns-clause-unread c =
     if_ok c.told_by.result
     (λ told. told ≡ Some false → IfSome reader (λ begin. AllByRecursion (λ b. b < 256) begin → ReadsBetween from (Some to) begin → ⊥))
     (λ told. told ≡ Some false → ReadsBetween from (Some to) file → ⊥)
-    (λ told h e. unread_early c.prefixes_settle_pieces.ensures c.every_copy_has_a_course.ensures from to c.max.result (omega (arith, n)) (omega (arith, n))
+    (λ told h e. unread_early c.prefixes_settle_pieces.ensures c.every_copy_has_a_course.ensures from to c.max.result (omega (arith, n))
+    (omega (arith, n))
     file c.makes_bytes.ensures reader c.in_ok-feed_past.ensures (h e)) c.told_by.ensures.unread

@@ -9,7 +9,8 @@ fed_on-requires-clause-begun c = c.in_ok-begun.ensures.begun c.args.parts.now c.
 
 pub fed_on-requires-2-clause-path : goal.fed_on-requires-2-clause-path
 fed_on-requires-2-clause-path c =
-    subst (IsPath c.args.parts.now) (sym c.split_at.ensures.front) (first_choices c.args.parts.now c.args.path.now c.args.shared c.requires.path)
+    subst (IsPath c.args.parts.now) (sym c.split_at.ensures.front)
+    (first_choices c.args.parts.now c.args.path.now c.args.shared c.requires.path)
 
 pub fed_on-requires-2-clause-few : goal.fed_on-requires-2-clause-few
 fed_on-requires-2-clause-few c =

@@ -13,8 +13,10 @@ use Rattle.jls_search.proofs.reading_splices.read_splices.Goals as goal
 pub read_on-requires-clause-path : goal.read_on-requires-clause-path
 read_on-requires-clause-path c =
     let v = c.index-files-number.result in
-    let w = whole_at c.args.files.now.parts.now c.args.files.now.splices.now c.loop-number.number v v c.requires.whole c.loop-number-test.true c.index-files-number.is in
-    subst (IsPath c.args.files.now.parts.now) (sym (c.deref-path.ensures.value ∙ ap (λ (x : Vec ℕ Global). x.items) (sym c.index-files-number.is))) w.0
+    let w = whole_at c.args.files.now.parts.now c.args.files.now.splices.now c.loop-number.number v v c.requires.whole
+    c.loop-number-test.true c.index-files-number.is in
+    subst (IsPath c.args.files.now.parts.now)
+    (sym (c.deref-path.ensures.value ∙ ap (λ (x : Vec ℕ Global). x.items) (sym c.index-files-number.is))) w.0
 
 pub read_on-requires-clause-few : goal.read_on-requires-clause-few
 read_on-requires-clause-few c = c.requires.short c.deref-path.result.now (read_on-requires-clause-path c)
@@ -25,8 +27,12 @@ read_on-requires-clause-kept c = c.loop-number.invariant.kept
 pub makes_bytes-requires : goal.makes_bytes-requires
 makes_bytes-requires c =
     let v = c.index-files-number.result in
-    let w = whole_at c.args.files.now.parts.now c.args.files.now.splices.now c.loop-number.number v v c.requires.whole c.loop-number-test.true c.index-files-number.is in
-    record { path = subst (IsPath c.args.files.now.parts.now) (sym (c.deref-path.ensures.value ∙ ap (λ (x : Vec ℕ Global). x.items) (sym c.index-files-number.is))) w.0 }
+    let w = whole_at c.args.files.now.parts.now c.args.files.now.splices.now c.loop-number.number v v c.requires.whole
+    c.loop-number-test.true c.index-files-number.is in
+    record {
+      path = subst (IsPath c.args.files.now.parts.now)
+          (sym (c.deref-path.ensures.value ∙ ap (λ (x : Vec ℕ Global). x.items) (sym c.index-files-number.is))) w.0;
+    }
 
 pub loop-number-init : goal.loop-number-init
 loop-number-init c = record {
@@ -43,12 +49,15 @@ loop-number-preserved c =
     let path = c.deref-path.result.now in
     let some = files_of ps (lists_of (take n vs)) in
     let one : ReadsMore c.args.source (prefix_of ps path ∷ []) c.loop-number.read c.in_ok-read.read =
-    subst (λ (r : Option (List ℕ)). IfSome r (λ file. AreBytes file → ReadsMore c.args.source (file ∷ []) c.loop-number.read c.in_ok-read.read))
+    subst (λ (r : Option (List ℕ)). IfSome r
+    (λ file. AreBytes file → ReadsMore c.args.source (file ∷ []) c.loop-number.read c.in_ok-read.read))
     c.in_ok-reader.ensures.reader c.in_ok-read.ensures c.makes_bytes.ensures in
     record {
       read = λ files read.
           subst (λ (all : List (List ℕ)). AreRead c.args.source all c.in_ok-read.read)
-          (append_assoc files some (prefix_of ps path ∷ []) ∙ ap (λ (z : List ℕ). files ++ (some ++ prefix_of ps z ∷ [])) (c.deref-path.ensures.value ∙ ap (λ (x : Vec ℕ Global). x.items) (sym c.index-files-number.is))
+          (append_assoc files some (prefix_of ps path ∷ [])
+          ∙ ap (λ (z : List ℕ). files ++ (some ++ prefix_of ps z ∷ []))
+          (c.deref-path.ensures.value ∙ ap (λ (x : Vec ℕ Global). x.items) (sym c.index-files-number.is))
           ∙ ap (λ (z : List (List ℕ)). files ++ z) (sym (splices_one_more ps vs n v c.loop-number-test.true c.index-files-number.is)))
           (one (files ++ some) (c.loop-number.invariant.read files read));
       kept = c.in_ok-reader.ensures.kept;
@@ -56,5 +65,6 @@ loop-number-preserved c =
 
 pub returns : goal.returns
 returns c =
-    subst (λ (vs : List (Vec ℕ Global)). ReadsMore c.args.source (files_of c.args.files.now.parts.now (lists_of vs)) c.args.before c.loop-number.read)
+    subst (λ (vs : List (Vec ℕ Global)). ReadsMore c.args.source (files_of c.args.files.now.parts.now (lists_of vs)) c.args.before
+    c.loop-number.read)
     (take_all c.loop-number.number c.args.files.now.splices.now (omega (arith, c.loop-number-test.false))) c.loop-number.invariant.read

@@ -10,7 +10,8 @@ use Rattle.jls_search.proofs.reading_splices.take_begun.Goals.{else-loop-test, t
 pub returns-then-starts_with-clause-begun : goal.returns-then-starts_with-clause-begun
 returns-then-starts_with-clause-begun c = λ parts all.
     let one = c.in-Some.first in
-    let is : IsKept parts one = subst (λ o. IfSome o (IsKept parts)) c.in-Some.is (c.take_first.ensures parts (c.loop.invariant parts all)).0 in
+    let is : IsKept parts one = subst (λ o. IfSome o (IsKept parts)) c.in-Some.is
+    (c.take_first.ensures parts (c.loop.invariant parts all)).0 in
     let begins : take c.len-choices.result c.args.path.now ≡ one.choices.items = search rules in
     let within : c.len-choices.result ≤ length c.args.path.now = search rules in
     (within, is ∙ ap (λ (path : List ℕ). Some (prefix_of parts path)) (sym begins))

@@ -19,7 +19,8 @@ returns-in-Taken-clause-settled c =
     let files = c.args.files.now in
     let station = c.in_ok-station-in-Taken.station in
     let same = sym c.in_ok-station-in-Taken.ensures.shape in (
-      subst (λ (shape : PictureShape). IsShapeFound (bytes_of files.copies.now) (splices_found files) (Taken shape)) same c.in-Taken.ensures,
+      subst (λ (shape : PictureShape). IsShapeFound (bytes_of files.copies.now) (splices_found files) (Taken shape)) same
+          c.in-Taken.ensures,
       subst (λ (shape : PictureShape). TakesFiles c.args.source (files_taken files) (nothing_known shape) station) same
           c.in_ok-station-in-Taken.ensures.readings,
     )

@@ -14,7 +14,8 @@ with_one (c ∷ cs) (suc i) d l =
     let s = sum_by-cons length c.now (bytes_of cs) in
     let t = sum_by-cons length c.now (bytes_of (take i cs)) in omega (arith, r, s, t)
 
-too_many : (copies : List (Bor (List ℕ))) (i n most : ℕ) (d : Bor (List ℕ)) → i < length copies → n ≡ sum_by length (bytes_of (take i copies))
+too_many : (copies : List (Bor (List ℕ))) (i n most : ℕ) (d : Bor (List ℕ)) → i < length copies → n
+    ≡ sum_by length (bytes_of (take i copies))
     → most - n < length (get_or copies i d).now → sum_by length (bytes_of copies) ≤ most → ⊥
 too_many copies i n most d l e more few = let r = with_one copies i d l in omega (arith, r, e, more, few)
 

@@ -4,8 +4,12 @@ use Rattle.jls_search.specs.Faultless.{IsSought}
 use Rattle.jls_search.specs.Search.{HasEachSplice, IsKept, MakeFiles, files_of, lists_of}
 use Rattle.jls_search.specs.declared.kept.KeptReader.{KeptReader}
 use Rattle.jls_search.proofs.Paths.{length-map}
-use Rattle.jls_search.proofs.Walks.{used_up}
+use Rattle.jls_search.proofs.Walks.{at_most, used_up}
 use Rattle.jls_search.proofs.whole_search.search.Goals as goal
+
+pub returns-clause-ceiling : goal.returns-clause-ceiling
+returns-clause-ceiling c =
+    c.into_searched.ensures.ceiling ∙ c.in_ok-go_on.ensures.went.ceiling ∙ c.in_ok-begun.ensures.ceiling
 
 pub returns-clause-files : goal.returns-clause-files
 returns-clause-files c =
@@ -27,7 +31,8 @@ returns-clause-used_up c = λ yes.
     let went = c.in_ok-go_on.ensures.went.within in
     let none = c.in_ok-begun.ensures.untried.0 in
     let all = length-map (λ (v : Vec ℕ Global). v.items) walk.splices.items in
-    elim (used_up walk c.args.limit c.in_ok-go_on.ensures.stops (omega (arith, went, none)) c.in_ok-go_on.ensures.stands.1 (sym same.used_up ∙ yes)) [
+    elim (used_up c.args.parts.now walk c.args.limit c.in_ok-go_on.ensures.stands c.in_ok-go_on.ensures.stops (omega (arith, went, none))
+    (sym same.used_up ∙ yes)) [
       | inl made ↦ inl (same.tries ∙ made)
       | inr full ↦ inr (ap (λ (v : Vec (Vec ℕ Global) Global). length v.items) same.splices ∙ omega (arith, all, full))
     ]
@@ -40,7 +45,7 @@ returns-clause-few c =
     let none = c.in_ok-begun.ensures.untried.0 in
     let tries = same.tries in
     let all = length-map (λ (v : Vec ℕ Global). v.items) walk.splices.items in
-    let few = c.in_ok-go_on.ensures.stands.1 in
+    let few = at_most c.args.parts.now walk c.in_ok-go_on.ensures.stands in
     let found = ap (λ (v : Vec (Vec ℕ Global) Global). length v.items) same.splices in
     (omega (arith, went, none, tries), omega (arith, all, few, found))
 

@@ -1,13 +1,25 @@
-use Rattle.std.proofs.Common.{ℕ, ◌<◌, List, length, sym, subst}
+use Rattle.std.proofs.Common.{◌≡◌, ℕ, ◌<◌, List, Option, None, length, sym, subst}
+use Rattle.std.specs.Prelude.{IfSome}
 use Rattle.jls_io.specs.Event.{GrewBy}
 use Rattle.jls_io.proofs.Growing.{grew_as, grew_not}
 use Rattle.jls_diff.proofs.Slices.{count_of_slices}
 use Rattle.jls_diff.specs.PartsOf.{bytes_of}
-use Rattle.jls_splice_run.specs.Limits.{made_under}
+use Rattle.jls_search.specs.Faultless.{IsSought}
+use Rattle.jls_search.specs.Found.{found_of}
+use Rattle.jls_search.specs.Levels.{IsLone}
+use Rattle.jls_search.specs.Search.{IsKept}
+use Rattle.jls_search.specs.declared.kept.KeptReader.{KeptReader}
+use Rattle.jls_splice_run.specs.Limits.{SearchMade, search_made}
+use Rattle.jls_splice_run.specs.Making.{search_of}
 use Rattle.jls_splice_run.specs.Telling.{HasChosenLimit, HasSearched, ReportedUpTo}
 use Rattle.jls_partial.proofs.TextPrefixes.{on_error}
-use Rattle.jls_splice_run.proofs.Turns.{nothing_reported, searched_before}
+use Rattle.jls_splice_run.proofs.MakingLemmas.{first_is_short}
+use Rattle.jls_splice_run.proofs.Turns.{nothing_reported, searched_before, searched_made}
 use Rattle.jls_splice_run.proofs.limits.search_and_tell.Goals as goal
+
+pub returns-then-not-are_short-clause-reported_some : goal.returns-then-not-are_short-clause-reported_some
+returns-then-not-are_short-clause-reported_some g c =
+    grew_not (ReportedUpTo c.args.options.tries c.args.options.tells) (g.E.Device.history c.args.faults.now) (nothing_reported c.args.options.tries c.args.options.tells)
 
 pub returns-in_err-parts-clause-reported_some : goal.returns-in_err-parts-clause-reported_some
 returns-in_err-parts-clause-reported_some g c =
@@ -19,21 +31,21 @@ returns-in_err-parts-clause-reported_some g c =
 pub search_all-requires-clause-short : goal.search_all-requires-clause-short
 search_all-requires-clause-short g c =
     let copies : List (List ℕ) = bytes_of c.args.copies.now in
-    let some : 0 < length copies = subst (λ n. 0 < n) (sym (count_of_slices c.args.copies.now)) c.requires.some_copy in
-    (c.parts_can_be_searched.ensures copies c.in_ok-parts.parts c.in_ok-parts.ensures some c.requires.short).1
+    let some : 0 < length copies = subst (λ n. 0 < n) (sym (count_of_slices c.args.copies.now)) c.requires in
+    (c.parts_can_be_searched.ensures copies c.in_ok-parts.parts c.in_ok-parts.ensures some (c.are_short.ensures.0 c.if-not-are_short.false)).1
 
 pub limit_of_cut-requires-clause-short : goal.limit_of_cut-requires-clause-short
 limit_of_cut-requires-clause-short g c =
     let copies : List (List ℕ) = bytes_of c.args.copies.now in
-    let some : 0 < length copies = subst (λ n. 0 < n) (sym (count_of_slices c.args.copies.now)) c.requires.some_copy in
-    (c.parts_can_be_searched.ensures copies c.in_ok-parts.parts c.in_ok-parts.ensures some c.requires.short).1
+    let some : 0 < length copies = subst (λ n. 0 < n) (sym (count_of_slices c.args.copies.now)) c.requires in
+    (c.parts_can_be_searched.ensures copies c.in_ok-parts.parts c.in_ok-parts.ensures some (c.are_short.ensures.0 c.if-not-are_short.false)).1
 
 pub returns-in_err-cut-clause-reported_some : goal.returns-in_err-cut-clause-reported_some
 returns-in_err-cut-clause-reported_some g c =
     let options = c.args.options in
     let all = c.in_ok-all.all in
     let parts = c.in_ok-parts.parts in
-    let s = made_under all.ceiling all.searched in
+    let s = search_made all.searched in
     let before = g.E.Device.history c.args.faults.now in
     let now = g.E.Device.history c.search_all.new.faults in
     on_error _ (GrewBy (ReportedUpTo options.tries options.tells) before now)
@@ -41,13 +53,73 @@ returns-in_err-cut-clause-reported_some g c =
     (λ events h. searched_before options parts s all.cut_limit events h)
     c.in_ok-all.ensures.searched)
 
+pub returns-in_err-splices-clause-reported_some : goal.returns-in_err-splices-clause-reported_some
+returns-in_err-splices-clause-reported_some g c =
+    let options = c.args.options in
+    let all = c.in_ok-all.all in
+    let parts = c.in_ok-parts.parts in
+    let s = search_made all.searched in
+    let before = g.E.Device.history c.args.faults.now in
+    let now = g.E.Device.history c.search_all.new.faults in
+    on_error _ (GrewBy (ReportedUpTo options.tries options.tells) before now)
+    (grew_as (HasSearched options parts s all.cut_limit) (ReportedUpTo options.tries options.tells) before now
+    (λ events h. searched_before options parts s all.cut_limit events h)
+    c.in_ok-all.ensures.searched)
+
+pub complete_by_groups-requires-clause-searched : goal.complete_by_groups-requires-clause-searched
+complete_by_groups-requires-clause-searched g c =
+    let all = c.in_ok-all.all in
+    let h = c.in_ok-all.ensures.searched in
+    (searched_made c.args.options c.in_ok-parts.parts (search_made all.searched) all.cut_limit h.events h.they_are).came_to
+
+pub returns-clause-short : goal.returns-clause-short
+returns-clause-short g c =
+    let copies : List (List ℕ) = bytes_of c.args.copies.now in
+    let some : 0 < length copies = subst (λ n. 0 < n) (sym (count_of_slices c.args.copies.now)) c.requires in
+    (c.parts_can_be_searched.ensures copies c.in_ok-splices.splices.parts c.in_ok-splices.ensures.found.are_parts some (c.are_short.ensures.0 c.if-not-are_short.false)).1
+
+pub returns-clause-some_way : goal.returns-clause-some_way
+returns-clause-some_way g c =
+    let copies : List (List ℕ) = bytes_of c.args.copies.now in
+    let some : 0 < length copies = subst (λ n. 0 < n) (sym (count_of_slices c.args.copies.now)) c.requires in
+    (c.parts_can_be_searched.ensures copies c.in_ok-splices.splices.parts c.in_ok-splices.ensures.found.are_parts some (c.are_short.ensures.0 c.if-not-are_short.false)).0
+
+pub returns-clause-small : goal.returns-clause-small
+returns-clause-small g c =
+    let copies : List (List ℕ) = bytes_of c.args.copies.now in
+    let some : 0 < length copies = subst (λ n. 0 < n) (sym (count_of_slices c.args.copies.now)) c.requires in
+    first_is_short copies c.in_ok-splices.splices.parts c.in_ok-splices.ensures.found.are_parts some (c.are_short.ensures.0 c.if-not-are_short.false)
+
 pub returns-clause-searched : goal.returns-clause-searched
 returns-clause-searched g c =
     let options = c.args.options in
     let all = c.in_ok-all.all in
     let parts = c.in_ok-parts.parts in
-    let s = made_under all.ceiling all.searched in
+    let cut = c.in_ok-cut.cut.limit in
+    let more = c.in_ok-splices.splices in
+    let e = c.in_ok-splices.ensures in
     let before = g.E.Device.history c.args.faults.now in
     let now = g.E.Device.history c.search_all.new.faults in
-    grew_as (HasSearched options parts s all.cut_limit) (HasChosenLimit options parts s c.in_ok-cut.cut.limit) before now
-    (λ events h. (all.cut_limit, h, c.in_ok-cut.ensures.limit)) c.in_ok-all.ensures.searched
+    let s = search_made all.searched in
+    let same : s ≡ search_of more.ceiling (found_of more) more.tries =
+    λ i. record {
+      ceiling = sym e.ceiling i;
+      tries = sym e.tries i;
+      choices = sym e.kept i;
+      is_used_up = sym e.used_up i;
+    } in
+    subst (λ ps. GrewBy (HasChosenLimit options ps (search_of more.ceiling (found_of more) more.tries) cut) before now) (sym e.parts_kept)
+    (subst (λ (z : SearchMade). GrewBy (HasChosenLimit options parts z cut) before now) same
+    (grew_as (HasSearched options parts s all.cut_limit) (HasChosenLimit options parts s cut) before now
+    (λ events h. (all.cut_limit, h, c.in_ok-cut.ensures.limit)) c.in_ok-all.ensures.searched))
+
+pub returns-clause-lone : goal.returns-clause-lone
+returns-clause-lone g c =
+    subst (λ ps. IfSome c.in_ok-cut.cut.unlimited (λ path. IsLone (IsSought None) ps path.items)) (sym c.in_ok-splices.ensures.parts_kept)
+    c.in_ok-cut.ensures.lone
+
+pub returns-clause-reader : goal.returns-clause-reader
+returns-clause-reader g c =
+    let e = c.in_ok-splices.ensures in
+    subst (λ (k : Option KeptReader). IfSome k (IsKept c.in_ok-splices.splices.parts)) (sym e.reader)
+    (subst (λ ps. IfSome c.in_ok-all.all.searched.reader (IsKept ps)) (sym e.parts_kept) c.in_ok-all.ensures.reader)

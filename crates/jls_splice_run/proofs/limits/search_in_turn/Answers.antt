@@ -1,8 +1,8 @@
-use Rattle.std.proofs.Common.{ℕ, ◌+◌, List, [], ◌∷◌, ◌++◌, length, drop, take, get_or, Some, refl, sym, subst}
+use Rattle.std.proofs.Common.{ℕ, ◌+◌, List, [], ◌∷◌, ◌++◌, length, drop, take, get_or, refl, sym, ◌∙◌, subst}
 use Rattle.std.proofs.lemmas.List.{take_all, take_more}
 use Rattle.jls_io.specs.Event.{GrewBy}
 use Rattle.jls_io.proofs.Growing.{grew_as, grew_not, grew_on}
-use Rattle.jls_splice_run.specs.Limits.{made_under}
+use Rattle.jls_splice_run.specs.Limits.{search_made}
 use Rattle.jls_splice_run.specs.Telling.{HasTurned, IsReported, ReportedSome, ReportedUpTo, TookTurns}
 use Rattle.jls_partial.proofs.TextPrefixes.{on_error}
 use Rattle.jls_splice_run.proofs.Turns.{some_before, split_at, took_all, turned_not, turned_on, turned_up_to}
@@ -40,14 +40,14 @@ returns-then-searched-clause-turned g c =
     let all = c.args.limits.now in
     let i = c.loop-limit.limit-index in
     let limit = get_or all i 0 in
-    let s = made_under (Some limit) c.in_ok-searched.searched in
+    let s = search_made c.in_ok-searched.searched in
     let h = history c.args.faults.now in
     let h' = history c.search_once.new.faults in
     subst (λ (ls : List ℕ). GrewBy (TookTurns parts options ls turned) h h') (split_at all i 0 c.loop-limit-test.true)
     (grew_on (HasTurned parts options (take i all) turned) (IsReported options.tells s.tries (length s.choices))
     (TookTurns parts options (take i all ++ limit ∷ drop (i + 1) all) turned)
     h (history c.loop-limit.faults) h'
-    (λ a b t reported. turned_up_to parts options (take i all) (drop (i + 1) all) turned limit s a b t reported refl c.in_ok-searched.ensures.is_made c.if-searched.true)
+    (λ a b t reported. turned_up_to parts options (take i all) (drop (i + 1) all) turned limit s a b t reported c.in_ok-searched.ensures.ceiling c.in_ok-searched.ensures.is_made c.if-searched.true)
     c.loop-limit.invariant.told c.in_ok-searched.ensures.reported)
 
 pub loop-limit-preserved : goal.loop-limit-preserved
@@ -60,7 +60,7 @@ loop-limit-preserved g c =
     let all = c.args.limits.now in
     let i = c.loop-limit.limit-index in
     let limit = get_or all i 0 in
-    let s = made_under (Some limit) c.in_ok-searched.searched in
+    let s = search_made c.in_ok-searched.searched in
     let h = history c.args.faults.now in
     let h' = history c.search_once.new.faults in
     let e = c.with_one_more-turned.ensures in
@@ -69,7 +69,7 @@ loop-limit-preserved g c =
           (grew_on (HasTurned parts options (take i all) old) (IsReported options.tells s.tries (length s.choices))
           (HasTurned parts options (take i all ++ limit ∷ []) new)
           h (history c.loop-limit.faults) h'
-          (λ a b t reported. turned_on parts options (take i all) old new limit s a b t reported refl c.in_ok-searched.ensures.is_made c.if-searched.false e.tries e.whole e.found)
+          (λ a b t reported. turned_on parts options (take i all) old new limit s a b t reported c.in_ok-searched.ensures.ceiling c.in_ok-searched.ensures.is_made c.if-searched.false e.tries (e.whole ∙ c.in_ok-searched.ensures.ceiling) e.found)
           c.loop-limit.invariant.told c.in_ok-searched.ensures.reported);
       reader = e.reader parts c.loop-limit.invariant.reader c.in_ok-searched.ensures.reader;
     }

@@ -1,12 +1,11 @@
-use Rattle.std.proofs.Common.{◌≡◌, ℕ, Vec, Global, Bor, Option, Some, None, List, ◌++◌, length, inl, inr, ap, sym, ◌∙◌, subst}
+use Rattle.std.proofs.Common.{◌≡◌, ℕ, Vec, Global, Option, Some, None, List, length, inl, inr, ap, sym, ◌∙◌, subst}
 use Rattle.std.specs.Prelude.{◌⊎◌, IfSome, option_map}
 use Rattle.jls_station.specs.CopyFiles.{CopyBytes, copies_of}
-use Rattle.jls_io.specs.Event.{Event}
+use Rattle.jls_io.specs.Event.{Event, GrewBy, History}
 use Rattle.jls_io.proofs.Growing.{grew_as, grew_not}
 use Rattle.jls_cli.specs.SpliceAsking.{Asked}
 use Rattle.jls_search.specs.Choices.{IsPath, prefix_of}
 use Rattle.jls_search.specs.Cuts.{TakesNoCut}
-use Rattle.jls_search.specs.Files.{AreVerdicts}
 use Rattle.jls_diff.proofs.Slices.{count_of_slices}
 use Rattle.jls_diff.specs.PartsOf.{bytes_of}
 use Rattle.jls_search.specs.Search.{files_of, lists_of}
@@ -19,7 +18,7 @@ use Rattle.jls_splice_run.specs.Making.{IsWantOfMemory, cut_file, files_taken, m
 use Rattle.jls_splice_run.specs.Listing.{AreNamedAsked, named_files}
 use Rattle.jls_splice_run.specs.Single.{IsSingleAsked}
 use Rattle.jls_splice_run.specs.Tasks.{task_of}
-use Rattle.jls_splice_run.specs.declared.made.FoundInTurn.{FoundInTurn}
+use Rattle.jls_splice_run.specs.declared.limits.FoundInTurn.{FoundInTurn}
 use Rattle.jls_splice_run.specs.declared.options.SearchOptions.{SearchOptions}
 use Rattle.jls_cli.specs.declared.outcome.Refusal.{Refusal}
 use Rattle.jls_splice_run.proofs.MakingLemmas.{cut_mapped, found_mapped, mapped_twice, none_mapped}
@@ -36,6 +35,14 @@ Searched a found events =
     HasChosenLimit (options_of a) found.splices.parts
     (search_of found.splices.ceiling (found_of found.splices) found.splices.tries) found.cut_limit events
 
+-- however the code holds what was asked
+told : (a : Asked) (found : FoundInTurn) (o : SearchOptions) → o ≡ options_of a → (old new : History)
+    → GrewBy (HasChosenLimit o found.splices.parts (search_of found.splices.ceiling (found_of found.splices) found.splices.tries) found.cut_limit) old new
+    → GrewBy (Searched a found) old new
+told a found o same old new h =
+    subst (λ (o : SearchOptions). GrewBy (HasChosenLimit o found.splices.parts
+    (search_of found.splices.ceiling (found_of found.splices) found.splices.tries) found.cut_limit) old new) same h
+
 -- the choices of the cut file are a path
 path_of_cut : (found : FoundInTurn) (cut : Option (Vec ℕ Global))
     → IfSome cut (λ path. IsCut found.cut_limit (found_of found.splices) path.items)
@@ -50,13 +57,15 @@ returns-in-Err-clause-stopped g c =
     grew_not (CantMake a (copies_of c.args.copies.now) c.want_of_memory.result) (g.E.Device.history c.args.faults.now)
     (inl ((want.name, want.cause), nothing_reported a.options.tries a.options.progress))
 
-pub returns-in-Err-search-clause-stopped : goal.returns-in-Err-search-clause-stopped
-returns-in-Err-search-clause-stopped g c =
+pub returns-in-Err-search_and_tell-clause-stopped : goal.returns-in-Err-search_and_tell-clause-stopped
+returns-in-Err-search_and_tell-clause-stopped g c =
     let a = task_of c.args.task.now in
-    let want = c.want_of_memory-in-Err-search.ensures in
-    grew_as (ReportedUpTo a.options.tries a.options.progress) (CantMake a (copies_of c.args.copies.now) c.want_of_memory-in-Err-search.result)
-    (g.E.Device.history c.args.faults.now) (g.E.Device.history c.search.new.faults)
-    (λ events reported. inl ((want.name, want.cause), reported)) c.in-Err-search.ensures.reported_some
+    let want = c.want_of_memory-in-Err-search_and_tell.ensures in
+    grew_as (ReportedUpTo a.options.tries a.options.progress) (CantMake a (copies_of c.args.copies.now) c.want_of_memory-in-Err-search_and_tell.result)
+    (g.E.Device.history c.args.faults.now) (g.E.Device.history c.search_and_tell.new.faults)
+    (λ events reported. inl ((want.name, want.cause), reported))
+    (subst (λ (o : SearchOptions). GrewBy (ReportedUpTo o.tries o.tells) (g.E.Device.history c.args.faults.now) (g.E.Device.history c.search_and_tell.new.faults))
+    c.search_options.ensures c.in-Err-search_and_tell.ensures.reported_some)
 
 -- what the searches reported until memory ran out after them
 searched_in : (a : Asked) (found : FoundInTurn) (copies : List CopyBytes) (r : Refusal) → IsWantOfMemory a r → (events : List Event)
@@ -71,16 +80,16 @@ searched_in a found copies r want events h =
 pub returns-in-Err-find_cut-clause-stopped : goal.returns-in-Err-find_cut-clause-stopped
 returns-in-Err-find_cut-clause-stopped g c =
     let a = task_of c.args.task.now in
-    let found = c.in-Ok-search.found in
+    let found = c.in-Ok-search_and_tell.found in
     let want = c.want_of_memory-in-Err-find_cut.ensures in
     let copies = copies_of c.args.copies.now in
     grew_as (Searched a found) (CantMake a copies c.want_of_memory-in-Err-find_cut.result)
-    (g.E.Device.history c.args.faults.now) (g.E.Device.history c.search.new.faults)
-    (searched_in a found copies c.want_of_memory-in-Err-find_cut.result (want.name, want.cause)) c.in-Ok-search.ensures.searched
+    (g.E.Device.history c.args.faults.now) (g.E.Device.history c.search_and_tell.new.faults)
+    (searched_in a found copies c.want_of_memory-in-Err-find_cut.result (want.name, want.cause)) (told a found c.search_options.result c.search_options.ensures _ _ c.in-Ok-search_and_tell.ensures.searched)
 
 pub settle-requires-clause-cut : goal.settle-requires-clause-cut
 settle-requires-clause-cut g c =
-    path_of_cut c.in-Ok-search.found c.in-Ok-find_cut.cut c.in-Ok-find_cut.ensures.lone
+    path_of_cut c.in-Ok-search_and_tell.found c.in-Ok-find_cut.cut c.in-Ok-find_cut.ensures.lone
 
 -- the searches of what was asked, over the parts that were found
 counted_in : (a : Asked) (copies : List (List ℕ)) (found : FoundInTurn) (events : List Event)
@@ -88,84 +97,80 @@ counted_in : (a : Asked) (copies : List (List ℕ)) (found : FoundInTurn) (event
     → (h : Searched a found events) → IsCounted a copies h.1.searches found.splices.ceiling (found_of found.splices) found.splices.tries
 counted_in a copies found events groups h = record { are_searches = h.1.are; counts = h.1.counts; of_groups = groups }
 
-pub returns-in-Err-settle-clause-stopped : goal.returns-in-Err-settle-clause-stopped
-returns-in-Err-settle-clause-stopped g c =
+pub returns-in_err-held-clause-stopped : goal.returns-in_err-held-clause-stopped
+returns-in_err-held-clause-stopped g c =
     let a = task_of c.args.task.now in
     let copies : List CopyBytes = copies_of c.args.copies.now in
-    let all = c.in-Ok-search.found in
+    let all = c.in-Ok-search_and_tell.found in
     let found = all.splices in
-    let r = c.in-Err-settle.refusal in
+    let r = c.in_err-held.refusal in
     let searched : bytes_of c.deref.result.now ≡ bytes_read copies = ap bytes_of c.deref.ensures.value ∙ c.in-Ok.ensures in
     let splices : files_of found.parts (lists_of c.deref-3.result.now) ≡ splices_in (found_of found) =
-    (λ i. files_of found.parts (lists_of (c.deref-3.ensures.value i))) ∙ c.in-Ok-search.ensures.splices in
-    let is_found = subst (λ (xs : List (List ℕ)). IsFound found.ceiling xs (found_of found)) searched c.in-Ok-search.ensures.found in
+    (λ i. files_of found.parts (lists_of (c.deref-3.ensures.value i))) ∙ c.in-Ok-search_and_tell.ensures.splices in
+    let is_found = subst (λ (xs : List (List ℕ)). IsFound found.ceiling xs (found_of found)) searched c.in-Ok-search_and_tell.ensures.found in
     let groups = subst (λ (n : ℕ). IfSome (found_of found).by_groups (IsGroupSearch a.options.tries n found.parts))
-    (sym (count_of_slices c.deref.result.now) ∙ ap length searched) c.in-Ok-search.ensures.of_groups in
-    let unsettled = subst (λ (xs : List (List ℕ)). IsUnsettled a copies xs r) splices c.in-Err-settle.ensures.stopped in
+    (sym (count_of_slices c.deref.result.now) ∙ ap length searched) (subst (λ (o : SearchOptions). IfSome (found_of found).by_groups (IsGroupSearch o.tries (length c.deref.result.now) found.parts)) c.search_options.ensures c.in-Ok-search_and_tell.ensures.of_groups) in
+    let unsettled = subst (λ (xs : List (List ℕ)). IsUnsettled a copies xs r) splices c.in_err-held.ensures.stopped in
     grew_as (Searched a all) (CantMake a copies r)
-    (g.E.Device.history c.args.faults.now) (g.E.Device.history c.search.new.faults)
+    (g.E.Device.history c.args.faults.now) (g.E.Device.history c.search_and_tell.new.faults)
     (λ events h. inr (h.1.searches, found.ceiling, found_of found, found.tries, counted_in a (bytes_read copies) all events groups h, is_found, unsettled, h.1.reported))
-    c.in-Ok-search.ensures.searched
+    (told a all c.search_options.result c.search_options.ensures _ _ c.in-Ok-search_and_tell.ensures.searched)
 
 pub returns-clause-stopped : goal.returns-clause-stopped
 returns-clause-stopped g c =
     let a = task_of c.args.task.now in
-    let found = c.in-Ok-search.found in
+    let found = c.in-Ok-search_and_tell.found in
     let want = c.want_of_memory-in-Err-texts_of.ensures in
     let copies = copies_of c.args.copies.now in
     grew_as (Searched a found) (CantMake a copies c.want_of_memory-in-Err-texts_of.result)
-    (g.E.Device.history c.args.faults.now) (g.E.Device.history c.search.new.faults)
-    (searched_in a found copies c.want_of_memory-in-Err-texts_of.result (want.name, want.cause)) c.in-Ok-search.ensures.searched
+    (g.E.Device.history c.args.faults.now) (g.E.Device.history c.search_and_tell.new.faults)
+    (searched_in a found copies c.want_of_memory-in-Err-texts_of.result (want.name, want.cause)) (told a found c.search_options.result c.search_options.ensures _ _ c.in-Ok-search_and_tell.ensures.searched)
 
 pub returns-in-Ok-texts_of-clause-made : goal.returns-in-Ok-texts_of-clause-made
 returns-in-Ok-texts_of-clause-made g c =
     let a = task_of c.args.task.now in
     let copies = bytes_read (copies_of c.args.copies.now) in
     let v = c.in-Ok-texts_of.made in
-    let all = c.in-Ok-search.found in
+    let all = c.in-Ok-search_and_tell.found in
     let found = all.splices in
-    let taken = c.in-Ok-settle.taken in
+    let held = c.in_ok-held.held in
     let parts = found.parts in
     let searched : bytes_of c.deref.result.now ≡ copies = ap bytes_of c.deref.ensures.value ∙ c.in-Ok.ensures in
-    let reported : bytes_of c.deref-4.result.now ≡ copies = ap bytes_of c.deref-4.ensures.value ∙ c.in-Ok.ensures in
+    let reported : bytes_of c.deref-2.result.now ≡ copies = ap bytes_of c.deref-2.ensures.value ∙ c.in-Ok.ensures in
     let splices : files_of found.parts (lists_of c.deref-3.result.now) ≡ splices_in (found_of found) =
-    (λ i. files_of found.parts (lists_of (c.deref-3.ensures.value i))) ∙ c.in-Ok-search.ensures.splices in
-    let choices = option_map (λ (path : Vec ℕ Global). path.items) taken.cut in
-    let cut : option_map (λ (path : Vec ℕ Global). prefix_of found.parts path.items) taken.cut ≡ cut_file (found_of found) choices =
-    sym (mapped_twice (prefix_of parts) (λ (path : Vec ℕ Global). path.items) taken.cut) in
-    let is_found = subst (λ (xs : List (List ℕ)). IsFound found.ceiling xs (found_of found)) searched c.in-Ok-search.ensures.found in
+    (λ i. files_of found.parts (lists_of (c.deref-3.ensures.value i))) ∙ c.in-Ok-search_and_tell.ensures.splices in
+    let choices = option_map (λ (path : Vec ℕ Global). path.items) held.cut in
+    let cut : option_map (λ (path : Vec ℕ Global). prefix_of found.parts path.items) held.cut ≡ cut_file (found_of found) choices =
+    sym (mapped_twice (prefix_of parts) (λ (path : Vec ℕ Global). path.items) held.cut) in
+    let is_found = subst (λ (xs : List (List ℕ)). IsFound found.ceiling xs (found_of found)) searched c.in-Ok-search_and_tell.ensures.found in
     let groups = subst (λ (n : ℕ). IfSome (found_of found).by_groups (IsGroupSearch a.options.tries n parts))
-    (sym (count_of_slices c.deref.result.now) ∙ ap length searched) c.in-Ok-search.ensures.of_groups in
+    (sym (count_of_slices c.deref.result.now) ∙ ap length searched) (subst (λ (o : SearchOptions). IfSome (found_of found).by_groups (IsGroupSearch o.tries (length c.deref.result.now) found.parts)) c.search_options.ensures c.in-Ok-search_and_tell.ensures.of_groups) in
     grew_as (Searched a all) (HoldsMade a (copies_of c.args.copies.now) v)
-    (g.E.Device.history c.args.faults.now) (g.E.Device.history c.search.new.faults)
+    (g.E.Device.history c.args.faults.now) (g.E.Device.history c.search_and_tell.new.faults)
     (λ events h. (
-      made_of h.1.searches all c.in-Ok-find_cut.cut taken.cut taken.station v,
+      made_of h.1.searches all c.in-Ok-find_cut.cut held.cut held.station v,
       record {
         is_counted = counted_in a copies all events groups h;
         is_found = is_found;
         cut_ceiling_is = subst (λ (l : Option ℕ). IsCutLimit parts l (found_of found).choices all.cut_limit) (sym h.1.cut_is) h.2;
         is_lone = found_mapped (IsCut all.cut_limit (found_of found)) c.in-Ok-find_cut.cut c.in-Ok-find_cut.ensures.lone;
         no_lone = none_mapped (FindsNoCut all.cut_limit a.options.tries (found_of found)) c.in-Ok-find_cut.cut c.in-Ok-find_cut.ensures.none;
-        is_cut = cut_mapped (λ path. TakesNoCut copies (splices_in (found_of found)) (prefix_of parts path)) taken.cut c.in-Ok-find_cut.cut
-            (subst (λ (xs : List (List ℕ)). (taken.cut ≡ c.in-Ok-find_cut.cut) ⊎ ((taken.cut ≡ None) × IfSome c.in-Ok-find_cut.cut (λ path. TakesNoCut copies xs (prefix_of parts path.items)))) splices
-            c.in-Ok-settle.ensures.cut);
-        is_picture = subst (λ (o : Option (List ℕ)). IsPictureOf a.options.source copies (splices_in (found_of found)) o taken.station) cut
+        is_cut = cut_mapped (λ path. TakesNoCut copies (splices_in (found_of found)) (prefix_of parts path)) held.cut c.in-Ok-find_cut.cut
+            (subst (λ (xs : List (List ℕ)). (held.cut ≡ c.in-Ok-find_cut.cut) ⊎ ((held.cut ≡ None) × IfSome c.in-Ok-find_cut.cut (λ path. TakesNoCut copies xs (prefix_of parts path.items)))) splices
+            c.in_ok-held.ensures.cut);
+        is_picture = subst (λ (o : Option (List ℕ)). IsPictureOf a.options.source copies (splices_in (found_of found)) o held.station) cut
             (subst (λ (xs : List (List ℕ)). IsPictureOf a.options.source copies xs
-            (option_map (λ (path : Vec ℕ Global). prefix_of found.parts path.items) taken.cut) taken.station) splices c.in-Ok-settle.ensures.settled);
+            (option_map (λ (path : Vec ℕ Global). prefix_of found.parts path.items) held.cut) held.station) splices c.in_ok-held.ensures.settled);
         settled = c.in-Ok-texts_of.ensures.settled;
         is_single = subst (λ (xs : List (List ℕ)). IsSingleAsked a.options.file (files_taken xs (found_of found)) (option_map (λ (f : Vec ℕ Global). f.items) v.file)) reported c.in-Ok-texts_of.ensures.single;
         are_named = subst (λ (xs : List (List ℕ)). AreNamedAsked a.options.files (files_taken xs (found_of found)) (named_files v.files.items)) reported c.in-Ok-texts_of.ensures.named;
       },
-      subst (λ (xs : List (List ℕ)). AreTextsOf a xs (made_of h.1.searches all c.in-Ok-find_cut.cut taken.cut taken.station v) v) reported (c.in-Ok-texts_of.ensures.texts h.1.searches c.in-Ok-find_cut.cut),
+      subst (λ (xs : List (List ℕ)). AreTextsOf a xs (made_of h.1.searches all c.in-Ok-find_cut.cut held.cut held.station v) v) reported (c.in-Ok-texts_of.ensures.texts h.1.searches c.in-Ok-find_cut.cut),
       h.1.reported,
     ))
-    c.in-Ok-search.ensures.searched
+    (told a all c.search_options.result c.search_options.ensures _ _ c.in-Ok-search_and_tell.ensures.searched)
 
-pub texts_of-requires-clause-verdicts : goal.texts_of-requires-clause-verdicts
-texts_of-requires-clause-verdicts g c =
-    let found = c.in-Ok-search.found.splices in
-    let taken = c.in-Ok-settle.taken in
-    let copies : c.deref-2.result.now ≡ c.deref-4.result.now = c.deref-2.ensures.value ∙ sym c.deref-4.ensures.value in
-    subst (λ (xs : List (Bor (List ℕ))). AreVerdicts (bytes_of xs ++ files_of found.parts (lists_of found.splices.items)) taken.faultless.items) copies
-    (subst (λ (vs : List (Vec ℕ Global)). AreVerdicts (bytes_of c.deref-2.result.now ++ files_of found.parts (lists_of vs)) taken.faultless.items)
-    c.deref-3.ensures.value c.in-Ok-settle.ensures.verdicts)
+pub texts_of-requires-clause-splices : goal.texts_of-requires-clause-splices
+texts_of-requires-clause-splices g c =
+    let found = c.in-Ok-search_and_tell.found.splices in
+    (λ i. files_of found.parts (lists_of (c.deref-3.ensures.value i))) ∙ c.in-Ok-search_and_tell.ensures.splices

@@ -1,12 +1,12 @@
-use Rattle.std.proofs.Common.{◌≡◌, ℕ, Bool, List, [], ◌++◌, drop, Vec, Global, Bor, ap, refl, sym, ◌∙◌, subst}
+use Rattle.std.proofs.Common.{◌≡◌, ℕ, List, [], ◌++◌, drop, Vec, Global, Bor, ap, refl, sym, ◌∙◌, subst}
 use Rattle.std.specs.Prelude.{◌↔◌, IsTrue, codes, option_map, if◌then◌else◌}
 use Rattle.std.specs.Str.{bytes_eq}
 use Rattle.jls_diff.specs.PartsOf.{bytes_of}
 use Rattle.jls_report.specs.Report.{report_of}
 use Rattle.jls_report.specs.ReportText.{report_text}
-use Rattle.jls_diff.specs.Parts.{Part}
 use Rattle.jls_search.specs.Files.{AreVerdicts}
-use Rattle.jls_search.specs.Search.{files_of, lists_of}
+use Rattle.jls_search.specs.Files as given
+use Rattle.jls_search.specs.Search.{lists_of}
 use Rattle.jls_search.specs.Found.{found_of, splices_in}
 use Rattle.jls_splice_run.specs.Files.{count_new}
 use Rattle.jls_partial.specs.Partial.{PartialPicture}
@@ -27,15 +27,14 @@ returns-clause-texts c = λ searches lone.
     let limit = c.args.all.now.cut_limit in
     let parts = found.parts in
     let lists = lists_of found.splices.items in
-    let copies = bytes_of c.args.copies.now in
+    let copies = bytes_of c.args.files.now.copies.now in
     let options = c.args.task.now.options in
-    let cut = c.args.taken.now.cut in
+    let cut = c.args.held.now.cut in
     let file = c.in_ok-file.file in
     let name_asked = option_map (λ (s : Bor (List ℕ)). s.now) options.file in
     let single = option_map (λ (f : Vec ℕ Global). f.items) file in
     let new : c.in_ok-splices.splices ≡ count_new copies (splices_in (found_of found)) =
-    c.in_ok-splices.ensures ∙ (λ i. count_new copies (files_of parts (lists_of (c.deref-2.ensures.value i))))
-    ∙ ap (count_new copies) c.requires.splices in
+    c.in_ok-splices.ensures ∙ ap (count_new copies) c.requires.splices in
     let groups : c.groups_reported.result ≡ groups_reported (found_of found).by_groups = c.groups_reported.ensures (drop found.whole lists) in
     let before : c.cut_end.result ≡ option_map (cut_end parts limit) (option_map (λ (v : Vec ℕ Global). v.items) cut) =
     c.cut_end.ensures ∙ sym (mapped_twice (cut_end parts limit) (λ (v : Vec ℕ Global). v.items) cut) in
@@ -43,7 +42,7 @@ returns-clause-texts c = λ searches lone.
     c.lacks_file.ensures ∙ sym (lacks_maps (λ (s : Bor (List ℕ)). s.now) (λ (f : Vec ℕ Global). f.items) options.file file) in
     let numbered = c.in_ok-numbered.numbered.items in
     let files : c.files_reported.result ≡ files_reported (option_map (λ (s : Bor (List ℕ)). s.now) options.files) (named_files numbered) =
-    c.files_reported.ensures ∙ (λ i. files_reported options.files (c.deref-3.ensures.value i))
+    c.files_reported.ensures ∙ (λ i. files_reported options.files (c.deref.ensures.value i))
     ∙ sym (reported_maps (λ (s : Bor (List ℕ)). s.now) named_file options.files numbered) in
     let name = c.args.task.now.out.now in
     let reported : SearchReport = record {
@@ -93,40 +92,24 @@ returns-clause-settled c = subst (λ (p : PartialPicture). IsTrue c.is_settled-s
 pub returns-clause-single : goal.returns-clause-single
 returns-clause-single c =
     let found = c.args.all.now.splices in
-    let copies = bytes_of c.args.copies.now in
+    let copies = bytes_of c.args.files.now.copies.now in
     let options = c.args.task.now.options in
     let single = option_map (λ (f : Vec ℕ Global). f.items) c.in_ok-file.file in
-    let splices : files_of found.parts (lists_of c.deref.result.now) ≡ splices_in (found_of found) =
-    (λ i. files_of found.parts (lists_of (c.deref.ensures.value i))) ∙ c.requires.splices in
     single_maps (λ (s : Bor (List ℕ)). s.now) options.file (copies ++ splices_in (found_of found)) single
-    (subst (λ (xs : List (List ℕ)). IsSingleAsked options.file (copies ++ xs) single) splices c.in_ok-file.ensures)
+    (subst (λ (xs : List (List ℕ)). IsSingleAsked options.file (copies ++ xs) single) c.requires.splices c.in_ok-file.ensures)
 
 pub returns-clause-named : goal.returns-clause-named
 returns-clause-named c =
     let found = c.args.all.now.splices in
-    let copies = bytes_of c.args.copies.now in
+    let copies = bytes_of c.args.files.now.copies.now in
     let options = c.args.task.now.options in
     let named = named_files c.in_ok-numbered.numbered.items in
-    let splices : files_of found.parts (lists_of c.deref.result.now) ≡ splices_in (found_of found) =
-    (λ i. files_of found.parts (lists_of (c.deref.ensures.value i))) ∙ c.requires.splices in
-    subst (λ (xs : List (List ℕ)). AreNamedAsked (option_map (λ (s : Bor (List ℕ)). s.now) options.files) (copies ++ xs) named) splices c.in_ok-numbered.ensures
-
--- the verdicts that were given, on the files as they are handed on
-verdicts_on : (copies : List (List ℕ)) (parts : List Part) (splices others : List (Vec ℕ Global)) (verdicts them : List Bool) → others ≡ splices
-    → them ≡ verdicts → AreVerdicts (copies ++ files_of parts (lists_of splices)) verdicts
-    → AreVerdicts (copies ++ files_of parts (lists_of others)) them
-verdicts_on copies parts splices others verdicts them e f are =
-    subst (AreVerdicts (copies ++ files_of parts (lists_of others))) (sym f)
-    (subst (λ (vs : List (Vec ℕ Global)). AreVerdicts (copies ++ files_of parts (lists_of vs)) verdicts) (sym e) are)
+    subst (λ (xs : List (List ℕ)). AreNamedAsked (option_map (λ (s : Bor (List ℕ)). s.now) options.files) (copies ++ xs) named) c.requires.splices c.in_ok-numbered.ensures
 
 pub file_asked-requires-clause-verdicts : goal.file_asked-requires-clause-verdicts
 file_asked-requires-clause-verdicts c =
-    let found = c.args.all.now.splices in
-    verdicts_on (bytes_of c.args.copies.now) found.parts found.splices.items c.deref.result.now c.args.taken.now.faultless.items
-    c.as_slice-verdicts.result.now c.deref.ensures.value c.as_slice-verdicts.ensures.value c.requires.verdicts
+    subst (AreVerdicts (given.files_taken c.args.files.now)) (sym c.as_slice-verdicts.ensures.value) c.requires.verdicts
 
 pub files_asked-requires-clause-verdicts : goal.files_asked-requires-clause-verdicts
 files_asked-requires-clause-verdicts c =
-    let found = c.args.all.now.splices in
-    verdicts_on (bytes_of c.args.copies.now) found.parts found.splices.items c.deref.result.now c.args.taken.now.faultless.items
-    c.as_slice-verdicts.result.now c.deref.ensures.value c.as_slice-verdicts.ensures.value c.requires.verdicts
+    subst (AreVerdicts (given.files_taken c.args.files.now)) (sym c.as_slice-verdicts.ensures.value) c.requires.verdicts

@@ -17,10 +17,10 @@ returns-clause-is_made g c =
     let were = c.in_ok-walk.ensures.tried in
     record {
       came_to = subst (λ ceiling. CameTo (IsSought ceiling) parts (lists_of c.into_searched.result.splices.items) c.into_searched.result.is_used_up)
-          c.in_ok-walk.ensures.ceiling (same.came_to parts c.in_ok-walk.ensures.stands);
+          (sym same.ceiling) (same.came_to parts c.in_ok-walk.ensures.stands);
       tried = record {
         begun = were.0;
-        ceiling_is = were.4;
+        ceiling_is = were.4 ∙ sym (same.ceiling ∙ c.in_ok-walk.ensures.ceiling);
         is_begun = were.1;
         stands = were.2;
         last = walk;
@@ -30,11 +30,14 @@ returns-clause-is_made g c =
       };
       within = let e = same.tries in let within = c.in_ok-walk.ensures.reported.they_are.within in omega (arith, e, within);
       used_up = λ yes.
-          elim (used_up walk options.tries c.in_ok-walk.ensures.stops c.in_ok-walk.ensures.reported.they_are.within c.in_ok-walk.ensures.stands.1 (sym same.used_up ∙ yes)) [
+          elim (used_up parts walk options.tries c.in_ok-walk.ensures.stands c.in_ok-walk.ensures.stops c.in_ok-walk.ensures.reported.they_are.within (sym same.used_up ∙ yes)) [
             | inl all ↦ inl (same.tries ∙ all)
             | inr full ↦ inr (ap (λ (v : Vec (Vec ℕ Global) Global). length (lists_of v.items)) same.splices ∙ full)
           ];
     }
+
+pub returns-clause-ceiling : goal.returns-clause-ceiling
+returns-clause-ceiling g c = c.into_searched.ensures.ceiling ∙ c.in_ok-walk.ensures.ceiling
 
 pub returns-clause-reported : goal.returns-clause-reported
 returns-clause-reported g c =

@@ -4,21 +4,21 @@ use Rattle.jls_io.specs.Event.{Event, GrewBy}
 use Rattle.jls_io.proofs.Growing.{grew_as, grew_not, grew_on}
 use Rattle.jls_search.specs.Search.{IsKept, lists_of, nothing}
 use Rattle.jls_search.specs.declared.kept.KeptReader.{KeptReader}
-use Rattle.jls_search.specs.declared.whole_search.WholeSearch.{WholeSearch}
+use Rattle.jls_search.specs.declared.searching.Search.{Search}
 use Rattle.jls_splice_run.specs.Telling.{GoesOn, HasReported, IsReported, ReportedSome}
 use Rattle.jls_splice_run.specs.declared.options.SearchOptions.{SearchOptions}
 use Rattle.jls_partial.proofs.TextPrefixes.{on_error}
 use Rattle.jls_splice_run.proofs.Rounds.{none_reported, reported_on, tried_on}
 use Rattle.jls_splice_run.proofs.searching.search_parts.Goals as goal
 
-begun_reported : (options : SearchOptions) (walk : WholeSearch) → walk.tries ≡ 0 → length (lists_of walk.splices.items) ≡ 0 → HasReported options walk []
+begun_reported : (options : SearchOptions) (walk : Search) → walk.tries ≡ 0 → length (lists_of walk.splices.items) ≡ 0 → HasReported options walk []
 begun_reported options walk e f = record {
   reported = subst (λ n. IsReported options.tells n (length (lists_of walk.splices.items)) []) (sym e) (subst (λ n. IsReported options.tells 0 n []) (sym f) (none_reported options.tells));
   within = omega (arith, e);
   paused = λ can. (0, e);
 }
 
-some_reported : (options : SearchOptions) (walk : WholeSearch) (events : List Event) → HasReported options walk events → ReportedSome options.tries options.tells events
+some_reported : (options : SearchOptions) (walk : Search) (events : List Event) → HasReported options walk events → ReportedSome options.tries options.tells events
 some_reported options walk events h = (walk.tries, length (lists_of walk.splices.items), h.within, h.reported)
 
 pub returns-in_err-walk-clause-reported_some : goal.returns-in_err-walk-clause-reported_some

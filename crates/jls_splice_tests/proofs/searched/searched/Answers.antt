@@ -1,6 +1,8 @@
 use Rattle.std.proofs.Common.{ℕ, ◌<◌, List, length, sym, subst}
 use Rattle.jls_diff.proofs.Slices.{count_of_slices}
 use Rattle.jls_diff.specs.PartsOf.{bytes_of}
+use Rattle.jls_search.specs.Faultless.{IsSought}
+use Rattle.jls_search.specs.Search.{CameTo, lists_of}
 use Rattle.jls_splice_tests.proofs.searched.searched.Goals as goal
 
 pub search-requires-clause-short : goal.search-requires-clause-short
@@ -10,4 +12,8 @@ search-requires-clause-short c =
     (c.parts_can_be_searched.ensures copies c.in_ok-parts.parts c.in_ok-parts.ensures some c.requires.short).1
 
 pub returns-clause-searched : goal.returns-clause-searched
-returns-clause-searched c = record { files = c.in_ok-searched.ensures.files; all = c.in_ok-searched.ensures.all }
+returns-clause-searched c =
+    let searched = c.in_ok-searched.searched in
+    let e = c.in_ok-searched.ensures in
+    subst (λ ceiling. CameTo (IsSought ceiling) c.in_ok-parts.parts (lists_of searched.splices.items) searched.is_used_up) (sym e.ceiling)
+    (record { files = e.files; all = e.all })

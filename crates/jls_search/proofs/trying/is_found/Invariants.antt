@@ -1,6 +1,0 @@
-use Rattle.std.proofs.Common.{take}
-use Rattle.jls_search.proofs.SettingPaths.{NoneIs}
-use Rattle.jls_search.proofs.trying.is_found.Given as goal
-
-abbrev pub invariant-loop-number : goal.invariant-loop-number
-invariant-loop-number l = NoneIs l.path (take l.number l.found)
