@@ -72,7 +72,8 @@ did_settle a _ _ _ _ (came_of _ _ _ _ line (at_copies r desk stops) reported) e 
     absurd (not_done _ (copies_above _ r desk stops) (at_most_1 _ e))
 did_settle a _ _ _ _ (came_of _ _ _ _ line (not_made r copies desk faults read cant) reported) e =
     absurd (not_done _ (unmade_above a copies r faults cant) (at_most_1 _ e))
-did_settle a _ _ _ _ (came_of _ _ _ _ line (not_handed r copies m reading desk report faults noting read made tells noted stops) reported) e =
+did_settle a _ _ _ _ (came_of _ _ _ _ line (not_handed r copies m reading desk report faults noting read made tells noted stops) reported)
+    e =
     absurd (not_done _ (handing_above _ r desk report stops) (at_most_1 _ e))
 did_settle a _ _ _ _
     (came_of _ _ _ _ line (done copies m settled whole reading desk report faults noting read made tells noted handed is_set is_read)

@@ -60,12 +60,14 @@ output_above : (name bytes : List ℕ) (r : Refusal) (events : List Event) → S
 output_above name bytes r _ (outputs.not_there named is) = above_1 r cause.NotCreated is (omega arith)
 output_above name bytes r _ (outputs.cut count writes named is h) = above_1 r (cause.NotWritten count) is (omega arith)
 
-file_above : (name file : Option (List ℕ)) (r : Refusal) (events : List Event) → StopsAtFile name file r events → 1 < status_of_cause r.cause
+file_above : (name file : Option (List ℕ)) (r : Refusal) (events : List Event) → StopsAtFile name file r events → 1
+    < status_of_cause r.cause
 file_above (Some name) (Some bytes) r events h = output_above name bytes r events h
 file_above (Some name) None r events h = absurd h
 file_above None file r events h = absurd h
 
-number_above : (prefix : List ℕ) (number : ℕ) (file : NamedFile) (r : Refusal) (events : List Event) → StopsAtNumber prefix number file r events
+number_above : (prefix : List ℕ) (number : ℕ) (file : NamedFile) (r : Refusal) (events : List Event)
+    → StopsAtNumber prefix number file r events
     → 1 < status_of_cause r.cause
 number_above prefix number file r _ (number_not_there named is) = above_1 r (cause.FileNotCreated number) is (omega arith)
 number_above prefix number file r _ (number_cut count writes named is h) = above_1 r (cause.FileNotWritten number count) is (omega arith)

@@ -52,7 +52,8 @@ module _ (a : Asked) (desk mid new report report' faults faults' last : History)
   }
 
   module _ (copies : List CopyBytes) (read : GrewBy (AreCopiesRead a.copies copies) desk mid) where
-    pub stops_unmade : (r : Refusal) → GrewBy (CantMake a copies r) faults faults' → GrewAll (Splices a (Err r)) desk mid report report faults faults'
+    pub stops_unmade : (r : Refusal) → GrewBy (CantMake a copies r) faults faults'
+        → GrewAll (Splices a (Err r)) desk mid report report faults faults'
     stops_unmade r cant = record {
       desk_events = read.events;
       report_events = [];
@@ -80,7 +81,8 @@ module _ (a : Asked) (desk mid new report report' faults faults' last : History)
           desk_is = grew_twice desk mid new read.events h.desk_events read.grew h.desk_is;
           report_is = h.report_is;
           faults_are = grew_twice faults faults' last holds.events noted.events holds.grew noted.grew;
-          they_are = not_handed r copies made.0 read.events h.desk_events h.report_events holds.events noted.events read.they_are made.1 made.3 its_notes
+          they_are = not_handed r copies made.0 read.events h.desk_events h.report_events holds.events noted.events read.they_are made.1
+              made.3 its_notes
               (subst (λ (t : Texts). StopsInHanding t r h.desk_events h.report_events) (texts_are a copies made.0 v made.2) h.they_are);
         }
 
@@ -93,7 +95,8 @@ module _ (a : Asked) (desk mid new report report' faults faults' last : History)
           desk_is = grew_twice desk mid new read.events h.desk_events read.grew h.desk_is;
           report_is = h.report_is;
           faults_are = grew_twice faults faults' last holds.events noted.events holds.grew noted.grew;
-          they_are = done copies made.0 v.settled whole read.events h.desk_events h.report_events holds.events noted.events read.they_are made.1 made.3 its_notes
+          they_are = done copies made.0 v.settled whole read.events h.desk_events h.report_events holds.events noted.events read.they_are
+              made.1 made.3 its_notes
               (subst (λ (t : Texts). HandsAll t h.desk_events h.report_events) (texts_are a copies made.0 v made.2) h.they_are)
               (subst (λ (b : Bool). IsTrue b ↔ IsSettled made.0.picture) (sym made.2.settled_is) made.1.settled) whole_is;
         }

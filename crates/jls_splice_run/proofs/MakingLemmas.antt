@@ -84,7 +84,8 @@ module _ (ceiling : Option ℕ) (f : Found) (is_settled : Bool) where
       by false true true (inr (inr e)) = absurd cc
 
 -- the cut file that is taken, as the code has it
-pub cut_mapped : (P : List ℕ → Type 0) (taken cut : Option (Vec ℕ Global)) → (taken ≡ cut) ⊎ ((taken ≡ None) × IfSome cut (λ path. P path.items))
+pub cut_mapped : (P : List ℕ → Type 0) (taken cut : Option (Vec ℕ Global)) → (taken ≡ cut)
+    ⊎ ((taken ≡ None) × IfSome cut (λ path. P path.items))
     → (option_map (λ (v : Vec ℕ Global). v.items) taken ≡ option_map (λ (v : Vec ℕ Global). v.items) cut)
     ⊎ ((option_map (λ (v : Vec ℕ Global). v.items) taken ≡ None) × IfSome (option_map (λ (v : Vec ℕ Global). v.items) cut) P)
 cut_mapped P taken cut (inl same) = inl (ap (option_map (λ (v : Vec ℕ Global). v.items)) same)

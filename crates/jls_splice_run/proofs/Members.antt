@@ -36,7 +36,8 @@ pub first_stop : (copies : List CopyFile) (d : CopyFile) → 0 < length copies
 first_stop [] d l = absurd (omega (arith, l))
 first_stop (c ∷ cs) d l = refl
 
-pub name_at : (names : List (Bor (List ℕ))) (i : ℕ) (d : Bor (List ℕ)) → i < length names → (get_or names i d).now ≡ get_or (texts_of names) i []
+pub name_at : (names : List (Bor (List ℕ))) (i : ℕ) (d : Bor (List ℕ)) → i < length names → (get_or names i d).now
+    ≡ get_or (texts_of names) i []
 name_at [] i d l = absurd (omega (arith, l))
 name_at (n ∷ ns) zero d l = refl
 name_at (n ∷ ns) (suc i) d l = name_at ns i d (omega (arith, l))

@@ -58,13 +58,15 @@ named_with named file start f new pushed called made =
     ∙ (λ i. named_files named ++ record { name = sym called i; bytes = sym made i } ∷ [])
     ∙ sym (map-append named_file named (f ∷ [])) ∙ ap named_files (sym pushed)
 
-module _ (files : List NumberedFile) (i : ℕ) (x : NumberedFile) (within : i < length files) (is : x ≡ get_or files i x) (old mid new : History) where
+module _ (files : List NumberedFile) (i : ℕ) (x : NumberedFile) (within : i < length files) (is : x ≡ get_or files i x)
+    (old mid new : History) where
   module _ (handed : GrewBy (HandsFiles (named_files (take i files))) old mid) where
     -- one more was handed its file
     pub one_more_handed : GrewBy (HandsOut (named_file x).name (named_file x).bytes) mid new
         → GrewBy (HandsFiles (named_files (take (i + 1) files))) old new
     one_more_handed h =
-        grew_on (HandsFiles (named_files (take i files))) (HandsOut (named_file x).name (named_file x).bytes) (HandsFiles (named_files (take (i + 1) files)))
+        grew_on (HandsFiles (named_files (take i files))) (HandsOut (named_file x).name (named_file x).bytes)
+        (HandsFiles (named_files (take (i + 1) files)))
         old mid new
         (λ a b before here. subst (λ (fs : List NamedFile). HandsFiles fs (a ++ b)) (sym (named_one_more files i x within is))
         (one_handed (named_files (take i files)) (named_file x) a b before here))
@@ -74,7 +76,8 @@ module _ (files : List NumberedFile) (i : ℕ) (x : NumberedFile) (within : i < 
     pub stops_at_one : (prefix : List ℕ) (r : Refusal) → GrewBy (StopsAtNumber prefix (i + 1) (named_file x) r) mid new
         → GrewBy (StopsAtFiles prefix (named_files files) r) old new
     stops_at_one prefix r h =
-        grew_on (HandsFiles (named_files (take i files))) (StopsAtNumber prefix (i + 1) (named_file x) r) (StopsAtFiles prefix (named_files files) r)
+        grew_on (HandsFiles (named_files (take i files))) (StopsAtNumber prefix (i + 1) (named_file x) r)
+        (StopsAtFiles prefix (named_files files) r)
         old mid new
         (λ a b before here. record {
           before = named_files (take i files);
@@ -85,6 +88,7 @@ module _ (files : List NumberedFile) (i : ℕ) (x : NumberedFile) (within : i < 
           stop = b;
           events_are = refl;
           handed = before;
-          stops = subst (λ (n : ℕ). StopsAtNumber prefix (n + 1) (named_file x) r b) (sym (named_count files i (omega (arith, within)))) here;
+          stops = subst (λ (n : ℕ). StopsAtNumber prefix (n + 1) (named_file x) r b) (sym (named_count files i (omega (arith, within))))
+              here;
         })
         handed h

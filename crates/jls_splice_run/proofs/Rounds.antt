@@ -24,19 +24,23 @@ none_reported false = refl
 reported_more : (tells : Bool) (rounds found tries files : ℕ) (events more : List Event) → IsReported tells (64 * rounds) found events
     → 64 * rounds < tries → tries ≤ 64 * rounds + 64 → found ≤ files → TellsLine tells tries files more
     → IsReported tells tries files (events ++ more)
-reported_more true rounds found tries files events more reported less near le printed = line rounds found tries files events more reported less near le printed
+reported_more true rounds found tries files events more reported less near le printed =
+    line rounds found tries files events more reported less near le printed
 reported_more false rounds found tries files events more reported less near le none = ap (λ (xs : List Event). xs ++ more) reported ∙ none
 
-pub reported_on : (options : SearchOptions) (old new : Search) (events more : List Event) → CanGoOn old options.tries → HasReported options old events
+pub reported_on : (options : SearchOptions) (old new : Search) (events more : List Event) → CanGoOn old options.tries
+    → HasReported options old events
     → GoesOn options old new more → HasReported options new (events ++ more)
 reported_on options old new events more can h g =
     let p = h.paused can in
     let before = length (lists_of old.splices.items) in
     let now = length (lists_of new.splices.items) in
     let at = p.1 in let less = g.tries in let near = g.near in
-    let reported : IsReported options.tells (64 * p.0) before events = subst (λ n. IsReported options.tells n before events) at h.reported in
+    let reported : IsReported options.tells (64 * p.0) before events =
+    subst (λ n. IsReported options.tells n before events) at h.reported in
     record {
-      reported = reported_more options.tells p.0 before new.tries now events more reported (omega (arith, at, less)) (omega (arith, at, near)) g.files g.reported;
+      reported = reported_more options.tells p.0 before new.tries now events more reported (omega (arith, at, less))
+          (omega (arith, at, near)) g.files g.reported;
       within = g.within;
       paused = λ again. (let e = g.paused again in (p.0 + 1, omega (arith, at, e)));
     }

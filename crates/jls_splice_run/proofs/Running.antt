@@ -27,10 +27,12 @@ run_of_answer words k _ _ faults (inl is) (usage _ text _ m n line) = let e : tr
 run_of_answer words k _ report _ (inr r) (help _ text _ n wrote) = helped k text report r n wrote
 run_of_answer words k _ report _ (inl is) (help _ text _ n wrote) = let e : false ≡ true = sym (ap is_help is) ∙ n in absurd cc
 run_of_answer words k _ report faults (inr r) (cut _ text count _ _ n wrote line) = help_cut k text count report faults r n wrote line
-run_of_answer words k _ report faults (inl is) (cut _ text count _ _ n wrote line) = let e : false ≡ true = sym (ap is_help is) ∙ n in absurd cc
+run_of_answer words k _ report faults (inl is) (cut _ text count _ _ n wrote line) = let e : false ≡ true = sym (ap is_help is) ∙ n in
+    absurd cc
 
 module _ (a : Asked) (desk desk' report report' faults mid faults' : History) where
-  pub performs : (status : ℕ) (outcome : Outcome) → status ≡ exit_status outcome → GrewAll (Splices a outcome) desk desk' report report' faults mid
+  pub performs : (status : ℕ) (outcome : Outcome) → status ≡ exit_status outcome
+      → GrewAll (Splices a outcome) desk desk' report report' faults mid
       → GrewBy (Printed (fault_line program outcome)) mid faults' → GrewAll (Performs a status) desk desk' report report' faults faults'
   performs status outcome is h line = record {
     desk_events = h.desk_events;
@@ -44,7 +46,8 @@ module _ (a : Asked) (desk desk' report report' faults mid faults' : History) wh
         (came_of outcome h.desk_events h.report_events h.fault_events line.events h.they_are line.they_are);
   }
 
-  pub performs_nothing : GrewBy (Printed (out_of_memory_line program)) faults faults' → GrewAll (Performs a 5) desk desk report report faults faults'
+  pub performs_nothing : GrewBy (Printed (out_of_memory_line program)) faults faults'
+      → GrewAll (Performs a 5) desk desk report report faults faults'
   performs_nothing line = record {
     desk_events = [];
     report_events = [];
@@ -68,7 +71,8 @@ module _ (words : List Text) (desk desk' report report' faults faults' : History
     they_are = run_of_answer words k status a.report_events a.fault_events r a.answer;
   }
 
-  pub ran : (a : Asked) (status : ℕ) → AskFor words a → (IsFileOut a → ⊥) → (IsNumberedOut a → ⊥) → GrewAll (Performs a status) desk desk' report report' faults faults'
+  pub ran : (a : Asked) (status : ℕ) → AskFor words a → (IsFileOut a → ⊥) → (IsNumberedOut a → ⊥)
+      → GrewAll (Performs a status) desk desk' report report' faults faults'
       → Ran words status desk desk' report report' faults faults'
   ran a status asks other no_number h = record {
     desk_events = h.desk_events;

@@ -55,7 +55,8 @@ module _ (files : List (List ℕ)) (file : List ℕ) where
   }
 
   pub faulty_more : (s : Faultless) → AreSeenSo files s → (IsFaultless file → ⊥) → AreSeenSo (files ++ file ∷ []) s
-  faulty_more Nothing none faulty = λ x c g. elim (one_of x c) [ inl before ↦ none x before g | inr e ↦ faulty (subst IsFaultless (sym e) g) ]
+  faulty_more Nothing none faulty =
+      λ x c g. elim (one_of x c) [ inl before ↦ none x before g | inr e ↦ faulty (subst IsFaultless (sym e) g) ]
   faulty_more (One other) only faulty = record {
     among = Contains-append_left files (file ∷ []) other.items only.among;
     faultless = only.faultless;

@@ -32,7 +32,8 @@ all_reported tells s xs a b one more = (a, b, refl, one, more)
 
 -- ---- what counts
 
-pub counting_more : (first : SearchMade) (xs : List SearchMade) (s : SearchMade) → counting first (xs ++ s ∷ []) ≡ counting_of (counting first xs) s
+pub counting_more : (first : SearchMade) (xs : List SearchMade) (s : SearchMade) → counting first (xs ++ s ∷ [])
+    ≡ counting_of (counting first xs) s
 counting_more first [] s = refl
 counting_more first (x ∷ xs) s = counting_more (counting_of first x) xs s
 
@@ -108,7 +109,8 @@ searched_made options parts s cut events h =
 
 -- ---- the tries of each
 
-all_and_one : (P : SearchMade → Type 0) (xs : List SearchMade) (s : SearchMade) → AllByRecursion P xs → P s → AllByRecursion P (xs ++ s ∷ [])
+all_and_one : (P : SearchMade → Type 0) (xs : List SearchMade) (s : SearchMade) → AllByRecursion P xs → P s
+    → AllByRecursion P (xs ++ s ∷ [])
 all_and_one P [] s h p = (p, tt)
 all_and_one P (x ∷ xs) s h p = (h.0, all_and_one P xs s h.1 p)
 
@@ -144,10 +146,12 @@ reported_before most tells xs done last all reported some = (xs, done, last, ref
 
 pub all_before : (most : ℕ) (tells : Bool) (xs : List SearchMade) (events : List Event) → AllByRecursion (λ s. s.tries ≤ most) xs
     → AreReported tells xs events → ReportedUpTo most tells events
-all_before most tells xs events all reported = (xs, events, [], sym (append-nil events), all, reported, (0, 0, omega arith, none_reported tells))
+all_before most tells xs events all reported =
+    (xs, events, [], sym (append-nil events), all, reported, (0, 0, omega arith, none_reported tells))
 
 -- one search before others
-pub one_before : (most : ℕ) (tells : Bool) (s : SearchMade) (a b : List Event) → s.tries ≤ most → IsReported tells s.tries (length s.choices) a
+pub one_before : (most : ℕ) (tells : Bool) (s : SearchMade) (a b : List Event) → s.tries ≤ most
+    → IsReported tells s.tries (length s.choices) a
     → ReportedUpTo most tells b → ReportedUpTo most tells (a ++ b)
 one_before most tells s a b within one (xs, done, last, is, all, reported, some) = (
   s ∷ xs,
@@ -160,11 +164,13 @@ one_before most tells s a b within one (xs, done, last, is, all, reported, some)
 )
 
 -- a search in turn has no more tries than are allowed
-few_reported : (fewer most : ℕ) (tells : Bool) (events : List Event) → fewer ≤ most → ReportedSome fewer tells events → ReportedSome most tells events
+few_reported : (fewer most : ℕ) (tells : Bool) (events : List Event) → fewer ≤ most → ReportedSome fewer tells events
+    → ReportedSome most tells events
 few_reported fewer most tells events less (tries, files, within, reported) = (tries, files, omega (arith, less, within), reported)
 
 pub some_before : (parts : List Part) (options : SearchOptions) (limits : List ℕ) (turned : Turned) (a b : List Event)
-    → HasTurned parts options limits turned a → ReportedSome turned.tries options.tells b → ReportedUpTo options.tries options.tells (a ++ b)
+    → HasTurned parts options limits turned a → ReportedSome turned.tries options.tells b
+    → ReportedUpTo options.tries options.tells (a ++ b)
 some_before parts options limits turned a b h some =
     let allowed = tries_within options.tries options.tries h.searches (omega arith) in
     let same = h.tries_are in
@@ -199,8 +205,10 @@ module _ (parts : List Part) (options : SearchOptions) where
     reported = refl;
   }
 
-  pub turned_on : (limits : List ℕ) (old new : Turned) (limit : ℕ) (s : SearchMade) (a b : List Event) → HasTurned parts options limits old a
-      → IsReported options.tells s.tries (length s.choices) b → s.ceiling ≡ Some limit → IsSearchMade parts old.tries s → s.is_used_up ≡ false
+  pub turned_on : (limits : List ℕ) (old new : Turned) (limit : ℕ) (s : SearchMade) (a b : List Event)
+      → HasTurned parts options limits old a
+      → IsReported options.tells s.tries (length s.choices) b → s.ceiling ≡ Some limit → IsSearchMade parts old.tries s → s.is_used_up
+      ≡ false
       → new.tries ≡ next_tries options.tries old.tries s → new.whole ≡ Some limit
       → ((first : SearchMade) → last_or first new.found ≡ counting_of (last_or first old.found) s)
       → HasTurned parts options (limits ++ limit ∷ []) new (a ++ b)
@@ -237,7 +245,8 @@ module _ (parts : List Part) (options : SearchOptions) where
 
 -- ---- all searches
 
-module _ (options : SearchOptions) (parts : List Part) (first : SearchMade) (asked : first.ceiling ≡ options.ceiling) (made : IsSearchMade parts options.tries first) where
+module _ (options : SearchOptions) (parts : List Part) (first : SearchMade) (asked : first.ceiling ≡ options.ceiling)
+    (made : IsSearchMade parts options.tries first) where
   -- the one that is asked for is the only one
   pub searched_once : (events : List Event) → IsSome options.ceiling ⊎ (first.is_used_up ≡ false)
       → IsReported options.tells first.tries (length first.choices) events → HasSearched options parts first options.ceiling events

@@ -8,6 +8,13 @@ pub returns-in-Err-clause-stopped : goal.returns-in-Err-clause-stopped
 returns-in-Err-clause-stopped g c =
     let history = g.D.Device.history in
     let names = texts_of c.args.names.now in
-    grew_as (StopsAmongCopies names c.in-Err.refusal) (StopsAtCopies names c.refusal_of.result) (history c.args.desk.now) (history c.read_copies.new.desk)
-    (λ events h. record { refusal = c.in-Err.refusal; stops = h; name_is = c.refusal_of.ensures.name; cause_is = c.refusal_of.ensures.cause })
+    grew_as (StopsAmongCopies names c.in-Err.refusal) (StopsAtCopies names c.refusal_of.result) (history c.args.desk.now)
+    (history c.read_copies.new.desk)
+    (λ events h. record {
+      refusal = c.in-Err.refusal;
+      stops = h;
+      name_is = c.refusal_of.ensures.name;
+      cause_is =
+          c.refusal_of.ensures.cause;
+    })
     c.in-Err.ensures.stopped

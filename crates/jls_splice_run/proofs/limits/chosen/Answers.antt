@@ -10,7 +10,8 @@ counting : (first : Searched) (found : Option Searched) → search_made (unwrap_
 counting first None = refl
 counting first (Some last) = refl
 
-keeps : (parts : List Part) (first : Searched) (found : Option Searched) → IfSome found (HasReader parts) → IfSome first.reader (IsKept parts)
+keeps : (parts : List Part) (first : Searched) (found : Option Searched) → IfSome found (HasReader parts)
+    → IfSome first.reader (IsKept parts)
     → IfSome (unwrap_or found first).reader (IsKept parts)
 keeps parts first None last kept = kept
 keeps parts first (Some s) last kept = last
@@ -20,4 +21,5 @@ returns-clause-counts c = ap search_made c.unwrap_or.ensures ∙ counting c.args
 
 pub returns-clause-reader : goal.returns-clause-reader
 returns-clause-reader c = λ parts last kept.
-    subst (λ (s : Searched). IfSome s.reader (IsKept parts)) (sym c.unwrap_or.ensures) (keeps parts c.args.first c.args.turned.found last kept)
+    subst (λ (s : Searched). IfSome s.reader (IsKept parts)) (sym c.unwrap_or.ensures)
+    (keeps parts c.args.first c.args.turned.found last kept)

@@ -33,7 +33,8 @@ returns-in_err-turned-clause-reported_some g c =
     let h = history c.args.faults.now in
     let h' = history c.search_in_turn.new.faults in
     on_error _ (GrewBy (ReportedUpTo options.tries options.tells) h h')
-    (grew_on (IsReported options.tells first.tries (length first.choices)) (ReportedUpTo options.tries options.tells) (ReportedUpTo options.tries options.tells)
+    (grew_on (IsReported options.tells first.tries (length first.choices)) (ReportedUpTo options.tries options.tells)
+    (ReportedUpTo options.tries options.tells)
     h (history c.search_once.new.faults) h'
     (λ a b reported up. one_before options.tries options.tells first a b c.in_ok-first.ensures.is_made.within reported up)
     c.in_ok-first.ensures.reported c.in_err-turned.ensures.reported_some)
@@ -48,8 +49,10 @@ returns-clause-searched g c =
     let all = c.chosen.result in
     let s = search_made all.searched in
     let none : options.ceiling ≡ None = none_given options.ceiling (sym c.is_some.ensures ∙ c.if-is_some.false) in
-    grew_on (IsReported options.tells first.tries (length first.choices)) (TookTurns parts options limits turned) (HasSearched options parts s all.cut_limit)
+    grew_on (IsReported options.tells first.tries (length first.choices)) (TookTurns parts options limits turned)
+    (HasSearched options parts s all.cut_limit)
     (history c.args.faults.now) (history c.search_once.new.faults) (history c.search_in_turn.new.faults)
-    (λ a b reported t. searched_in_turn options parts first c.in_ok-first.ensures.ceiling c.in_ok-first.ensures.is_made turned s all.cut_limit a b none (not-false c.in_ok-first.first.is_used_up c.if-not-first.false) reported t
+    (λ a b reported t. searched_in_turn options parts first c.in_ok-first.ensures.ceiling c.in_ok-first.ensures.is_made turned s
+    all.cut_limit a b none (not-false c.in_ok-first.first.is_used_up c.if-not-first.false) reported t
     c.chosen.ensures.counts c.chosen.ensures.cut)
     c.in_ok-first.ensures.reported c.in_ok-turned.ensures.turned

@@ -19,7 +19,8 @@ use Rattle.jls_splice_run.proofs.limits.search_and_tell.Goals as goal
 
 pub returns-then-not-are_short-clause-reported_some : goal.returns-then-not-are_short-clause-reported_some
 returns-then-not-are_short-clause-reported_some g c =
-    grew_not (ReportedUpTo c.args.options.tries c.args.options.tells) (g.E.Device.history c.args.faults.now) (nothing_reported c.args.options.tries c.args.options.tells)
+    grew_not (ReportedUpTo c.args.options.tries c.args.options.tells) (g.E.Device.history c.args.faults.now)
+    (nothing_reported c.args.options.tries c.args.options.tells)
 
 pub returns-in_err-parts-clause-reported_some : goal.returns-in_err-parts-clause-reported_some
 returns-in_err-parts-clause-reported_some g c =
@@ -32,13 +33,15 @@ pub search_all-requires-clause-short : goal.search_all-requires-clause-short
 search_all-requires-clause-short g c =
     let copies : List (List ℕ) = bytes_of c.args.copies.now in
     let some : 0 < length copies = subst (λ n. 0 < n) (sym (count_of_slices c.args.copies.now)) c.requires in
-    (c.parts_can_be_searched.ensures copies c.in_ok-parts.parts c.in_ok-parts.ensures some (c.are_short.ensures.0 c.if-not-are_short.false)).1
+    (c.parts_can_be_searched.ensures copies c.in_ok-parts.parts c.in_ok-parts.ensures some
+    (c.are_short.ensures.0 c.if-not-are_short.false)).1
 
 pub limit_of_cut-requires-clause-short : goal.limit_of_cut-requires-clause-short
 limit_of_cut-requires-clause-short g c =
     let copies : List (List ℕ) = bytes_of c.args.copies.now in
     let some : 0 < length copies = subst (λ n. 0 < n) (sym (count_of_slices c.args.copies.now)) c.requires in
-    (c.parts_can_be_searched.ensures copies c.in_ok-parts.parts c.in_ok-parts.ensures some (c.are_short.ensures.0 c.if-not-are_short.false)).1
+    (c.parts_can_be_searched.ensures copies c.in_ok-parts.parts c.in_ok-parts.ensures some
+    (c.are_short.ensures.0 c.if-not-are_short.false)).1
 
 pub returns-in_err-cut-clause-reported_some : goal.returns-in_err-cut-clause-reported_some
 returns-in_err-cut-clause-reported_some g c =
@@ -76,19 +79,22 @@ pub returns-clause-short : goal.returns-clause-short
 returns-clause-short g c =
     let copies : List (List ℕ) = bytes_of c.args.copies.now in
     let some : 0 < length copies = subst (λ n. 0 < n) (sym (count_of_slices c.args.copies.now)) c.requires in
-    (c.parts_can_be_searched.ensures copies c.in_ok-splices.splices.parts c.in_ok-splices.ensures.found.are_parts some (c.are_short.ensures.0 c.if-not-are_short.false)).1
+    (c.parts_can_be_searched.ensures copies c.in_ok-splices.splices.parts c.in_ok-splices.ensures.found.are_parts some
+    (c.are_short.ensures.0 c.if-not-are_short.false)).1
 
 pub returns-clause-some_way : goal.returns-clause-some_way
 returns-clause-some_way g c =
     let copies : List (List ℕ) = bytes_of c.args.copies.now in
     let some : 0 < length copies = subst (λ n. 0 < n) (sym (count_of_slices c.args.copies.now)) c.requires in
-    (c.parts_can_be_searched.ensures copies c.in_ok-splices.splices.parts c.in_ok-splices.ensures.found.are_parts some (c.are_short.ensures.0 c.if-not-are_short.false)).0
+    (c.parts_can_be_searched.ensures copies c.in_ok-splices.splices.parts c.in_ok-splices.ensures.found.are_parts some
+    (c.are_short.ensures.0 c.if-not-are_short.false)).0
 
 pub returns-clause-small : goal.returns-clause-small
 returns-clause-small g c =
     let copies : List (List ℕ) = bytes_of c.args.copies.now in
     let some : 0 < length copies = subst (λ n. 0 < n) (sym (count_of_slices c.args.copies.now)) c.requires in
-    first_is_short copies c.in_ok-splices.splices.parts c.in_ok-splices.ensures.found.are_parts some (c.are_short.ensures.0 c.if-not-are_short.false)
+    first_is_short copies c.in_ok-splices.splices.parts c.in_ok-splices.ensures.found.are_parts some
+    (c.are_short.ensures.0 c.if-not-are_short.false)
 
 pub returns-clause-searched : goal.returns-clause-searched
 returns-clause-searched g c =

@@ -47,7 +47,8 @@ returns-then-searched-clause-turned g c =
     (grew_on (HasTurned parts options (take i all) turned) (IsReported options.tells s.tries (length s.choices))
     (TookTurns parts options (take i all ++ limit ∷ drop (i + 1) all) turned)
     h (history c.loop-limit.faults) h'
-    (λ a b t reported. turned_up_to parts options (take i all) (drop (i + 1) all) turned limit s a b t reported c.in_ok-searched.ensures.ceiling c.in_ok-searched.ensures.is_made c.if-searched.true)
+    (λ a b t reported. turned_up_to parts options (take i all) (drop (i + 1) all) turned limit s a b t reported
+    c.in_ok-searched.ensures.ceiling c.in_ok-searched.ensures.is_made c.if-searched.true)
     c.loop-limit.invariant.told c.in_ok-searched.ensures.reported)
 
 pub loop-limit-preserved : goal.loop-limit-preserved
@@ -69,7 +70,8 @@ loop-limit-preserved g c =
           (grew_on (HasTurned parts options (take i all) old) (IsReported options.tells s.tries (length s.choices))
           (HasTurned parts options (take i all ++ limit ∷ []) new)
           h (history c.loop-limit.faults) h'
-          (λ a b t reported. turned_on parts options (take i all) old new limit s a b t reported c.in_ok-searched.ensures.ceiling c.in_ok-searched.ensures.is_made c.if-searched.false e.tries (e.whole ∙ c.in_ok-searched.ensures.ceiling) e.found)
+          (λ a b t reported. turned_on parts options (take i all) old new limit s a b t reported c.in_ok-searched.ensures.ceiling
+          c.in_ok-searched.ensures.is_made c.if-searched.false e.tries (e.whole ∙ c.in_ok-searched.ensures.ceiling) e.found)
           c.loop-limit.invariant.told c.in_ok-searched.ensures.reported);
       reader = e.reader parts c.loop-limit.invariant.reader c.in_ok-searched.ensures.reader;
     }
@@ -86,4 +88,5 @@ returns-clause-turned g c =
     let h' = history c.loop-limit.faults in
     grew_as (HasTurned parts options all turned) (TookTurns parts options all turned) h h'
     (λ events t. took_all parts options all turned events t)
-    (subst (λ (ls : List ℕ). GrewBy (HasTurned parts options ls turned) h h') (take_all i all c.loop-limit-test.false) c.loop-limit.invariant.told)
+    (subst (λ (ls : List ℕ). GrewBy (HasTurned parts options ls turned) h h') (take_all i all c.loop-limit-test.false)
+    c.loop-limit.invariant.told)

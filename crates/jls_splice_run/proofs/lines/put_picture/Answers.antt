@@ -9,5 +9,6 @@ returns c =
     let words = codes "promise picture if each differ is true in some copy" in
     let rest = samples_end (codes " and samples are up to ") c.args.limit in
     let extended : c.extend_from_slice.new.self.items ≡ old ++ words = c.in_ok-extend_from_slice.ensures.items in
-    on_ok c.put_samples.result (c.put_samples.new.out.items ≡ c.extend_from_slice.new.self.items ++ rest) (c.put_samples.new.out.items ≡ old ++ (words ++ rest))
+    on_ok c.put_samples.result (c.put_samples.new.out.items ≡ c.extend_from_slice.new.self.items ++ rest)
+    (c.put_samples.new.out.items ≡ old ++ (words ++ rest))
     (λ e. e ∙ ap (λ xs. xs ++ rest) extended ∙ append_assoc old words rest) c.put_samples.ensures

@@ -19,10 +19,12 @@ returns-then-len-ge-MOST_NAMED c = λ files are.
     let named = c.args.named.now.items in
     elim c.then-len-ge-MOST_NAMED.branch [
       | then-len-ge-MOST_NAMED-via-then-len-ge-MOST_NAMED w ↦
-          left_out files (named_files named) c.args.file.now are (λ f. inr (let n = counted named in omega (arith, n, c.len.ensures, w.if-len-ge-MOST_NAMED.true)))
+          left_out files (named_files named) c.args.file.now are
+          (λ f. inr (let n = counted named in omega (arith, n, c.len.ensures, w.if-len-ge-MOST_NAMED.true)))
       | then-len-ge-MOST_NAMED-via-else-len-ge-MOST_NAMED+then-has_name w ↦
           left_out files (named_files named) c.args.file.now are
-          (λ f. inl (ap (λ (xs : List NumberedFile). is_named (named_files xs) c.args.file.now) (sym w.deref.ensures.value) ∙ sym w.has_name.ensures ∙ w.if-has_name.true))
+          (λ f. inl (ap (λ (xs : List NumberedFile). is_named (named_files xs) c.args.file.now) (sym w.deref.ensures.value)
+          ∙ sym w.has_name.ensures ∙ w.if-has_name.true))
     ]
 
 pub returns-in_ok-push : goal.returns-in_ok-push
@@ -31,14 +33,16 @@ returns-in_ok-push c = λ files are.
     let count = counted named in
     let faultless : IsFaultless c.args.file.now = c.requires.0 c.if-faultless.true in
     let new : is_named (named_files named) c.args.file.now ≡ false =
-    ap (λ (xs : List NumberedFile). is_named (named_files xs) c.args.file.now) (sym c.deref.ensures.value) ∙ sym c.has_name.ensures ∙ c.if-has_name.false in
+    ap (λ (xs : List NumberedFile). is_named (named_files xs) c.args.file.now) (sym c.deref.ensures.value) ∙ sym c.has_name.ensures
+    ∙ c.if-has_name.false in
     let few : length (named_files named) < 64 = omega (arith, count, c.len.ensures, c.if-len-ge-MOST_NAMED.false) in
     let same : c.len-then-faultless.result ≡ length named = omega (arith, c.len-then-faultless.ensures, c.args.named.now.ok) in
     let called : string_bytes c.in_ok-name.name ≡ numbered c.args.prefix.now (length named + 1) =
     c.in_ok-name.ensures ∙ ap (λ (n : ℕ). numbered c.args.prefix.now (n + 1)) same in
     let f : NumberedFile = record { name = c.in_ok-name.name; bytes = c.in_ok-bytes.bytes } in
     subst (λ (xs : List NamedFile). AreNamed c.args.prefix.now (files ++ c.args.file.now ∷ []) xs)
-    (named_with named c.args.file.now c.args.prefix.now f c.push.new.self.items c.in_ok-push.ensures.items called c.in_ok-bytes.ensures.items)
+    (named_with named c.args.file.now c.args.prefix.now f c.push.new.self.items c.in_ok-push.ensures.items called
+    c.in_ok-bytes.ensures.items)
     (one_named files (named_files named) c.args.file.now are faultless new few)
 
 pub returns-else-faultless : goal.returns-else-faultless

@@ -1,6 +1,5 @@
 use Rattle.std.proofs.Common.{◌≡◌, ℕ, false, List, [], ◌∷◌, ◌++◌, Vec, Global, take, get_or, sym, ap, ◌∙◌, subst, append_assoc, arith}
 use Rattle.std.specs.Prelude.{◌↔◌, IsTrue}
-use Rattle.std.proofs.lemmas.List.{take_all}
 use Rattle.jls_search.specs.Choices.{IsPath, prefix_of}
 use Rattle.jls_search.specs.Faultless.{IsFaultless}
 use Rattle.jls_search.specs.Search.{files_of, lists_of}
@@ -29,9 +28,11 @@ name_file-requires c =
     let ps = files.parts.now in
     let v = c.index-files-place.result in
     let bytes : List ℕ = c.deref-in-loop-place.result.now in
-    let made : bytes ≡ prefix_of ps v.items = c.deref-in-loop-place.ensures.value ∙ c.in_ok-file.ensures ∙ ap (prefix_of ps) (c.deref.ensures.value ∙ ap (λ (x : Vec ℕ Global). x.items) (sym c.index-files-place.is)) in
+    let made : bytes ≡ prefix_of ps v.items = c.deref-in-loop-place.ensures.value ∙ c.in_ok-file.ensures
+    ∙ ap (prefix_of ps) (c.deref.ensures.value ∙ ap (λ (x : Vec ℕ Global). x.items) (sym c.index-files-place.is)) in
     subst (λ (file : List ℕ). IsTrue (get_or c.args.verdicts.now c.loop-place.place false) ↔ IsFaultless file) (sym made)
-    (on_splice ps files.splices.now c.args.verdicts.now c.loop-place.place v false c.requires.verdicts c.loop-place-test.true c.index-files-place.is)
+    (on_splice ps files.splices.now c.args.verdicts.now c.loop-place.place v false c.requires.verdicts c.loop-place-test.true
+    c.index-files-place.is)
 
 pub loop-place-preserved : goal.loop-place-preserved
 loop-place-preserved c = λ files named.
@@ -41,7 +42,8 @@ loop-place-preserved c = λ files named.
     let v = c.index-files-place.result in
     let bytes : List ℕ = c.deref-in-loop-place.result.now in
     let before = files_of ps (lists_of (take i vs)) in
-    let made : bytes ≡ prefix_of ps v.items = c.deref-in-loop-place.ensures.value ∙ c.in_ok-file.ensures ∙ ap (prefix_of ps) (c.deref.ensures.value ∙ ap (λ (x : Vec ℕ Global). x.items) (sym c.index-files-place.is)) in
+    let made : bytes ≡ prefix_of ps v.items = c.deref-in-loop-place.ensures.value ∙ c.in_ok-file.ensures
+    ∙ ap (prefix_of ps) (c.deref.ensures.value ∙ ap (λ (x : Vec ℕ Global). x.items) (sym c.index-files-place.is)) in
     subst (λ (xs : List (List ℕ)). AreNamed c.args.prefix.now xs (named_files c.name_file.new.named.items))
     (append_assoc files before (bytes ∷ []) ∙ ap (λ (z : List ℕ). files ++ (before ++ z ∷ [])) made
     ∙ ap (λ (z : List (List ℕ)). files ++ z) (sym (splices_one_more ps vs i v c.loop-place-test.true c.index-files-place.is)))

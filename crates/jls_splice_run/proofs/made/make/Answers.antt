@@ -1,5 +1,6 @@
 use Rattle.std.proofs.Common.{◌≡◌, ℕ, Vec, Global, Option, Some, None, List, length, inl, inr, ap, sym, ◌∙◌, subst}
 use Rattle.std.specs.Prelude.{◌⊎◌, IfSome, option_map}
+use Rattle.std.proofs.lemmas.Result.{err_from_is_err_and}
 use Rattle.jls_station.specs.CopyFiles.{CopyBytes, copies_of}
 use Rattle.jls_io.specs.Event.{Event, GrewBy, History}
 use Rattle.jls_io.proofs.Growing.{grew_as, grew_not}
@@ -37,7 +38,8 @@ Searched a found events =
 
 -- however the code holds what was asked
 told : (a : Asked) (found : FoundInTurn) (o : SearchOptions) → o ≡ options_of a → (old new : History)
-    → GrewBy (HasChosenLimit o found.splices.parts (search_of found.splices.ceiling (found_of found.splices) found.splices.tries) found.cut_limit) old new
+    → GrewBy (HasChosenLimit o found.splices.parts (search_of found.splices.ceiling (found_of found.splices) found.splices.tries)
+    found.cut_limit) old new
     → GrewBy (Searched a found) old new
 told a found o same old new h =
     subst (λ (o : SearchOptions). GrewBy (HasChosenLimit o found.splices.parts
@@ -61,10 +63,12 @@ pub returns-in-Err-search_and_tell-clause-stopped : goal.returns-in-Err-search_a
 returns-in-Err-search_and_tell-clause-stopped g c =
     let a = task_of c.args.task.now in
     let want = c.want_of_memory-in-Err-search_and_tell.ensures in
-    grew_as (ReportedUpTo a.options.tries a.options.progress) (CantMake a (copies_of c.args.copies.now) c.want_of_memory-in-Err-search_and_tell.result)
+    grew_as (ReportedUpTo a.options.tries a.options.progress)
+    (CantMake a (copies_of c.args.copies.now) c.want_of_memory-in-Err-search_and_tell.result)
     (g.E.Device.history c.args.faults.now) (g.E.Device.history c.search_and_tell.new.faults)
     (λ events reported. inl ((want.name, want.cause), reported))
-    (subst (λ (o : SearchOptions). GrewBy (ReportedUpTo o.tries o.tells) (g.E.Device.history c.args.faults.now) (g.E.Device.history c.search_and_tell.new.faults))
+    (subst (λ (o : SearchOptions). GrewBy (ReportedUpTo o.tries o.tells) (g.E.Device.history c.args.faults.now)
+    (g.E.Device.history c.search_and_tell.new.faults))
     c.search_options.ensures c.in-Err-search_and_tell.ensures.reported_some)
 
 -- what the searches reported until memory ran out after them
@@ -85,7 +89,8 @@ returns-in-Err-find_cut-clause-stopped g c =
     let copies = copies_of c.args.copies.now in
     grew_as (Searched a found) (CantMake a copies c.want_of_memory-in-Err-find_cut.result)
     (g.E.Device.history c.args.faults.now) (g.E.Device.history c.search_and_tell.new.faults)
-    (searched_in a found copies c.want_of_memory-in-Err-find_cut.result (want.name, want.cause)) (told a found c.search_options.result c.search_options.ensures _ _ c.in-Ok-search_and_tell.ensures.searched)
+    (searched_in a found copies c.want_of_memory-in-Err-find_cut.result (want.name, want.cause))
+    (told a found c.search_options.result c.search_options.ensures _ _ c.in-Ok-search_and_tell.ensures.searched)
 
 pub settle-requires-clause-cut : goal.settle-requires-clause-cut
 settle-requires-clause-cut g c =
@@ -103,18 +108,31 @@ returns-in_err-held-clause-stopped g c =
     let copies : List CopyBytes = copies_of c.args.copies.now in
     let all = c.in-Ok-search_and_tell.found in
     let found = all.splices in
-    let r = c.in_err-held.refusal in
+    let r = c.in_err-held.field-0.0 in
     let searched : bytes_of c.deref.result.now ≡ bytes_read copies = ap bytes_of c.deref.ensures.value ∙ c.in-Ok.ensures in
     let splices : files_of found.parts (lists_of c.deref-3.result.now) ≡ splices_in (found_of found) =
     (λ i. files_of found.parts (lists_of (c.deref-3.ensures.value i))) ∙ c.in-Ok-search_and_tell.ensures.splices in
-    let is_found = subst (λ (xs : List (List ℕ)). IsFound found.ceiling xs (found_of found)) searched c.in-Ok-search_and_tell.ensures.found in
+    let is_found = subst (λ (xs : List (List ℕ)). IsFound found.ceiling xs (found_of found)) searched
+    c.in-Ok-search_and_tell.ensures.found in
     let groups = subst (λ (n : ℕ). IfSome (found_of found).by_groups (IsGroupSearch a.options.tries n found.parts))
-    (sym (count_of_slices c.deref.result.now) ∙ ap length searched) (subst (λ (o : SearchOptions). IfSome (found_of found).by_groups (IsGroupSearch o.tries (length c.deref.result.now) found.parts)) c.search_options.ensures c.in-Ok-search_and_tell.ensures.of_groups) in
+    (sym (count_of_slices c.deref.result.now) ∙ ap length searched)
+    (subst (λ (o : SearchOptions). IfSome (found_of found).by_groups (IsGroupSearch o.tries (length c.deref.result.now) found.parts))
+    c.search_options.ensures c.in-Ok-search_and_tell.ensures.of_groups) in
     let unsettled = subst (λ (xs : List (List ℕ)). IsUnsettled a copies xs r) splices c.in_err-held.ensures.stopped in
-    grew_as (Searched a all) (CantMake a copies r)
+    let p = err_from_is_err_and c.from_residual.result c.from_residual.ensures.1 in
+    rw (p.1, p.2) (grew_as (Searched a all) (CantMake a copies r)
     (g.E.Device.history c.args.faults.now) (g.E.Device.history c.search_and_tell.new.faults)
-    (λ events h. inr (h.1.searches, found.ceiling, found_of found, found.tries, counted_in a (bytes_read copies) all events groups h, is_found, unsettled, h.1.reported))
-    (told a all c.search_options.result c.search_options.ensures _ _ c.in-Ok-search_and_tell.ensures.searched)
+    (λ events h. inr (
+      h.1.searches,
+      found.ceiling,
+      found_of found,
+      found.tries,
+      counted_in a (bytes_read copies) all events groups h,
+      is_found,
+      unsettled,
+      h.1.reported,
+    ))
+    (told a all c.search_options.result c.search_options.ensures _ _ c.in-Ok-search_and_tell.ensures.searched))
 
 pub returns-clause-stopped : goal.returns-clause-stopped
 returns-clause-stopped g c =
@@ -124,7 +142,8 @@ returns-clause-stopped g c =
     let copies = copies_of c.args.copies.now in
     grew_as (Searched a found) (CantMake a copies c.want_of_memory-in-Err-texts_of.result)
     (g.E.Device.history c.args.faults.now) (g.E.Device.history c.search_and_tell.new.faults)
-    (searched_in a found copies c.want_of_memory-in-Err-texts_of.result (want.name, want.cause)) (told a found c.search_options.result c.search_options.ensures _ _ c.in-Ok-search_and_tell.ensures.searched)
+    (searched_in a found copies c.want_of_memory-in-Err-texts_of.result (want.name, want.cause))
+    (told a found c.search_options.result c.search_options.ensures _ _ c.in-Ok-search_and_tell.ensures.searched)
 
 pub returns-in-Ok-texts_of-clause-made : goal.returns-in-Ok-texts_of-clause-made
 returns-in-Ok-texts_of-clause-made g c =
@@ -142,9 +161,12 @@ returns-in-Ok-texts_of-clause-made g c =
     let choices = option_map (λ (path : Vec ℕ Global). path.items) held.cut in
     let cut : option_map (λ (path : Vec ℕ Global). prefix_of found.parts path.items) held.cut ≡ cut_file (found_of found) choices =
     sym (mapped_twice (prefix_of parts) (λ (path : Vec ℕ Global). path.items) held.cut) in
-    let is_found = subst (λ (xs : List (List ℕ)). IsFound found.ceiling xs (found_of found)) searched c.in-Ok-search_and_tell.ensures.found in
+    let is_found = subst (λ (xs : List (List ℕ)). IsFound found.ceiling xs (found_of found)) searched
+    c.in-Ok-search_and_tell.ensures.found in
     let groups = subst (λ (n : ℕ). IfSome (found_of found).by_groups (IsGroupSearch a.options.tries n parts))
-    (sym (count_of_slices c.deref.result.now) ∙ ap length searched) (subst (λ (o : SearchOptions). IfSome (found_of found).by_groups (IsGroupSearch o.tries (length c.deref.result.now) found.parts)) c.search_options.ensures c.in-Ok-search_and_tell.ensures.of_groups) in
+    (sym (count_of_slices c.deref.result.now) ∙ ap length searched)
+    (subst (λ (o : SearchOptions). IfSome (found_of found).by_groups (IsGroupSearch o.tries (length c.deref.result.now) found.parts))
+    c.search_options.ensures c.in-Ok-search_and_tell.ensures.of_groups) in
     grew_as (Searched a all) (HoldsMade a (copies_of c.args.copies.now) v)
     (g.E.Device.history c.args.faults.now) (g.E.Device.history c.search_and_tell.new.faults)
     (λ events h. (
@@ -154,18 +176,24 @@ returns-in-Ok-texts_of-clause-made g c =
         is_found = is_found;
         cut_ceiling_is = subst (λ (l : Option ℕ). IsCutLimit parts l (found_of found).choices all.cut_limit) (sym h.1.cut_is) h.2;
         is_lone = found_mapped (IsCut all.cut_limit (found_of found)) c.in-Ok-find_cut.cut c.in-Ok-find_cut.ensures.lone;
-        no_lone = none_mapped (FindsNoCut all.cut_limit a.options.tries (found_of found)) c.in-Ok-find_cut.cut c.in-Ok-find_cut.ensures.none;
+        no_lone = none_mapped (FindsNoCut all.cut_limit a.options.tries (found_of found)) c.in-Ok-find_cut.cut
+            c.in-Ok-find_cut.ensures.none;
         is_cut = cut_mapped (λ path. TakesNoCut copies (splices_in (found_of found)) (prefix_of parts path)) held.cut c.in-Ok-find_cut.cut
-            (subst (λ (xs : List (List ℕ)). (held.cut ≡ c.in-Ok-find_cut.cut) ⊎ ((held.cut ≡ None) × IfSome c.in-Ok-find_cut.cut (λ path. TakesNoCut copies xs (prefix_of parts path.items)))) splices
+            (subst (λ (xs : List (List ℕ)). (held.cut ≡ c.in-Ok-find_cut.cut)
+            ⊎ ((held.cut ≡ None) × IfSome c.in-Ok-find_cut.cut (λ path. TakesNoCut copies xs (prefix_of parts path.items)))) splices
             c.in_ok-held.ensures.cut);
         is_picture = subst (λ (o : Option (List ℕ)). IsPictureOf a.options.source copies (splices_in (found_of found)) o held.station) cut
             (subst (λ (xs : List (List ℕ)). IsPictureOf a.options.source copies xs
-            (option_map (λ (path : Vec ℕ Global). prefix_of found.parts path.items) held.cut) held.station) splices c.in_ok-held.ensures.settled);
+            (option_map (λ (path : Vec ℕ Global). prefix_of found.parts path.items) held.cut) held.station) splices
+            c.in_ok-held.ensures.settled);
         settled = c.in-Ok-texts_of.ensures.settled;
-        is_single = subst (λ (xs : List (List ℕ)). IsSingleAsked a.options.file (files_taken xs (found_of found)) (option_map (λ (f : Vec ℕ Global). f.items) v.file)) reported c.in-Ok-texts_of.ensures.single;
-        are_named = subst (λ (xs : List (List ℕ)). AreNamedAsked a.options.files (files_taken xs (found_of found)) (named_files v.files.items)) reported c.in-Ok-texts_of.ensures.named;
+        is_single = subst (λ (xs : List (List ℕ)). IsSingleAsked a.options.file (files_taken xs (found_of found))
+            (option_map (λ (f : Vec ℕ Global). f.items) v.file)) reported c.in-Ok-texts_of.ensures.single;
+        are_named = subst (λ (xs : List (List ℕ)). AreNamedAsked a.options.files (files_taken xs (found_of found))
+            (named_files v.files.items)) reported c.in-Ok-texts_of.ensures.named;
       },
-      subst (λ (xs : List (List ℕ)). AreTextsOf a xs (made_of h.1.searches all c.in-Ok-find_cut.cut held.cut held.station v) v) reported (c.in-Ok-texts_of.ensures.texts h.1.searches c.in-Ok-find_cut.cut),
+      subst (λ (xs : List (List ℕ)). AreTextsOf a xs (made_of h.1.searches all c.in-Ok-find_cut.cut held.cut held.station v) v) reported
+          (c.in-Ok-texts_of.ensures.texts h.1.searches c.in-Ok-find_cut.cut),
       h.1.reported,
     ))
     (told a all c.search_options.result c.search_options.ensures _ _ c.in-Ok-search_and_tell.ensures.searched)

@@ -35,7 +35,8 @@ returns-clause-texts c = λ searches lone.
     let single = option_map (λ (f : Vec ℕ Global). f.items) file in
     let new : c.in_ok-splices.splices ≡ count_new copies (splices_in (found_of found)) =
     c.in_ok-splices.ensures ∙ ap (count_new copies) c.requires.splices in
-    let groups : c.groups_reported.result ≡ groups_reported (found_of found).by_groups = c.groups_reported.ensures (drop found.whole lists) in
+    let groups : c.groups_reported.result ≡ groups_reported (found_of found).by_groups =
+    c.groups_reported.ensures (drop found.whole lists) in
     let before : c.cut_end.result ≡ option_map (cut_end parts limit) (option_map (λ (v : Vec ℕ Global). v.items) cut) =
     c.cut_end.ensures ∙ sym (mapped_twice (cut_end parts limit) (λ (v : Vec ℕ Global). v.items) cut) in
     let lacks : c.lacks_file.result ≡ lacks_single name_asked single =
@@ -87,7 +88,8 @@ returns-clause-texts c = λ searches lone.
     }
 
 pub returns-clause-settled : goal.returns-clause-settled
-returns-clause-settled c = subst (λ (p : PartialPicture). IsTrue c.is_settled-settled.result ↔ IsSettled p) c.partial-partial.ensures c.is_settled-settled.ensures
+returns-clause-settled c = subst (λ (p : PartialPicture). IsTrue c.is_settled-settled.result ↔ IsSettled p) c.partial-partial.ensures
+    c.is_settled-settled.ensures
 
 pub returns-clause-single : goal.returns-clause-single
 returns-clause-single c =
@@ -104,7 +106,8 @@ returns-clause-named c =
     let copies = bytes_of c.args.files.now.copies.now in
     let options = c.args.task.now.options in
     let named = named_files c.in_ok-numbered.numbered.items in
-    subst (λ (xs : List (List ℕ)). AreNamedAsked (option_map (λ (s : Bor (List ℕ)). s.now) options.files) (copies ++ xs) named) c.requires.splices c.in_ok-numbered.ensures
+    subst (λ (xs : List (List ℕ)). AreNamedAsked (option_map (λ (s : Bor (List ℕ)). s.now) options.files) (copies ++ xs) named)
+    c.requires.splices c.in_ok-numbered.ensures
 
 pub file_asked-requires-clause-verdicts : goal.file_asked-requires-clause-verdicts
 file_asked-requires-clause-verdicts c =

@@ -20,7 +20,8 @@ loop-byte-preserved c =
     elim c.if-begins.branch [
       | then-begins+in_ok-extend_from_slice w ↦
           (let grown : new ≡ (out ++ words) ++ byte ∷ [] =
-          pushed ∙ ap (λ (v : Vec ℕ Global). v.items ++ byte ∷ []) w.out-is ∙ ap (λ (xs : List ℕ). xs ++ byte ∷ []) w.in_ok-extend_from_slice.ensures.items in
+          pushed ∙ ap (λ (v : Vec ℕ Global). v.items ++ byte ∷ []) w.out-is
+          ∙ ap (λ (xs : List ℕ). xs ++ byte ∷ []) w.in_ok-extend_from_slice.ensures.items in
           ap (λ (xs : List ℕ). xs ++ in_prefix words (nat_eq byte 10) rest) grown ∙ line_begins words out rest (drop i text) byte is
           ∙ ap (λ (b : Bool). out ++ in_prefix words b (drop i text)) (sym w.if-begins.true) ∙ c.loop-byte.invariant)
       | else-begins w ↦

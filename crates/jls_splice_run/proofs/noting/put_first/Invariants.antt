@@ -5,4 +5,5 @@ use Rattle.jls_splice_run.proofs.noting.put_first.Given as goal
 
 abbrev pub invariant-loop-byte : goal.invariant-loop-byte
 invariant-loop-byte l =
-    l.out.items ++ in_prefix (codes "jls-splice: ") l.begins (drop l.byte-index l.text) ≡ l.fn.out.items ++ in_prefix (codes "jls-splice: ") true l.text
+    l.out.items ++ in_prefix (codes "jls-splice: ") l.begins (drop l.byte-index l.text) ≡ l.fn.out.items
+    ++ in_prefix (codes "jls-splice: ") true l.text

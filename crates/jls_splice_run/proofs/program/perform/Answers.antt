@@ -10,7 +10,8 @@ returns-in-Err g c =
     let desk = g.D.Device.history c.args.desk.now in
     let report = g.W.Device.history c.args.report.now in
     let faults = g.E.Device.history in
-    performs_nothing (asked_of c.args.asked.now) desk desk report report (faults c.args.faults.now) (faults c.args.faults.now) (faults c.print_out_of_memory.new.faults) c.print_out_of_memory.ensures
+    performs_nothing (asked_of c.args.asked.now) desk desk report report (faults c.args.faults.now) (faults c.args.faults.now)
+    (faults c.print_out_of_memory.new.faults) c.print_out_of_memory.ensures
 
 pub returns : goal.returns
 returns g c =
@@ -20,8 +21,11 @@ returns g c =
     let asked = c.args.asked.now in
     let same = ap (λ (copies : List (List ℕ)). record { options = options_in asked.options; out = asked.out.now; copies = copies })
     (ap texts_of c.deref.ensures.value ∙ c.in-Ok.ensures) in
-    performs (asked_of asked) (desk c.args.desk.now) (desk c.splice-outcome.new.desk) (report c.args.report.now) (report c.splice-outcome.new.report)
-    (faults c.args.faults.now) (faults c.splice-outcome.new.faults) (faults c.print_outcome.new.faults) c.exit_status.result c.splice-outcome.result c.exit_status.ensures
-    (subst (λ (a : Asked). GrewAll (Splices a c.splice-outcome.result) (desk c.args.desk.now) (desk c.splice-outcome.new.desk) (report c.args.report.now) (report c.splice-outcome.new.report)
+    performs (asked_of asked) (desk c.args.desk.now) (desk c.splice-outcome.new.desk) (report c.args.report.now)
+    (report c.splice-outcome.new.report)
+    (faults c.args.faults.now) (faults c.splice-outcome.new.faults) (faults c.print_outcome.new.faults) c.exit_status.result
+    c.splice-outcome.result c.exit_status.ensures
+    (subst (λ (a : Asked). GrewAll (Splices a c.splice-outcome.result) (desk c.args.desk.now) (desk c.splice-outcome.new.desk)
+    (report c.args.report.now) (report c.splice-outcome.new.report)
     (faults c.args.faults.now) (faults c.splice-outcome.new.faults)) same c.splice-outcome.ensures)
     c.print_outcome.ensures

@@ -17,7 +17,8 @@ returns-in-None g c =
     let desk = g.D.Device.history c.args.desk.now in
     let report = g.W.Device.history c.args.report.now in
     let faults = g.E.Device.history in
-    ran_nothing (map string_bytes c.args.words.now) desk desk report report (faults c.args.faults.now) (faults c.print_not_understood.new.faults)
+    ran_nothing (map string_bytes c.args.words.now) desk desk report report (faults c.args.faults.now)
+    (faults c.print_not_understood.new.faults)
     (record { taken = inr c.in-Ok.ensures.no_fault; asks = sym (ap asked_by c.in-Ok.ensures.rows) ∙ sym c.in-None.ensures })
     c.print_not_understood.ensures
 
@@ -26,7 +27,8 @@ returns-then-is_file_out g c =
     let desk = g.D.Device.history c.args.desk.now in
     let report = g.W.Device.history c.args.report.now in
     let faults = g.E.Device.history in
-    ran_named_twice (map string_bytes c.args.words.now) desk desk report report (faults c.args.faults.now) (faults c.print_named_twice.new.faults)
+    ran_named_twice (map string_bytes c.args.words.now) desk desk report report (faults c.args.faults.now)
+    (faults c.print_named_twice.new.faults)
     (asked_of c.in-Some.asked)
     (record { taken = inr c.in-Ok.ensures.no_fault; asks = sym (ap asked_by c.in-Ok.ensures.rows) ∙ sym c.in-Some.ensures })
     (c.is_file_out.ensures.0 c.if-is_file_out.true) c.print_named_twice.ensures
@@ -36,7 +38,8 @@ returns-in-Err-is_numbered_out g c =
     let desk = g.D.Device.history c.args.desk.now in
     let report = g.W.Device.history c.args.report.now in
     let faults = g.E.Device.history in
-    ran_out_of_memory (map string_bytes c.args.words.now) desk desk report report (faults c.args.faults.now) (faults c.print_out_of_memory.new.faults)
+    ran_out_of_memory (map string_bytes c.args.words.now) desk desk report report (faults c.args.faults.now)
+    (faults c.print_out_of_memory.new.faults)
     c.print_out_of_memory.ensures
 
 pub returns-then-numbered : goal.returns-then-numbered
@@ -44,7 +47,8 @@ returns-then-numbered g c =
     let desk = g.D.Device.history c.args.desk.now in
     let report = g.W.Device.history c.args.report.now in
     let faults = g.E.Device.history in
-    ran_numbered_out (map string_bytes c.args.words.now) desk desk report report (faults c.args.faults.now) (faults c.print_numbered_out.new.faults)
+    ran_numbered_out (map string_bytes c.args.words.now) desk desk report report (faults c.args.faults.now)
+    (faults c.print_numbered_out.new.faults)
     (asked_of c.in-Some.asked)
     (record { taken = inr c.in-Ok.ensures.no_fault; asks = sym (ap asked_by c.in-Ok.ensures.rows) ∙ sym c.in-Some.ensures })
     (λ same. (let yes = c.is_file_out.ensures.1 same in let no = c.if-is_file_out.false in absurd cc))
@@ -55,7 +59,8 @@ returns g c =
     let desk = g.D.Device.history in
     let report = g.W.Device.history in
     let faults = g.E.Device.history in
-    ran (map string_bytes c.args.words.now) (desk c.args.desk.now) (desk c.perform.new.desk) (report c.args.report.now) (report c.perform.new.report)
+    ran (map string_bytes c.args.words.now) (desk c.args.desk.now) (desk c.perform.new.desk) (report c.args.report.now)
+    (report c.perform.new.report)
     (faults c.args.faults.now) (faults c.perform.new.faults) (asked_of c.in-Some.asked) c.perform.result
     (record { taken = inr c.in-Ok.ensures.no_fault; asks = sym (ap asked_by c.in-Ok.ensures.rows) ∙ sym c.in-Some.ensures })
     (λ same. (let yes = c.is_file_out.ensures.1 same in let no = c.if-is_file_out.false in absurd cc))

@@ -17,7 +17,8 @@ returns-clause-stands g c = on_ok_anyway c.tell.result (IsSearch c.args.parts.no
 pub returns-clause-fewer : goal.returns-clause-fewer
 returns-clause-fewer g c =
     let can = c.requires.can in let pause = c.next_pause-pause.ensures in let below = can.1 in
-    on_ok_anyway c.tell.result (c.args.walk.now.tries < c.go_on.new.self.tries) (c.in_ok-go_on.ensures.went.some (can.0, omega (arith, pause, below), can.2))
+    on_ok_anyway c.tell.result (c.args.walk.now.tries < c.go_on.new.self.tries)
+    (c.in_ok-go_on.ensures.went.some (can.0, omega (arith, pause, below), can.2))
 
 pub returns-clause-reported : goal.returns-clause-reported
 returns-clause-reported g c =
@@ -30,7 +31,8 @@ returns-clause-reported g c =
     let h' = history c.tell.new.faults in
     on_ok c.tell.result (GrewBy tells h h') (GrewBy (GoesOn options old new) h h')
     (grew_as tells (GoesOn options old new) h h'
-    (λ events reported. went_on c.args.parts.now options old new c.next_pause-pause.result c.next_pause-pause.ensures c.requires.can c.in_ok-go_on.ensures.stops c.in_ok-go_on.ensures.went events reported))
+    (λ events reported. went_on c.args.parts.now options old new c.next_pause-pause.result c.next_pause-pause.ensures c.requires.can
+    c.in_ok-go_on.ensures.stops c.in_ok-go_on.ensures.went events reported))
     c.tell.ensures.reported
 
 pub returns-clause-ceiling : goal.returns-clause-ceiling

@@ -16,7 +16,8 @@ returns-clause-is_made g c =
     let same = c.into_searched.ensures in
     let were = c.in_ok-walk.ensures.tried in
     record {
-      came_to = subst (λ ceiling. CameTo (IsSought ceiling) parts (lists_of c.into_searched.result.splices.items) c.into_searched.result.is_used_up)
+      came_to = subst (λ ceiling. CameTo (IsSought ceiling) parts (lists_of c.into_searched.result.splices.items)
+          c.into_searched.result.is_used_up)
           (sym same.ceiling) (same.came_to parts c.in_ok-walk.ensures.stands);
       tried = record {
         begun = were.0;
@@ -30,7 +31,8 @@ returns-clause-is_made g c =
       };
       within = let e = same.tries in let within = c.in_ok-walk.ensures.reported.they_are.within in omega (arith, e, within);
       used_up = λ yes.
-          elim (used_up parts walk options.tries c.in_ok-walk.ensures.stands c.in_ok-walk.ensures.stops c.in_ok-walk.ensures.reported.they_are.within (sym same.used_up ∙ yes)) [
+          elim (used_up parts walk options.tries c.in_ok-walk.ensures.stands c.in_ok-walk.ensures.stops
+          c.in_ok-walk.ensures.reported.they_are.within (sym same.used_up ∙ yes)) [
             | inl all ↦ inl (same.tries ∙ all)
             | inr full ↦ inr (ap (λ (v : Vec (Vec ℕ Global) Global). length (lists_of v.items)) same.splices ∙ full)
           ];
@@ -48,7 +50,8 @@ returns-clause-reported g c =
     grew_as (HasReported options walk) (IsReported options.tells searched.tries (length (lists_of searched.splices.items)))
     (g.E.Device.history c.args.faults.now) (g.E.Device.history c.search_parts.new.faults)
     (λ events h. subst (λ n. IsReported options.tells n (length (lists_of searched.splices.items)) events) (sym same.tries)
-    (subst (λ (v : Vec (Vec ℕ Global) Global). IsReported options.tells walk.tries (length (lists_of v.items)) events) (sym same.splices) h.reported)) c.in_ok-walk.ensures.reported
+    (subst (λ (v : Vec (Vec ℕ Global) Global). IsReported options.tells walk.tries (length (lists_of v.items)) events) (sym same.splices)
+    h.reported)) c.in_ok-walk.ensures.reported
 
 pub returns-clause-reader : goal.returns-clause-reader
 returns-clause-reader g c =

@@ -25,5 +25,7 @@ returns-clause-reported g c =
     let count : c.len.result ≡ files = omega (arith, all, held, c.len.ensures) in
     let line : c.deref.result.now ≡ progress_line walk.tries files =
     c.deref.ensures.value ∙ c.in_ok-line.ensures ∙ ap (λ (n : ℕ). progress_line walk.tries n) count in
-    subst (λ (tells : Bool). GrewBy (TellsLine tells walk.tries files) (history c.args.faults.now) (history c.print_line.new.faults)) (sym c.if-not-tells.false)
-    (subst (λ (text : List ℕ). GrewBy (Printed text) (history c.args.faults.now) (history c.print_line.new.faults)) line c.print_line.ensures)
+    subst (λ (tells : Bool). GrewBy (TellsLine tells walk.tries files) (history c.args.faults.now) (history c.print_line.new.faults))
+    (sym c.if-not-tells.false)
+    (subst (λ (text : List ℕ). GrewBy (Printed text) (history c.args.faults.now) (history c.print_line.new.faults)) line
+    c.print_line.ensures)

@@ -1,9 +1,9 @@
-use Rattle.std.proofs.Common.{◌≡◌, List, ℕ, Vec, Global, Option, None, Some, Result, Ok, Err, inl, inr, sym, ap, ◌∙◌, subst}
+use Rattle.std.proofs.Common.{◌≡◌, List, ℕ, Vec, Global, Option, None, Result, Ok, Err, inl, inr, sym, ap, ◌∙◌, subst}
 use Rattle.std.specs.Prelude.{◌⊎◌, IfNone, IfOk, IfSome, option_map}
 use Rattle.jls_station.specs.CopyFiles.{copies_of}
 use Rattle.jls_diff.specs.PartsOf.{bytes_of}
 use Rattle.jls_search.specs.Choices.{prefix_of}
-use Rattle.jls_search.specs.Cuts.{TakesCut, TakesNoCut}
+use Rattle.jls_search.specs.Cuts.{TakesNoCut}
 use Rattle.jls_search.specs.Files.{splices_found}
 use Rattle.jls_search.specs.declared.settling.HeldFiles.{HeldFiles}
 use Rattle.jls_splice_run.specs.Copies.{bytes_read}
@@ -27,9 +27,11 @@ returns-clause-settled c =
     let splices = splices_found files in
     let copies = bytes_read (copies_of c.args.copies.now) in
     let path = λ (path : Vec ℕ Global). prefix_of files.parts.now path.items in
-    both_ok c.settle_whole.result (λ (held : HeldFiles). held.cut ≡ None) (λ (held : HeldFiles). IsPictureOfFiles a copies splices held.station)
+    both_ok c.settle_whole.result (λ (held : HeldFiles). held.cut ≡ None)
+    (λ (held : HeldFiles). IsPictureOfFiles a copies splices held.station)
     (λ (held : HeldFiles). IsPictureOf a copies splices (option_map path held.cut) held.station)
-    (λ held none picture. subst (λ (cut : Option (List ℕ)). IsPictureOf a copies splices cut held.station) (sym (ap (option_map path) none)) picture)
+    (λ held none picture. subst (λ (cut : Option (List ℕ)). IsPictureOf a copies splices cut held.station) (sym (ap (option_map path) none))
+    picture)
     c.settle_whole.ensures.uncut c.settle_whole.ensures.settled
 
 pub returns-clause-cut : goal.returns-clause-cut
@@ -44,9 +46,11 @@ returns-clause-cut c =
       | in_default w ↦ inl (none ∙ sym w.in_default.is)
       | in-Some+in-Ok-None w ↦
           (let nothing : TakesNoCut (bytes_of files.copies.now) splices (prefix_of files.parts.now w.in-Some.path.items) =
-          subst (λ (o : Option HeldFiles). IfNone o (TakesNoCut (bytes_of files.copies.now) splices (prefix_of files.parts.now w.in-Some.path.items)))
+          subst (λ (o : Option HeldFiles). IfNone o
+          (TakesNoCut (bytes_of files.copies.now) splices (prefix_of files.parts.now w.in-Some.path.items)))
           w.in-Ok-None.field-0-is w.in-Ok-None.ensures.nothing in
-          let same = subst (λ (xs : List (List ℕ)). TakesNoCut xs splices (prefix_of files.parts.now w.in-Some.path.items)) c.requires.copies nothing in
+          let same = subst (λ (xs : List (List ℕ)). TakesNoCut xs splices (prefix_of files.parts.now w.in-Some.path.items))
+          c.requires.copies nothing in
           inr (none, subst (λ (o : Option (Vec ℕ Global)). IfSome o why) (sym w.in-Some.is) same))
     ])
     c.settle_whole.ensures.uncut

@@ -37,6 +37,7 @@ returns-in-NoFrame-clause-stopped c =
       (
         name_at c.args.task.now.names.now 0 _ some,
         c.no_picture_cause.ensures
-            ∙ ap (λ (stop : ReadStop). no_picture_cause stop c.in-NoFrame.fault c.in-NoFrame.offset) (first_stop c.args.copies.now c.index-copies-0.result c.requires.some_copy),
+            ∙ ap (λ (stop : ReadStop). no_picture_cause stop c.in-NoFrame.fault c.in-NoFrame.offset)
+            (first_stop c.args.copies.now c.index-copies-0.result c.requires.some_copy),
       ),
     )

@@ -1,4 +1,4 @@
-use Rattle.std.proofs.Common.{sym, subst, arith}
+use Rattle.std.proofs.Common.{sym, subst}
 use Rattle.jls_diff.specs.PartsOf.{bytes_of}
 use Rattle.jls_search.specs.Files.{AreVerdicts, files_taken, splices_found}
 use Rattle.jls_search.proofs.Verdicts.{after_copies, enough, of_copies}

@@ -26,9 +26,11 @@ with_copy-requires c =
     let ps = c.args.parts.now in
     let v = c.index-splices-place.result in
     let bytes : List ℕ = c.deref-in-loop-place.result.now in
-    let made : bytes ≡ prefix_of ps v.items = c.deref-in-loop-place.ensures.value ∙ c.in_ok-file.ensures ∙ ap (prefix_of ps) c.deref.ensures.value in
+    let made : bytes ≡ prefix_of ps v.items = c.deref-in-loop-place.ensures.value ∙ c.in_ok-file.ensures
+    ∙ ap (prefix_of ps) c.deref.ensures.value in
     subst (λ (file : List ℕ). IsTrue (get_or c.args.verdicts.now c.loop-place.place false) ↔ IsFaultless file) (sym made)
-    (on_splice ps c.args.splices.now c.args.verdicts.now c.loop-place.place v false c.requires.verdicts c.loop-place-test.true c.index-splices-place.is)
+    (on_splice ps c.args.splices.now c.args.verdicts.now c.loop-place.place v false c.requires.verdicts c.loop-place-test.true
+    c.index-splices-place.is)
 
 pub loop-place-preserved : goal.loop-place-preserved
 loop-place-preserved c = λ files seen.
@@ -38,7 +40,8 @@ loop-place-preserved c = λ files seen.
     let v = c.index-splices-place.result in
     let bytes : List ℕ = c.deref-in-loop-place.result.now in
     let before = files_of ps (lists_of (take i vs)) in
-    let made : bytes ≡ prefix_of ps v.items = c.deref-in-loop-place.ensures.value ∙ c.in_ok-file.ensures ∙ ap (prefix_of ps) c.deref.ensures.value in
+    let made : bytes ≡ prefix_of ps v.items = c.deref-in-loop-place.ensures.value ∙ c.in_ok-file.ensures
+    ∙ ap (prefix_of ps) c.deref.ensures.value in
     subst (λ (xs : List (List ℕ)). AreSeenSo xs c.in_ok-faultless.faultless)
     (append_assoc files before (bytes ∷ []) ∙ ap (λ (z : List ℕ). files ++ (before ++ z ∷ [])) made
     ∙ ap (λ (z : List (List ℕ)). files ++ z) (sym (splices_one_more ps vs i v c.loop-place-test.true c.index-splices-place.is)))

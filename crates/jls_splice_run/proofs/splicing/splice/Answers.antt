@@ -12,7 +12,8 @@ use Rattle.std.specs.Prelude.{◌↔◌, IsTrue}
 use Rattle.jls_splice_run.proofs.splicing.splice.Goals as goal
 
 -- as many copies as names
-counts : (names : List (Bor (List ℕ))) (copies : List CopyFile) (events : List Event) → AreCopiesRead (texts_of names) (copies_of copies) events
+counts : (names : List (Bor (List ℕ))) (copies : List CopyFile) (events : List Event)
+    → AreCopiesRead (texts_of names) (copies_of copies) events
     → length names ≡ length copies
 counts names copies events read =
     let count = read_count (texts_of names) (copies_of copies) events read in
@@ -25,7 +26,8 @@ returns-in-Err g c =
     let desk = g.D.Device.history in
     let report = g.W.Device.history c.args.report.now in
     let faults = g.E.Device.history c.args.faults.now in
-    stops_at_copies (task_of c.args.task.now) (desk c.args.desk.now) (desk c.read_all.new.desk) (desk c.read_all.new.desk) report report faults faults faults
+    stops_at_copies (task_of c.args.task.now) (desk c.args.desk.now) (desk c.read_all.new.desk) (desk c.read_all.new.desk) report report
+    faults faults faults
     c.in-Err.refusal c.in-Err.ensures.stopped
 
 pub make-requires-clause-some_copy : goal.make-requires-clause-some_copy
@@ -49,9 +51,11 @@ returns-in-Err-make g c =
     let faults = g.E.Device.history in
     let a = task_of c.args.task.now in
     let r = c.in-Err-make.refusal in
-    stops_unmade a (desk c.args.desk.now) (desk c.read_all.new.desk) (desk c.read_all.new.desk) report report (faults c.args.faults.now) (faults c.make.new.faults) (faults c.make.new.faults)
+    stops_unmade a (desk c.args.desk.now) (desk c.read_all.new.desk) (desk c.read_all.new.desk) report report (faults c.args.faults.now)
+    (faults c.make.new.faults) (faults c.make.new.faults)
     (copies_of c.in-Ok.copies.items) c.in-Ok.ensures.read r
-    (subst (λ (xs : List CopyFile). GrewBy (CantMake a (copies_of xs) r) (faults c.args.faults.now) (faults c.make.new.faults)) c.deref.ensures.value c.in-Err-make.ensures.stopped)
+    (subst (λ (xs : List CopyFile). GrewBy (CantMake a (copies_of xs) r) (faults c.args.faults.now) (faults c.make.new.faults))
+    c.deref.ensures.value c.in-Err-make.ensures.stopped)
 
 pub returns : goal.returns
 returns g c =
@@ -60,10 +64,14 @@ returns g c =
     let faults = g.E.Device.history in
     let a = task_of c.args.task.now in
     let v = c.in-Ok-make.made in
-    stops_in_handing a (desk c.args.desk.now) (desk c.read_all.new.desk) (desk c.hand_out.new.desk) (report c.args.report.now) (report c.hand_out.new.report)
-    (faults c.args.faults.now) (faults c.make.new.faults) (faults c.print_notes.new.faults) (copies_of c.in-Ok.copies.items) c.in-Ok.ensures.read v
-    (subst (λ (xs : List CopyFile). GrewBy (HoldsMade a (copies_of xs) v) (faults c.args.faults.now) (faults c.make.new.faults)) c.deref.ensures.value c.in-Ok-make.ensures.made)
-    (subst (λ (text : List ℕ). GrewBy (Printed text) (faults c.make.new.faults) (faults c.print_notes.new.faults)) c.deref-2.ensures.value c.print_notes.ensures)
+    stops_in_handing a (desk c.args.desk.now) (desk c.read_all.new.desk) (desk c.hand_out.new.desk) (report c.args.report.now)
+    (report c.hand_out.new.report)
+    (faults c.args.faults.now) (faults c.make.new.faults) (faults c.print_notes.new.faults) (copies_of c.in-Ok.copies.items)
+    c.in-Ok.ensures.read v
+    (subst (λ (xs : List CopyFile). GrewBy (HoldsMade a (copies_of xs) v) (faults c.args.faults.now) (faults c.make.new.faults))
+    c.deref.ensures.value c.in-Ok-make.ensures.made)
+    (subst (λ (text : List ℕ). GrewBy (Printed text) (faults c.make.new.faults) (faults c.print_notes.new.faults)) c.deref-2.ensures.value
+    c.print_notes.ensures)
     c.in-Err-hand_out.refusal c.in-Err-hand_out.ensures.stopped
 
 pub returns-in-Ok-hand_out : goal.returns-in-Ok-hand_out
@@ -74,9 +82,13 @@ returns-in-Ok-hand_out g c =
     let a = task_of c.args.task.now in
     let v = c.in-Ok-make.made in
     let whole = c.are_whole.result in
-    is_done a (desk c.args.desk.now) (desk c.read_all.new.desk) (desk c.hand_out.new.desk) (report c.args.report.now) (report c.hand_out.new.report)
-    (faults c.args.faults.now) (faults c.make.new.faults) (faults c.print_notes.new.faults) (copies_of c.in-Ok.copies.items) c.in-Ok.ensures.read v
-    (subst (λ (xs : List CopyFile). GrewBy (HoldsMade a (copies_of xs) v) (faults c.args.faults.now) (faults c.make.new.faults)) c.deref.ensures.value c.in-Ok-make.ensures.made)
-    (subst (λ (text : List ℕ). GrewBy (Printed text) (faults c.make.new.faults) (faults c.print_notes.new.faults)) c.deref-2.ensures.value c.print_notes.ensures)
+    is_done a (desk c.args.desk.now) (desk c.read_all.new.desk) (desk c.hand_out.new.desk) (report c.args.report.now)
+    (report c.hand_out.new.report)
+    (faults c.args.faults.now) (faults c.make.new.faults) (faults c.print_notes.new.faults) (copies_of c.in-Ok.copies.items)
+    c.in-Ok.ensures.read v
+    (subst (λ (xs : List CopyFile). GrewBy (HoldsMade a (copies_of xs) v) (faults c.args.faults.now) (faults c.make.new.faults))
+    c.deref.ensures.value c.in-Ok-make.ensures.made)
+    (subst (λ (text : List ℕ). GrewBy (Printed text) (faults c.make.new.faults) (faults c.print_notes.new.faults)) c.deref-2.ensures.value
+    c.print_notes.ensures)
     whole (subst (λ (xs : List CopyFile). IsTrue whole ↔ AreWhole (copies_of xs)) c.deref-in-Ok-hand_out.ensures.value c.are_whole.ensures)
     c.in-Ok-hand_out.ensures.done
