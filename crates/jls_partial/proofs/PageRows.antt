@@ -1,6 +1,6 @@
 -- Rows of one page: where a search ends, and what a row that is changed or put in leaves.
-use Rattle.std.proofs.Common.{◌≡◌, ℕ, zero, suc, ◌+◌, ◌<◌, ◌≤◌, Bool, true, false, cond, ◌||◌, List, [], ◌∷◌, length, get_or, set, map}
-use Rattle.std.proofs.Common.{Some, None, Result, Ok, Err, IfOk, IfErr, refl, ap, sym, subst, ◌∙◌, arith}
+use Rattle.std.proofs.Common.{◌≡◌, ℕ, zero, suc, ◌+◌, ◌-◌, ◌<◌, ◌≤◌, Bool, true, false, cond, ◌||◌, List, [], ◌∷◌, length, get_or, set, map}
+use Rattle.std.proofs.Common.{inl, inr, slice_get, Some, None, Result, Ok, Err, IfOk, IfErr, refl, ap, sym, subst, ◌∙◌, arith}
 use Rattle.std.specs.Prelude.{IsSome, is_some}
 use Rattle.std.specs.declared.cmp.Ordering.{Ordering}
 use Rattle.std.specs.declared.cmp.Ordering.TheVariants.{Less, Equal, Greater}
@@ -15,6 +15,8 @@ use Rattle.std.proofs.lemmas.List.Edits.{length-insert}
 use Rattle.std.proofs.lemmas.List.Sorted.{searchable_from_sorted}
 use Rattle.std.proofs.lemmas.Map.{none_passes_from_lookup, lookup-insert, lookup-set_value, keys-set_value, length-set_value}
 use Rattle.std.proofs.lemmas.Map.Keys.{Less-from_sorted}
+use Rattle.std.proofs.lemmas.Option.{get_or_from_slice_get}
+use Rattle.std.proofs.Math.Nat.{eq-or-lt_of_le}
 use Rattle.jls_values.specs.OrderedSetLaws.{contains-from_list}
 use Rattle.jls_partial.specs.declared.slots.Slots.{Slots}
 use Rattle.jls_partial.specs.declared.slots.Slots.TheVariants.{Empty}
@@ -59,6 +61,34 @@ module _ (rows : List Row) (sorted : IsStrictlySortedBy place_cmp (map (λ r. r.
               ∙ turned_greater place_total (get_or rows k (at, Empty)).0 at ((parted comparisons_rise).1 k (at, Empty) ge inside);
         },
       )
+
+below_from_is_lt : (o : Ordering) → is_lt o ≡ true → o ≡ Less
+below_from_is_lt Less h = refl
+below_from_is_lt Equal h = let no : false ≡ true = h in cc
+below_from_is_lt Greater h = let no : false ≡ true = h in cc
+
+-- a place above the last row belongs after all rows
+pub after_last : (rows : List Row) (at : LinePlace) (last : Row) → IsStrictlySortedBy place_cmp (map (λ r. r.0) rows)
+    → slice_get rows (length rows - 1) ≡ Some last → is_lt (place_cmp last.0 at) ≡ true
+    → IsGap place_cmp (map (λ r. r.0) rows) (length rows) at
+after_last rows at last sorted read lt =
+    let many : length (map (λ (r : Row). r.0) rows) ≡ length rows = length-map rows (λ (r : Row). r.0) in
+    let top : place_cmp last.0 at ≡ Less = below_from_is_lt (place_cmp last.0 at) lt in
+    let last_is : get_or rows (length rows - 1) (at, Empty) ≡ last = get_or_from_slice_get rows (length rows - 1) last (at, Empty) read in
+    record {
+      within = omega (arith, many);
+      below = λ k inside.
+          let there = place_at rows k (at, Empty) at inside in
+          let highest : get_or (map (λ r. r.0) rows) (length rows - 1) at ≡ last.0 =
+          place_at rows (length rows - 1) (at, Empty) at (omega (arith, inside)) ∙ ap (λ (z : Row). z.0) last_is in
+          elim (eq-or-lt_of_le {n = k} {m = length rows - 1} (omega (arith, inside))) [
+            | inl e ↦ ap (λ i. place_cmp (get_or (map (λ r. r.0) rows) i at) at) e ∙ ap (λ (z : LinePlace). place_cmp z at) highest ∙ top
+            | inr less ↦ place_total.trans (get_or (map (λ r. r.0) rows) k at) last.0 at
+                (ap (place_cmp (get_or (map (λ r. r.0) rows) k at)) (sym highest)
+                ∙ Less-from_sorted place_cmp (map (λ r. r.0) rows) k (length rows - 1) at sorted less (omega (arith, many, inside))) top
+          ];
+      above = λ k ge inside. absurd (omega (arith, ge, inside, many));
+    }
 
 -- ---- a row that is there
 

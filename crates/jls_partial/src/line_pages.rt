@@ -12,20 +12,29 @@ ghost use Rattle.std.specs.Map.{lookup};
 ghost use Rattle.std.specs.Prelude.{◌≡◌, ◌<◌, [], length, map, true, not, IfOk, IfErr, OnOk, OnErr, IsOk, None};
 ghost use Rattle.std.specs.Prelude.{option_copied, slice_index_or};
 
-use crate::line_place::{LinePlace, PageNumber};
+use crate::line_place::{LinePlace, PAGE_LINES, PageNumber};
 use crate::packed_lines::PackedLines;
 use crate::slots::Slots;
 use std::alloc::AllocError;
 use std::collections::BTreeMap;
 
-/// Where the row of a line stands among those of its page, or where it belongs.
+/// Where the row of a line stands among those of its page, or where it belongs. Most pages have all their lines, and most lines come in
+/// their order, so it looks there first.
 fn find_row(rows: &[(LinePlace, Slots)], at: LinePlace) -> Result<usize, usize>
     requires { IsStrictlySortedBy place_cmp (map (λ r. r.0) rows.now) }
     ensures found { IfOk result (λ i. i < length rows.now) }
     ensures same { IfOk result (λ i. slice_index_or (map (λ r. r.0) rows.now) i at ≡ at) }
     ensures gap { IfErr result (λ i. IsGap place_cmp (map (λ r. r.0) rows.now) i at) }
 {
-    rows.binary_search_by_key(&at, |row| row.0)
+    let i = usize::from(at.line % PAGE_LINES);
+    match rows.get(i) {
+        Some(row) if row.0 == at => return Ok(i),
+        _ => {}
+    }
+    match rows.last() {
+        Some(row) if row.0.cmp(&at).is_lt() => Err(rows.len()),
+        _ => rows.binary_search_by_key(&at, |row| row.0),
+    }
 }
 
 /// The slots of a line.

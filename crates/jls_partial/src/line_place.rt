@@ -4,7 +4,7 @@ ghost use Rattle.jls_partial.specs.Pages.{page_of};
 ghost use Rattle.std.specs.Prelude.{◌≡◌};
 
 /// How many lines of a component share a page.
-const PAGE_LINES: u16 = 64;
+pub(crate) const PAGE_LINES: u16 = 64;
 
 /// A component by its index in the frame, and one of its lines.
 #[derive(Clone, Copy, Debug, PartialEq, Eq, PartialOrd, Ord)]
