@@ -14,7 +14,7 @@
 //!   current event can continue, and the same for a sample, by trying each number that its code can be
 //!
 //! - Most samples are read by `line_samples`. It looks up the lines above once, moves the neighbours along, and computes each gradient
-//!   once. It leaves the rest to `push_event`, also the last two columns of a line.
+//!   once. It leaves the rest to `push_event`, also the last column of a line.
 //! - At the end of a slice `line_samples` keeps the bits of an incomplete short code. With the next slice `take_back` gives them back. So
 //!   that code is read in the fast way too.
 //! - The code keeps no list of events. Contracts and invariants speak of events.

@@ -95,8 +95,8 @@ fn take_sample(
 }
 
 /// Takes samples of regular mode as long as there are at least `looked_for` bits and their codes are short and stand whole at the
-/// prefix: none, where an event has begun. Where one bit is enough, it takes the first bits of a code after them too. The last two
-/// columns of the line are not taken.
+/// prefix: none, where an event has begun. Where one bit is enough, it takes the first bits of a code after them too. The last column of
+/// the line is not taken.
 #[inline(always)]
 pub(crate) fn take_samples(
     reader: &mut LineReader,
@@ -132,11 +132,14 @@ fn take_samples_of(
     let OpenEvent::NotBegun = reader.open_event else {
         return Ok(());
     };
+    if reader.line.len() + 1 >= reader.width {
+        return Ok(());
+    }
     // A copy of its own, which the updates of the cells can't change.
     let lengths = reader.coder.lengths;
     let mut near = place.neighbours(reader.width, &reader.line, reader.line.len());
     let mut second = reader.coder.cells.gradient(near.rb, near.rc);
-    'columns: while reader.line.len() + 2 < reader.width && chunk.len() >= looked_for {
+    'columns: while chunk.len() >= looked_for {
         let first = reader.coder.cells.gradient(near.rd, near.rb);
         let before = chunk.fork();
         let gradients = GradientsAbove { first, second };
@@ -153,7 +156,11 @@ fn take_samples_of(
             }
             Prefix::Taken(value) => {
                 reader.line.push(value)?;
-                near = place.neighbours_after(near, value, reader.line.len() - 1);
+                let count = reader.line.len();
+                if count + 1 >= reader.width {
+                    return Ok(());
+                }
+                near = place.neighbours_after(near, value, count - 1);
                 second = first;
             }
         }

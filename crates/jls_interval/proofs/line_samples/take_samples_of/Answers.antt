@@ -36,15 +36,22 @@ returns-in-Other-clause-taken c =
     taken_same c.args.place.now.component (above_of c.args.place.now) c.args.reader.now c.columns.reader c.args.chunk.now c.columns.chunk
     c.take_sample.new.chunk c.take_sample.new.coder none.0 none.1 c.columns.invariant.taking
 
+pub returns-then-count-reader-clause-taken : goal.returns-then-count-reader-clause-taken
+returns-then-count-reader-clause-taken c =
+    let i = c.columns.invariant in let now = c.columns.reader in
+    taken_more c.args.place.now.component (above_of c.args.place.now) c.args.reader.now now
+    (record now { coder = c.take_sample.new.coder; line = c.push.new.self }) c.args.chunk.now c.columns.chunk c.take_sample.new.chunk
+    c.columns.near c.in-Taken.value c.in-Taken.ensures.prefix i.open_event i.open_event refl c.in_ok-push-in-Taken.ensures.items
+    i.parameters i.near i.columns i.taking
+
 pub columns-preserved : goal.columns-preserved
 columns-preserved c =
     let i = c.columns.invariant in let now = c.columns.reader in let w : ℕ = now.width in let line : List ℕ = now.line.items in
     let line' : List ℕ = c.push.new.self.items in
-    let up : Above = above_of c.args.place.now in let x : ℕ = c.len-in-Taken.result - 1 in let v : ℕ = c.in-Taken.value in
+    let up : Above = above_of c.args.place.now in let x : ℕ = c.len-count.result - 1 in let v : ℕ = c.in-Taken.value in
     let grown : line' ≡ line ++ v ∷ [] = c.in_ok-push-in-Taken.ensures.items in let a = length-append line (v ∷ []) in
     let b = ap length grown in
-    let test : length line + 2 < w = omega (arith, c.columns-test.true, c.len-in-columns.ensures) in
-    let len : c.len-in-Taken.result ≡ length line' = omega (arith, c.len-in-Taken.ensures) in let at : x ≡ length line = omega arith in
+    let len : c.len-count.result ≡ length line' = omega (arith, c.len-count.ensures) in let at : x ≡ length line = omega arith in
     let room : x + 2 < w = omega arith in
     let at' : x + 1 ≡ length line' = omega arith in
     let next = c.neighbours_after-near.ensures.following w line at (i.near ∙ ap (neighbours w up line) (sym at)) room in

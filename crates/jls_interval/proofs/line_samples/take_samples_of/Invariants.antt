@@ -1,4 +1,4 @@
-use Rattle.std.proofs.Common.{◌≡◌, ◌-◌, ◌<◌, length}
+use Rattle.std.proofs.Common.{◌≡◌, ◌+◌, ◌-◌, ◌<◌, length}
 use Rattle.std.specs.Prelude.{pos, ◌-ℤ◌}
 use Rattle.jls_context.specs.Mode.{IsStep, quantized_gradient}
 use Rattle.jls_interval.specs.CodeLengths.{AreLengths}
@@ -10,7 +10,7 @@ use Rattle.jls_interval.proofs.line_samples.take_samples_of.Given as goal
 
 abbrev pub invariant-columns : goal.invariant-columns
 invariant-columns l = record {
-  columns : length l.reader.line.items < l.reader.width;
+  columns : length l.reader.line.items + 1 < l.reader.width;
   lengths : AreLengths l.reader.coder.cells.parameters l.lengths;
   width : l.reader.width ≡ l.initial.reader.width;
   parameters : l.reader.coder.cells.parameters ≡ l.initial.reader.coder.cells.parameters;
