@@ -26,7 +26,7 @@ pub struct KeptReader {
 pub struct Judge {
     /// The greatest sample that a whole file may have that is sought, if there is a limit.
     pub ceiling: Option<u16>,
-    /// The reader of the last path that was left open and doesn't go into a group. A search of whole files has none.
+    /// The reader of the last path that was left open and doesn't go into a group.
     pub begin: Option<KeptReader>,
     /// The reader of the last path that was left open. In a search of a group it goes into it.
     pub kept: Option<KeptReader>,

@@ -93,6 +93,7 @@ pub use laws::{parts_can_be_searched, searches_come_to_each_splice};
 pub use levels::lone_path;
 pub use reading_between::reads_between;
 pub use searching::Search;
+pub use setting::{Goal, Setting};
 pub use settling::{HeldFiles, Settled, settle_files};
 pub use shape_found::ShapeFound;
 pub use short::are_short;

@@ -28,10 +28,10 @@ use std::alloc::{AllocError, Global};
 /// file begins with what they make.
 #[derive(Drop)]
 pub struct Search {
-    /// What it is after.
-    pub(crate) goal: Goal,
+    /// What it is after: files as a whole, or those that read in a group.
+    pub goal: Goal,
     /// How many splices it finds at most.
-    pub(crate) most: usize,
+    pub most: usize,
     /// The splices that it has found, each as its choices, one for each part.
     pub splices: Vec<Vec<usize>>,
     /// How many prefixes and files were tried.

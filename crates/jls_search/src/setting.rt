@@ -7,14 +7,15 @@ use jls_diff::Group;
 
 /// A group that is searched, and the copy whose ways are taken outside of it.
 #[derive(Clone, Copy)]
-pub(crate) struct Setting {
-    pub(crate) group: Group,
-    pub(crate) copy: usize,
+pub struct Setting {
+    pub group: Group,
+    /// Its number among the copies. The first copy's is 0.
+    pub copy: usize,
 }
 
 /// What a search is after: of which parts it tries the ways.
 #[derive(Clone, Copy)]
-pub(crate) enum Goal {
+pub enum Goal {
     /// Whole files: those of all parts.
     Whole,
     /// Files that read in a group: those of the group. Elsewhere it takes one copy's.
