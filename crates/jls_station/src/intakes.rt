@@ -1,6 +1,7 @@
 //! What inputs are read into: a text, and a copy as long as more bytes can change what it gives.
 
-ghost use Rattle.std.specs.Prelude.{◌≡◌, ◌≤◌, ◌<◌, ◌*◌, ◌↔◌, ℕ, List, Option, Some, None, true, IsTrue, length, IfOk, OnErr, IfSome, IsSomeAnd};
+ghost use Rattle.std.specs.Prelude.{◌≡◌, ◌≤◌, ◌<◌, ◌*◌, ◌↔◌, ℕ, List, Option, Some, None, true, length};
+ghost use Rattle.std.specs.Prelude.{IsTrue, IfOk, OnErr, IfSome, IsSomeAnd};
 ghost use Rattle.std.specs.Prelude.{if◌then◌else◌};
 ghost use Rattle.std.specs.Io.KnownBytes.{Consumes, IsAtEnd};
 ghost use Rattle.jls_io.specs.Event.{History, GrewBy};
