@@ -18,7 +18,10 @@ use jls_partial::{InsertFault, Partial};
 use jls_values::{Merge, MergeFault, Shape};
 use std::alloc::{AllocError, Global};
 
-/// The readings, the first 4,096 records, and how many pieces gave none.
+/// How many records are kept.
+const MOST_RECORDS: usize = 4096;
+
+/// The readings, the first records, and how many pieces gave none.
 #[derive(Drop)]
 pub(crate) struct Findings {
     pub(crate) partial: Option<Partial>,
@@ -104,14 +107,14 @@ impl Findings {
         })
     }
 
-    /// Keeps a record, if fewer than 4,096 are kept, and counts it.
+    /// Keeps a record, if there is room for it, and counts it.
     fn note(&mut self, entry: PieceRecord) -> Result<(), AllocError>
         requires { self.old.record_count < 2 ^ 63 }
         ensures partial { OnOk result (self.new.partial ≡ self.old.partial) }
         ensures records { OnOk result (self.new.records.items ≡ kept_with self.old.records.items (entry ∷ [])) }
         ensures count { OnOk result (self.new.record_count ≡ self.old.record_count + 1) }
     {
-        if self.records.len() < 4096 {
+        if self.records.len() < MOST_RECORDS {
             self.records.push(entry)?;
         }
         self.record_count += 1;
@@ -177,19 +180,13 @@ impl Findings {
             }),
             OpenPiece::Within(interval, decoder) => match decoder.finish() {
                 Ok(lines) => self.take(alloc, shape, plan, interval, lines),
-                Err(PieceFault::Long) => self.note(PieceRecord {
-                    scan,
-                    interval,
-                    offset,
-                    kind: PieceKind::Long,
-                }),
-                Err(PieceFault::Broken) => self.note(PieceRecord {
-                    scan,
-                    interval,
-                    offset,
-                    kind: PieceKind::Broken,
-                }),
                 Err(PieceFault::OutOfMemory) => Err(AllocError),
+                Err(fault) => self.note(PieceRecord {
+                    scan,
+                    interval,
+                    offset,
+                    kind: kind_of(fault),
+                }),
             },
         }
     }

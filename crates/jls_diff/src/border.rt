@@ -15,14 +15,22 @@ pub struct Border {
     pub at: usize,
 }
 
+/// The code of SOS (T.81, table B.1).
+const SOS: u8 = 0xDA;
+
+/// The codes of the first and the last restart marker.
+const RST0: u8 = 0xD0;
+
+const RST7: u8 = 0xD7;
+
 /// Whether it is the code of SOS, or of a restart marker.
-fn is_mark(code: u8) -> bool
+pub(crate) fn is_mark(code: u8) -> bool
     ensures { IsTrue result → IsMark code }
 {
-    if code == 0xDA {
+    if code == SOS {
         return true;
     }
-    0xD0 <= code && code <= 0xD7
+    RST0 <= code && code <= RST7
 }
 
 /// Whether such a marker ends after so many of the bytes.
@@ -51,7 +59,7 @@ fn is_border(bytes: &[u8], at: usize) -> bool
     if !is_after_mark(bytes, at) {
         return false;
     }
-    bytes[at - 1] != 0xDA || is_scan_header(bytes, at)
+    bytes[at - 1] != SOS || is_scan_header(bytes, at)
 }
 
 /// The first and the last border that is proposed in these bytes, at a place or after it.
@@ -74,7 +82,7 @@ fn borders_in(bytes: &[u8], from: usize) -> Option<(usize, usize)>
 /// Where the scan header of the first SOS in these bytes begins, as is proposed.
 fn first_scan(bytes: &[u8]) -> Option<usize> {
     for at in 2..bytes.len() {
-        if bytes[at - 1] == 0xDA && is_border(bytes, at) {
+        if bytes[at - 1] == SOS && is_border(bytes, at) {
             return Some(at);
         }
     }

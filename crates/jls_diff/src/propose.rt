@@ -5,13 +5,13 @@ use crate::lengths::{Lengths, lengths_to_step};
 use crate::merging::merged;
 use crate::part::Part;
 use crate::seeds::Seeds;
-use crate::steps::{agreeing, prefix, rest_of};
+use crate::steps::{common_prefix_len, prefix, rest_of};
 use crate::stretches::{Before, Stretch, add_stretches, has_mark};
 use std::alloc::{AllocError, Global};
 
 /// What all copies have alike at the start, as it stands before a stretch.
 fn before_stretch(rests: &[&[u8]]) -> Before {
-    let same = agreeing(rests);
+    let same = common_prefix_len(rests);
     let first = rests.first();
     Before {
         same,

@@ -33,7 +33,7 @@ fn key(bytes: &[u8]) -> Option<usize> {
         hash = (hash ^ u64::from(*byte)).wrapping_mul(0x100_0000_01b3);
     }
     if varied {
-        Some(((hash >> 40) % 131072) as usize)
+        Some(((hash >> 40) % SLOTS as u64) as usize)
     } else {
         None
     }

@@ -11,7 +11,7 @@ fn equal_prefix(first: &[u8], second: &[u8]) -> usize {
 }
 
 /// How many bytes all begin with.
-pub(crate) fn agreeing(rests: &[&[u8]]) -> usize {
+pub(crate) fn common_prefix_len(rests: &[&[u8]]) -> usize {
     let Some(first) = rests.first() else {
         return 0;
     };

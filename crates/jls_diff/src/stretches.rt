@@ -1,5 +1,6 @@
 //! Stretches in which copies differ.
 
+use crate::border::is_mark;
 use crate::lengths::Lengths;
 use crate::steps::agree_at;
 use crate::zeros::ZeroRuns;
@@ -28,7 +29,7 @@ pub(crate) struct Stretch {
 pub(crate) fn has_mark(bytes: &[u8]) -> bool {
     let mut before = 0u8;
     for byte in bytes {
-        if before == 0xFF && (matches!(*byte, 0xD0..=0xD7) || *byte == 0xDA) {
+        if before == 0xFF && is_mark(*byte) {
             return true;
         }
         before = *byte;

@@ -29,7 +29,7 @@ use Rattle.jls_salvage_run.specs.WritingFiles as writing
 use Rattle.jls_salvage_run.specs.WritingFiles.{file, FitsFormat, options_for, WritesFile, StopsAtFile}
 use Rattle.jls_salvage_run.specs.declared.writing.Format.{Format}
 use Rattle.jls_salvage_run.specs.declared.writing.Format.TheVariants.{Jls}
-use Rattle.jls_write.proofs.Defaults.{defaults_are}
+use Rattle.jls_values.proofs.Defaults.{defaults_are}
 use Rattle.jls_headline.specs.Damaged.{Damaged}
 use Rattle.jls_headline.specs.ReadsAs.{GivesPicture, ReadsAsOnly}
 use Rattle.jls_headline.specs.RunLaws.{AreNoTexts}

@@ -3,18 +3,18 @@ use Rattle.std.specs.Prelude.{◌==◌, ◌&&◌, ◌||◌, ℕ, Bool, true, fal
 use Rattle.jls_host.specs.declared.choice.Standing.{Standing}
 use Rattle.jls_host.specs.declared.choice.Standing.TheVariants.{Absent, Regular, Other}
 use Rattle.jls_host.specs.declared.choice.Way.{Way}
-use Rattle.jls_host.specs.declared.choice.Way.TheVariants.{Beside, Straight, Refused}
+use Rattle.jls_host.specs.declared.choice.Way.TheVariants.{Beside, InPlace, Refused}
 use Rattle.jls_host.specs.declared.choice.Ending.{Ending}
 use Rattle.jls_host.specs.declared.choice.Ending.TheVariants.{Keep, Drop}
 
 -- how an output is made. A guarded file is left alone. If nothing has the name, or a regular file that opens for writing, a file beside it
--- is made. A regular file that does not open is left alone. All else is written straight
+-- is made. A regular file that does not open is left alone. All else is written at its name
 abbrev pub way_of : Standing → Bool → Bool → Way
 way_of standing opens true = Refused
 way_of Absent opens false = Beside
 way_of (Regular mode) true false = Beside
 way_of (Regular mode) false false = Refused
-way_of Other opens false = Straight
+way_of Other opens false = InPlace
 
 -- what becomes of a file beside an output: it is kept if no write failed and the status is not 5, which says that memory ran out. Else it
 -- is removed

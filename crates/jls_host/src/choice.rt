@@ -20,7 +20,7 @@ pub enum Way {
     /// It is written to a file of its own beside its name, which takes the name at the end.
     Beside,
     /// It is written at its name.
-    Straight,
+    InPlace,
     /// It is not made.
     Refused,
 }
@@ -46,7 +46,7 @@ pub fn way_to_make(standing: Standing, opens: bool, is_guarded: bool) -> Way
         Standing::Absent => Way::Beside,
         Standing::Regular(_) if opens => Way::Beside,
         Standing::Regular(_) => Way::Refused,
-        Standing::Other => Way::Straight,
+        Standing::Other => Way::InPlace,
     }
 }
 

@@ -11,9 +11,9 @@ use std::io::Write;
 /// The most files beside one output that are tried.
 const TRIES: u32 = 10_000;
 
-/// The names of an output and of the file beside it.
+/// A file beside an output: the output's name, its own, and its mode.
 #[derive(Drop)]
-struct Place {
+struct FileBeside {
     name: Name,
     own: Name,
     mode: Option<u32>,
@@ -23,7 +23,7 @@ struct Place {
 #[derive(Drop)]
 pub struct Output<F> {
     file: F,
-    place: Option<Place>,
+    beside: Option<FileBeside>,
 }
 
 /// Whether a file at the name may do where none can be made beside it for this reason: the folder takes no file, or the longer name
@@ -38,11 +38,11 @@ fn is_of_folder(error: &io::Error) -> bool {
 }
 
 /// Makes a file beside the name, under the first number that is free. `None` where the name is too long for the buffer.
-fn beside<M: Machine>(
+fn create_beside<M: Machine>(
     machine: &mut M,
     name: &str,
     mode: Option<u32>,
-) -> io::Result<Option<(M::File, Place)>> {
+) -> io::Result<Option<(M::File, FileBeside)>> {
     let Ok(whole) = Name::from(name) else {
         return Ok(None);
     };
@@ -53,7 +53,7 @@ fn beside<M: Machine>(
         match machine.create_new(own.as_str(), mode) {
             Ok(file) => {
                 let name = whole;
-                return Ok(Some((file, Place { name, own, mode })));
+                return Ok(Some((file, FileBeside { name, own, mode })));
             }
             Err(error) if error.kind() == io::ErrorKind::AlreadyExists => {}
             Err(error) => return Err(error),
@@ -63,9 +63,9 @@ fn beside<M: Machine>(
 }
 
 /// Makes the file at the name.
-fn straight<M: Machine>(machine: &mut M, name: &str) -> io::Result<Output<M::File>> {
+fn create_in_place<M: Machine>(machine: &mut M, name: &str) -> io::Result<Output<M::File>> {
     let file = machine.create(name)?;
-    Ok(Output { file, place: None })
+    Ok(Output { file, beside: None })
 }
 
 fn refused() -> io::Error {
@@ -87,14 +87,14 @@ impl<F: Write + Drop> Output<F> {
         };
         match way_to_make(standing, opens, is_guarded) {
             Way::Refused => Err(refused()),
-            Way::Straight => straight(machine, name),
-            Way::Beside => match beside(machine, name, mode) {
-                Ok(Some((file, place))) => Ok(Output {
+            Way::InPlace => create_in_place(machine, name),
+            Way::Beside => match create_beside(machine, name, mode) {
+                Ok(Some((file, beside))) => Ok(Output {
                     file,
-                    place: Some(place),
+                    beside: Some(beside),
                 }),
-                Ok(None) => straight(machine, name),
-                Err(error) if is_of_folder(&error) => straight(machine, name),
+                Ok(None) => create_in_place(machine, name),
+                Err(error) if is_of_folder(&error) => create_in_place(machine, name),
                 Err(error) => Err(error),
             },
         }
@@ -111,26 +111,26 @@ impl<F: Write + Drop> Output<F> {
     /// renamed it is removed too, what stands at the name stays, and `Err` has the name. A folder that can't be synced is no error: the
     /// name has the whole output then.
     pub fn end<M: Machine<File = F>>(self, machine: &mut M, ending: Ending) -> Result<(), Name> {
-        let Output { file, place } = self;
-        let Some(place) = place else {
+        let Output { file, beside } = self;
+        let Some(beside) = beside else {
             return Ok(());
         };
-        if ending == Ending::Keep && put(machine, &file, &place).is_ok() {
+        if ending == Ending::Keep && put(machine, &file, &beside).is_ok() {
             return Ok(());
         }
-        let _ = machine.remove(place.own.as_str());
+        let _ = machine.remove(beside.own.as_str());
         match ending {
-            Ending::Keep => Err(place.name),
+            Ending::Keep => Err(beside.name),
             Ending::Drop => Ok(()),
         }
     }
 }
 
 /// Has a file stored, with the permission bits of the file that it replaces, and gives it the name.
-fn put<M: Machine>(machine: &mut M, file: &M::File, place: &Place) -> io::Result<()> {
-    let name = place.name.as_str();
-    machine.sync(file, place.mode)?;
-    machine.rename(place.own.as_str(), name)?;
+fn put<M: Machine>(machine: &mut M, file: &M::File, beside: &FileBeside) -> io::Result<()> {
+    let name = beside.name.as_str();
+    machine.sync(file, beside.mode)?;
+    machine.rename(beside.own.as_str(), name)?;
     let _ = machine.sync_folder(name);
     Ok(())
 }

@@ -246,7 +246,7 @@ const WAYS: [(Standing, bool, bool, Way); 7] = [
     (Standing::Absent, false, false, Way::Beside),
     (Standing::Regular(0o644), true, false, Way::Beside),
     (Standing::Regular(0o444), false, false, Way::Refused),
-    (Standing::Other, false, false, Way::Straight),
+    (Standing::Other, false, false, Way::InPlace),
     (Standing::Absent, false, true, Way::Refused),
     (Standing::Regular(0o644), true, true, Way::Refused),
     (Standing::Other, false, true, Way::Refused),

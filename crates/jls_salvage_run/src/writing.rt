@@ -33,7 +33,7 @@ pub enum Format {
 }
 
 /// The refusal that tells of a line of an input which isn't settled.
-fn unsettled<'a>(name: &'a str, partial: &Partial, fault: PictureFault) -> Refusal<'a>
+fn refusal_of_unsettled<'a>(name: &'a str, partial: &Partial, fault: PictureFault) -> Refusal<'a>
     requires { NamesFirstUnsettled partial.now fault }
     ensures { result ≡ unsettled_refusal name.entry partial.now fault }
 {
@@ -47,7 +47,7 @@ fn unsettled<'a>(name: &'a str, partial: &Partial, fault: PictureFault) -> Refus
 }
 
 /// The refusal that tells what became of an output.
-fn cut<'a>(name: &'a str, fault: OutputFault) -> Refusal<'a>
+fn refusal_of_output<'a>(name: &'a str, fault: OutputFault) -> Refusal<'a>
     ensures { result ≡ cut_refusal name.entry fault }
 {
     match fault {
@@ -66,10 +66,7 @@ fn cut<'a>(name: &'a str, fault: OutputFault) -> Refusal<'a>
 fn jls_options(picture: &Picture<'_>, line: bool, ri: u16) -> Options
     ensures { result ≡ options_for line ri picture.now }
 {
-    let params = match Params::new(picture.shape().precision(), 0, 0, 0, 0, 0) {
-        Ok(params) => params,
-        Err(_) => unreachable!(),
-    };
+    let params = Params::default_for(picture.shape().precision());
     Options::new(line, ri, params)
 }
 
@@ -85,7 +82,7 @@ fn hand_out_pnm<'a, D: Desk>(
     ensures named { IfErr result (λ refusal. refusal.name.now ≡ name.now) }
 {
     create(desk, name)?;
-    write_pnm(picture, desk).map_err(|fault| cut(name, fault))
+    write_pnm(picture, desk).map_err(|fault| refusal_of_output(name, fault))
 }
 
 /// Creates the output of this name and hands the JPEG-LS file of the picture to it, if the options fit.
@@ -111,7 +108,7 @@ fn hand_out_jls<'a, D: Desk>(
         });
     }
     create(desk, name)?;
-    write_jls(alloc, picture, options, desk).map_err(|fault| cut(name, fault))
+    write_jls(alloc, picture, options, desk).map_err(|fault| refusal_of_output(name, fault))
 }
 
 /// Creates the output of this name and hands the file of the picture to it, if it can be written so.
@@ -152,7 +149,7 @@ pub fn write<'a, D: Desk>(
 {
     let input = open_and_read(alloc, desk, file)?;
     let partial = input.partial();
-    let picture = Picture::of(partial).map_err(|fault| unsettled(file, partial, fault))?;
+    let picture = Picture::of(partial).map_err(|fault| refusal_of_unsettled(file, partial, fault))?;
     hand_out(alloc, desk, format, out, &picture)?;
     let whole = input.is_whole();
     Ok(Done {

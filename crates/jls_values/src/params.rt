@@ -2,7 +2,8 @@
 
 ghost use Rattle.std.specs.Prelude.{◌≡◌, ◌+◌, ◌≤◌, ◌<◌, ◌^◌, ◌-◌, IfNone, IsTrue, ◌↔◌};
 ghost use Rattle.jls_values.specs.Params.{AreCodingParameters};
-ghost use Rattle.jls_values.specs.ParamsOf.{param_fault, params_of};
+ghost use Rattle.jls_values.specs.ParamsOf.{in_force, param_fault, params_of};
+ghost use Rattle.jls_values.specs.PresetParameters.{no_presets};
 
 use std::marker::Model;
 use thiserror::Error;
@@ -202,6 +203,18 @@ impl Params {
             t3,
             reset,
         })
+    }
+
+    /// The default parameters of a precision (ITU-T T.87, C.2.4.1.1.1).
+    pub fn default_for(precision: u8) -> Params
+        requires at_least { 2 ≤ precision }
+        requires at_most { precision ≤ 16 }
+        ensures { result ≡ in_force precision no_presets }
+    {
+        match Params::new(precision, 0, 0, 0, 0, 0) {
+            Ok(params) => params,
+            Err(_) => unreachable!(),
+        }
     }
 
     /// Bits per sample, from 2 to 16.

@@ -8,7 +8,6 @@ pub mod Sampled
 pub mod Sizes
 pub mod WholePictures
 pub mod IntervalLines
-pub mod Defaults
 pub mod FileLength
 mod FileHanding
 mod PackedLength

@@ -32,10 +32,8 @@ fn are_defaults(params: &Params) -> bool
     ensures value { result ≡ spec.are_defaults params.now }
     ensures ranges { AreCodingParameters params.now }
 {
-    match Params::new(params.precision(), 0, 0, 0, 0, 0) {
-        Err(_) => unreachable!(),
-        Ok(defaults) => same_values(params, &defaults),
-    }
+    let defaults = Params::default_for(params.precision());
+    same_values(params, &defaults)
 }
 
 /// Appends LSE, where the parameters aren't all defaults.

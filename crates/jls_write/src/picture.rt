@@ -53,7 +53,7 @@ fn unsettled_line(partial: &Partial, component: u8) -> Option<u16>
 }
 
 /// The first line of all that isn't settled, with its component.
-fn unsettled(partial: &Partial) -> Option<(u8, u16)>
+fn first_unsettled(partial: &Partial) -> Option<(u8, u16)>
     ensures { MatchOption result (IsSettled partial.now) (λ at. IsFirstUnsettled partial.now at.0 at.1) }
 {
     for component in 0..partial.shape().ids().len() as u8 {
@@ -72,7 +72,7 @@ impl<'a> Picture<'a> {
         ensures picture { IfOk result (λ picture. picture ≡ picture_of partial.now) }
         ensures unsettled { IfErr result (λ fault. NamesFirstUnsettled partial.now fault) }
     {
-        match unsettled(partial) {
+        match first_unsettled(partial) {
             Some((component, line)) => Err(PictureFault::Unsettled(component, line)),
             None => Ok(Picture {
                 lender: Lender::Settled(partial),
