@@ -19,8 +19,8 @@ use Rattle.jls_copy.specs.Course.{at_refused_segment}
 use Rattle.jls_copy.specs.ReaderState.{end_at}
 use Rattle.jls_copy.specs.Tells.{Tells, EndedAt, ended, without_soi, without_ff}
 use Rattle.jls_copy.specs.declared.end.End.{End}
-use Rattle.jls_copy.specs.declared.place.Place.{Place}
-use Rattle.jls_copy.specs.declared.place.Place.TheVariants.{Start, AtMarker, AtLength, InLength, InPayload, InScan, Done}
+use Rattle.jls_copy.specs.declared.place.CopyPosition.{CopyPosition}
+use Rattle.jls_copy.specs.declared.place.CopyPosition.TheVariants.{Start, AtMarker, AtLength, InLength, InPayload, InScan, Done}
 use Rattle.jls_copy.proofs.ReadingTells.{readings_tell}
 use Rattle.jls_copy.specs.declared.reader.CopyFault.{CopyFault}
 use Rattle.jls_copy.specs.declared.reader.CopyFault.TheVariants.{NoPicture, OutOfMemory}
@@ -126,7 +126,8 @@ ended_final _ _ _ _ (ended before h us ps following tail x e p w f s) = stops_fi
 ended_final _ _ _ _ (without_soi n code more x p q w) = refl
 ended_final _ _ _ _ (without_ff b more x p w) = refl
 
-place_final : (p : Place) (h : HeaderState) (payload : List ℕ) (ps : List FoundPiece) (x : List ℕ) (count : ℕ) → Tells p h payload ps x
+place_final : (p : CopyPosition) (h : HeaderState) (payload : List ℕ) (ps : List FoundPiece) (x : List ℕ) (count : ℕ)
+    → Tells p h payload ps x
     → is_final p ≡ is_final_end (end_at p count)
 place_final (Start fill) h payload ps x count t = refl
 place_final (AtMarker true) h payload ps x count t = refl
@@ -137,7 +138,7 @@ place_final (InPayload marker code size) h payload ps x count t = refl
 place_final (InScan scan) h payload ps x count t = refl
 place_final (Done e) h payload ps x count t = sym (ended_final e h ps x t)
 
-pub done_fed : (bytes : List ℕ) → AllByRecursion (λ b. b < 256) bytes → (p : Place) → p ≡ (reading bytes).state.place → (done : Bool)
+pub done_fed : (bytes : List ℕ) → AllByRecursion (λ b. b < 256) bytes → (p : CopyPosition) → p ≡ (reading bytes).state.place → (done : Bool)
     → done ≡ is_final p → IsDone bytes done
 done_fed bytes low p e done d =
     let fed = course_fed bytes low in

@@ -22,8 +22,8 @@ use Rattle.jls_copy.specs.ReaderLaws.{CourseFed, CourseIs}
 use Rattle.jls_marker.specs.declared.fault.MarkerFault.TheVariants as fault
 use Rattle.jls_copy.specs.declared.end.End.{End}
 use Rattle.jls_copy.specs.declared.end.End.TheVariants.{Input, Header}
-use Rattle.jls_copy.specs.declared.place.Place.{Place}
-use Rattle.jls_copy.specs.declared.place.Place.TheVariants.{Start, AtMarker, AtLength, InLength, InPayload, InScan, Done}
+use Rattle.jls_copy.specs.declared.place.CopyPosition.{CopyPosition}
+use Rattle.jls_copy.specs.declared.place.CopyPosition.TheVariants.{Start, AtMarker, AtLength, InLength, InPayload, InScan, Done}
 use Rattle.jls_copy.proofs.TellsMore.{fill_length}
 use Rattle.jls_copy.proofs.TellsScan.{alike_more, alike_now}
 use Rattle.jls_copy.proofs.ReadingTells.{readings_tell, reading_counts}
@@ -133,7 +133,7 @@ passed_course _ _ _ _ _ (passed_scan x h us ps following p n code payload after 
     (subst (AlikePieces cut) (sym (cut_after h.scans (length x) unit vs refl)) (rw (size, scans) at alike_cut))
     (is ∙ rw w (append_assoc x (unit_bytes unit) rest)))
 
-fed : (p : Place) (h : HeaderState) (payload : List ℕ) (ps : List FoundPiece) (x : List ℕ) → Tells p h payload ps x
+fed : (p : CopyPosition) (h : HeaderState) (payload : List ℕ) (ps : List FoundPiece) (x : List ℕ) → Tells p h payload ps x
     → CourseIs x (end_at p (length x)) h (ps ++ closed_at_end p) (closed_at_end p)
 fed (Start false) h payload ps x (e, f, g) = rw (e, f, g) (_, with_fill_alone 0, refl, refl, tt, tt)
 fed (Start true) h payload ps x (n, e, f, g) = rw (e, f, g, fill_length) (_, with_fill_alone (suc n), refl, refl, tt, tt)

@@ -31,8 +31,8 @@ use Rattle.jls_copy.specs.Reader.{IsReading}
 use Rattle.jls_copy.specs.declared.machine.Machine.{Machine}
 use Rattle.jls_copy.specs.declared.findings.Findings.{Findings}
 use Rattle.jls_copy.specs.declared.piece.PieceRecord.{PieceRecord}
-use Rattle.jls_copy.specs.declared.place.Place.{Place}
-use Rattle.jls_copy.specs.declared.place.Place.TheVariants.{Start, AtMarker, AtLength, InLength, InPayload, InScan, Done}
+use Rattle.jls_copy.specs.declared.place.CopyPosition.{CopyPosition}
+use Rattle.jls_copy.specs.declared.place.CopyPosition.TheVariants.{Start, AtMarker, AtLength, InLength, InPayload, InScan, Done}
 use Rattle.jls_copy.proofs.Kept.{after_some}
 
 pub are_more : (ps : List FoundPiece) (os : List PieceOutcome) (p : FoundPiece) (o : PieceOutcome) → AreOutcomes ps os → IsOutcome p o
@@ -153,7 +153,7 @@ cond_frame : (b : Bool) (x y : Step) (s : PictureShape) → x.headers.frame ≡ 
 cond_frame true x y s p q = p
 cond_frame false x y s p q = q
 
-frame_stays : (p : Place) (count : ℕ) (h : HeaderState) (payload : List ℕ) (b : ℕ) (s : PictureShape) → h.frame ≡ Some s
+frame_stays : (p : CopyPosition) (count : ℕ) (h : HeaderState) (payload : List ℕ) (b : ℕ) (s : PictureShape) → h.frame ≡ Some s
     → (step_from p count h payload b).headers.frame ≡ Some s
 frame_stays (Start fill) count h payload b s f = f
 frame_stays (AtMarker fill) count h payload b s f = f

@@ -6,15 +6,15 @@ use Rattle.jls_copy.specs.Pieces.{FoundPiece}
 use Rattle.jls_copy.specs.ReaderState.{Reading, reading_from, reading_with}
 use Rattle.jls_copy.specs.Stretch.{LeadsTo}
 use Rattle.jls_copy.specs.declared.end.End.{End}
-use Rattle.jls_copy.specs.declared.place.Place.{Place}
-use Rattle.jls_copy.specs.declared.place.Place.TheVariants.{Start, AtMarker, Done}
+use Rattle.jls_copy.specs.declared.place.CopyPosition.{CopyPosition}
+use Rattle.jls_copy.specs.declared.place.CopyPosition.TheVariants.{Start, AtMarker, Done}
 
 module _ (h : HeaderState) (payload : List ℕ) (ps : List FoundPiece) where
-  abbrev at : Place → ℕ → Reading
+  abbrev at : CopyPosition → ℕ → Reading
   at place count = record { state = record { count = count; place = place; headers = h; payload = payload }; pieces = ps }
 
   -- bytes at the start, each of which leaves the place as it is
-  stays : (place : Place) (P : ℕ → Type 0) → ((count b : ℕ) → P b → reading_with (at place count) b ≡ at place (count + 1))
+  stays : (place : CopyPosition) (P : ℕ → Type 0) → ((count b : ℕ) → P b → reading_with (at place count) b ≡ at place (count + 1))
       → (xs : List ℕ) (n : ℕ) → ((k : ℕ) → k < n → P (get_or xs k 0)) → n ≤ length xs
       → (count : ℕ) → reading_from (at place count) (take n xs) ≡ at place (count + length (take n xs))
   stays place P step xs zero all within count = rw (add-zero count) refl

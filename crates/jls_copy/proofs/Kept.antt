@@ -7,8 +7,8 @@ use Rattle.jls_marker.specs.Headers.{headers_after}
 use Rattle.jls_copy.specs.ReaderState.{Step, segment_taken, length_known}
 use Rattle.jls_copy.specs.Machine.{IsAfterStart}
 use Rattle.jls_marker.specs.declared.fault.MarkerFault.{MarkerFault}
-use Rattle.jls_copy.specs.declared.place.Place.{Place}
-use Rattle.jls_copy.specs.declared.place.Place.TheVariants.{Start, AtMarker, AtLength, InLength, InPayload, InScan, Done}
+use Rattle.jls_copy.specs.declared.place.CopyPosition.{CopyPosition}
+use Rattle.jls_copy.specs.declared.place.CopyPosition.TheVariants.{Start, AtMarker, AtLength, InLength, InPayload, InScan, Done}
 
 pub taken_payload : (count : ℕ) (h : HeaderState) (payload : List ℕ) (marker : ℕ) (r : Result (HeaderState × Option Scan) MarkerFault)
     → (segment_taken count h payload marker r).payload ≡ payload
@@ -24,7 +24,7 @@ length_keeps count h marker code size =
     cond_payload (nat_lt size 2) _ _ [] refl
     (cond_payload (size == 2) _ _ [] (taken_payload count h [] marker (headers_after h code [])) refl)
 
-pub after_some : (p : Place) (n : ℕ) → 1 ≤ n → IsAfterStart p n
+pub after_some : (p : CopyPosition) (n : ℕ) → 1 ≤ n → IsAfterStart p n
 after_some (Start fill) n h = λ e. h
 after_some (AtMarker fill) n h = h
 after_some (AtLength marker code) n h = h

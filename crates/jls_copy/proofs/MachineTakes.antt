@@ -7,15 +7,15 @@ use Rattle.jls_copy.specs.Sound.{IsPlace}
 use Rattle.jls_copy.specs.Stretch.{LeadsTo, TakesData}
 use Rattle.jls_copy.specs.Machine.{Takes, IsWholeSegment}
 use Rattle.jls_copy.specs.declared.machine.Machine.{Machine}
-use Rattle.jls_copy.specs.declared.place.Place.{Place}
-use Rattle.jls_copy.specs.declared.place.Place.TheVariants.{AtMarker, InPayload, InScan}
+use Rattle.jls_copy.specs.declared.place.CopyPosition.{CopyPosition}
+use Rattle.jls_copy.specs.declared.place.CopyPosition.TheVariants.{AtMarker, InPayload, InScan}
 use Rattle.jls_copy.specs.declared.scan.OpenScan.{OpenScan}
 use Rattle.jls_copy.proofs.Kept.{taken_payload}
 use Rattle.jls_copy.proofs.PayloadStretch.{payload_from, whole_from}
 use Rattle.jls_copy.proofs.SegmentStretch.{segment_leads}
 
 -- bytes that change the place alone
-pub takes_stretch : (m n : Machine) (bytes : List ℕ) (count : ℕ) (p q : Place) → m.place ≡ p → n.place ≡ q → 0 < count → count
+pub takes_stretch : (m n : Machine) (bytes : List ℕ) (count : ℕ) (p q : CopyPosition) → m.place ≡ p → n.place ≡ q → 0 < count → count
     ≤ length bytes
     → LeadsTo p (take count bytes) q → closed_at p (get_or bytes 0 0) ≡ [] → n.headers ≡ m.headers → n.payload.items ≡ m.payload.items
     → n.findings ≡ m.findings → n.count ≡ m.count → IsPlace n.headers.frame q n.payload.items → length n.payload.items ≤ 65535

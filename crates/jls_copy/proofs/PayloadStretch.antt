@@ -7,7 +7,7 @@ use Rattle.std.specs.Prelude.{◌==◌}
 use Rattle.jls_marker.specs.HeaderState.{HeaderState}
 use Rattle.jls_copy.specs.Pieces.{FoundPiece}
 use Rattle.jls_copy.specs.ReaderState.{Reading, ReaderState, Step, reading_from, reading_with, with_segment}
-use Rattle.jls_copy.specs.declared.place.Place.TheVariants.{InPayload}
+use Rattle.jls_copy.specs.declared.place.CopyPosition.TheVariants.{InPayload}
 
 -- a state after so many bytes
 abbrev pub segment_state : ℕ → Step → ReaderState

@@ -29,8 +29,8 @@ use Rattle.jls_copy.specs.declared.piece.OpenPiece.TheVariants.{Within, Beyond}
 use Rattle.jls_copy.specs.declared.scan.ByteClass.{ByteClass}
 use Rattle.jls_copy.specs.declared.scan.ByteClass.TheVariants.{Fill, Mark, Stop, Data}
 use Rattle.jls_copy.specs.declared.scan.OpenScan.{OpenScan}
-use Rattle.jls_copy.specs.declared.place.Place.{Place}
-use Rattle.jls_copy.specs.declared.place.Place.TheVariants.{Start, AtMarker, AtLength, InLength, InPayload, InScan, Done}
+use Rattle.jls_copy.specs.declared.place.CopyPosition.{CopyPosition}
+use Rattle.jls_copy.specs.declared.place.CopyPosition.TheVariants.{Start, AtMarker, AtLength, InLength, InPayload, InScan, Done}
 use Rattle.jls_copy.proofs.OneCourse.{one_course}
 use Rattle.jls_copy.proofs.ScansOfCourse.{byte_parts}
 use Rattle.jls_copy.proofs.CourseFed.{course_fed}
@@ -107,7 +107,8 @@ never_open s (Within k d) is h =
     subst (λ b. ReadsNoMore (interval_of s k) b) (sym (ap fed is.bytes_are)) g
 never_open s (Beyond k) is h = λ more lines reads. reads
 
-pub broken_fed : (bytes : List ℕ) → AllByRecursion (λ b. b < 256) bytes → (frame : Option PictureShape) (payload : List ℕ) (p : Place)
+pub broken_fed : (bytes : List ℕ) → AllByRecursion (λ b. b < 256) bytes → (frame : Option PictureShape)
+    (payload : List ℕ) (p : CopyPosition)
     → p ≡ (reading bytes).state.place → IsPlace frame p payload → PlaceReadsNoMore p → IsPieceBroken bytes
 broken_fed bytes low frame payload (Start fill) e is h = absurd h
 broken_fed bytes low frame payload (AtMarker fill) e is h = absurd h
@@ -179,7 +180,7 @@ next_in_scan Stop scan count b = (found scan, inl (is_first (found scan) []), at
 next_in_scan Data scan count b =
     (_, inr (is_first _ []), grown scan.index scan.plan scan.offset scan.piece (held_bytes scan.held ++ b ∷ []))
 
-next_is : (p : Place) (count : ℕ) (h : HeaderState) (payload : List ℕ) (b : ℕ) (q : FoundPiece) → Contains (closed_at_end p) q
+next_is : (p : CopyPosition) (count : ℕ) (h : HeaderState) (payload : List ℕ) (b : ℕ) (q : FoundPiece) → Contains (closed_at_end p) q
     → NextIs (closed_at p b) (closed_at_end (step_from p count h payload b).place) q
 next_is (Start fill) count h payload b q m = absurd (none_in q m)
 next_is (AtMarker fill) count h payload b q m = absurd (none_in q m)

@@ -12,8 +12,8 @@ use Rattle.jls_copy.specs.ScanData.{fill_bytes}
 use Rattle.jls_copy.specs.ReaderState.{Reading, reading, reading_from, reading_with, first_state, Step, step_from, closed_at}
 use Rattle.jls_copy.specs.Tells.{Tells}
 use Rattle.jls_copy.specs.ReaderLaws.{ReadingTells}
-use Rattle.jls_copy.specs.declared.place.Place.{Place}
-use Rattle.jls_copy.specs.declared.place.Place.TheVariants.{Start, AtMarker, AtLength, InLength, InPayload, InScan, Done}
+use Rattle.jls_copy.specs.declared.place.CopyPosition.{CopyPosition}
+use Rattle.jls_copy.specs.declared.place.CopyPosition.TheVariants.{Start, AtMarker, AtLength, InLength, InPayload, InScan, Done}
 use Rattle.jls_copy.proofs.TellsMore.{start_more, start_fill_more, marker_more, fill_marker_more, fill_length}
 use Rattle.jls_copy.proofs.TellsSegment.{length_more, payload_more, ended_more}
 use Rattle.jls_copy.proofs.TellsScan.{scan_more}
@@ -22,7 +22,8 @@ abbrev TellsStep : Step → List FoundPiece → List ℕ → Type 0
 TellsStep s ps x = Tells s.place s.headers s.payload ps x
 
 -- one byte more
-tells_more : (p : Place) (h : HeaderState) (payload : List ℕ) (ps : List FoundPiece) (x : List ℕ) (b count : ℕ) → b < 256 → count ≡ length x
+tells_more : (p : CopyPosition) (h : HeaderState) (payload : List ℕ) (ps : List FoundPiece) (x : List ℕ) (b count : ℕ)
+    → b < 256 → count ≡ length x
     → Tells p h payload ps x
     → TellsStep (step_from p count h payload b) (ps ++ closed_at p b) (x ++ b ∷ [])
 tells_more (Start false) h payload ps x b count low c (e, f, g) =

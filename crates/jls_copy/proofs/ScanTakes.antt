@@ -9,7 +9,7 @@ use Rattle.jls_copy.specs.Sound.{IsOfFrame}
 use Rattle.jls_copy.specs.Stretch.{IsStretch, LeadsTo, TakesData}
 use Rattle.jls_copy.specs.declared.piece.OpenPiece.{OpenPiece}
 use Rattle.jls_copy.specs.declared.piece.OpenPiece.TheVariants.{Within, Beyond}
-use Rattle.jls_copy.specs.declared.place.Place.TheVariants.{InScan}
+use Rattle.jls_copy.specs.declared.place.CopyPosition.TheVariants.{InScan}
 use Rattle.jls_copy.specs.declared.scan.ByteClass.{ByteClass}
 use Rattle.jls_copy.specs.declared.scan.ByteClass.TheVariants.{Fill, Data}
 use Rattle.jls_copy.specs.declared.scan.Held.{Held}

@@ -10,8 +10,8 @@ use Rattle.jls_copy.specs.Pieces.{FoundPiece}
 use Rattle.jls_copy.specs.ReaderState.{Reading, ReaderState, reading_from, reading_with, with_segment}
 use Rattle.jls_copy.specs.Stretch.{Leads}
 use Rattle.jls_copy.specs.Machine.{IsWholeSegment}
-use Rattle.jls_copy.specs.declared.place.Place.{Place}
-use Rattle.jls_copy.specs.declared.place.Place.TheVariants.{AtMarker, AtLength, InLength, InPayload}
+use Rattle.jls_copy.specs.declared.place.CopyPosition.{CopyPosition}
+use Rattle.jls_copy.specs.declared.place.CopyPosition.TheVariants.{AtMarker, AtLength, InLength, InPayload}
 use Rattle.jls_copy.proofs.PayloadStretch.{segment_state, whole_from}
 
 no_fill : (code : ℕ) → has_segment code ≡ true → code ≢ 0xFF
@@ -23,7 +23,7 @@ unfolding has_segment
 no_eoi code known e = let now : has_segment 0xD9 ≡ true = subst (λ c. has_segment c ≡ true) e known in absurd cc
 
 module _ (h : HeaderState) (ps : List FoundPiece) where
-  abbrev at : ℕ → Place → List ℕ → Reading
+  abbrev at : ℕ → CopyPosition → List ℕ → Reading
   at count place payload = record { state = record { count = count; place = place; headers = h; payload = payload }; pieces = ps }
 
   fill_step : (fill : Bool) (count : ℕ) (old : List ℕ) → reading_with (at count (AtMarker fill) old) 0xFF

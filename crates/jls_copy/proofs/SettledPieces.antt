@@ -23,8 +23,8 @@ use Rattle.jls_copy.specs.Tells.{AlikePiece, AlikePieces, FedAs}
 use Rattle.jls_copy.specs.declared.scan.ByteClass.{ByteClass}
 use Rattle.jls_copy.specs.declared.scan.ByteClass.TheVariants.{Fill, Mark, Stop, Data}
 use Rattle.jls_copy.specs.declared.scan.OpenScan.{OpenScan}
-use Rattle.jls_copy.specs.declared.place.Place.{Place}
-use Rattle.jls_copy.specs.declared.place.Place.TheVariants.{Start, AtMarker, AtLength, InLength, InPayload, InScan, Done}
+use Rattle.jls_copy.specs.declared.place.CopyPosition.{CopyPosition}
+use Rattle.jls_copy.specs.declared.place.CopyPosition.TheVariants.{Start, AtMarker, AtLength, InLength, InPayload, InScan, Done}
 use Rattle.jls_copy.proofs.CopyFed.{outcome_alike}
 use Rattle.jls_copy.proofs.CourseFed.{course_fed}
 use Rattle.jls_copy.proofs.EndsOfCourse.{either, ends_after, framed_by_piece}
@@ -38,7 +38,7 @@ use Rattle.jls_copy.proofs.ScansOfCourse.{byte_parts}
 -- What begins later ------------------------------------------------------------------------------------------------
 
 -- no piece is open at a place where a marker may begin, or before SOI
-no_open_start : (fill ff soi : Bool) (a b : Place) → closed_at_end a ≡ [] → closed_at_end b ≡ []
+no_open_start : (fill ff soi : Bool) (a b : CopyPosition) → closed_at_end a ≡ [] → closed_at_end b ≡ []
     → closed_at_end (if ff then Start true else if not fill then a else if soi then AtMarker false else b) ≡ []
 no_open_start fill true soi a b e f = refl
 no_open_start false false soi a b e f = e
@@ -48,7 +48,7 @@ no_open_start true false false a b e f = f
 from_start_opens_none : (fill : Bool) (count b : ℕ) → closed_at_end (from_start fill count b) ≡ []
 from_start_opens_none fill count b = no_open_start fill (b == 0xFF) (b == 0xD8) _ _ refl refl
 
-module _ (a d e : Place) (ea : closed_at_end a ≡ []) (ed : closed_at_end d ≡ []) (ee : closed_at_end e ≡ []) (marker : Place)
+module _ (a d e : CopyPosition) (ea : closed_at_end a ≡ []) (ed : closed_at_end d ≡ []) (ee : closed_at_end e ≡ []) (marker : CopyPosition)
     (em : closed_at_end marker ≡ []) where
   no_open_marker : (fill ff eoi known : Bool)
       → closed_at_end (if ff then AtMarker true else if not fill then a else if eoi then d else if known then marker else e) ≡ []
@@ -62,10 +62,10 @@ from_marker_opens_none : (fill has_frame : Bool) (count b : ℕ) → closed_at_e
 from_marker_opens_none fill has_frame count b = no_open_marker _ _ _ refl refl refl _ refl fill (b == 0xFF) (b == 0xD9) (has_segment b)
 
 -- a piece that is open begins no earlier than that
-abbrev OpensFrom : ℕ → Place → Type 0
+abbrev OpensFrom : ℕ → CopyPosition → Type 0
 OpensFrom at p = (q : FoundPiece) → Contains (closed_at_end p) q → at ≤ q.offset
 
-none_open : (at : ℕ) (p : Place) → closed_at_end p ≡ [] → OpensFrom at p
+none_open : (at : ℕ) (p : CopyPosition) → closed_at_end p ≡ [] → OpensFrom at p
 none_open at p e q m = absurd (none_in q (subst (λ xs. Contains xs q) e m))
 
 one_open : (at : ℕ) (scan : OpenScan) → at ≤ scan.offset → OpensFrom at (InScan scan)
@@ -112,7 +112,7 @@ module _ (at count : ℕ) (low : at ≤ count) where
   opens_in_scan Stop scan b l = none_open at (from_marker true true count b) (from_marker_opens_none true true count b)
   opens_in_scan Data scan b l = one_open at (scan_with scan b) l
 
-  opens_next : (p : Place) (h : HeaderState) (payload : List ℕ) (b : ℕ) → OpensFrom at p
+  opens_next : (p : CopyPosition) (h : HeaderState) (payload : List ℕ) (b : ℕ) → OpensFrom at p
       → OpensFrom at (step_from p count h payload b).place
   opens_next (Start fill) h payload b o = none_open at (from_start fill count b) (from_start_opens_none fill count b)
   opens_next (AtMarker fill) h payload b o =
@@ -130,7 +130,7 @@ closes_open Mark scan q m = m
 closes_open Stop scan q m = m
 closes_open Data scan q m = absurd (none_in q m)
 
-closes_in_hand : (p : Place) (b : ℕ) (q : FoundPiece) → Contains (closed_at p b) q → Contains (closed_at_end p) q
+closes_in_hand : (p : CopyPosition) (b : ℕ) (q : FoundPiece) → Contains (closed_at p b) q → Contains (closed_at_end p) q
 closes_in_hand (Start fill) b q m = m
 closes_in_hand (AtMarker fill) b q m = m
 closes_in_hand (AtLength marker code) b q m = m
@@ -159,7 +159,7 @@ from_on at old r (b ∷ bytes) f = from_on at old (reading_with r b) bytes (from
 
 -- Where it begins --------------------------------------------------------------------------------------------------
 
-pub past_fed : (offset : ℕ) (bytes : List ℕ) → AllByRecursion (λ b. b < 256) bytes → (p : Place) → p ≡ (reading bytes).state.place
+pub past_fed : (offset : ℕ) (bytes : List ℕ) → AllByRecursion (λ b. b < 256) bytes → (p : CopyPosition) → p ≡ (reading bytes).state.place
     → PlaceIsPast offset p → IsPast offset bytes
 past_fed offset bytes low (Start fill) e h = absurd h
 past_fed offset bytes low (AtMarker fill) e h = absurd h
@@ -174,7 +174,7 @@ past_fed offset bytes low (InScan scan) e h =
     record { course = t.0; is_course = t.1; piece = q.0; in_hand = q.1; past = subst (λ n. offset ≤ n) q.2.offset_is h }
 
 -- one piece is open at most
-opens_past : (at : ℕ) (p : Place) (x : FoundPiece) → Contains (closed_at_end p) x → at ≤ x.offset → OpensFrom at p
+opens_past : (at : ℕ) (p : CopyPosition) (x : FoundPiece) → Contains (closed_at_end p) x → at ≤ x.offset → OpensFrom at p
 opens_past at (Start fill) x m l = absurd (none_in x m)
 opens_past at (AtMarker fill) x m l = absurd (none_in x m)
 opens_past at (AtLength marker code) x m l = absurd (none_in x m)

@@ -20,7 +20,7 @@ use Rattle.jls_copy.specs.declared.scan.ByteClass.TheVariants.{Data}
 use Rattle.jls_copy.specs.declared.scan.Held.{Held}
 use Rattle.jls_copy.specs.declared.scan.Held.TheVariants.{Nothing, One}
 use Rattle.jls_copy.specs.declared.scan.OpenScan.{OpenScan}
-use Rattle.jls_copy.specs.declared.place.Place.TheVariants.{InScan}
+use Rattle.jls_copy.specs.declared.place.CopyPosition.TheVariants.{InScan}
 
 -- telling a piece nothing, or in two parts
 fed_none : (o : Option (List ℕ)) → option_map (λ bytes. bytes ++ []) o ≡ o

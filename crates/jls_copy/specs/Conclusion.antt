@@ -11,12 +11,12 @@ use Rattle.jls_copy.specs.ReadCopy.{ReadCopy}
 use Rattle.jls_copy.specs.CopyReads.{no_picture}
 use Rattle.jls_copy.specs.declared.reader.CopyFault.{CopyFault}
 use Rattle.jls_copy.specs.declared.reader.CopyFault.TheVariants.{NoPicture, OutOfMemory}
-use Rattle.jls_copy.specs.declared.place.Place.{Place}
-use Rattle.jls_copy.specs.declared.place.Place.TheVariants.{Start, AtMarker, AtLength, InLength, InPayload, InScan, Done}
+use Rattle.jls_copy.specs.declared.place.CopyPosition.{CopyPosition}
+use Rattle.jls_copy.specs.declared.place.CopyPosition.TheVariants.{Start, AtMarker, AtLength, InLength, InPayload, InScan, Done}
 use Rattle.jls_partial.specs.Partial.{without_sources}
 
 -- whether the course ends at a place, whatever bytes follow
-abbrev pub is_final : Place → Bool
+abbrev pub is_final : CopyPosition → Bool
 is_final (Start fill) = false
 is_final (AtMarker fill) = false
 is_final (AtLength marker code) = false

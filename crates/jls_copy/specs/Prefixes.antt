@@ -15,8 +15,8 @@ use Rattle.jls_copy.specs.declared.end.End.{End}
 use Rattle.jls_copy.specs.declared.end.End.TheVariants.{Eoi, Input, Header}
 use Rattle.jls_copy.specs.declared.piece.OpenPiece.{OpenPiece}
 use Rattle.jls_copy.specs.declared.piece.OpenPiece.TheVariants.{Within, Beyond}
-use Rattle.jls_copy.specs.declared.place.Place.{Place}
-use Rattle.jls_copy.specs.declared.place.Place.TheVariants.{Start, AtMarker, AtLength, InLength, InPayload, InScan, Done}
+use Rattle.jls_copy.specs.declared.place.CopyPosition.{CopyPosition}
+use Rattle.jls_copy.specs.declared.place.CopyPosition.TheVariants.{Start, AtMarker, AtLength, InLength, InPayload, InScan, Done}
 
 -- whatever bytes follow these, they read as no lines of this number of a scan
 abbrev pub NeverReads : Scan → PieceNumber → List ℕ → Type 0
@@ -112,7 +112,7 @@ OpenReadsNoMore (Within k d) = IfSome d.bytes (λ bytes. ReadsNoMore (interval_a
 OpenReadsNoMore (Beyond k) = Unit {0}
 
 -- the place is in scan data, and its open piece reads as no lines, whatever follows
-abbrev pub PlaceReadsNoMore : Place → Type 0
+abbrev pub PlaceReadsNoMore : CopyPosition → Type 0
 PlaceReadsNoMore (Start fill) = ⊥
 PlaceReadsNoMore (AtMarker fill) = ⊥
 PlaceReadsNoMore (AtLength marker code) = ⊥
@@ -122,7 +122,7 @@ PlaceReadsNoMore (InScan scan) = OpenReadsNoMore scan.piece
 PlaceReadsNoMore (Done e) = ⊥
 
 -- the place is in scan data, and its open piece begins at the offset, or after it
-abbrev pub PlaceIsPast : ℕ → Place → Type 0
+abbrev pub PlaceIsPast : ℕ → CopyPosition → Type 0
 PlaceIsPast offset (Start fill) = ⊥
 PlaceIsPast offset (AtMarker fill) = ⊥
 PlaceIsPast offset (AtLength marker code) = ⊥

@@ -21,13 +21,13 @@ use Rattle.jls_copy.specs.declared.scan.Held.TheVariants.{Nothing, One, More}
 use Rattle.jls_copy.specs.declared.scan.ByteClass.{ByteClass}
 use Rattle.jls_copy.specs.declared.scan.ByteClass.TheVariants.{Fill, Mark, Stop, Data}
 use Rattle.jls_copy.specs.declared.scan.OpenScan.{OpenScan}
-use Rattle.jls_copy.specs.declared.place.Place.{Place}
-use Rattle.jls_copy.specs.declared.place.Place.TheVariants.{Start, AtMarker, AtLength, InLength, InPayload, InScan, Done}
+use Rattle.jls_copy.specs.declared.place.CopyPosition.{CopyPosition}
+use Rattle.jls_copy.specs.declared.place.CopyPosition.TheVariants.{Start, AtMarker, AtLength, InLength, InPayload, InScan, Done}
 
 -- how many bytes were fed, where they end, what headers have set, and what came of a payload
 pub record ReaderState : Type 0 where
   pub count : ℕ
-  pub place : Place
+  pub place : CopyPosition
   pub headers : HeaderState
   pub payload : List ℕ
 
@@ -36,7 +36,7 @@ abbrev pub first_state : ReaderState
 first_state = record { count = 0; place = Start false; headers = no_headers; payload = [] }
 
 -- before SOI, after fill bytes or none
-abbrev pub from_start : Bool → ℕ → ℕ → Place
+abbrev pub from_start : Bool → ℕ → ℕ → CopyPosition
 from_start fill count b =
     if b == 0xFF then Start true
     else if not fill then Done (end.Header fault.NoSoi count)
@@ -44,7 +44,7 @@ from_start fill count b =
     else Done (end.Header fault.NoSoi (count - 1))
 
 -- where a marker may begin, after fill bytes or none
-abbrev pub from_marker : Bool → Bool → ℕ → ℕ → Place
+abbrev pub from_marker : Bool → Bool → ℕ → ℕ → CopyPosition
 from_marker fill has_frame count b =
     if b == 0xFF then AtMarker true
     else if not fill then Done (end.Header fault.NoMarker count)
@@ -71,18 +71,18 @@ scan_opened index s offset =
     record { index = index; plan = s; last = 0; held = Nothing; offset = offset; piece = open_piece.Within 0 (decoding_of s 0) }
 
 -- a whole segment, whose marker stands at this offset
-abbrev pub place_after : ℕ → ℕ → Option Scan → Place
+abbrev pub place_after : ℕ → ℕ → Option Scan → CopyPosition
 place_after index offset None = AtMarker false
 place_after index offset (Some s) = InScan (scan_opened index s offset)
 
 -- where a byte leads, with the headers and the payload then
 pub record Step : Type 0 where
-  pub place : Place
+  pub place : CopyPosition
   pub headers : HeaderState
   pub payload : List ℕ
 
 -- a step to a place, with these headers and this payload
-abbrev pub step_to : HeaderState → List ℕ → Place → Step
+abbrev pub step_to : HeaderState → List ℕ → CopyPosition → Step
 step_to h payload place = record { place = place; headers = h; payload = payload }
 
 -- the step after a whole segment: to its fault at the offset of its marker, or after it, with the headers that it leaves
@@ -139,14 +139,14 @@ scan_after scan number offset =
     record scan { last = given_last scan.last number; held = Nothing; offset = offset; piece = piece_opened scan.plan number }
 
 -- scan data
-abbrev pub from_scan : ByteClass → OpenScan → ℕ → ℕ → Place
+abbrev pub from_scan : ByteClass → OpenScan → ℕ → ℕ → CopyPosition
 from_scan Fill scan count b = InScan (record scan { held = one_more scan.held })
 from_scan Mark scan count b = InScan (scan_after scan (number_after (intervals scan.plan) scan.last (b - 0xD0)) (count + 1))
 from_scan Stop scan count b = from_marker true true count b
 from_scan Data scan count b = InScan (scan_with scan b)
 
 -- the step that a byte makes from a place
-abbrev pub step_from : Place → ℕ → HeaderState → List ℕ → ℕ → Step
+abbrev pub step_from : CopyPosition → ℕ → HeaderState → List ℕ → ℕ → Step
 step_from (Start fill) count h payload b = step_to h payload (from_start fill count b)
 step_from (AtMarker fill) count h payload b = step_to h payload (from_marker fill (is_some h.frame) count b)
 step_from (AtLength marker code) count h payload b = step_to h payload (InLength marker code b)
@@ -195,7 +195,7 @@ closed_by Stop scan = found scan ∷ []
 closed_by Data scan = []
 
 -- the pieces that a byte closes at a place: one or none
-abbrev pub closed_at : Place → ℕ → List FoundPiece
+abbrev pub closed_at : CopyPosition → ℕ → List FoundPiece
 closed_at (Start fill) b = []
 closed_at (AtMarker fill) b = []
 closed_at (AtLength marker code) b = []
@@ -205,7 +205,7 @@ closed_at (InScan scan) b = closed_by (class_of scan.held b) scan
 closed_at (Done e) b = []
 
 -- where the copy ends if the input does
-abbrev pub end_at : Place → ℕ → End
+abbrev pub end_at : CopyPosition → ℕ → End
 end_at (Start fill) count = end.Header fault.Ended count
 end_at (AtMarker true) count = end.Header fault.Ended count
 end_at (AtMarker false) count = end.Input count
@@ -216,7 +216,7 @@ end_at (InScan scan) count = end.Input count
 end_at (Done e) count = e
 
 -- the pieces that the input's end closes at a place: one or none
-abbrev pub closed_at_end : Place → List FoundPiece
+abbrev pub closed_at_end : CopyPosition → List FoundPiece
 closed_at_end (Start fill) = []
 closed_at_end (AtMarker fill) = []
 closed_at_end (AtLength marker code) = []

@@ -6,8 +6,8 @@ use Rattle.jls_interval.specs.IntervalBytes.{IntervalBytes}
 use Rattle.jls_copy.specs.declared.piece.OpenPiece.{OpenPiece}
 use Rattle.jls_copy.specs.declared.piece.OpenPiece.TheVariants.{Within, Beyond}
 use Rattle.jls_copy.specs.declared.scan.OpenScan.{OpenScan}
-use Rattle.jls_copy.specs.declared.place.Place.{Place}
-use Rattle.jls_copy.specs.declared.place.Place.TheVariants.{Start, AtMarker, AtLength, InLength, InPayload, InScan, Done}
+use Rattle.jls_copy.specs.declared.place.CopyPosition.{CopyPosition}
+use Rattle.jls_copy.specs.declared.place.CopyPosition.TheVariants.{Start, AtMarker, AtLength, InLength, InPayload, InScan, Done}
 
 -- the decoder is that of its interval, and no push was refused
 pub record IsDecodingOf (s : Scan) (k : ℕ) (d : IntervalBytes) : Type 0 where
@@ -33,7 +33,7 @@ abbrev pub IsOfFrame : Option PictureShape → Scan → Type 0
 IsOfFrame frame s = (shape : PictureShape) × (frame ≡ Some shape) × IsScanOf shape s
 
 -- a payload that isn't whole, or a scan of the frame
-abbrev pub IsPlace : Option PictureShape → Place → List ℕ → Type 0
+abbrev pub IsPlace : Option PictureShape → CopyPosition → List ℕ → Type 0
 IsPlace frame (Start fill) payload = Unit {0}
 IsPlace frame (AtMarker fill) payload = Unit {0}
 IsPlace frame (AtLength marker code) payload = Unit {0}

@@ -5,8 +5,8 @@ use Rattle.jls_marker.specs.HeaderState.{HeaderState}
 use Rattle.jls_copy.specs.Pieces.{FoundPiece}
 use Rattle.jls_copy.specs.ReaderState.{ReaderState, reading_from, class_of, closed_by}
 use Rattle.jls_copy.specs.Sound.{IsPlace}
-use Rattle.jls_copy.specs.declared.place.Place.{Place}
-use Rattle.jls_copy.specs.declared.place.Place.TheVariants.{InScan}
+use Rattle.jls_copy.specs.declared.place.CopyPosition.{CopyPosition}
+use Rattle.jls_copy.specs.declared.place.CopyPosition.TheVariants.{InScan}
 use Rattle.jls_copy.specs.declared.scan.ByteClass.TheVariants as class
 use Rattle.jls_copy.specs.declared.scan.OpenScan.{OpenScan}
 use Rattle.jls_copy.specs.declared.scan.ScanStep.{ScanStep}
@@ -20,7 +20,7 @@ IsStretch (b ∷ c ∷ more) = (b ≡ 0xFF → c < 0x80) × IsStretch (c ∷ mor
 
 -- byte after byte these bytes lead from one place to another, leave payload and headers as they are and close no piece, whatever was read
 -- before
-abbrev pub LeadsTo : Place → List ℕ → Place → Type 0
+abbrev pub LeadsTo : CopyPosition → List ℕ → CopyPosition → Type 0
 LeadsTo from bytes to =
     (payload : List ℕ) (count : ℕ) (h : HeaderState) (ps : List FoundPiece)
     → reading_from (record { state = record { count = count; place = from; headers = h; payload = payload }; pieces = ps }) bytes

@@ -21,8 +21,8 @@ use Rattle.jls_copy.specs.declared.piece.OpenPiece.TheVariants as open_piece
 use Rattle.jls_copy.specs.declared.scan.Held.{Held}
 use Rattle.jls_copy.specs.declared.scan.Held.TheVariants.{Nothing, One, More}
 use Rattle.jls_copy.specs.declared.scan.OpenScan.{OpenScan}
-use Rattle.jls_copy.specs.declared.place.Place.{Place}
-use Rattle.jls_copy.specs.declared.place.Place.TheVariants.{Start, AtMarker, AtLength, InLength, InPayload, InScan, Done}
+use Rattle.jls_copy.specs.declared.place.CopyPosition.{CopyPosition}
+use Rattle.jls_copy.specs.declared.place.CopyPosition.TheVariants.{Start, AtMarker, AtLength, InLength, InPayload, InScan, Done}
 
 -- the same bytes, or neither has data bits
 abbrev pub SameBytes : List ℕ → List ℕ → Type 0
@@ -148,7 +148,7 @@ pub data EndedAt : End → HeaderState → List FoundPiece → List ℕ → Type
   without_ff : (b : ℕ) (more x : List ℕ) → b ≢ 0xFF → x ≡ b ∷ more → EndedAt (Header fault.NoSoi 0) no_headers [] x
 
 -- what a place says of the bytes so far, with the headers, the payload and the pieces that were closed
-abbrev pub Tells : Place → HeaderState → List ℕ → List FoundPiece → List ℕ → Type 0
+abbrev pub Tells : CopyPosition → HeaderState → List ℕ → List FoundPiece → List ℕ → Type 0
 Tells (Start false) h payload ps x = (x ≡ []) × (h ≡ no_headers) × (ps ≡ [])
 Tells (Start true) h payload ps x = (n : ℕ) × (x ≡ fill_bytes (suc n)) × (h ≡ no_headers) × (ps ≡ [])
 Tells (AtMarker false) h payload ps x = (us : List CopyUnit) × Passed x h us ps false

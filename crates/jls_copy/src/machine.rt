@@ -6,14 +6,14 @@ ghost use Rattle.jls_copy.specs.Machine.{IsMachine, IsWholeSegment, Takes, state
 ghost use Rattle.jls_copy.specs.Findings.{AddsBy, AddsCut, HoldsShape};
 ghost use Rattle.jls_values.specs.Shape.{PictureShape};
 ghost use Rattle.jls_copy.specs.Sound.{IsPlace, IsOpenPiece, IsOfFrame};
-ghost use Rattle.jls_copy.specs.declared.place.Place.TheVariants.{Start, AtMarker, InPayload};
+ghost use Rattle.jls_copy.specs.declared.place.CopyPosition.TheVariants.{Start, AtMarker, InPayload};
 ghost use Rattle.jls_copy.specs.declared.piece.ClosedBy.TheVariants.{Marker};
 
 use crate::end::End;
 use crate::fill::fill_len;
 use crate::findings::Findings;
 use crate::piece::ClosedBy;
-use crate::place::Place;
+use crate::place::CopyPosition;
 use crate::scan::{OpenScan, ScanStep};
 use jls_marker::codes::{EOI, SOI};
 use jls_marker::{Headers, MarkerFault, has_segment};
@@ -25,7 +25,7 @@ pub(crate) struct Machine {
     pub(crate) alloc: Global,
     /// How many bytes were fed.
     pub(crate) count: u64,
-    pub(crate) place: Place,
+    pub(crate) place: CopyPosition,
     pub(crate) headers: Headers,
     /// The payload of a segment that isn't whole.
     pub(crate) payload: Vec<u8>,
@@ -117,13 +117,13 @@ impl Machine {
         ensures { self.new ≡ record self.old { place = state.from_start fill self.old.count byte } }
     {
         if byte == 0xff {
-            self.place = Place::Start(true);
+            self.place = CopyPosition::Start(true);
         } else if !fill {
-            self.place = Place::Done(End::Header(MarkerFault::NoSoi, self.count));
+            self.place = CopyPosition::Done(End::Header(MarkerFault::NoSoi, self.count));
         } else if byte == SOI {
-            self.place = Place::AtMarker(false);
+            self.place = CopyPosition::AtMarker(false);
         } else {
-            self.place = Place::Done(End::Header(MarkerFault::NoSoi, self.count - 1));
+            self.place = CopyPosition::Done(End::Header(MarkerFault::NoSoi, self.count - 1));
         }
     }
 
@@ -133,24 +133,24 @@ impl Machine {
         ensures { self.new ≡ record self.old { place = state.from_marker fill has_frame self.old.count byte } }
     {
         if byte == 0xff {
-            self.place = Place::AtMarker(true);
+            self.place = CopyPosition::AtMarker(true);
             return;
         }
         if !fill {
-            self.place = Place::Done(End::Header(MarkerFault::NoMarker, self.count));
+            self.place = CopyPosition::Done(End::Header(MarkerFault::NoMarker, self.count));
             return;
         }
         let marker = self.count - 1;
         if byte == EOI {
             if has_frame {
-                self.place = Place::Done(End::Eoi(marker));
+                self.place = CopyPosition::Done(End::Eoi(marker));
             } else {
-                self.place = Place::Done(End::Header(MarkerFault::NoFrame, marker));
+                self.place = CopyPosition::Done(End::Header(MarkerFault::NoFrame, marker));
             }
         } else if has_segment(byte) {
-            self.place = Place::AtLength { marker, code: byte };
+            self.place = CopyPosition::AtLength { marker, code: byte };
         } else {
-            self.place = Place::Done(End::Header(MarkerFault::UnknownMarker, marker));
+            self.place = CopyPosition::Done(End::Header(MarkerFault::UnknownMarker, marker));
         }
     }
 
@@ -168,14 +168,14 @@ impl Machine {
         let index = self.headers.scans();
         match self.headers.take(code, &self.payload) {
             Err(fault) => {
-                self.place = Place::Done(End::Header(fault, marker));
+                self.place = CopyPosition::Done(End::Header(fault, marker));
             }
             Ok(None) => {
-                self.place = Place::AtMarker(false);
+                self.place = CopyPosition::AtMarker(false);
             }
             Ok(Some(plan)) => {
                 let scan = OpenScan::open(self.alloc, index, plan, before_last + 1);
-                self.place = Place::InScan(scan);
+                self.place = CopyPosition::InScan(scan);
             }
         }
     }
@@ -239,11 +239,11 @@ impl Machine {
     {
         self.payload.clear();
         if size < 2 {
-            self.place = Place::Done(End::Header(MarkerFault::Length, marker));
+            self.place = CopyPosition::Done(End::Header(MarkerFault::Length, marker));
         } else if size == 2 {
             self.take_segment(marker, code, self.count);
         } else {
-            self.place = Place::InPayload { marker, code, size };
+            self.place = CopyPosition::InPayload { marker, code, size };
         }
     }
 
@@ -279,30 +279,30 @@ impl Machine {
         ensures { IfOk result (Takes self.old bytes.now self.new) }
     {
         match &mut self.place {
-            Place::Start(fill) => {
+            CopyPosition::Start(fill) => {
                 let fill = *fill;
                 Ok(self.take_at_start(fill, bytes))
             }
-            Place::AtMarker(fill) => {
+            CopyPosition::AtMarker(fill) => {
                 let fill = *fill;
                 self.take_at_marker(fill, bytes)
             }
-            Place::AtLength { marker, code } => {
+            CopyPosition::AtLength { marker, code } => {
                 let (marker, code, high) = (*marker, *code, bytes[0]);
-                self.place = Place::InLength { marker, code, high };
+                self.place = CopyPosition::InLength { marker, code, high };
                 Ok(1)
             }
-            Place::InLength { marker, code, high } => {
+            CopyPosition::InLength { marker, code, high } => {
                 let (marker, code, high) = (*marker, *code, *high);
                 let size = u16::from_be_bytes([high, bytes[0]]);
                 self.length_known(marker, code, size);
                 Ok(1)
             }
-            Place::InPayload { marker, code, size } => {
+            CopyPosition::InPayload { marker, code, size } => {
                 let (marker, code, size) = (*marker, *code, *size);
                 self.take_in_payload(marker, code, size, bytes)
             }
-            Place::InScan(scan) => match scan.take(bytes)? {
+            CopyPosition::InScan(scan) => match scan.take(bytes)? {
                 ScanStep::Data(count) => Ok(count),
                 ScanStep::Restart(mark) => {
                     close_at_marker(self.alloc, &self.headers, &mut self.findings, scan)?;
@@ -315,7 +315,7 @@ impl Machine {
                     Ok(1)
                 }
             },
-            Place::Done(_) => Ok(bytes.len()),
+            CopyPosition::Done(_) => Ok(bytes.len()),
         }
     }
 
@@ -328,15 +328,15 @@ impl Machine {
         ensures headers { OnOk result (self.new.headers ≡ self.old.headers) }
     {
         match &mut self.place {
-            Place::Start(_) | Place::AtMarker(true) => Ok(End::Header(
+            CopyPosition::Start(_) | CopyPosition::AtMarker(true) => Ok(End::Header(
                 MarkerFault::Ended,
                 self.count,
             )),
-            Place::AtMarker(false) => Ok(End::Input(self.count)),
-            Place::AtLength { .. } | Place::InLength { .. } | Place::InPayload { .. } => {
-                Ok(End::Header(MarkerFault::Ended, self.count))
-            }
-            Place::InScan(scan) => {
+            CopyPosition::AtMarker(false) => Ok(End::Input(self.count)),
+            CopyPosition::AtLength { .. }
+            | CopyPosition::InLength { .. }
+            | CopyPosition::InPayload { .. } => { Ok(End::Header(MarkerFault::Ended, self.count)) }
+            CopyPosition::InScan(scan) => {
                 close(
                     self.alloc,
                     &self.headers,
@@ -346,7 +346,7 @@ impl Machine {
                 )?;
                 Ok(End::Input(self.count))
             }
-            Place::Done(end) => Ok(*end),
+            CopyPosition::Done(end) => Ok(*end),
         }
     }
 }

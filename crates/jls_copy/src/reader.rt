@@ -15,7 +15,7 @@ use crate::end::End;
 use crate::findings::Findings;
 use crate::machine::Machine;
 use crate::piece::PieceRecord;
-use crate::place::Place;
+use crate::place::CopyPosition;
 use jls_bits::PushedBytes;
 use jls_marker::{Headers, MarkerFault};
 use jls_partial::Partial;
@@ -135,7 +135,7 @@ impl CopyReader {
             machine: Machine {
                 alloc,
                 count: 0,
-                place: Place::Start(false),
+                place: CopyPosition::Start(false),
                 headers: Headers::new(),
                 payload: Vec::new(alloc),
                 findings: Findings {
@@ -264,11 +264,11 @@ impl CopyReader {
 }
 
 /// Whether no byte more changes anything.
-fn is_final(place: &Place) -> bool
+fn is_final(place: &CopyPosition) -> bool
     ensures { result ≡ reader.is_final place.now }
 {
     match place {
-        Place::Done(_) => true,
+        CopyPosition::Done(_) => true,
         _ => false,
     }
 }

@@ -1,6 +1,6 @@
 use Rattle.std.proofs.Common.{◌≤◌, length, refl, subst, arith}
 use Rattle.jls_copy.specs.Stretch.{TakesData, TakesStep}
-use Rattle.jls_copy.specs.declared.place.Place.TheVariants.{Done}
+use Rattle.jls_copy.specs.declared.place.CopyPosition.TheVariants.{Done}
 use Rattle.jls_copy.proofs.Idle.{all_at_end}
 use Rattle.jls_copy.proofs.MachineTakes.{takes_stretch, takes_of_scan}
 use Rattle.jls_copy.proofs.machine.Machine.take.Goals as goal

@@ -1,6 +1,6 @@
 use Rattle.std.proofs.Common.{◌≡◌, ℕ, ◌+◌, ◌-◌, ◌*◌, ◌<◌, true, List, ◌++◌, take, drop, get_or, refl, sym, ap, ◌∙◌, arith}
 use Rattle.jls_copy.specs.ReaderState.{with_segment}
-use Rattle.jls_copy.specs.declared.place.Place.TheVariants.{AtMarker}
+use Rattle.jls_copy.specs.declared.place.CopyPosition.TheVariants.{AtMarker}
 use Rattle.jls_copy.proofs.Idle.{fill_at_marker}
 use Rattle.jls_copy.proofs.MachineTakes.{takes_stretch, takes_segment}
 use Rattle.jls_copy.proofs.machine.Machine.take_at_marker.Goals as goal

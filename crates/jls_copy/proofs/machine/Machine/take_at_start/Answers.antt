@@ -1,5 +1,5 @@
 use Rattle.std.proofs.Common.{◌≡◌, true, refl, ap, ◌∙◌, arith}
-use Rattle.jls_copy.specs.declared.place.Place.TheVariants.{Start}
+use Rattle.jls_copy.specs.declared.place.CopyPosition.TheVariants.{Start}
 use Rattle.jls_copy.proofs.Idle.{fill_at_start}
 use Rattle.jls_copy.proofs.MachineTakes.{takes_stretch}
 use Rattle.jls_copy.proofs.machine.Machine.take_at_start.Goals as goal
