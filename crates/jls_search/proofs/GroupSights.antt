@@ -7,7 +7,7 @@ use Rattle.jls_search.specs.Choices.{prefix_of}
 use Rattle.jls_search.specs.Goals.{IsSeenFor}
 use Rattle.jls_search.specs.OfGroups.{HasManyFaults, IsGivenUp, ReadsInGroup}
 use Rattle.jls_search.specs.Order.{IsToCome, IsLater}
-use Rattle.jls_search.specs.declared.looking.Sight.TheVariants.{Dead}
+use Rattle.jls_search.specs.declared.looking.PathVerdict.TheVariants.{Dead}
 use Rattle.jls_search.specs.declared.setting.Goal.TheVariants.{Group}
 use Rattle.jls_search.specs.declared.setting.Setting.{Setting}
 use Rattle.jls_search.proofs.KeptReaders.{prefix_and_rest}

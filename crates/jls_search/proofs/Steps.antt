@@ -14,7 +14,7 @@ use Rattle.jls_search.specs.OfGroups.{IsAddedOnce}
 use Rattle.jls_search.specs.Order.{IsLater, IsToCome}
 use Rattle.jls_search.specs.Search.{AreFilesFor, IsStep}
 use Rattle.jls_search.specs.Tried.{HasCopyElsewhere, IsSetFor, IsSetWholeFor, IsStop}
-use Rattle.jls_search.specs.declared.looking.Sight.TheVariants.{Dead}
+use Rattle.jls_search.specs.declared.looking.PathVerdict.TheVariants.{Dead}
 use Rattle.jls_search.specs.declared.setting.Goal.{Goal}
 use Rattle.jls_search.specs.declared.setting.Goal.TheVariants.{Whole, Group}
 use Rattle.jls_search.proofs.WholeSplices.{equal_or_after}

@@ -10,7 +10,7 @@ use Rattle.jls_search.specs.Choices.{IsFirstWay, IsPath, prefix_of}
 use Rattle.jls_search.specs.Order.{IsToCome, IsLater}
 use Rattle.jls_search.specs.Faultless.{IsDead, IsSought}
 use Rattle.jls_search.specs.Goals.{IsSeenFor, IsSettledFor, IsSoughtFor}
-use Rattle.jls_search.specs.declared.looking.Sight.TheVariants.{Dead}
+use Rattle.jls_search.specs.declared.looking.PathVerdict.TheVariants.{Dead}
 use Rattle.jls_search.specs.declared.setting.Goal.TheVariants.{Whole}
 use Rattle.jls_search.specs.Search.{HasEachSplice, files_of}
 use Rattle.jls_search.proofs.Paths.{order}

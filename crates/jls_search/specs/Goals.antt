@@ -7,8 +7,8 @@ use Rattle.jls_search.specs.Faultless.{IsSought}
 use Rattle.jls_search.specs.OfGroups.{IsPassedBy, IsSetting, ReadsInGroup}
 use Rattle.jls_search.specs.Order.{IsLater, IsToCome}
 use Rattle.jls_search.specs.Tried.{IsSetFor, IsSetWholeFor, IsStop}
-use Rattle.jls_search.specs.declared.looking.Sight.{Sight}
-use Rattle.jls_search.specs.declared.looking.Sight.TheVariants.{Dead, Open, Found}
+use Rattle.jls_search.specs.declared.looking.PathVerdict.{PathVerdict}
+use Rattle.jls_search.specs.declared.looking.PathVerdict.TheVariants.{Dead, Open, Found}
 use Rattle.jls_search.specs.declared.setting.Goal.{Goal}
 use Rattle.jls_search.specs.declared.setting.Goal.TheVariants.{Whole, Group}
 
@@ -60,7 +60,7 @@ AddsFor ceiling parts goal path before found =
 -- Inside the crate -------------------------------------------------------------------------------------------------
 
 -- what is seen of a path. It is dead where what begins so is not sought, or passed by
-abbrev pub IsSeenFor : Option ℕ → List Part → Goal → List ℕ → Sight → Type 0
+abbrev pub IsSeenFor : Option ℕ → List Part → Goal → List ℕ → PathVerdict → Type 0
 IsSeenFor ceiling parts goal path Dead =
     (choices : List ℕ) → IsSoughtFor ceiling parts goal choices → IsToCome path choices
     → IsPassedFor parts goal choices ⊎ IsLater path choices

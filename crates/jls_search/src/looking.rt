@@ -19,7 +19,7 @@ use std::alloc::{AllocError, Global};
 
 /// What is seen of a path.
 #[derive(Drop)]
-pub(crate) enum Sight {
+pub(crate) enum PathVerdict {
     /// No choices that begin so are tried: none of them makes a file that is sought, or those that do are passed by.
     Dead,
     /// Such choices may come. The reader was fed what the path makes. There is none where its copy has ended.
@@ -45,7 +45,7 @@ fn look_at_file(
     parts: &Parts<'_>,
     judge: &Judge,
     path: &[usize],
-) -> Result<Sight, AllocError>
+) -> Result<PathVerdict, AllocError>
     requires kept { IfSome judge.now.kept (IsKept parts.now) }
     requires path { IsPath parts.now path.now }
     requires few { length (prefix_of parts.now path.now) ≤ 2 ^ 63 - 1 }
@@ -53,14 +53,14 @@ fn look_at_file(
     ensures { IfOk result (λ sight. IsSeenFor judge.now.ceiling parts.now Whole path.now sight) }
 {
     let Some(reader) = living_on(alloc, parts, &judge.kept, path)? else {
-        return Ok(Sight::Dead);
+        return Ok(PathVerdict::Dead);
     };
     let found = clone_first(judge, &reader)?;
     let sought = is_sought(judge.ceiling, reader)?;
     if sought {
-        return Ok(Sight::Found(found));
+        return Ok(PathVerdict::Found(found));
     }
-    Ok(Sight::Dead)
+    Ok(PathVerdict::Dead)
 }
 
 /// What it sees of a shorter one.
@@ -69,7 +69,7 @@ fn look_at_prefix(
     parts: &Parts<'_>,
     judge: &Judge,
     path: &[usize],
-) -> Result<Sight, AllocError>
+) -> Result<PathVerdict, AllocError>
     requires kept { IfSome judge.now.kept (IsKept parts.now) }
     requires path { IsPath parts.now path.now }
     requires few { length (prefix_of parts.now path.now) ≤ 2 ^ 63 - 1 }
@@ -77,21 +77,21 @@ fn look_at_prefix(
     ensures { IfOk result (λ sight. IsSeenFor judge.now.ceiling parts.now Whole path.now sight) }
 {
     let Some(reader) = living_on(alloc, parts, &judge.kept, path)? else {
-        return Ok(Sight::Dead);
+        return Ok(PathVerdict::Dead);
     };
     let above = is_above(judge.ceiling, &reader)?;
     if above {
-        return Ok(Sight::Dead);
+        return Ok(PathVerdict::Dead);
     }
     let goes_on = !reader.has_faulty_piece() && !reader.is_piece_broken() && !reader.is_done();
     if goes_on {
-        return Ok(Sight::Open(Some(reader)));
+        return Ok(PathVerdict::Open(Some(reader)));
     }
     let dead = is_dead(reader)?;
     if dead {
-        return Ok(Sight::Dead);
+        return Ok(PathVerdict::Dead);
     }
-    Ok(Sight::Open(None))
+    Ok(PathVerdict::Open(None))
 }
 
 /// What a search of whole files sees of a path.
@@ -100,7 +100,7 @@ fn look_for_whole(
     parts: &Parts<'_>,
     judge: &Judge,
     path: &[usize],
-) -> Result<Sight, AllocError>
+) -> Result<PathVerdict, AllocError>
     requires kept { IfSome judge.now.kept (IsKept parts.now) }
     requires path { IsPath parts.now path.now }
     requires few { length (prefix_of parts.now path.now) ≤ 2 ^ 63 - 1 }
@@ -114,13 +114,13 @@ fn look_for_whole(
 }
 
 /// Feeds what the path makes to a reader, and tells what is seen. The kept reader saves it the bytes of its own choices.
-pub(crate) fn look(
+pub(crate) fn judge_path(
     alloc: Global,
     parts: &Parts<'_>,
     goal: Goal,
     judge: &Judge,
     path: &[usize],
-) -> Result<Sight, AllocError>
+) -> Result<PathVerdict, AllocError>
     requires goal { IsGoal parts.now goal }
     requires kept { AreKept parts.now judge.now }
     requires path { IsPath parts.now path.now }

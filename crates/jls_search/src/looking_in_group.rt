@@ -9,7 +9,7 @@ ghost use Rattle.jls_search.specs.Search.{AreKept, IsKept};
 ghost use Rattle.jls_search.specs.declared.setting.Goal.TheVariants.{Group as ForGroup};
 
 use crate::kept::{Judge, KeptReader, nearest, reader_on};
-use crate::looking::Sight;
+use crate::looking::PathVerdict;
 use crate::offsets::border_offset;
 use crate::reading_between::is_read_between;
 use crate::reading_group::reads_in_group;
@@ -25,7 +25,7 @@ fn look_at_prefix(
     setting: Setting,
     kept: &Option<KeptReader>,
     path: &[usize],
-) -> Result<Sight, AllocError>
+) -> Result<PathVerdict, AllocError>
     requires setting { IsSetting parts.now setting }
     requires kept { IfSome kept.now (IsKept parts.now) }
     requires path { IsPath parts.now path.now }
@@ -36,15 +36,15 @@ fn look_at_prefix(
     let reader = reader_on(alloc, parts, kept, path)?;
     if path.len() <= setting.group.begin.part {
         if reader.is_done() {
-            return Ok(Sight::Dead);
+            return Ok(PathVerdict::Dead);
         }
-        return Ok(Sight::Open(Some(reader)));
+        return Ok(PathVerdict::Open(Some(reader)));
     }
     if reader.is_piece_broken() {
-        return Ok(Sight::Dead);
+        return Ok(PathVerdict::Dead);
     }
     if !reader.is_done() {
-        return Ok(Sight::Open(Some(reader)));
+        return Ok(PathVerdict::Open(Some(reader)));
     }
     let reads = is_read_between(
         reader,
@@ -52,9 +52,9 @@ fn look_at_prefix(
         None,
     )?;
     if reads {
-        return Ok(Sight::Open(None));
+        return Ok(PathVerdict::Open(None));
     }
-    Ok(Sight::Dead)
+    Ok(PathVerdict::Dead)
 }
 
 /// What is seen of a path that has a choice for each part.
@@ -64,7 +64,7 @@ fn look_at_file(
     setting: Setting,
     kept: &Option<KeptReader>,
     path: &[usize],
-) -> Result<Sight, AllocError>
+) -> Result<PathVerdict, AllocError>
     requires setting { IsSetting parts.now setting }
     requires kept { IfSome kept.now (IsKept parts.now) }
     requires path { IsPath parts.now path.now }
@@ -74,9 +74,9 @@ fn look_at_file(
 {
     let reads = reads_in_group(alloc, parts, setting.group, kept, path)?;
     if reads {
-        return Ok(Sight::Found(None));
+        return Ok(PathVerdict::Found(None));
     }
-    Ok(Sight::Dead)
+    Ok(PathVerdict::Dead)
 }
 
 /// What a search of a group sees of a path.
@@ -86,7 +86,7 @@ pub(crate) fn look_in_group(
     setting: Setting,
     judge: &Judge,
     path: &[usize],
-) -> Result<Sight, AllocError>
+) -> Result<PathVerdict, AllocError>
     requires setting { IsSetting parts.now setting }
     requires kept { AreKept parts.now judge.now }
     requires path { IsPath parts.now path.now }

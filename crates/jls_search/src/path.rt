@@ -50,7 +50,11 @@ pub(crate) fn descend(
 }
 
 /// Gives up all choices that begin with the path, and goes to the next path; `false` where there is none.
-pub(crate) fn turn(parts: &Parts<'_>, goal: Goal, path: &mut Vec<usize>) -> Result<bool, AllocError>
+pub(crate) fn backtrack(
+    parts: &Parts<'_>,
+    goal: Goal,
+    path: &mut Vec<usize>,
+) -> Result<bool, AllocError>
     requires copy { HasCopyElsewhere parts.now goal }
     requires path { IsSetFor parts.now goal path.old.items }
     ensures path { IfOk result (λ more. more ≡ true → IsSetFor parts.now goal path.new.items) }

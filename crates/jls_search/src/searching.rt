@@ -14,8 +14,8 @@ ghost use Rattle.jls_search.specs.declared.setting.Goal.TheVariants.{Group as Fo
 
 use crate::adding::add_found;
 use crate::kept::{Judge, KeptReader, keep, keep_open};
-use crate::looking::{Sight, look};
-use crate::path::{descend, follow, turn};
+use crate::looking::{PathVerdict, judge_path};
+use crate::path::{backtrack, descend, follow};
 use crate::setting::{Goal, Setting};
 use crate::whole_search::{MOST_FOUND, Searched};
 use jls_diff::Parts;
@@ -134,19 +134,19 @@ impl Search {
         ensures alike { IsAlike self.old self.new }
         ensures tries { self.new.tries ≡ self.old.tries }
     {
-        let sight = look(alloc, parts, self.goal, &self.judge, &self.path)?;
+        let sight = judge_path(alloc, parts, self.goal, &self.judge, &self.path)?;
         match sight {
-            Sight::Open(reader) => {
+            PathVerdict::Open(reader) => {
                 keep_open(alloc, &mut self.judge, self.goal, reader, &self.path)?;
                 descend(parts, self.goal, &mut self.path)?;
                 Ok(true)
             }
-            Sight::Found(reader) => {
+            PathVerdict::Found(reader) => {
                 keep(alloc, &mut self.judge.found, reader, &self.path)?;
                 add_found(alloc, &self.path, &mut self.splices)?;
-                turn(parts, self.goal, &mut self.path)
+                backtrack(parts, self.goal, &mut self.path)
             }
-            Sight::Dead => turn(parts, self.goal, &mut self.path),
+            PathVerdict::Dead => backtrack(parts, self.goal, &mut self.path),
         }
     }
 

@@ -1,7 +1,7 @@
 use Rattle.std.proofs.Common.{ℕ, List, length}
 use Rattle.jls_search.specs.Tried.{IsSetFor, IsSetWholeFor}
 use Rattle.jls_search.specs.Order.{IsLater}
-use Rattle.jls_search.proofs.path.turn.Given as goal
+use Rattle.jls_search.proofs.path.backtrack.Given as goal
 
 abbrev pub invariant-loop-choice : goal.invariant-loop-choice
 invariant-loop-choice l = record {

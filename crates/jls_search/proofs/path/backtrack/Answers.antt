@@ -6,7 +6,7 @@ use Rattle.jls_search.proofs.Paths.{after_longer, after_more, next_after, turned
 use Rattle.jls_search.specs.Tried.{IsSetFor, IsTried}
 use Rattle.jls_search.specs.Order.{IsLater, IsToCome}
 use Rattle.jls_search.proofs.Sets.{after_last, last_takes, none_after, set_back, set_more}
-use Rattle.jls_search.proofs.path.turn.Goals as goal
+use Rattle.jls_search.proofs.path.backtrack.Goals as goal
 
 pub next_choice-requires : goal.next_choice-requires
 next_choice-requires c =

@@ -1,7 +1,7 @@
 use Rattle.std.proofs.Common.{sym, subst}
 use Rattle.std.specs.Prelude.{IfOk}
 use Rattle.jls_search.specs.Goals.{IsGoal, IsSeenFor}
-use Rattle.jls_search.proofs.looking.look.Goals as goal
+use Rattle.jls_search.proofs.looking.judge_path.Goals as goal
 
 pub look_in_group-requires-clause-setting : goal.look_in_group-requires-clause-setting
 look_in_group-requires-clause-setting c = subst (IsGoal c.args.parts.now) c.in-Group.is c.requires.goal
