@@ -45,3 +45,4 @@ mod FaultyPieces
 mod EndsOfCourse
 mod SettledPieces
 mod PrefixReadings
+pub mod ReadGives

@@ -16,7 +16,7 @@ use Rattle.jls_copy.specs.Prefixes.{Gives, PrefixesKeepReadings}
 use Rattle.jls_copy.specs.ReadCopy.{ReadCopy}
 use Rattle.jls_copy.proofs.OneCourse.{one_course}
 use Rattle.jls_search.specs.Faultless.{IsWithin, IsSought, IsPictureWithin, IsReadWithin}
-use Rattle.jls_search.proofs.LinesRead.{held_is_given, given_is_held}
+use Rattle.jls_copy.proofs.ReadGives.{held_is_given, given_is_held}
 
 -- A picture --------------------------------------------------------------------------------------------------------
 
