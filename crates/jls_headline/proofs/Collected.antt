@@ -30,7 +30,7 @@ use Rattle.jls_station.specs.declared.take_copy.TakeFault.{TakeFault}
 use Rattle.jls_station.specs.declared.take_copy.TakeFault.TheVariants as fault
 use Rattle.jls_copy_laws.specs.Gives.{GivesReading}
 use Rattle.jls_copy_laws.proofs.Members.{none_in, in_map, of_map, all_at, all_append, all_prefix}
-use Rattle.jls_salvage_run.proofs.InputBytes.{all_reads}
+use Rattle.jls_station.proofs.ReadBytes.{all_reads}
 use Rattle.jls_headline.specs.Stations.{HasShape, ReadingsOf}
 use Rattle.jls_headline.specs.Sources.{SourcedCopy, copies_of}
 use Rattle.jls_headline.specs.Sources.{sourced_copy}

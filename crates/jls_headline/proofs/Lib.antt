@@ -3,27 +3,20 @@ mod Placed
 pub mod LostIntervals
 mod ScansInRange
 mod Trims
-mod Held
+pub mod Held
 mod CopyGives
-mod SameCopies
+pub mod SameCopies
 mod Unions
-mod Stations
+pub mod Stations
 pub mod SourcedStations
 pub mod Collected
-mod CollectedRuns
 mod CutTexts
-mod Pictures
-mod WrittenFiles
+pub mod Pictures
+pub mod WrittenFiles
 pub mod StationPictures
-mod JoinRuns
-pub mod CollectedPictures
+mod CollectedPictures
 pub mod OneLine
 mod TrimmedLines
-mod JoinedTexts
-mod InputMarks
-mod JoinThenWrite
-mod SettledInputs
-mod WrittenInputs
 pub mod TwoLineCopies
 pub mod TwoLineExamples
 mod CollectedExamples
@@ -34,5 +27,4 @@ mod SameCopyExamples
 mod TenLineExamples
 mod HeadExamples
 mod EitherWayExamples
-pub mod JoinExamples
 pub mod ClosedExamples

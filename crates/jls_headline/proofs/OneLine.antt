@@ -22,7 +22,7 @@ use Rattle.jls_headline.specs.Damaged.{numbered_pieces, picture_reading, Damaged
 use Rattle.jls_headline.specs.ScanLaws.{IsScanUnder}
 use Rattle.jls_headline.specs.Stations.{HasShape, HoldsExactly}
 use Rattle.jls_headline.specs.Sources.{copies_of}
-use Rattle.jls_headline.specs.LineLaws.{SaysNoOther, TellsOfLine, StationsTellOfLines, RunsTellOfLines, UnnamedLinesHaveOneReading}
+use Rattle.jls_headline.specs.LineLaws.{SaysNoOther, TellsOfLine, StationsTellOfLines, UnnamedLinesHaveOneReading}
 use Rattle.jls_headline.specs.LineLaws.{UnnamedLinesAreThePicture, HasPictureLine, DamagedScanAt, DamagedAtSaysNoOther}
 use Rattle.jls_headline.specs.LineLaws.{DamagedIsDamagedAtEach}
 use Rattle.jls_headline.proofs.Held.{set_holds_items, is_there, there_is, one_reading, is_at_line}
@@ -30,7 +30,6 @@ use Rattle.jls_headline.proofs.ScanNumbers.{numbered_pieces_give}
 use Rattle.jls_headline.proofs.ScansInRange.{scans_are_of_the_frame}
 use Rattle.jls_headline.proofs.LostIntervals.{given_by_scan, surviving_lines_are_given, piece_gives_no_other}
 use Rattle.jls_headline.proofs.StationPictures.{only_one}
-use Rattle.jls_headline.proofs.CollectedRuns.{runs_are_collected}
 use Rattle.jls_headline.proofs.Collected.{collected_holds}
 
 -- what is among the readings of a line is held
@@ -108,11 +107,6 @@ module _ (pic : WholePicture) (station : PartialPicture) (copies : List (List â„
 pub stations_tell_of_lines : StationsTellOfLines
 stations_tell_of_lines pic station copies collected component line =
     tells_of_line pic station (copies_of copies) (collected_holds station copies collected) component line
-
-pub runs_tell_of_lines : RunsTellOfLines
-runs_tell_of_lines source out names joined settled whole events done copies stand pic component line =
-    stations_tell_of_lines pic joined copies
-    (runs_are_collected source out names joined settled whole events done copies stand) component line
 
 -- The report -----------------------------------------------------------------------------------------------------
 

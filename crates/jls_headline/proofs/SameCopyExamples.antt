@@ -1,12 +1,10 @@
 -- The same copies: in another order, one of them twice, and one with bytes after its end.
 use Rattle.std.proofs.Common.{ℕ, zero, suc, List, [], ◌∷◌, ◌++◌, Some, refl, sym, ap, subst, lit<, arith, inl, inr}
-use Rattle.std.specs.List.{Contains}
 use Rattle.jls_copy.specs.Course.{IsCourse}
 use Rattle.jls_copy.proofs.FinalEnds.{final_ends_stay}
 use Rattle.jls_copy_laws.specs.CopyScans.{HasScans}
 use Rattle.jls_copy_laws.proofs.CopyScans.{course_has_scans}
 use Rattle.jls_copy_laws.proofs.Members.{bytes_of_test}
-use Rattle.jls_salvage_run.specs.CommandLaws.{HaveSameMembers}
 use Rattle.jls_headline.specs.Stations.{IsSameCopy, AreAmong, SameCopies}
 use Rattle.jls_headline.specs.Sources.{SourcedCopy, IsSameUnder, SameCopiesUnder}
 use Rattle.jls_headline.specs.Sources.{sourced_copy}
@@ -52,22 +50,6 @@ among_back copy (suc (suc (suc k)), l, e) = absurd (omega (arith, l))
 
 same_copies : SameCopies taken also_taken
 same_copies = (among, among_back)
-
--- The same inputs of two runs of `join` ---------------------------------------------------------------------------
-
-same_inputs : HaveSameMembers (first ∷ second ∷ []) (second ∷ first ∷ first ∷ [])
-same_inputs bytes = (there, back)
-  where
-    there : Contains (first ∷ second ∷ []) bytes → Contains (second ∷ first ∷ first ∷ []) bytes
-    there (zero, l, e) = (1, lit< tt, e)
-    there (suc zero, l, e) = (0, lit< tt, e)
-    there (suc (suc k), l, e) = absurd (omega (arith, l))
-
-    back : Contains (second ∷ first ∷ first ∷ []) bytes → Contains (first ∷ second ∷ []) bytes
-    back (zero, l, e) = (1, lit< tt, e)
-    back (suc zero, l, e) = (0, lit< tt, e)
-    back (suc (suc zero), l, e) = (0, lit< tt, e)
-    back (suc (suc (suc k)), l, e) = absurd (omega (arith, l))
 
 -- Under sources --------------------------------------------------------------------------------------------------
 

@@ -6,9 +6,6 @@ pub mod Stations
 pub mod Sources
 pub mod ReadsAs
 pub mod HeadlineLaws
-pub mod RunLaws
-pub mod JoinThenWrite
-pub mod NoOtherLaws
 pub mod Collected
 pub mod CollectedLaws
 pub mod Headline

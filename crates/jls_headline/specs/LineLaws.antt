@@ -1,25 +1,21 @@
 -- One line by itself: what is known of it, however the other lines fare.
-use Rattle.std.specs.Prelude.{◌≡◌, ℕ, ◌<◌, Bool, List, [], ◌∷◌, length, count_by, Option, ◌⊎◌}
+use Rattle.std.specs.Prelude.{◌≡◌, ℕ, ◌<◌, List, [], ◌∷◌, length, count_by, ◌⊎◌}
 use Rattle.std.specs.List.{AllByRecursion, Contains}
 use Rattle.jls_partial.specs.Reading.{reading_of}
 use Rattle.jls_partial.specs.Partial.{PartialPicture, readings_at}
 use Rattle.jls_partial.specs.Status.{status_of, IsSettled}
 use Rattle.jls_partial.specs.declared.status.Status.TheVariants.{Settled}
 use Rattle.jls_marker.specs.Scan.{Scan, HasRow}
-use Rattle.jls_io.specs.Event.{Event}
 use Rattle.jls_write.specs.Picture.{WholePicture, line_of, picture_of}
 use Rattle.jls_write.specs.WholePictures.{IsPicture}
 use Rattle.jls_report.specs.Report.{PictureReport, report_of}
 use Rattle.jls_report.specs.Ranges.{speaks_of}
-use Rattle.jls_salvage_run.specs.Joining.{JoinIsDone}
-use Rattle.jls_salvage_run.specs.CommandLaws.{input_bytes}
 use Rattle.jls_copy_laws.specs.CopyScans.{ScanPiece, ScanWithData, HasScans}
 use Rattle.jls_copy_laws.specs.Gives.{PieceGives, GivesReading}
 use Rattle.jls_headline.specs.Damaged.{AreNumbers, numbered_pieces, picture_reading, Damaged, Survives, EachLineSurvives}
 use Rattle.jls_headline.specs.Sources.{SourcedCopy, copies_of}
 use Rattle.jls_headline.specs.Trimmed.{IsTrimmed}
 use Rattle.jls_headline.specs.Collected.{CollectedFrom}
-use Rattle.jls_headline.specs.RunLaws.{InputsStandFor}
 
 -- each reading that the copy gives of this line is the picture's; it can give none, and of other lines any
 abbrev pub SaysNoOther : WholePicture → ℕ → ℕ → List ℕ → Type 0
@@ -45,14 +41,6 @@ abbrev pub StationsTellOfLines : Type 0
 StationsTellOfLines =
     (pic : WholePicture) (station : PartialPicture) (copies : List SourcedCopy) → CollectedFrom station copies
     → (component line : ℕ) → TellsOfLine pic station (copies_of copies) component line
-
--- so does what a run of `join` joined that is done, with any status, of the copies that its inputs stand for
-abbrev pub RunsTellOfLines : Type 0
-RunsTellOfLines =
-    (source : Option ℕ) (out : List ℕ) (names : List (List ℕ)) (joined : PartialPicture) (settled whole : Bool) (events : List Event)
-    → JoinIsDone source out names joined settled whole events
-    → (copies : List SourcedCopy) → InputsStandFor source (input_bytes events) copies
-    → (pic : WholePicture) (component line : ℕ) → TellsOfLine pic joined (copies_of copies) component line
 
 -- So if each line of a picture survives in some copy, whatever else was read, the lines of the station are that picture or not all settled
 abbrev pub NeverAnotherPicture : Type 0

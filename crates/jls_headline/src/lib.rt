@@ -1,13 +1,19 @@
 //! The law that the product is trusted for: what public calls come to that read copies, and the picture that damaged copies give. This
 //! crate has definitions and laws alone; each law is a function that does nothing and whose contract is the law.
+//!
+//! - `calls`: what public calls hold that were made of copies
+//! - `headline`: the main theorem, and written files
+//! - `lines`: one line by itself
+//! - `lost_intervals`, `scans`, `trimmed`: damaged copies: lost restart markers, their scans, and pieces that were only truncated or extended
+//!
+//! Definitions: `Damaged`, `Trimmed`, `Stations`, `Sources`, `Collected`, `ReadsAs`. Laws: `Headline`, `HeadlineLaws`, `CollectedLaws`,
+//! `LineLaws`, `LostIntervalLaws`, `ScanLaws`.
 #![tactic(auto)]
 
 mod calls;
 mod headline;
 mod lines;
 mod lost_intervals;
-mod no_other;
-mod runs;
 mod scans;
 mod trimmed;
 
@@ -19,11 +25,6 @@ pub use headline::{
 pub use lines::{damaged_copies_say_no_other, lines_are_reported, never_another_picture};
 pub use lost_intervals::{
     damaged_copies_give_the_picture, numbers_come_back, surviving_lines_are_given,
-};
-pub use no_other::{settled_joins_are_the_picture, written_inputs_are_the_picture};
-pub use runs::{
-    joined_copies_give_the_picture, joined_texts_give_the_picture,
-    written_joins_read_as_the_picture, written_text_joins_read_as_the_picture,
 };
 pub use scans::scans_are_of_the_frame;
 pub use trimmed::{trimmed_copies_are_damaged, trimmed_pieces_are_harmless};

@@ -1,15 +1,13 @@
 //! One line by itself, however the other lines fare. Each law is a function that does nothing and whose contract is the law.
 
-ghost use Rattle.jls_headline.specs.LineLaws.{StationsTellOfLines, RunsTellOfLines, UnnamedLinesHaveOneReading, UnnamedLinesAreThePicture};
+ghost use Rattle.jls_headline.specs.LineLaws.{StationsTellOfLines, UnnamedLinesHaveOneReading, UnnamedLinesAreThePicture};
 ghost use Rattle.jls_headline.specs.LineLaws.{NeverAnotherPicture, DamagedAtSaysNoOther, DamagedIsDamagedAtEach, TrimmedAtIsDamagedAt};
 
-/// A law: what a station tells of one line of a picture, and what a run of `join` that is done tells of it, with any status. A text among
-/// the run's inputs stands for the copies that it was made of. If no copy gives another reading of the line than the picture's, the line is
+/// A law: what a station tells of one line of a picture. If no copy gives another reading of the line than the picture's, the line is
 /// missing, or settled as the picture's; it is settled if some copy gives it. If the line survives in one copy, whatever the others are, it
 /// is among the readings, and where the line is settled it is the picture's. A line that the report doesn't name has one reading.
 pub fn lines_are_reported()
     ensures stations { StationsTellOfLines }
-    ensures runs { RunsTellOfLines }
     ensures unnamed { UnnamedLinesHaveOneReading }
     ensures unnamed_survives { UnnamedLinesAreThePicture }
 {}

@@ -1,2 +1,11 @@
-mod RunExamples
+mod CollectedRuns
+mod JoinRuns
+mod JoinedTexts
+mod InputMarks
+mod JoinThenWrite
+mod SettledInputs
+mod WrittenInputs
 mod RunToRun
+mod JoinExamples
+mod ClosedRunExamples
+mod RunExamples

@@ -1,19 +1,39 @@
 -- A run of the program that joins two copies: what the laws on runs ask of one is met.
-use Rattle.std.proofs.Common.{true, List, [], ◌∷◌, None, refl, lit≤, inl}
+use Rattle.std.proofs.Common.{zero, suc, true, List, [], ◌∷◌, None, refl, lit<, lit≤, arith, inl}
+use Rattle.std.specs.List.{Contains}
 use Rattle.std.specs.Prelude.{codes}
 use Rattle.clap.specs.Words.{Text}
 use Rattle.clap.proofs.OnLiterals.{clap_on_literals}
 use Rattle.jls_copy.specs.CopyReads.{CopyReads}
 use Rattle.jls_copy.specs.ReadCopy.{ReadCopy}
 use Rattle.jls_salvage_run.specs.Joining as joining
+use Rattle.jls_salvage_run.specs.CommandLaws.{HaveSameMembers}
 use Rattle.jls_cli.specs.Outcomes.{finished}
 use Rattle.jls_cli.specs.SalvageAsking.{AskFor, join}
 use Rattle.jls_salvage_run.specs.Runs.{came_of}
 use Rattle.jls_headline.proofs.ClosedExamples.{first_read, second_read, first_reads, second_reads}
-use Rattle.jls_headline.proofs.JoinExamples as runs
+use Rattle.jls_run_laws.proofs.JoinExamples as runs
 use Rattle.jls_headline.proofs.TwoLineCopies.{pic, is_picture, first, second}
 use Rattle.jls_headline.proofs.TwoLineExamples.{both_are_damaged, each_line_survives}
 use Rattle.jls_run_laws.specs.RunToRun.{JoinRun}
+
+-- The same inputs of two runs of `join` ---------------------------------------------------------------------------
+
+same_inputs : HaveSameMembers (first ∷ second ∷ []) (second ∷ first ∷ first ∷ [])
+same_inputs bytes = (there, back)
+  where
+    there : Contains (first ∷ second ∷ []) bytes → Contains (second ∷ first ∷ first ∷ []) bytes
+    there (zero, l, e) = (1, lit< tt, e)
+    there (suc zero, l, e) = (0, lit< tt, e)
+    there (suc (suc k), l, e) = absurd (omega (arith, l))
+
+    back : Contains (second ∷ first ∷ first ∷ []) bytes → Contains (first ∷ second ∷ []) bytes
+    back (zero, l, e) = (1, lit< tt, e)
+    back (suc zero, l, e) = (0, lit< tt, e)
+    back (suc (suc zero), l, e) = (0, lit< tt, e)
+    back (suc (suc (suc k)), l, e) = absurd (omega (arith, l))
+
+-- A run of the program -------------------------------------------------------------------------------------------
 
 -- `jls-salvage join o a b`
 abbrev join_words : List Text

@@ -12,9 +12,9 @@ use Rattle.jls_salvage_run.specs.declared.writing.Format.{Format}
 use Rattle.jls_salvage_run.specs.declared.writing.Format.TheVariants.{Jls}
 use Rattle.jls_cli.specs.SalvageAsking.{AskFor, join}
 use Rattle.jls_salvage_run.specs.RunLaws.{DoneJoinsRan, DoneWritesRan}
-use Rattle.jls_headline.specs.JoinThenWrite as headline
-use Rattle.jls_headline.specs.NoOtherLaws.{SettledJoinsAreThePicture, WrittenInputsAreThePicture}
-use Rattle.jls_headline.specs.RunLaws.{RunsGiveThePicture}
+use Rattle.jls_run_laws.specs.JoinThenWrite.{JoinsDamagedCopies, WritesThePictureAfter, ReadsAsThePictureAfter}
+use Rattle.jls_run_laws.specs.NoOtherLaws.{SettledJoinsAreThePicture, WrittenInputsAreThePicture}
+use Rattle.jls_run_laws.specs.RunLaws.{DoneJoin, RunsGiveThePicture}
 use Rattle.jls_run_laws.specs.RunToRun.{RanOver, JoinRun, WriteRun, JoinsAndWritesGiveThePicture, JoinsAndWritesReadAsThePicture}
 use Rattle.jls_run_laws.specs.RunToRun.{SettledRunsAreThePicture, WrittenRunsAreThePicture}
 
@@ -64,53 +64,63 @@ write_did law f events w =
           (record { settled_is = (λ _. k.settled, λ _. refl); whole_is = (λ _. k.whole, λ _. refl) }) k.fits k.handed);
     }
 
-joined_so : DoneJoinsRan → (pic : WholePicture) (status : ℕ) (joining : List Event) → JoinRun pic status joining
-    → headline.JoinsDamagedCopies pic joining
-joined_so law pic status joining j = record {
-  is_picture = j.is_picture;
-  source = j.source;
-  small = j.small;
-  out = j.out;
-  names = j.names;
-  joined = did.joined;
-  settled = did.settled;
-  whole = true;
-  is_done = did.is_done;
-  damaged = j.damaged;
-  each_line = j.each_line;
-}
-  where
-    did : JoinDid j.source j.out j.names status joining
-    did = join_did law j.words status joining j.ran j.source j.out j.names j.asks j.ended
+-- that run, as the laws on `join` have it
+abbrev run_of : DoneJoinsRan → (pic : WholePicture) (status : ℕ) (joining : List Event) → JoinRun pic status joining → DoneJoin
+run_of law pic status joining j =
+    let did = join_did law j.words status joining j.ran j.source j.out j.names j.asks j.ended in
+    record {
+      source = j.source;
+      out = j.out;
+      names = j.names;
+      joined = did.joined;
+      settled = did.settled;
+      whole = true;
+      events = joining;
+      is_done = did.is_done;
+    }
+
+joined_so : (law : DoneJoinsRan) (pic : WholePicture) (status : ℕ) (joining : List Event) (j : JoinRun pic status joining)
+    → JoinsDamagedCopies pic (run_of law pic status joining j)
+joined_so law pic status joining j =
+    record { is_picture = j.is_picture; small = j.small; damaged = j.damaged; each_line = j.each_line }
 
 -- the law on damaged copies says that each line is settled
 ended_with_0 : DoneJoinsRan → RunsGiveThePicture → (pic : WholePicture) (status : ℕ) (joining : List Event)
     → JoinRun pic status joining → status ≡ 0
 ended_with_0 law gives pic status joining j =
     let did = join_did law j.words status joining j.ran j.source j.out j.names j.asks j.ended in
-    let g = gives j.source j.out j.names did.joined did.settled true joining did.is_done pic j.is_picture j.damaged j.each_line in
+    let g = gives (run_of law pic status joining j) pic j.is_picture j.damaged j.each_line in
     did.when_settled (did.is_done.settled_is.1 g.0.0)
 
-pub give_the_picture : DoneJoinsRan → DoneWritesRan → RunsGiveThePicture → headline.WrittenJoinsAreThePicture
+pub give_the_picture : DoneJoinsRan → DoneWritesRan → RunsGiveThePicture → WritesThePictureAfter JoinsDamagedCopies
     → JoinsAndWritesGiveThePicture
 give_the_picture joins writes gives written pic status joining j f events w same =
     let did = write_did writes f events w in (
       ended_with_0 joins gives pic status joining j,
-      written pic joining (joined_so joins pic status joining j) f true true events
+      written pic (run_of joins pic status joining j) (joined_so joins pic status joining j) f true true events
           (record { out = did.out; name = did.name; writes = did.writes; same_bytes = same }),
     )
 
-pub read_as_the_picture : DoneJoinsRan → DoneWritesRan → headline.WrittenJoinsReadAsThePicture → JoinsAndWritesReadAsThePicture
+pub read_as_the_picture : DoneJoinsRan → DoneWritesRan → ReadsAsThePictureAfter JoinsDamagedCopies → JoinsAndWritesReadAsThePicture
 read_as_the_picture joins writes reads pic status joining j line ri low events w same =
     let did = write_did writes (Jls line ri) events w in
-    reads pic joining (joined_so joins pic status joining j) line ri low true true events
+    reads pic (run_of joins pic status joining j) (joined_so joins pic status joining j) line ri low true true events
     (record { out = did.out; name = did.name; writes = did.writes; same_bytes = same })
 
 pub settled_runs : DoneJoinsRan → SettledJoinsAreThePicture → SettledRunsAreThePicture
 settled_runs joins law words events r source out names asks pic is each =
     let did = join_did joins words 0 events r source out names asks (lit≤ tt) in
-    let is_done = subst (λ (b : Bool). JoinIsDone source out names did.joined b true events) (did.when_0 refl) did.is_done in
-    let all = law source out names did.joined true events is_done pic is each in
+    let run : DoneJoin = record {
+      source = source;
+      out = out;
+      names = names;
+      joined = did.joined;
+      settled = did.settled;
+      whole = true;
+      events = events;
+      is_done = did.is_done;
+    } in
+    let all = law run (did.when_0 refl) pic is each in
     (did.joined, all.0, all.2)
 
 pub written_runs : DoneWritesRan → WrittenInputsAreThePicture → WrittenRunsAreThePicture

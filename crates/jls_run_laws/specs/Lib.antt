@@ -1,2 +1,5 @@
 -- What the contracts of this crate cite.
+pub mod RunLaws
+pub mod JoinThenWrite
+pub mod NoOtherLaws
 pub mod RunToRun

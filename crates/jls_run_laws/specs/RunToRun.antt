@@ -15,7 +15,7 @@ use Rattle.jls_cli.specs.SalvageAsking.{AskFor, join}
 use Rattle.jls_salvage_run.specs.RunLaws.{written_as}
 use Rattle.jls_salvage_run.specs.Runs.{Ran}
 use Rattle.jls_headline.specs.Damaged.{Damaged, EachLineSurvives}
-use Rattle.jls_headline.specs.NoOtherLaws.{SomeInputHasEachLine}
+use Rattle.jls_run_laws.specs.NoOtherLaws.{SomeInputHasEachLine}
 use Rattle.jls_headline.specs.ReadsAs.{GivesPicture, ReadsAsOnly}
 
 -- a run over these words ended with this status, and the desk did these events in it

@@ -1,6 +1,5 @@
 -- The bytes that the inputs of a run gave, each with the partial picture that it gave, and those that its output was handed.
 use Rattle.std.proofs.Common.{◌≡◌, ℕ, Bool, true, false, List, [], ◌∷◌, ◌++◌, Option, refl, sym, ap, ◌∙◌, subst, append_assoc}
-use Rattle.std.specs.List.{AllByRecursion}
 use Rattle.std.proofs.lemmas.Grind.{flat_map-append}
 use Rattle.std.proofs.lemmas.List.{append-nil}
 use Rattle.jls_partial.specs.Partial.{PartialPicture}
@@ -9,23 +8,15 @@ use Rattle.jls_io.specs.Event.{Event, opened, not_opened, gave, read_failed, cre
 use Rattle.jls_io.specs.Event.{is_creation, bytes_given, bytes_given_by, bytes_taken}
 use Rattle.jls_io.specs.Writing.{AreWrites}
 use Rattle.jls_station.specs.Given.{Given, GivesPartial}
-use Rattle.jls_station.specs.Reading.{AreBytes, GoesOn, StopsWith, IsRead}
+use Rattle.jls_station.specs.Reading.{AreBytes}
 use Rattle.jls_station.specs.Inputs.{IsEnough}
+use Rattle.jls_station.proofs.ReadBytes.{AreReads, all_reads}
 use Rattle.jls_salvage_run.specs.AllInputs.{partials, IsTaken, TakesInTurn}
 use Rattle.jls_io.specs.Outputs.{HandsOut}
 use Rattle.jls_salvage_run.specs.Joining.{JoinIsDone}
 use Rattle.jls_salvage_run.specs.CommandLaws.{before_next, input_bytes, output_bytes}
-use Rattle.jls_station.specs.declared.input.ReadStop.{ReadStop}
-use Rattle.jls_station.specs.declared.input.ReadStop.TheVariants.{Whole, Failed, Turns}
 
 -- Events that open no input and create no output -----------------------------------------------------------------
-
-abbrev AreReads : List Event → Type 0
-AreReads events = AllByRecursion (λ e. is_read e ≡ true) events
-
-reads_both : (a b : List Event) → AreReads a → AreReads b → AreReads (a ++ b)
-reads_both [] b h k = k
-reads_both (e ∷ a) b h k = (h.0, reads_both a b h.1 k)
 
 past_one : (e : Event) (more : List Event) → is_read e ≡ true
     → (is_opening e ≡ false) × (input_bytes (e ∷ more) ≡ input_bytes more) × (output_bytes (e ∷ more) ≡ output_bytes more)
@@ -47,50 +38,6 @@ past_all (e ∷ events) rest h =
     let r = past_all events rest h.1 in
     let p = past_one e (events ++ rest) h.0 in
     (rw p.0 (ap (λ (x : List Event). e ∷ x) r.0), p.1 ∙ r.1, p.2 ∙ r.2)
-
--- The reads of an input ------------------------------------------------------------------------------------------
-
-reads_on : (Enough : List ℕ → Type 0) (fed : List ℕ) (reads : List Event) → GoesOn Enough fed reads → AreReads reads
-reads_on Enough fed [] h = tt
-reads_on Enough fed (gave room bytes ∷ more) h = (refl, reads_on Enough (fed ++ bytes) more h.3)
-reads_on Enough fed (opened name ∷ more) h = absurd h
-reads_on Enough fed (not_opened name ∷ more) h = absurd h
-reads_on Enough fed (read_failed ∷ more) h = absurd h
-reads_on Enough fed (created name ∷ more) h = absurd h
-reads_on Enough fed (not_created name ∷ more) h = absurd h
-reads_on Enough fed (took bytes ∷ more) h = absurd h
-reads_on Enough fed (write_failed ∷ more) h = absurd h
-
--- the last read gave nothing
-last_read : (Enough : List ℕ → Type 0) (bytes : List ℕ) (last : List Event) (stop : ReadStop) → StopsWith Enough bytes last stop
-    → AreReads last × (bytes_given last ≡ [])
-last_read Enough bytes [] Whole h = (tt, refl)
-last_read Enough bytes [] Turns h = (tt, refl)
-last_read Enough bytes [] Failed h = absurd h
-last_read Enough bytes (gave room [] ∷ []) Whole h = ((refl, tt), refl)
-last_read Enough bytes (gave room [] ∷ []) Failed h = absurd h
-last_read Enough bytes (gave room [] ∷ []) Turns h = absurd h
-last_read Enough bytes (gave room [] ∷ e ∷ more) stop h = absurd h
-last_read Enough bytes (gave room (b ∷ bs) ∷ more) stop h = absurd h
-last_read Enough bytes (opened name ∷ more) stop h = absurd h
-last_read Enough bytes (not_opened name ∷ more) stop h = absurd h
-last_read Enough bytes (read_failed ∷ []) Failed h = ((refl, tt), refl)
-last_read Enough bytes (read_failed ∷ []) Whole h = absurd h
-last_read Enough bytes (read_failed ∷ []) Turns h = absurd h
-last_read Enough bytes (read_failed ∷ e ∷ more) stop h = absurd h
-last_read Enough bytes (created name ∷ more) stop h = absurd h
-last_read Enough bytes (not_created name ∷ more) stop h = absurd h
-last_read Enough bytes (took b ∷ more) stop h = absurd h
-last_read Enough bytes (write_failed ∷ more) stop h = absurd h
-
-pub all_reads : (Enough : List ℕ → Type 0) (bytes : List ℕ) (reads : List Event) (stop : ReadStop) → IsRead Enough reads bytes stop
-    → AreReads reads × (bytes_given reads ≡ bytes)
-all_reads Enough bytes reads stop h =
-    let l = last_read Enough bytes h.last stop h.stops in (
-      subst AreReads (sym h.reads_are) (reads_both h.on h.last (reads_on Enough [] h.on h.goes_on) l.0),
-      ap bytes_given h.reads_are ∙ flat_map-append bytes_given_by h.on h.last
-          ∙ ap (λ (x : List ℕ). bytes_given h.on ++ x) l.1 ∙ append-nil (bytes_given h.on) ∙ sym h.bytes_are,
-    )
 
 -- All inputs -----------------------------------------------------------------------------------------------------
 

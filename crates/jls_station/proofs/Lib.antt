@@ -9,3 +9,4 @@ pub mod OneInput
 pub mod CopiesInTurn
 pub mod CopyReads
 pub mod ReadingOn
+pub mod ReadBytes

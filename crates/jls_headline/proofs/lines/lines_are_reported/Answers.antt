@@ -1,12 +1,9 @@
-use Rattle.jls_headline.proofs.OneLine.{stations_tell_of_lines, runs_tell_of_lines, unnamed_lines_have_one_reading}
+use Rattle.jls_headline.proofs.OneLine.{stations_tell_of_lines, unnamed_lines_have_one_reading}
 use Rattle.jls_headline.proofs.OneLine.{unnamed_lines_are_the_picture}
 use Rattle.jls_headline.proofs.lines.lines_are_reported.Goals as goal
 
 pub returns-clause-stations : goal.returns-clause-stations
 returns-clause-stations c = stations_tell_of_lines
-
-pub returns-clause-runs : goal.returns-clause-runs
-returns-clause-runs c = runs_tell_of_lines
 
 pub returns-clause-unnamed : goal.returns-clause-unnamed
 returns-clause-unnamed c = unnamed_lines_have_one_reading

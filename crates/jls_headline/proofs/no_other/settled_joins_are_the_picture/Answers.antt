@@ -1,5 +1,0 @@
-use Rattle.jls_headline.proofs.SettledInputs.{settled_joins_are_the_picture}
-use Rattle.jls_headline.proofs.no_other.settled_joins_are_the_picture.Goals as goal
-
-pub returns : goal.returns
-returns c = settled_joins_are_the_picture
