@@ -6,6 +6,9 @@
 //! - `text`: partial pictures as bytes in a buffer
 //! - `frame`, `write`: samples as a JPEG-LS file
 //!
+//! In C a slice is a pointer and a length, and `alloc` is no argument. `include/jls_salvage.h`, `library/symbols.map`,
+//! `python/jls_salvage/_library.py` and `man/jls_salvage.3` repeat these signatures.
+//!
 //! Definitions: `Answers` and `PartialAnswers` have what the functions answer, in the words of `Info`, `Lines` and `TextFaults`. `Written`
 //! has what `jls_write` answers.
 #![tactic(auto)]

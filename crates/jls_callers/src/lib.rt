@@ -1,8 +1,11 @@
 //! A caller for each step of `Collected` of jls_headline. Each makes the calls of one step, or of a few, and its contract is that they take
-//! a history on. So no step asks more than the contract of its call gives. `write_station` goes from a history to the bytes that a sink
-//! took. `known` says of known bytes what a call makes of them: how far it reads, and why it has no picture or
-//! another shape. `unfailed` says what is left if no read of a source failed: how a reading stops, and why an input is refused. No program
-//! calls them.
+//! a history on. So no step asks more than the contract of its call gives. No program calls them.
+//!
+//! - `taking`, `texts`: steps by which a station takes copies, and `.jlsp` files
+//! - `reading`: a copy that is read by itself
+//! - `writing`: `write_station` goes from a history to the bytes that a sink took
+//! - `known`: what a call makes of known bytes: how far it reads, and why it has no picture or another shape
+//! - `unfailed`: what is left if no read of a source failed: how a reading stops, and why an input is refused
 #![tactic(auto)]
 
 mod known;

@@ -5,6 +5,7 @@
 //! - `cut_search`, `ff_search`: find the next place that can end a piece
 //! - `scan`, `piece`, `piece_decoder`: the current scan and piece. All bytes up to the next possible cut go to the decoder at once, which
 //!   stays on the heap
+//! - `interval_shape`: the shape of an interval, as the decoder of a piece wants it
 //! - `fill`: counts fill bytes
 //! - `findings`: the readings and records so far
 //! - `end`: where a copy ends

@@ -18,13 +18,14 @@ pub struct Border {
 /// The code of SOS (T.81, table B.1).
 const SOS: u8 = 0xDA;
 
-/// The codes of the first and the last restart marker.
+/// The code of the first restart marker (T.81, table B.1).
 const RST0: u8 = 0xD0;
 
+/// The code of the last restart marker.
 const RST7: u8 = 0xD7;
 
 /// Whether it is the code of SOS, or of a restart marker.
-pub(crate) fn is_mark(code: u8) -> bool
+pub(crate) fn is_sos_or_restart(code: u8) -> bool
     ensures { IsTrue result → IsMark code }
 {
     if code == SOS {
@@ -40,7 +41,7 @@ fn is_after_mark(bytes: &[u8], at: usize) -> bool
     if at < 2 || at > bytes.len() {
         return false;
     }
-    bytes[at - 2] == 0xFF && is_mark(bytes[at - 1])
+    bytes[at - 2] == 0xFF && is_sos_or_restart(bytes[at - 1])
 }
 
 /// Whether a segment with the length and the count of a scan header stands there (T.81 B.2.3), or a restart marker before it.

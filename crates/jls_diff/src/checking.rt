@@ -8,7 +8,7 @@ ghost use Rattle.jls_diff.specs.PartsOf.{bytes_of, part_of, parts_of};
 use crate::part::Part;
 
 /// Whether there is a way for each of so many copies.
-fn has_ways(part: &Part<'_>, count: usize) -> bool
+fn part_has_ways(part: &Part<'_>, count: usize) -> bool
     ensures { IsTrue result → HasWays count (part_of part.now) }
 {
     match part {
@@ -43,11 +43,11 @@ fn makes(parts: &[Part<'_>], copy: usize, bytes: &[u8]) -> bool
 }
 
 /// Whether each part has a way for each of so many copies.
-fn have_ways(parts: &[Part<'_>], count: usize) -> bool
+fn parts_have_ways(parts: &[Part<'_>], count: usize) -> bool
     ensures { IsTrue result → AllByRecursion (HasWays count) (parts_of parts.now) }
 {
     for part in parts {
-        if !has_ways(part, count) {
+        if !part_has_ways(part, count) {
             return false;
         }
     }
@@ -58,7 +58,7 @@ fn have_ways(parts: &[Part<'_>], count: usize) -> bool
 pub(crate) fn are_parts(copies: &[&[u8]], parts: &[Part<'_>]) -> bool
     ensures { IsTrue result → AreParts (bytes_of copies.now) (parts_of parts.now) }
 {
-    if !have_ways(parts, copies.len()) {
+    if !parts_have_ways(parts, copies.len()) {
         return false;
     }
     for (copy, bytes) in copies.iter().enumerate() {

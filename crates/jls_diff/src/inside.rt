@@ -101,7 +101,7 @@ pub(crate) fn add_shifted(
     let none = Before {
         same: 0,
         apart: 0,
-        is_group: false,
+        begins_group: false,
     };
     let mut inner = Vec::new(alloc);
     let _ = add_stretches(alloc, &mut inner, &copies, common, none)?;
@@ -113,7 +113,7 @@ pub(crate) fn add_shifted(
             same: in_prefix.same,
             apart: if start == 0 { in_prefix.apart } else { agreed },
             lengths: Lengths::Each(counts),
-            is_group: in_prefix.is_group,
+            begins_group: in_prefix.begins_group,
         })?;
         in_prefix = none;
         start = cut;

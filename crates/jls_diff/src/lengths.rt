@@ -63,7 +63,7 @@ fn shifted(
     Ok(Some(counts))
 }
 
-/// Whether all have so many bytes there.
+/// Whether all counts are equal.
 fn are_equal(counts: &[usize]) -> bool {
     let Some(first) = counts.first() else {
         return true;

@@ -2,7 +2,8 @@
 //!
 //! - `part`, `parts`: a part: bytes that all copies have, or what each copy has there; all of them
 //! - `find`: answers the parts of some copies (`find_parts`)
-//! - `propose`, `seeds`: search for parts. No contract speaks of them
+//! - `propose`: searches for parts. It goes from a stretch where copies differ to the next: `stretches`, `lengths`, `inside`, `merging`.
+//!   `steps` compares copies without a shift, `seeds` with one, and `zeros` finds lost sectors. No contract speaks of these modules
 //! - `checking`: tests what they propose. If the test fails, `find` takes all of the copies as one part
 //! - `laws`: the laws of splices
 //! - `border`: places after a marker, SOS or a restart marker, that all copies have alike

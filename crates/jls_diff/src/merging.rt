@@ -57,7 +57,7 @@ fn partings(alloc: Global, stretches: &[Stretch]) -> Result<Vec<Parting>, AllocE
     let mut partings = Vec::new(alloc);
     let mut gaps = Gaps::new();
     for (place, stretch) in stretches.iter().enumerate() {
-        if stretch.is_group {
+        if stretch.begins_group {
             partings.push(gaps.parting())?;
             gaps = Gaps::new();
         } else if place > 0 {
@@ -116,7 +116,7 @@ pub(crate) fn merged(
     let mut out: Vec<Stretch> = Vec::new(alloc);
     for stretch in stretches {
         let mut is_apart = true;
-        if stretch.is_group {
+        if stretch.begins_group {
             group = group.saturating_add(1);
             parting = partings.get(group).copied();
         } else if let Some(gaps) = parting.as_mut() {

@@ -16,7 +16,7 @@ fn before_stretch(rests: &[&[u8]]) -> Before {
     Before {
         same,
         apart: same,
-        is_group: first.is_some_and(|first| has_mark(prefix(first, same))),
+        begins_group: first.is_some_and(|first| has_mark(prefix(first, same))),
     }
 }
 

@@ -1,6 +1,6 @@
 //! Stretches in which copies differ.
 
-use crate::border::is_mark;
+use crate::border::is_sos_or_restart;
 use crate::lengths::Lengths;
 use crate::steps::agree_at;
 use crate::zeros::ZeroRuns;
@@ -22,14 +22,14 @@ pub(crate) struct Stretch {
     /// How many bytes each copy has in it.
     pub(crate) lengths: Lengths,
     /// Whether a group begins with it: a restart marker or the marker of a scan header stands in the bytes before it.
-    pub(crate) is_group: bool,
+    pub(crate) begins_group: bool,
 }
 
 /// Whether a restart marker or the marker of a scan header stands there (T.81 B.1.1.3).
 pub(crate) fn has_mark(bytes: &[u8]) -> bool {
     let mut before = 0u8;
     for byte in bytes {
-        if before == 0xFF && is_mark(*byte) {
+        if before == 0xFF && is_sos_or_restart(*byte) {
             return true;
         }
         before = *byte;
@@ -54,8 +54,8 @@ pub(crate) struct Before {
     pub(crate) same: usize,
     /// How firmly they part.
     pub(crate) apart: usize,
-    /// Whether a group ends there.
-    pub(crate) is_group: bool,
+    /// Whether a group begins after it.
+    pub(crate) begins_group: bool,
 }
 
 impl Open {
@@ -78,7 +78,7 @@ impl Open {
         Before {
             same,
             apart: if zeros != self.zeros { FIRM } else { same },
-            is_group: bytes.is_some_and(|bytes| has_mark(bytes)),
+            begins_group: bytes.is_some_and(|bytes| has_mark(bytes)),
         }
     }
 
@@ -88,7 +88,7 @@ impl Open {
             same: self.before.same,
             apart: self.before.apart,
             lengths: Lengths::Equal(self.end.saturating_sub(self.start)),
-            is_group: self.before.is_group,
+            begins_group: self.before.begins_group,
         }
     }
 }

@@ -14,7 +14,7 @@
 //! - A contract cannot say which bytes a file has. So each device has, for contracts alone, a *history*: the list of the events of its
 //!   life. What a program does is then a statement about the events of its desk.
 //! - One thing is trusted: `counted` calls its stream once for each read and write that it notes. No contract says that.
-//! - A line of at most 4,096 bytes is one write, and no line needs memory. No name in a line can steer a terminal or forge a line.
+//! - No line needs memory. No name in a line can steer a terminal or forge a line.
 //!
 //! Definitions: `Event`, `Writing`, `Remaining`, `Asked`, `Outputs`, `Lines`, `Names`, `FaultLines`. Inside the crate: `Counts` (the
 //! ledger), `Noted` and `EventCode` (how the checker's logic stores a history), `Handing`.
@@ -23,6 +23,7 @@
 //!
 //! - That `Counted` calls the stream only once for each read and write that it notes. A second call that gives and takes nothing would not
 //!   be seen, since no contract of std counts calls. Read `counted.rt`; it is tested.
+//! - That a line of at most 4,096 bytes is one write. `pending` does so; a contract allows any number of writes.
 //! - That a read of bytes in memory never fails, and that a write to a list fails only for lack of memory.
 #![tactic(auto)]
 

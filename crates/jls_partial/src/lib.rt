@@ -11,6 +11,7 @@
 //!   crate it also offers `take`, for a reading with its sources, and `entries`
 //! - `merging`, `marking`, `equality`, `status`, `writing`: the other calls, by the contracts of `partial` alone
 //! - `text_fields`, `text_samples`, `text_reading`, `text_merging`: reading a text, also by the contracts of `partial` alone
+//! - `insert_fault`, `text_fault`: why a reading or a text is refused; `version`: the versions of the text; `laws`: the laws
 //!
 //! - Reading a text has one reader for each field (`text_fields`), which answers a value and the bytes after it, or a fault. The loops over
 //!   sources, readings and entries are in `text_reading`. Each reading goes to `take` as soon as it is judged.

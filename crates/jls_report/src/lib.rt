@@ -1,7 +1,7 @@
 //! The report of a partial picture: how many of its lines are settled, missing and disputed, and which are missing or
 //! disputed. It is a value, and has one text.
 //!
-//! - `report`: the value
+//! - `report`, `entry`: the value, and its entries
 //! - `ranges`, `counting`: find its entries, and count lines by their status
 //! - `text`: the lines that are printed
 //! - `laws`: tie the entries to the lines

@@ -1,6 +1,7 @@
 //! Splices of copies: files each of whose stretches is what one of the copies has there. The search for those without a fault, of whole
 //! files and by groups, and the station of the files taken.
 //!
+//! - `short`: whether copies are short enough for a search
 //! - `choosing`: choices at a part; `path`: goes through choices of parts in depth-first order
 //! - `setting`: what a search is after: whole files, or a group and the copy that the rest of the file is taken from
 //! - `feeding`: feeds what they make to a `CopyReader`
@@ -13,6 +14,7 @@
 //! - `searching`: the search, as a value that goes on as far as its caller wants; `adding`: the choices that it finds
 //! - `whole_search`: the search of whole files
 //! - `levels`: the search level by level, for the last level at which exactly one path lives
+//! - `laws`: the laws of searches
 //!
 //! The search by groups: splices that read between two markers, where no splice is without a fault.
 //!
@@ -28,7 +30,7 @@
 //! - `reading_files`: each file is read once: what is seen of it is kept, and a station of the first frame's shape takes it
 //! - `reading_splices`: the splices among them; what several begin with alike is read once, as long as its reader is kept, and what the
 //!   search fed to the reader that comes with them is not read again
-//! - `shape_rule`: the shape that is taken, or the copy that is named
+//! - `shape_rule`, `shape_found`: the shape that is taken, or the copy that is named; what is found of shapes so far
 //! - `file`, `taking`: a station takes one file; all files
 //! - `settling`: the station of the shape that is taken, or why there is none
 //! - `cut`: where all those files have a fault, a station of the cut file's shape takes it after them

@@ -76,7 +76,8 @@ pub(crate) fn read_text_on<S: Source>(
     read_on::<S, TextIntake>(device, bytes, 1)
 }
 
-/// Reads a copy on, of which so many reads gave what the reader was fed, until the reader is done or as far as the source goes.
+/// Reads the rest of a copy, after `made` reads have fed the reader. It stops when the reader is done, and when the source ends, fails or
+/// has used up its reads. `Err` comes if memory is refused.
 pub(crate) fn read_copy_on<S: Source>(
     device: &mut S,
     reader: &mut CopyReader,

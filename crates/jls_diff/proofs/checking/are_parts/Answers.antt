@@ -13,7 +13,7 @@ loop-copy-preserved c =
 pub returns : goal.returns
 returns c = λ _. record {
   ways = subst (λ n. AllByRecursion (HasWays n) (parts_of c.args.parts.now)) (sym (count_of_slices c.args.copies.now))
-      (c.have_ways.ensures c.if-not-have_ways.false);
+      (c.parts_have_ways.ensures c.if-not-parts_have_ways.false);
   make = λ j h. let count : length (bytes_of c.args.copies.now) ≡ length c.args.copies.now = count_of_slices c.args.copies.now in
       c.loop-copy.invariant j (let past = c.loop-copy-test.false in omega (arith, h, count, past));
 }
