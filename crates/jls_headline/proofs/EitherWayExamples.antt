@@ -24,6 +24,7 @@ use Rattle.jls_headline.specs.HeadlineLaws.{SayTheSame}
 use Rattle.jls_headline.specs.Sources.{sourced_copy}
 use Rattle.jls_headline.specs.Sources.{copies_of, GivesUnder, SourcesOf, HoldsExactlyUnder, IsSameUnder, SameCopiesUnder}
 use Rattle.jls_copy_laws.proofs.Members.{is_first, none_in, all_at}
+use Rattle.jls_headline.proofs.ColumnFiles.{one_scan_gives}
 use Rattle.jls_headline.proofs.Held.{made_holds}
 use Rattle.jls_headline.proofs.LostIntervals.{damaged_copies_give_no_other, surviving_lines_are_given}
 use Rattle.jls_headline.proofs.SameCopies.{same_copy_gives}
@@ -114,7 +115,7 @@ none_gives gives = none_in gives.0 gives.1
 
 -- so neither its scan nor any other of the first copy has that line
 first_scan_gives_not : ScanGives first_data one → ⊥
-first_scan_gives_not gives = first_gives_no_other (shape, first_data ∷ [], first_scans, first_data, (0, lit< tt, refl), gives)
+first_scan_gives_not gives = first_gives_no_other (one_scan_gives first first_data shape one first_scans gives)
 
 first_scan_survives_not : SurvivesInScan first_data one → ⊥
 first_scan_survives_not (numbers, are, k, piece, c, gives) =

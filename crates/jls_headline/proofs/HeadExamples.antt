@@ -1,26 +1,12 @@
 -- A line that survives in the head of the piece that the input's end cuts off, and what else that head gives, which is nothing.
-use Rattle.std.proofs.Common.{◌≡◌, ℕ, true, false, List, [], ◌∷◌, replicate, refl, ap, lit<, lit≤, arith, inr}
+use Rattle.std.proofs.Common.{ℕ, true, List, [], ◌∷◌, refl, ap, lit<, arith, inr}
 use Rattle.std.specs.Prelude.{get_or}
-use Rattle.jls_values.specs.Params.{least_from}
-use Rattle.jls_bits.specs.Bits.{bits, width_after, bits_read_after, ends_data, is_whole_after}
-use Rattle.jls_bits.specs.Golomb.{golomb}
-use Rattle.jls_context.specs.Mode.{quantized_gradient, is_negative, context}
-use Rattle.jls_context.specs.Errors.{modulo_reduced}
-use Rattle.jls_context.specs.Prediction.{corrected_prediction}
-use Rattle.jls_context.specs.Regular.{golomb_k, updated}
-use Rattle.jls_context.specs.Interruption.{run_updated}
-use Rattle.jls_interval.specs.Events.{events_from, events_after}
-use Rattle.jls_interval.specs.Cells.{cell_before, run_cell_before}
-use Rattle.jls_interval.specs.Runs.{block_columns, full_blocks, blocks, run_index_before}
-use Rattle.jls_interval.specs.Code.{event_bits, bits_of_events, code}
-use Rattle.jls_interval.specs.Reads.{Reads}
-use Rattle.jls_interval.specs.Lines.{interval_shape}
 use Rattle.jls_partial.specs.Reading.{reading_of}
 use Rattle.jls_marker.specs.ComponentIndex.{index_of}
 use Rattle.jls_marker.specs.MarkerCodes.{has_segment}
 use Rattle.jls_marker.specs.HeaderState.{HeaderState}
 use Rattle.jls_marker.specs.Headers.{headers_after}
-use Rattle.jls_copy.specs.Course.{by_input, CopyUnit, segment, scan, Course, IsCourse, with_soi, with_the_input}
+use Rattle.jls_copy.specs.Course.{by_input, CopyUnit, segment, scan, Course, IsCourse, with_soi}
 use Rattle.jls_copy.specs.declared.end.End.TheVariants.{Input}
 use Rattle.jls_write.specs.Picture.{WholePicture}
 use Rattle.jls_copy_laws.specs.CopyScans.{ScanPiece, ScanWithData, HasScans}
@@ -32,7 +18,9 @@ use Rattle.jls_headline.specs.Trimmed.{prefix, TrimmedCopy}
 use Rattle.jls_headline.proofs.LostIntervals.{damaged_copies_give_no_other, surviving_lines_are_given}
 use Rattle.jls_headline.proofs.Trims.{trimmed_copies_are_damaged}
 use Rattle.jls_headline.proofs.PremiseExamples.{both_lines, another_head}
-use Rattle.jls_headline.proofs.TwoLineCopies.{shape, bits_8, frame_payload, scan_payload, framed}
+use Rattle.jls_headline.proofs.ColumnFiles.{byte_is_piece, scan_payload, last_scan, column_frame, framed, one_scan_survives}
+use Rattle.jls_headline.proofs.ColumnFiles.{one_scan_trimmed}
+use Rattle.jls_headline.proofs.TwoLineCopies.{shape, pieces_read}
 
 -- a column of the samples 1 and 9, in one interval
 abbrev pic : WholePicture
@@ -45,10 +33,10 @@ copy =
     ∷ 0xFF ∷ 0xDA ∷ 0 ∷ 8 ∷ 1 ∷ 1 ∷ 0 ∷ 0 ∷ 0 ∷ 0 ∷ 0x50 ∷ []
 
 abbrev final : HeaderState
-final = record framed { scans = 1 }
+final = record (framed 2) { scans = 1 }
 
 abbrev units : List CopyUnit
-units = segment 0 0xF7 frame_payload ∷ scan 0 0xDA scan_payload both_lines [] (0x50 ∷ []) (by_input 0) ∷ []
+units = segment 0 0xF7 (column_frame 2) ∷ scan 0 0xDA scan_payload both_lines [] (0x50 ∷ []) (by_input 0) ∷ []
 
 abbrev course : Course
 course = record { begin = 2; units = units; headers = final; end = Input 26 }
@@ -57,11 +45,11 @@ is_course : IsCourse copy course
 unfolding headers_after index_of has_segment
 is_course =
     with_soi 0 _ units final (Input 26) (
-      framed,
+      framed 2,
       _,
       refl,
       ((refl, lit< tt), refl),
-      (final, [], refl, ((refl, lit< tt), refl, tt, (λ (h : 0x50 ≡ 0xFF). omega (arith, h)), refl), (refl, with_the_input final 26)),
+      last_scan (framed 2) final 15 both_lines [] (0x50 ∷ []) (by_input 0) refl refl tt (byte_is_piece 0x50 (lit< tt)),
     )
 
 -- so it has one scan, of one piece that is cut off
@@ -76,20 +64,9 @@ scans = course_has_scans copy course shape (bytes_of_test copy refl) is_course r
 
 -- the piece reads as no lines, and its head is the first line
 line_0 : Survives pic copy 0 0
-line_0 = (
-  scan_data ∷ [],
-  scans,
-  scan_data,
-  (0, lit< tt, refl),
-  (
-    [],
-    record { rise = tt; marks_are = refl },
-    0,
-    piece,
-    (0, lit< tt, refl),
-    ((1 ∷ []) ∷ [], inr (refl, another_head), (0, lit< tt, refl)),
-  ),
-)
+line_0 =
+    one_scan_survives copy scan_data pic scans 0 0
+    ([], record { rise = tt; marks_are = refl }, 0, piece, (0, lit< tt, refl), (_, inr (refl, another_head), (0, lit< tt, refl)))
 
 -- so the copy gives it
 line_0_is_given : GivesReading copy (picture_reading pic 0 0)
@@ -97,39 +74,13 @@ line_0_is_given = surviving_lines_are_given pic copy 0 0 line_0
 
 -- The second byte is lost: the copy is a damaged copy of the picture, and gives no other line --------------------
 
-record BothRead : Type 0 where
-  both_read : Reads (interval_shape bits_8 1 1 2) (0x50 ∷ 0x80 ∷ []) ((1 ∷ []) ∷ (9 ∷ []) ∷ [])
-
-both : BothRead
-unfolding least_from bits width_after golomb quantized_gradient is_negative context modulo_reduced corrected_prediction golomb_k updated
-    run_updated events_from events_after cell_before run_cell_before block_columns full_blocks blocks run_index_before event_bits
-    bits_of_events code bits_read_after is_whole_after ends_data
-both = record {
-  both_read = record {
-    unread = replicate 5 false;
-    begins =
-        record {
-          are_bytes = (lit< tt, (lit< tt, tt));
-          are_lines = record { count_is = refl; each = ((refl, (lit≤ tt, tt)), ((refl, (lit≤ tt, tt)), tt)) };
-          data_bits = record { whole = refl; read = refl };
-        };
-    at_most_seven = lit≤ tt;
-  };
-}
-
 is_trimmed : TrimmedCopy pic copy
-is_trimmed = (
-  scan_data ∷ [],
-  scans,
-  (
-    (
+is_trimmed =
+    one_scan_trimmed copy scan_data pic scans (
       [],
       record { rise = tt; marks_are = refl },
-      (record { bytes = 0x50 ∷ 0x80 ∷ []; reads = both.both_read; trimmed = prefix (0x50 ∷ []) (0x80 ∷ []) }, tt),
-    ),
-    tt,
-  ),
-)
+      (record { bytes = 0x50 ∷ 0x80 ∷ []; reads = pieces_read.both_read; trimmed = prefix (0x50 ∷ []) (0x80 ∷ []) }, tt),
+    )
 
 is_damaged : Damaged pic copy
 is_damaged = trimmed_copies_are_damaged pic copy is_trimmed

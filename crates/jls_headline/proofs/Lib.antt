@@ -17,6 +17,7 @@ pub mod StationPictures
 mod CollectedPictures
 pub mod OneLine
 mod TrimmedLines
+pub mod ColumnFiles
 pub mod TwoLineCopies
 pub mod TwoLineExamples
 mod CollectedExamples

@@ -1,29 +1,16 @@
 -- What there is where a premise of the laws on stations and files is not met. `TwoLineExamples` has those on marks, refusal and survival.
-use Rattle.std.proofs.Common.{◌≡◌, ℕ, zero, suc, ◌<◌, ◌≤◌, true, false, List, [], None, ◌∷◌, length, map, replicate, refl, sym}
-use Rattle.std.proofs.Common.{ap, subst, ◌∙◌, lit<, lit≤, arith, inl, inr}
+use Rattle.std.proofs.Common.{◌≡◌, ℕ, zero, suc, ◌<◌, true, false, List, [], None, ◌∷◌, length, map, refl, sym}
+use Rattle.std.proofs.Common.{ap, subst, ◌∙◌, lit<, arith, inl, inr}
 use Rattle.std.specs.Prelude.{get_or}
 use Rattle.std.specs.List.{range_with_len}
 use Rattle.std.proofs.lemmas.List.FromFn.{length-map-range_with_len}
 use Rattle.jls_values.specs.OrderedSet as set
 use Rattle.jls_values.specs.OrderedSetLaws.{contains-empty}
 use Rattle.jls_values.specs.Join.{IsBetween}
-use Rattle.jls_values.specs.Params.{CodingParameters, least_from}
 use Rattle.jls_values.specs.SameShape.{same_shape}
-use Rattle.jls_bits.specs.Bits.{bits, width_after, bits_read_after, ends_data, is_whole_after}
-use Rattle.jls_bits.specs.Golomb.{golomb}
-use Rattle.jls_context.specs.Mode.{quantized_gradient, is_negative, context}
-use Rattle.jls_context.specs.Errors.{modulo_reduced}
-use Rattle.jls_context.specs.Prediction.{corrected_prediction}
-use Rattle.jls_context.specs.Regular.{golomb_k, updated}
-use Rattle.jls_context.specs.Interruption.{run_updated}
-use Rattle.jls_interval.specs.Events.{events_from, events_after}
-use Rattle.jls_interval.specs.Cells.{cell_before, run_cell_before}
-use Rattle.jls_interval.specs.Runs.{block_columns, full_blocks, blocks, run_index_before}
-use Rattle.jls_interval.specs.Code.{event_bits, bits_of_events, code}
 use Rattle.jls_interval.specs.Heads.{IsHeadOfPiece}
 use Rattle.jls_interval.specs.Reads.{Reads}
 use Rattle.jls_interval.proofs.HeadLines.{read_has_none}
-use Rattle.jls_interval.specs.Lines.{interval_shape}
 use Rattle.jls_values.specs.Shape.{PictureShape}
 use Rattle.jls_partial.specs.Partial.{PartialPicture, nothing_known, has_same_shape, union}
 use Rattle.jls_partial.specs.PartialLaws.{partial_laws, shape_itself}
@@ -43,7 +30,7 @@ use Rattle.jls_copy_laws.proofs.Members.{none_in, bytes_of_test}
 use Rattle.jls_headline.proofs.CopyGives.{copy_gives}
 use Rattle.jls_headline.proofs.LostIntervals.{surviving_lines_are_given}
 use Rattle.jls_headline.proofs.TwoLineCopies.{shape, bits_8, parameters_8, pic_and, pic, first, piece_of, first_data}
-use Rattle.jls_headline.proofs.TwoLineCopies.{first_scans}
+use Rattle.jls_headline.proofs.TwoLineCopies.{first_scans, small_samples, pieces_read}
 use Rattle.jls_headline.proofs.TwoLineExamples.{shape_read, line_0}
 
 -- A picture has no more lines than its shape ---------------------------------------------------------------------
@@ -155,35 +142,11 @@ none_if_not_cut lines (inr (cut, head)) = absurd cc
 -- A whole piece after a changed header --------------------------------------------------------------------------
 
 -- MAXVAL is 15, where the picture was written with 255
-abbrev small_samples : CodingParameters
-small_samples = record { precision = 8; maxval = 15; t1 = 2; t2 = 3; t3 = 4; reset = 64 }
-
 abbrev changed : Scan
 changed = record { components = 0 ∷ []; params = small_samples; width = 1; height = 2; restart_interval = 1 }
 
--- so 0x40, which nothing has damaged, reads as the sample 15
-record ReadAfter : Type 0 where
-  fifteen_read : Reads (interval_shape small_samples 1 1 1) (0x40 ∷ []) ((15 ∷ []) ∷ [])
-
-read_after : ReadAfter
-unfolding least_from bits width_after golomb quantized_gradient is_negative context modulo_reduced corrected_prediction golomb_k updated
-    run_updated events_from events_after cell_before run_cell_before block_columns full_blocks blocks run_index_before event_bits
-    bits_of_events code bits_read_after is_whole_after ends_data
-read_after = record {
-  fifteen_read = record {
-    unread = replicate 5 false;
-    begins =
-        record {
-          are_bytes = (lit< tt, tt);
-          are_lines = record { count_is = refl; each = ((refl, (lit≤ tt, tt)), tt) };
-          data_bits = record { whole = refl; read = refl };
-        };
-    at_most_seven = lit≤ tt;
-  };
-}
-
--- which is no line of the picture
+-- so 0x40, which nothing has damaged, reads as the sample 15, which is no line of the picture
 another_line_read : HasPictureLines pic changed (1, piece_of (0x40 ∷ [])) → ⊥
 another_line_read h =
-    (let e = ap (λ (lines : List (List ℕ)). get_or (get_or lines 0 []) 0 0) (h ((15 ∷ []) ∷ []) (inl read_after.fifteen_read)) in
+    (let e = ap (λ (lines : List (List ℕ)). get_or (get_or lines 0 []) 0 0) (h ((15 ∷ []) ∷ []) (inl pieces_read.fifteen_read)) in
     omega (arith, e))

@@ -14,48 +14,44 @@ use Rattle.jls_file_laws.specs.Covering.{IsLineOf}
 use Rattle.jls_copy_laws.specs.CopyScans.{ScanPiece, ScanWithData, HasScans}
 use Rattle.jls_copy_laws.specs.Gives.{PieceGives, ScanGives, GivesReading}
 use Rattle.jls_copy_laws.proofs.CopyScans.{one_list_of_scans}
-use Rattle.jls_headline.specs.Damaged.{Damaged, picture_reading, Survives, EachLineSurvives}
+use Rattle.jls_headline.specs.Damaged.{AreNumbers, Damaged, picture_reading, Survives, EachLineSurvives}
 use Rattle.jls_headline.specs.Trimmed.{whole, prefix, TrimmedCopy}
 use Rattle.jls_copy_laws.proofs.Members.{none_in, first_or_rest}
 use Rattle.jls_headline.proofs.CopyGives.{copy_has_shape}
 use Rattle.jls_headline.proofs.LostIntervals.{given_by_scan, surviving_lines_are_given}
 use Rattle.jls_headline.proofs.Trims.{trimmed_copies_are_damaged}
 use Rattle.jls_headline.proofs.TwoLineCopies.{shape, pic_and, pic, bits_8, parameters_8, plan, first, second, third, piece_of, first_data}
+use Rattle.jls_headline.proofs.ColumnFiles.{column_plan, one_scan_gives, one_scan_survives, one_scan_trimmed}
 use Rattle.jls_headline.proofs.TwoLineCopies.{second_data, third_data, first_scans, second_scans, third_scans, pieces_read}
 
 -- The premises are met -------------------------------------------------------------------------------------------
 
+-- no marker is seen in the first copy, and that before interval 1 in the second
+first_numbers : AreNumbers first_data []
+first_numbers = record { rise = tt; marks_are = refl }
+
+second_numbers : AreNumbers second_data (1 ∷ [])
+second_numbers = record { rise = (lit< tt, lit≤ tt, lit< tt, tt); marks_are = refl }
+
 -- each copy has only lost intervals and been trimmed: of the second's first piece no byte is left
 first_is_trimmed : (more : List (List (List ℕ))) → TrimmedCopy (pic_and more) first
-first_is_trimmed more = (
-  first_data ∷ [],
-  first_scans,
-  (
-    (
+first_is_trimmed more =
+    one_scan_trimmed first first_data (pic_and more) first_scans (
       [],
-      record { rise = tt; marks_are = refl },
+      first_numbers,
       (record { bytes = 0x80 ∷ []; reads = pieces_read.zero_read; trimmed = whole (0x80 ∷ []) }, tt),
-    ),
-    tt,
-  ),
-)
+    )
 
 second_is_trimmed : (more : List (List (List ℕ))) → TrimmedCopy (pic_and more) second
-second_is_trimmed more = (
-  second_data ∷ [],
-  second_scans,
-  (
-    (
+second_is_trimmed more =
+    one_scan_trimmed second second_data (pic_and more) second_scans (
       1 ∷ [],
-      record { rise = (lit< tt, lit≤ tt, lit< tt, tt); marks_are = refl },
+      second_numbers,
       (
         record { bytes = 0x80 ∷ []; reads = pieces_read.zero_read; trimmed = prefix [] (0x80 ∷ []) },
         (record { bytes = 0x40 ∷ []; reads = pieces_read.largest_read; trimmed = whole (0x40 ∷ []) }, tt),
       ),
-    ),
-    tt,
-  ),
-)
+    )
 
 -- so they are damaged copies
 pub both_are_damaged : (more : List (List (List ℕ))) → AllByRecursion (Damaged (pic_and more)) (first ∷ second ∷ [])
@@ -66,36 +62,14 @@ both_are_damaged more = (
 
 -- and each line survives in one of them
 pub line_0 : (more : List (List (List ℕ))) → Survives (pic_and more) first 0 0
-line_0 more = (
-  first_data ∷ [],
-  first_scans,
-  first_data,
-  (0, lit< tt, refl),
-  (
-    [],
-    record { rise = tt; marks_are = refl },
-    0,
-    piece_of (0x80 ∷ []),
-    (0, lit< tt, refl),
-    ((0 ∷ []) ∷ [], inl pieces_read.zero_read, (0, lit< tt, refl)),
-  ),
-)
+line_0 more =
+    one_scan_survives first first_data (pic_and more) first_scans 0 0
+    ([], first_numbers, 0, piece_of (0x80 ∷ []), (0, lit< tt, refl), (_, inl pieces_read.zero_read, (0, lit< tt, refl)))
 
 pub line_1 : (more : List (List (List ℕ))) → Survives (pic_and more) second 0 1
-line_1 more = (
-  second_data ∷ [],
-  second_scans,
-  second_data,
-  (0, lit< tt, refl),
-  (
-    1 ∷ [],
-    record { rise = (lit< tt, lit≤ tt, lit< tt, tt); marks_are = refl },
-    1,
-    piece_of (0x40 ∷ []),
-    (1, lit< tt, refl),
-    ((255 ∷ []) ∷ [], inl pieces_read.largest_read, (0, lit< tt, refl)),
-  ),
-)
+line_1 more =
+    one_scan_survives second second_data (pic_and more) second_scans 0 1
+    (1 ∷ [], second_numbers, 1, piece_of (0x40 ∷ []), (1, lit< tt, refl), (_, inl pieces_read.largest_read, (0, lit< tt, refl)))
 
 pub each_line_survives : (more : List (List (List ℕ))) → EachLineSurvives (pic_and more) (first ∷ second ∷ [])
 each_line_survives more zero zero c l = (first, (0, lit< tt, refl), line_0 more)
@@ -146,21 +120,16 @@ line_1_is_lost survives =
 
 -- a piece that reads as another line gives that line: the third copy is no damaged copy of the picture
 pub third_gives_another : GivesReading third (reading_of 0 0 (1 ∷ []))
-third_gives_another = (
-  shape,
-  third_data ∷ [],
-  third_scans,
-  third_data,
-  (0, lit< tt, refl),
-  (0, piece_of (0x50 ∷ []), (0, lit< tt, refl), ((1 ∷ []) ∷ [], inl pieces_read.one_read, (0, lit< tt, refl))),
-)
+third_gives_another =
+    one_scan_gives third third_data shape (reading_of 0 0 (1 ∷ [])) third_scans
+    (0, piece_of (0x50 ∷ []), (0, lit< tt, refl), (_, inl pieces_read.one_read, (0, lit< tt, refl)))
 
 pub another_is_not_of_it : IsLineOf pic (reading_of 0 0 (1 ∷ [])) → ⊥
 another_is_not_of_it is = (let e = ap (λ xs. get_or xs 0 0) is.2 in omega (arith, e))
 
 -- where eight marks in a row are lost the number doesn't come back: the mark before interval 9 gives the number 1
 abbrev ten_lines : Scan
-ten_lines = record { components = 0 ∷ []; params = bits_8; width = 1; height = 10; restart_interval = 1 }
+ten_lines = column_plan 10
 
 eight_marks_lost : numbers_after (intervals ten_lines) 0 (mark_before 9 ∷ []) ≡ Interval 1 ∷ []
 eight_marks_lost = refl

@@ -9,26 +9,22 @@ use Rattle.jls_values.specs.Shape.{PictureShape}
 use Rattle.jls_interval.specs.Reads.{Reads}
 use Rattle.jls_partial.specs.Partial.{PartialPicture, nothing_known, union}
 use Rattle.jls_partial.specs.Reading.{Reading, reading_of}
-use Rattle.jls_marker.specs.ComponentIndex.{index_of}
-use Rattle.jls_marker.specs.MarkerCodes.{has_segment}
-use Rattle.jls_marker.specs.HeaderState.{no_headers}
-use Rattle.jls_marker.specs.Headers.{headers_after}
 use Rattle.jls_marker.specs.declared.fault.MarkerFault.TheVariants as fault
 use Rattle.jls_copy.specs.CopyReads.{CopyReads}
-use Rattle.jls_copy.specs.Course.{by_input, CopyUnit, segment, scan, Course, IsCourse, with_soi, with_the_input, without_units}
+use Rattle.jls_copy.specs.Course.{by_input, Course, IsCourse, without_units}
 use Rattle.jls_copy.specs.IntervalOf.{interval_of}
 use Rattle.jls_copy.specs.Numbers.{Interval}
 use Rattle.jls_copy.specs.Pieces.{FoundPiece, Lines, IsOutcome, placed, readings_of}
 use Rattle.jls_copy.specs.ReadCopy.{ReadCopy}
-use Rattle.jls_copy.specs.declared.end.End.TheVariants.{Header, Input}
+use Rattle.jls_copy.specs.declared.end.End.TheVariants.{Header}
 use Rattle.jls_copy.specs.Prefixes.{Gives}
 use Rattle.jls_copy.proofs.OneCourse.{one_course}
 use Rattle.jls_copy_laws.specs.Gives.{GivesReading}
 use Rattle.jls_copy_laws.proofs.Gives.{readings_are_of_the_course}
 use Rattle.jls_copy_laws.proofs.Members.{none_in, first_or_rest, all_at, bytes_of_test}
 use Rattle.jls_headline.specs.Damaged.{picture_reading}
-use Rattle.jls_headline.proofs.TwoLineCopies.{shape, pic, plan, frame_payload, scan_payload, pieces_read, first, first_course, course_with}
-use Rattle.jls_headline.proofs.TwoLineCopies.{final}
+use Rattle.jls_headline.proofs.ColumnFiles.{column_course, is_column_course, byte_is_piece}
+use Rattle.jls_headline.proofs.TwoLineCopies.{shape, pic, plan, pieces_read, first, first_course, course_with, two_lines_taken}
 use Rattle.jls_diff.specs.Parts.{Part, Same, Differ, made, AreParts, IsSplice}
 use Rattle.jls_search.specs.Choices.{IsPath, prefix_of}
 use Rattle.jls_search.specs.Faultless.{IsDead, IsFaultless, IsSought}
@@ -139,29 +135,11 @@ other_has_no_frame = (without_units 0 (Header fault.NoSoi 0), no_soi following, 
 
 -- The station ------------------------------------------------------------------------------------------------------
 
-abbrev units : List CopyUnit
-units =
-    segment 0 0xF7 frame_payload ∷ segment 0 0xDD (0 ∷ 1 ∷ []) ∷ scan 0 0xDA scan_payload plan [] (0x80 ∷ []) (by_input 0) ∷ []
-
 abbrev cut_course : Course
-cut_course = record { begin = 2; units = units; headers = final; end = Input 32 }
+cut_course = column_course 2 [] (0x80 ∷ []) (by_input 0) 32
 
 is_cut_course : IsCourse cut cut_course
-unfolding headers_after index_of has_segment
-is_cut_course =
-    with_soi 0 _ units final (Input 32) (
-      record no_headers { frame = Some shape },
-      _,
-      refl,
-      ((refl, lit< tt), refl),
-      (
-        record no_headers { frame = Some shape; restart_interval = 1 },
-        _,
-        refl,
-        ((refl, lit< tt), refl),
-        (final, [], refl, ((refl, lit< tt), refl, tt, (λ (h : 0x80 ≡ 0xFF). omega (arith, h)), refl), (refl, with_the_input final 32)),
-      ),
-    )
+is_cut_course = is_column_course 2 two_lines_taken [] (0x80 ∷ []) (by_input 0) tt (byte_is_piece 0x80 (lit< tt))
 
 cut_has_shape : HasShape shape cut
 cut_has_shape = (cut_course, is_cut_course, refl)

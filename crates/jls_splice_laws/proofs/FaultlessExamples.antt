@@ -11,13 +11,14 @@ use Rattle.jls_marker.specs.declared.fault.MarkerFault.TheVariants as fault
 use Rattle.jls_copy.specs.Numbers.{Interval}
 use Rattle.jls_copy.specs.Pieces.{FoundPiece}
 use Rattle.jls_copy.specs.ScanData.{ClosedPiece}
-use Rattle.jls_copy.specs.Course.{by_marker, CopyUnit, segment, scan, Course, IsCourse, with_soi, with_no_marker, without_units, at_eoi}
+use Rattle.jls_copy.specs.Course.{by_marker, segment, Course, IsCourse, with_soi, with_no_marker, without_units, at_eoi}
 use Rattle.jls_copy.specs.Course.{for_good}
 use Rattle.jls_copy.specs.declared.end.End.TheVariants.{Eoi, Header}
 use Rattle.jls_copy.proofs.OneCourse.{one_course}
 use Rattle.jls_copy_laws.proofs.Members.{none_in, bytes_of_test}
 use Rattle.jls_headline.proofs.FileExamples.{file_reads}
-use Rattle.jls_headline.proofs.TwoLineCopies.{shape, pic, plan, frame_payload, scan_payload, pieces_read, framed, restarting, final}
+use Rattle.jls_headline.proofs.ColumnFiles.{headers_and, column_frame, framed, is_column_course, byte_is_piece}
+use Rattle.jls_headline.proofs.TwoLineCopies.{shape, pic, plan, pieces_read, course_with, two_lines_taken}
 use Rattle.jls_diff.specs.Parts.{Part, Same, Differ, made, AreParts, IsSplice}
 use Rattle.jls_copy.specs.Prefixes.{Gives}
 use Rattle.jls_search.specs.Faultless.{GivesEachLine, EndsWell, IsFaultless}
@@ -26,9 +27,7 @@ use Rattle.jls_splice_laws.specs.WholeFiles.{IsWholeFile}
 
 -- SOI, SOF55, DRI and SOS; the first of these bytes; RST0; the second; EOI
 abbrev file_with : ℕ → ℕ → List ℕ
-file_with first second =
-    0xFF ∷ 0xD8 ∷ 0xFF ∷ 0xF7 ∷ 0 ∷ 0x0B ∷ 8 ∷ 0 ∷ 2 ∷ 0 ∷ 1 ∷ 1 ∷ 1 ∷ 0x11 ∷ 0 ∷ 0xFF ∷ 0xDD ∷ 0 ∷ 4 ∷ 0 ∷ 1
-    ∷ 0xFF ∷ 0xDA ∷ 0 ∷ 8 ∷ 1 ∷ 1 ∷ 0 ∷ 0 ∷ 0 ∷ 0 ∷ first ∷ 0xFF ∷ 0xD0 ∷ second ∷ 0xFF ∷ 0xD9 ∷ []
+file_with first second = headers_and 2 (first ∷ 0xFF ∷ 0xD0 ∷ second ∷ 0xFF ∷ 0xD9 ∷ [])
 
 -- the file has the samples 0 and 255; in each copy another byte of scan data is zeroed
 abbrev pub file : List ℕ
@@ -40,14 +39,9 @@ one = file_with 0 0x40
 abbrev other : List ℕ
 other = file_with 0x80 0
 
-abbrev headers : List ℕ
-headers =
-    0xFF ∷ 0xD8 ∷ 0xFF ∷ 0xF7 ∷ 0 ∷ 0x0B ∷ 8 ∷ 0 ∷ 2 ∷ 0 ∷ 1 ∷ 1 ∷ 1 ∷ 0x11 ∷ 0 ∷ 0xFF ∷ 0xDD ∷ 0 ∷ 4 ∷ 0 ∷ 1
-    ∷ 0xFF ∷ 0xDA ∷ 0 ∷ 8 ∷ 1 ∷ 1 ∷ 0 ∷ 0 ∷ 0 ∷ 0 ∷ []
-
 abbrev parts : List Part
 parts =
-    Same headers ∷ Differ ((0 ∷ []) ∷ (0x80 ∷ []) ∷ []) ∷ Same (0xFF ∷ 0xD0 ∷ []) ∷ Differ ((0x40 ∷ []) ∷ (0 ∷ []) ∷ [])
+    Same (headers_and 2 []) ∷ Differ ((0 ∷ []) ∷ (0x80 ∷ []) ∷ []) ∷ Same (0xFF ∷ 0xD0 ∷ []) ∷ Differ ((0x40 ∷ []) ∷ (0 ∷ []) ∷ [])
     ∷ Same (0xFF ∷ 0xD9 ∷ []) ∷ []
 
 are_parts : AreParts (one ∷ other ∷ []) parts
@@ -65,41 +59,13 @@ file_is_splice = (0, lit< tt, _, refl, (1, lit< tt, _, refl, (0, lit< tt, _, ref
 abbrev closed : List ClosedPiece
 closed = record { piece = 0x80 ∷ []; fill = 0; mark = 0 } ∷ []
 
-abbrev units : List CopyUnit
-units =
-    segment 0 0xF7 frame_payload ∷ segment 0 0xDD (0 ∷ 1 ∷ []) ∷ scan 0 0xDA scan_payload plan closed (0x40 ∷ []) by_marker ∷ []
-
 abbrev course : Course
-course = record { begin = 2; units = units; headers = final; end = Eoi 35 }
+course = course_with closed (0x40 ∷ []) 35
 
 is_course : IsCourse file course
-unfolding headers_after index_of has_segment
 is_course =
-    with_soi 0 _ units final (Eoi 35) (
-      framed,
-      _,
-      refl,
-      ((refl, lit< tt), refl),
-      (
-        restarting,
-        _,
-        refl,
-        ((refl, lit< tt), refl),
-        (
-          final,
-          0xFF ∷ 0xD9 ∷ [],
-          refl,
-          (
-            (refl, lit< tt),
-            refl,
-            (((λ (h : 0x80 ≡ 0xFF). omega (arith, h)), lit< tt), tt),
-            (λ (h : 0x40 ≡ 0xFF). omega (arith, h)),
-            record { fill = 0; code = 0xD9; following = []; bytes_are = refl; ends = refl },
-          ),
-          (refl, for_good final 35 (0xFF ∷ 0xD9 ∷ []) (Eoi 35) (at_eoi final 35 0 [] refl)),
-        ),
-      ),
-    )
+    is_column_course 2 two_lines_taken closed (0x40 ∷ []) by_marker ((byte_is_piece 0x80 (lit< tt), lit< tt), tt)
+    (byte_is_piece 0x40 (lit< tt))
 
 -- its pieces read as the samples 0 and 255, and these are its lines
 abbrev first : FoundPiece
@@ -145,17 +111,17 @@ abbrev no_scan : List ℕ
 no_scan = 0xFF ∷ 0xD8 ∷ 0xFF ∷ 0xF7 ∷ 0 ∷ 0x0B ∷ 8 ∷ 0 ∷ 2 ∷ 0 ∷ 1 ∷ 1 ∷ 1 ∷ 0x11 ∷ 0 ∷ 0xFF ∷ 0xD9 ∷ []
 
 abbrev bare : Course
-bare = record { begin = 2; units = segment 0 0xF7 frame_payload ∷ []; headers = framed; end = Eoi 15 }
+bare = record { begin = 2; units = segment 0 0xF7 (column_frame 2) ∷ []; headers = framed 2; end = Eoi 15 }
 
 is_bare : IsCourse no_scan bare
 unfolding headers_after index_of has_segment
 is_bare =
-    with_soi 0 _ (segment 0 0xF7 frame_payload ∷ []) framed (Eoi 15) (
-      framed,
+    with_soi 0 _ (segment 0 0xF7 (column_frame 2) ∷ []) (framed 2) (Eoi 15) (
+      framed 2,
       _,
       refl,
       ((refl, lit< tt), refl),
-      (refl, for_good framed 15 (0xFF ∷ 0xD9 ∷ []) (Eoi 15) (at_eoi framed 15 0 [] refl)),
+      (refl, for_good (framed 2) 15 (0xFF ∷ 0xD9 ∷ []) (Eoi 15) (at_eoi (framed 2) 15 0 [] refl)),
     )
 
 -- there is a frame, and no piece is faulty; but no line is read, and that is a fault
