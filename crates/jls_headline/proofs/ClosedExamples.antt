@@ -1,5 +1,5 @@
 -- What a reader gives of each of the two copies, as values. So the examples that ask for what was read of them stand with nothing assumed.
-use Rattle.std.proofs.Common.{List, [], ◌∷◌, None, refl, lit≤}
+use Rattle.std.proofs.Common.{ℕ, List, [], ◌∷◌, ◌++◌, length, take, None, refl, lit≤}
 use Rattle.jls_values.specs.OrderedSet as set
 use Rattle.jls_interval.specs.Lines.{interval_shape}
 use Rattle.jls_interval.specs.Reads.{IsBroken}
@@ -9,8 +9,10 @@ use Rattle.jls_interval.proofs.Finishing.{broken_bits}
 use Rattle.jls_partial.specs.Partial.{PartialPicture, without_sources, nothing_known, union, with_source}
 use Rattle.jls_partial.specs.Reading.{reading_of, reading_cmp}
 use Rattle.jls_copy.specs.CopyReads.{CopyReads}
-use Rattle.jls_copy.specs.Pieces.{Lines, Fault}
+use Rattle.jls_copy.specs.Course.{IsCourse}
+use Rattle.jls_copy.specs.Pieces.{FoundPiece, pieces, PieceOutcome, Lines, Fault, AreOutcomes, readings, records}
 use Rattle.jls_copy.specs.ReadCopy.{ReadCopy}
+use Rattle.jls_copy.specs.ScanData.{ClosedPiece}
 use Rattle.jls_copy.specs.declared.end.End.TheVariants.{Eoi}
 use Rattle.jls_copy.specs.declared.piece.PieceKind.TheVariants as kind
 use Rattle.jls_write.specs.Picture.{picture_of}
@@ -27,6 +29,35 @@ use Rattle.jls_headline.proofs.TwoLineCopies.{second_course, pieces_read}
 
 -- Readers --------------------------------------------------------------------------------------------------------
 
+-- the reader of a copy of this course gives this by the outcomes of its pieces
+module _ (closed : List ClosedPiece) (last : List ℕ) (end : ℕ) (outcomes : List PieceOutcome) where
+  abbrev found : List FoundPiece
+  found = pieces (course_with closed last end)
+
+  abbrev read_with : ReadCopy
+  read_with = record {
+    partial = without_sources shape (set.insert_all {R = reading_cmp} set.empty (readings found outcomes ++ []));
+    pieces = take 4096 (records found outcomes);
+    piece_count = length (records found outcomes);
+    ended = Eoi end;
+  }
+
+  reads_with : (copy : List ℕ) → IsCourse copy (course_with closed last end) → AreOutcomes found outcomes → CopyReads copy read_with
+  reads_with copy is each = record {
+    course = course_with closed last end;
+    is_course = is;
+    shape = shape;
+    framed = refl;
+    outcomes = outcomes;
+    each = each;
+    head = [];
+    head_is = refl;
+    partial_is = refl;
+    pieces_are = refl;
+    count_is = refl;
+    ended_is = refl;
+  }
+
 -- of the first copy: line 0, and no record
 abbrev pub first_read : ReadCopy
 first_read = record {
@@ -37,20 +68,7 @@ first_read = record {
 }
 
 pub first_reads : CopyReads first first_read
-first_reads = record {
-  course = course_with [] (0x80 ∷ []) 32;
-  is_course = first_course;
-  shape = shape;
-  framed = refl;
-  outcomes = Lines ((0 ∷ []) ∷ []) ∷ [];
-  each = (pieces_read.zero_read, tt);
-  head = [];
-  head_is = refl;
-  partial_is = refl;
-  pieces_are = refl;
-  count_is = refl;
-  ended_is = refl;
-}
+first_reads = reads_with [] (0x80 ∷ []) 32 (Lines ((0 ∷ []) ∷ []) ∷ []) first first_course (pieces_read.zero_read, tt)
 
 -- of the second: line 1, and the record of the first piece, which has no byte
 abbrev pub second_read : ReadCopy
@@ -68,20 +86,9 @@ no_byte_is_broken =
     broken_bits bits_8 1 1 1 [] (working_ends bits_8 parameters_8 1 1 1 (lit≤ tt) _ [] [] _ [] NotBegun start)
 
 pub second_reads : CopyReads second second_read
-second_reads = record {
-  course = course_with (lost_first ∷ []) (0x40 ∷ []) 34;
-  is_course = second_course;
-  shape = shape;
-  framed = refl;
-  outcomes = Fault kind.Broken ∷ Lines ((255 ∷ []) ∷ []) ∷ [];
-  each = (no_byte_is_broken, (pieces_read.largest_read, tt));
-  head = [];
-  head_is = refl;
-  partial_is = refl;
-  pieces_are = refl;
-  count_is = refl;
-  ended_is = refl;
-}
+second_reads =
+    reads_with (lost_first ∷ []) (0x40 ∷ []) 34 (Fault kind.Broken ∷ Lines ((255 ∷ []) ∷ []) ∷ []) second second_course
+    (no_byte_is_broken, (pieces_read.largest_read, tt))
 
 -- Both copies ----------------------------------------------------------------------------------------------------
 
