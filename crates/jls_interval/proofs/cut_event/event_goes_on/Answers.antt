@@ -1,9 +1,9 @@
-use Rattle.std.proofs.Common.{◌≡◌, ℕ, ◌+◌, ◌-◌, ◌<◌, ◌≤◌, Bool, List, [], ◌++◌, length, get_or, arith, sym, subst}
+use Rattle.std.proofs.Common.{◌≡◌, ℕ, ◌-◌, ◌<◌, ◌≤◌, Bool, List, [], ◌++◌, length, get_or, arith, sym, subst}
 use Rattle.std.specs.List.{AllByRecursion}
-use Rattle.jls_values.specs.Params.{CodingParameters, limit, qbpp}
+use Rattle.jls_values.specs.Params.{limit, qbpp}
 use Rattle.jls_context.specs.declared.mode.Neighbours.{Neighbours}
 use Rattle.jls_context.specs.Mode.{context}
-use Rattle.jls_context.specs.Variables.{Variables, cell_at, run_cell_at}
+use Rattle.jls_context.specs.Variables.{cell_at, run_cell_at}
 use Rattle.jls_bits.specs.CodeState.{bits_fed}
 use Rattle.jls_bits.specs.declared.code_state.CodeState.{CodeState}
 use Rattle.jls_interval.specs.Events.{Event, Above}
@@ -32,89 +32,74 @@ use Rattle.jls_interval.proofs.cut_event.event_goes_on.Goals as goal
 -- What the event in hand can go on to, in a line of a place
 module _ (d : LineReader) (place : Place) (above : AllByRecursion (λ s. s ≤ d.coder.cells.parameters.maxval) place.line_above.now)
     (short : length d.line.items < d.width) (fed : List Bool) (earlier : List Event)
-    (t : IsAfter d.coder.cells.parameters d.coder.cells d.coder.run_indices earlier) (h : Holds place.component (above_of place) d fed)
-  where
-    abbrev cells : Variables
-    cells = d.coder.cells
+    (t : IsAfter d.coder.cells.parameters d.coder.cells d.coder.run_indices earlier)
+    (h : Holds place.component (above_of place) d fed) where
+  open d use {width as w, line.{items as line}, coder.{cells, run_indices as ri, cells.{parameters as p}}}
+  open place use {component as k}
 
-    abbrev p : CodingParameters
-    p = cells.parameters
+  abbrev up : Above
+  up = above_of place
 
-    abbrev w : ℕ
-    w = d.width
+  abbrev near : Neighbours
+  near = now_at w up line
 
-    abbrev line : List ℕ
-    line = d.line.items
+  at : (event : OpenEvent) → d.open_event ≡ event → OpenEventAt p w up line cells (get_or ri k 0) event fed
+  at event is = subst (λ z. OpenEventAt p w up line cells (get_or ri k 0) z fed) is h
 
-    abbrev ri : List ℕ
-    ri = d.coder.run_indices
+  not_begun_yes : d.open_event ≡ NotBegun → ((e : Event) → Fits p w k up line near e → event_bits p earlier e ≡ [] → ⊥)
+      → BeginsEvent p w k up line fed earlier
+  not_begun_yes is some =
+      subst (λ z. BeginsEvent p w k up line z earlier) (sym (at NotBegun is))
+      (not_begun_goes_on p d.coder.in_range w k up above line short cells ri earlier t some)
 
-    abbrev k : ℕ
-    k = place.component
-
-    abbrev up : Above
-    up = above_of place
-
-    abbrev near : Neighbours
-    near = now_at w up line
-
-    at : (event : OpenEvent) → d.open_event ≡ event → OpenEventAt p w up line cells (get_or ri k 0) event fed
-    at event is = subst (λ z. OpenEventAt p w up line cells (get_or ri k 0) z fed) is h
-
-    not_begun_yes : d.open_event ≡ NotBegun → ((e : Event) → Fits p w k up line near e → event_bits p earlier e ≡ [] → ⊥)
+  module _ (code : CodeState) (is : d.open_event ≡ Sample code) where
+    sample_yes : BeginsSample p (cell_at cells (context p near)) near (bits_fed (limit p) (qbpp p) code)
         → BeginsEvent p w k up line fed earlier
-    not_begun_yes is some =
-        subst (λ z. BeginsEvent p w k up line z earlier) (sym (at NotBegun is))
-        (not_begun_goes_on p d.coder.in_range w k up above line short cells ri earlier t some)
+    sample_yes b =
+        let s = at (Sample code) is in
+        subst (λ z. BeginsEvent p w k up line z earlier) (sym s.2)
+        (sample_begins p d.coder.in_range w k up above line short cells ri earlier t s.0 _ b)
 
-    module _ (code : CodeState) (is : d.open_event ≡ Sample code) where
-      sample_yes : BeginsSample p (cell_at cells (context p near)) near (bits_fed (limit p) (qbpp p) code)
-          → BeginsEvent p w k up line fed earlier
-      sample_yes b =
-          let s = at (Sample code) is in
-          subst (λ z. BeginsEvent p w k up line z earlier) (sym s.2)
-          (sample_begins p d.coder.in_range w k up above line short cells ri earlier t s.0 _ b)
+    sample_no : (more : List Bool) → NoSample p (cell_at cells (context p near)) near (bits_fed (limit p) (qbpp p) code ++ more)
+        → NoEvent p w k up line (fed ++ more) earlier
+    sample_no more none =
+        let s = at (Sample code) is in
+        no_sample_no_event p w k up line cells ri earlier t (fed ++ more) s.0
+        (subst (λ z. NoSample p (cell_at cells (context p near)) near (z ++ more)) (sym s.2) none)
 
-      sample_no : (more : List Bool) → NoSample p (cell_at cells (context p near)) near (bits_fed (limit p) (qbpp p) code ++ more)
-          → NoEvent p w k up line (fed ++ more) earlier
-      sample_no more none =
-          let s = at (Sample code) is in
-          no_sample_no_event p w k up line cells ri earlier t (fed ++ more) s.0
-          (subst (λ z. NoSample p (cell_at cells (context p near)) near (z ++ more)) (sym s.2) none)
+  module _ (state : RunState) (is : d.open_event ≡ InRun state) where
+    run_yes : ((r0 w0 : ℕ) (fed : List Bool) → IsRunState w0 state → RunAt r0 w0 fed state → BeginsRun r0 w0 fed)
+        → BeginsEvent p w k up line fed earlier
+    run_yes all =
+        let s = at (InRun state) is in
+        run_begins p d.coder.in_range w k up above line short cells ri earlier t s.0 fed (all _ _ fed s.1 s.2)
 
-    module _ (state : RunState) (is : d.open_event ≡ InRun state) where
-      run_yes : ((r0 w0 : ℕ) (fed : List Bool) → IsRunState w0 state → RunAt r0 w0 fed state → BeginsRun r0 w0 fed)
-          → BeginsEvent p w k up line fed earlier
-      run_yes all =
-          let s = at (InRun state) is in
-          run_begins p d.coder.in_range w k up above line short cells ri earlier t s.0 fed (all _ _ fed s.1 s.2)
+    run_no : ((r0 w0 : ℕ) (fed : List Bool) → IsRunState w0 state → RunAt r0 w0 fed state → (more : List Bool) → NoRun r0 w0 (fed ++ more))
+        → (more : List Bool) → NoEvent p w k up line (fed ++ more) earlier
+    run_no all more =
+        let s = at (InRun state) is in
+        run_none p (wide p d.coder.in_range) w k up above line earlier (get_or ri k 0) (t.run_indices_are k) (w - length line)
+        (omega arith) (fed ++ more) s.0 (all _ _ fed s.1 s.2 more)
 
-      run_no : ((r0 w0 : ℕ) (fed : List Bool) → IsRunState w0 state → RunAt r0 w0 fed state → (more : List Bool) → NoRun r0 w0 (fed ++ more))
-          → (more : List Bool) → NoEvent p w k up line (fed ++ more) earlier
-      run_no all more =
-          let s = at (InRun state) is in
-          run_none p (wide p d.coder.in_range) w k up above line earlier (get_or ri k 0) (t.run_indices_are k) (w - length line)
-          (omega arith) (fed ++ more) s.0 (all _ _ fed s.1 s.2 more)
+  module _ (i : InterruptionNow) (is : d.open_event ≡ Interruption i) where
+    abbrev there : Neighbours
+    there = following w up line i.count
 
-    module _ (i : InterruptionNow) (is : d.open_event ≡ Interruption i) where
-      abbrev there : Neighbours
-      there = following w up line i.count
+    abbrev begun : List Bool
+    begun = bits_fed (limit p - run_order i.run_index - 1) (qbpp p) i.code
 
-      abbrev begun : List Bool
-      begun = bits_fed (limit p - run_order i.run_index - 1) (qbpp p) i.code
+    interruption_yes : BeginsInterruption p (run_cell_at cells (is_same there)) there (run_order i.run_index) begun
+        → BeginsEvent p w k up line fed earlier
+    interruption_yes b =
+        let s = at (Interruption i) is in
+        interruption_begins p d.coder.in_range w k up above line short cells ri earlier t s.0 i.count i.run_index fed begun s.3 b
 
-      interruption_yes : BeginsInterruption p (run_cell_at cells (is_same there)) there (run_order i.run_index) begun
-          → BeginsEvent p w k up line fed earlier
-      interruption_yes b =
-          let s = at (Interruption i) is in
-          interruption_begins p d.coder.in_range w k up above line short cells ri earlier t s.0 i.count i.run_index fed begun s.3 b
-
-      interruption_no : ((more : List Bool)
-          → NoInterruption p (run_cell_at cells (is_same there)) there (run_order i.run_index) (begun ++ more))
-          → (more : List Bool) → NoEvent p w k up line (fed ++ more) earlier
-      interruption_no none =
-          let s = at (Interruption i) is in
-          interruption_missing p d.coder.in_range w k up above line short cells ri earlier t s.0 i.count i.run_index fed begun s.3 none
+    interruption_no : ((more : List Bool)
+        → NoInterruption p (run_cell_at cells (is_same there)) there (run_order i.run_index) (begun ++ more))
+        → (more : List Bool) → NoEvent p w k up line (fed ++ more) earlier
+    interruption_no none =
+        let s = at (Interruption i) is in
+        interruption_missing p d.coder.in_range w k up above line short cells ri earlier t s.0 i.count i.run_index fed begun s.3 none
 
 pub returns-in-NotBegun-clause-yes : goal.returns-in-NotBegun-clause-yes
 returns-in-NotBegun-clause-yes c = λ _ fed earlier t some h.
