@@ -106,6 +106,7 @@ impl Chunk {
     }
 
     /// How many zeros stand before the first one, how many bits after it, and the number of these. None where there is no one.
+    #[tactic(auto, using(crate::proofs::ChunkBits::below_place))]
     #[inline(always)]
     pub(crate) fn first_one(&self) -> Option<(u8, u8, u64)>
         ensures some { IfSome result (λ x. self.now ≡ replicate x.0 false ++ true ∷ bits x.1 x.2) }
@@ -121,6 +122,7 @@ impl Chunk {
 
     /// Takes fewer than `limit` zeros, a one, and the k bits after it, where they stand at the start: how many zeros,
     /// and the number of the one and the k bits. Else it takes nothing.
+    #[tactic(auto, using(crate::proofs::ChunkBits::below_place))]
     pub(crate) fn take_short(&mut self, limit: u8, k: u8) -> Option<(u8, u32)>
         requires k { k ≤ 16 }
         ensures some { IfSome result (λ x. self.old ≡ replicate x.0 false ++ true ∷ (bits k (x.1 - 2 ^ k) ++ self.new)) }

@@ -193,6 +193,7 @@ impl Cells {
     }
 
     /// k, and the number that an error is mapped to, which is what the Golomb code stands for (A.5.1, A.5.2).
+    #[tactic(auto, using(std::proofs::lemmas::Int::ints))]
     pub fn regular_code(&self, cell: u16, error: i32) -> (u8, u32)
         requires cell { cell ≤ 364 }
         requires error { IsError self.now.parameters error }
@@ -251,6 +252,7 @@ impl Cells {
     }
 
     /// k, and the number that the error of an interrupting sample is mapped to (A.7.2).
+    #[tactic(auto, using(std::proofs::lemmas::Int::ints))]
     pub fn run_code(&self, same: bool, error: i32) -> (u8, u32)
         requires error { IsError self.now.parameters error }
         requires another { same ≡ true → error ≢ pos 0 }

@@ -83,23 +83,10 @@ module _ (p : CodingParameters) (ok : AreCodingParameters p) (w c n : ℕ) (some
   idle_head lines line cells run_indices open_event NoCode none h = no_code_head h
 
 module _ (p : CodingParameters) (d : IntervalReader) (given : List Bool) (h : IsReading p given d) where
-  abbrev w : ℕ
-  w = d.reader.width
-
-  abbrev n : ℕ
-  n = d.components
+  open d use {components as n, reader.{width as w, line.{items as line}, coder.{cells, run_indices as ri}}}
 
   abbrev lines : List (List ℕ)
   lines = items d.lines.items
-
-  abbrev line : List ℕ
-  line = d.reader.line.items
-
-  abbrev cells : Variables
-  cells = d.reader.coder.cells
-
-  abbrev ri : List ℕ
-  ri = d.reader.coder.run_indices
 
   pub reading_idle : (d.state ≡ Working → ⊥) → IsHead (interval_shape p w n d.count) given []
   reading_idle none =

@@ -103,25 +103,28 @@ module _ (p : CodingParameters) (ok : AreCodingParameters p) (w c n : ℕ) (some
         decoded_more p w c n some (given ++ taken) z (h.fed ++ taken) [] m.event (decoded_with p w c n some given z h.fed taken decoded)
         next (m.bits_are ∙ sym (append-nil (event_bits p h.earlier m.event)))
 
+    -- in these lines and this one, of which no bit was fed
+    working_next : (ls : List (List ℕ)) (l : List ℕ)
+        → Decoded p w c n (given ++ taken) (record { lines = ls; line = l; earlier = later }) []
+        → length ls < n → IsWorking p w c n (given ++ taken) ls l cells' run_indices' NotBegun
+    working_next ls l d few = record {
+      earlier = later;
+      fed = [];
+      leads = d.leads;
+      bits_are = d.bits_are;
+      samples = d.samples;
+      unfinished = d.unfinished;
+      few = few;
+      is_after = m.is_after;
+      open_event_at = refl;
+    }
+
     -- and the line goes on
     pub working_on : length line' < w → IsWorking p w c n (given ++ taken) lines line' cells' run_indices' NotBegun
     working_on short =
         let at : moved w c z m.event ≡ record { lines = lines; line = line'; earlier = later } =
         ap (λ v. grown w lines v later) (sym m.line_is) ∙ grown_part p w c n some lines line' later short in
-        let d : Decoded p w c n (given ++ taken) (record { lines = lines; line = line'; earlier = later }) [] =
-        subst (λ v. Decoded p w c n (given ++ taken) v []) at after in
-        record {
-          earlier = later;
-          fed = [];
-          leads = d.leads;
-          bits_are = d.bits_are;
-          samples = d.samples;
-          unfinished = d.unfinished;
-          few =
-              h.few;
-          is_after = m.is_after;
-          open_event_at = refl;
-        }
+        working_next lines line' (subst (λ v. Decoded p w c n (given ++ taken) v []) at after) h.few
 
     full : length line' ≡ w → Decoded p w c n (given ++ taken) (record { lines = lines ++ line' ∷ []; line = []; earlier = later }) []
     full whole =
@@ -131,20 +134,7 @@ module _ (p : CodingParameters) (ok : AreCodingParameters p) (w c n : ℕ) (some
     -- and its line, with lines still to come
     pub working_line : length line' ≡ w → length (lines ++ line' ∷ []) < n
         → IsWorking p w c n (given ++ taken) (lines ++ line' ∷ []) [] cells' run_indices' NotBegun
-    working_line whole few =
-        let d = full whole in
-        record {
-          earlier = later;
-          fed = [];
-          leads = d.leads;
-          bits_are = d.bits_are;
-          samples = d.samples;
-          unfinished = d.unfinished;
-          few =
-              few;
-          is_after = m.is_after;
-          open_event_at = refl;
-        }
+    working_line whole few = working_next (lines ++ line' ∷ []) [] (full whole) few
 
     -- and its line, the last one
     pub working_over : length line' ≡ w → n ≤ length (lines ++ line' ∷ []) → IsComplete p w c n (given ++ taken) (lines ++ line' ∷ []) 0

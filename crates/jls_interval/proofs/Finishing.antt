@@ -17,7 +17,9 @@ use Rattle.jls_interval.specs.IntervalBytes.{IsReadingBefore, HasLengths}
 use Rattle.jls_interval.specs.declared.interval_reader.IntervalReader.{IntervalReader}
 use Rattle.jls_interval.specs.declared.decode_piece.PieceFault.{PieceFault}
 use Rattle.jls_interval.specs.declared.decode_piece.PieceFault.TheVariants.{Long, Broken, OutOfMemory}
-use Rattle.jls_interval.proofs.IntervalReading.{items}
+use Rattle.jls_interval.specs.declared.interval_reader.State.TheVariants.{Working, NoCode}
+use Rattle.jls_interval.proofs.Decoding.{working_ends}
+use Rattle.jls_interval.proofs.IntervalReading.{items, state_of, working, in_range}
 use Rattle.jls_interval.proofs.PiecesReadOnce.{reads_once, read_not_long}
 
 -- The bytes so far ---------------------------------------------------------------------------
@@ -93,6 +95,19 @@ module _ (p : CodingParameters) (w c n : ℕ) (bytes : List ℕ) where
   outcome_read ok some (Err Long) h lines r = read_not_long p ok w c n some bytes lines r h
   outcome_read ok some (Err Broken) h lines r = h.not_read lines r
   outcome_read ok some (Err OutOfMemory) h lines r = h
+
+-- a reader in the middle of its lines, and one that found no code: the bytes are broken
+module _ (p : CodingParameters) (d : IntervalReader) (bytes : List ℕ) (reading : IsReading p (bits_read bytes) d) where
+  pub working_breaks : d.state ≡ Working → IsBroken (interval_shape p d.reader.width d.components d.count) bytes
+  working_breaks is =
+      broken_bits p d.reader.width d.components d.count bytes
+      (working_ends p (in_range p d (bits_read bytes) reading is) d.reader.width d.components d.count reading.width_at_least
+      (bits_read bytes) (items d.lines.items) d.reader.line.items d.reader.coder.cells d.reader.coder.run_indices d.reader.open_event
+      (working p d (bits_read bytes) reading is))
+
+  pub stopped_breaks : d.state ≡ NoCode → IsBroken (interval_shape p d.reader.width d.components d.count) bytes
+  stopped_breaks is =
+      no_code_breaks p d.reader.width d.components d.count bytes (state_of p d (bits_read bytes) reading NoCode is)
 
 pub read_of : (p : CodingParameters) (w c n : ℕ) → AreCodingParameters p → 0 < w
     → (result : Result (Vec (Vec ℕ Global) Global) PieceFault) (Q : Type 0) (o : Option (List ℕ))

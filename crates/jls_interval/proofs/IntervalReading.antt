@@ -101,12 +101,16 @@ module _ (p : CodingParameters) (n count : ℕ) (lines : List (List ℕ)) (s : S
       (subst (λ (z : Variables). StateIs p w n count given lines line z ri' open_event s) (sym d)
       (subst (λ z. StateIs p w n count given lines line cells z open_event s) (sym e) h))))
 
-module _ (p : CodingParameters) (d : IntervalReader) (given : List Bool) (h : IsReading p given d) (is : d.state ≡ Working) where
-  abbrev w : ℕ
-  w = d.reader.width
+-- what the state says of the bits
+pub state_of : (p : CodingParameters) (d : IntervalReader) (given : List Bool) → IsReading p given d → (s : State) → d.state ≡ s
+    → StateIs p d.reader.width d.components d.count given (items d.lines.items) d.reader.line.items d.reader.coder.cells
+    d.reader.coder.run_indices d.reader.open_event s
+state_of p d given h s is =
+    subst (λ s. StateIs p d.reader.width d.components d.count given (items d.lines.items) d.reader.line.items d.reader.coder.cells
+    d.reader.coder.run_indices d.reader.open_event s) is h.state_is
 
-  abbrev n : ℕ
-  n = d.components
+module _ (p : CodingParameters) (d : IntervalReader) (given : List Bool) (h : IsReading p given d) (is : d.state ≡ Working) where
+  open d use {components as n, reader.{width as w, line.{items as line}, coder.{cells, run_indices}}}
 
   abbrev lines : List (List ℕ)
   lines = items d.lines.items
@@ -114,17 +118,8 @@ module _ (p : CodingParameters) (d : IntervalReader) (given : List Bool) (h : Is
   abbrev component : ℕ
   component = length lines % n
 
-  abbrev line : List ℕ
-  line = d.reader.line.items
-
-  abbrev cells : Variables
-  cells = d.reader.coder.cells
-
-  abbrev run_indices : List ℕ
-  run_indices = d.reader.coder.run_indices
-
   pub working : IsWorking p w n d.count given lines line cells run_indices d.reader.open_event
-  working = subst (λ s. StateIs p w n d.count given lines line cells run_indices d.reader.open_event s) is h.state_is
+  working = state_of p d given h Working is
 
   pub in_range : AreCodingParameters p
   in_range = subst AreCodingParameters h.parameters d.reader.coder.in_range

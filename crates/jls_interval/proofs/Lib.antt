@@ -21,6 +21,7 @@ pub mod PiecesReadOnce
 pub mod NeighboursAgree
 pub mod PartedOnce
 pub mod WorkedExamples
+pub mod RunPrefixes
 pub mod CutEventCases
 mod HeadExamples
 pub mod HeadLines

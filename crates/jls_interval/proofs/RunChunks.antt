@@ -7,18 +7,8 @@ use Rattle.jls_interval.specs.declared.run_reader.RunState.{RunState}
 use Rattle.jls_interval.specs.declared.run_reader.RunStep.{RunStep}
 use Rattle.jls_interval.specs.declared.run_reader.RunStep.TheVariants.{More, Done, Refused}
 
-abbrev pub NotMore : RunStep → Type 0
-NotMore (More next) = ⊥
-NotMore (Done run) = Unit {0}
-NotMore Refused = Unit {0}
-
-pub not_more : (step : RunStep) → ((state : RunState) → step ≡ More state → ⊥) → NotMore step
-not_more (More state) h = h state refl
-not_more (Done run) h = tt
-not_more Refused h = tt
-
-has_taken : (step : RunStep) (unread : List Bool) → NotMore step → HasTakenAll step unread
-has_taken (More next) unread n = absurd n
+has_taken : (step : RunStep) (unread : List Bool) → ((next : RunState) → step ≡ More next → ⊥) → HasTakenAll step unread
+has_taken (More next) unread n = absurd (n next refl)
 has_taken (Done run) unread n = tt
 has_taken Refused unread n = tt
 
@@ -46,7 +36,7 @@ module _ (w0 : ℕ) (first : RunState) (chunk : List Bool) where
     taking_more next s = record { taken = t.taken ++ b ∷ []; chunk_is = one_more; at = step_at (More next) s }
 
     pub taking_end : (step : RunStep) → ((r0 : ℕ) (fed : List Bool) → RunAt r0 w0 fed state → RunStepIs r0 w0 (fed ++ b ∷ []) step)
-        → NotMore step → RunPushed w0 first chunk left' step
+        → ((next : RunState) → step ≡ More next → ⊥) → RunPushed w0 first chunk left' step
     taking_end step s n = record { taken = t.taken ++ b ∷ []; chunk_is = one_more; step_is = step_at step s; all = has_taken step left' n }
 
   pub taking_all : (state : RunState) (left left' : List Bool) → Taking state left → (left ≡ []) × (left' ≡ [])

@@ -19,7 +19,8 @@ use std::alloc::AllocError;
 
 /// How many samples from the start on have this value.
 fn run_length(samples: &[u16], value: u16) -> usize
-    ensures { result ≡ prefix_len (λ sample. sample == value) samples.now }
+    ensures value { result ≡ prefix_len (λ sample. sample == value) samples.now }
+    ensures within { result ≤ length samples.now }
 {
     samples
         .iter()

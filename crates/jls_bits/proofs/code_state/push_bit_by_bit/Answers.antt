@@ -1,6 +1,6 @@
 use Rattle.std.proofs.Common.{refl}
 use Rattle.jls_bits.specs.CodeState.{bits_fed}
-use Rattle.jls_bits.proofs.ChunkSteps.{taking_none, taking_more, whole_chunk, step_of, not_more}
+use Rattle.jls_bits.proofs.ChunkSteps.{taking_none, taking_more, whole_chunk, step_of}
 use Rattle.jls_bits.proofs.code_state.push_bit_by_bit.Goals as goal
 
 pub loop-bit-init : goal.loop-bit-init
@@ -19,7 +19,7 @@ pub returns-in_default-push : goal.returns-in_default-push
 returns-in_default-push c =
     step_of c.args.k c.args.g c.args.qbpp (bits_fed c.args.g c.args.qbpp c.args.state) c.args.chunk.now c.loop-bit.now c.loop-bit.chunk
     c.take_bit.new.self c.in-Some.bit c.loop-bit.invariant c.in-Some.ensures.some c.push.result c.push.ensures
-    (not_more c.push.result c.in_default-push.not-More)
+    c.in_default-push.not-More
 
 pub returns : goal.returns
 returns c =

@@ -1,4 +1,5 @@
-use Rattle.std.proofs.Common.{◌≡◌, ℕ, ◌+◌, ◌≤◌, Bool, List, [], ◌∷◌, ◌++◌, length, get_or, set, refl, sym, ap, ◌∙◌, subst, arith}
+use Rattle.std.proofs.Common.{◌≡◌, ℕ, ◌+◌, ◌≤◌, Bool, List, [], ◌∷◌, ◌++◌, length, drop, get_or, eqb, set, refl, sym, ap, ◌∙◌, subst, arith}
+use Rattle.std.specs.List.{prefix_len}
 use Rattle.jls_values.specs.Params.{CodingParameters}
 use Rattle.jls_context.specs.declared.mode.Neighbours.{Neighbours}
 use Rattle.jls_context.specs.Variables.{Variables}
@@ -9,20 +10,20 @@ use Rattle.jls_interval.specs.Place.{above_of}
 use Rattle.jls_interval.specs.Encoding.{Written, Writes}
 use Rattle.jls_interval.proofs.EventsApart.{b_small}
 use Rattle.jls_interval.proofs.EncodedEvents.{written_same, to_end_writes, interrupted_writes}
-use Rattle.jls_interval.proofs.EncodedStretches.{counted, stop_within, stop_differs, stop_value, stretch_to_end, stretch_interrupted}
+use Rattle.jls_interval.proofs.EncodedStretches.{counted, stop_differs, stop_value, stretch_to_end, stretch_interrupted}
 use Rattle.jls_interval.proofs.encode_line.write_run.Goals as goal
+use Rattle.jls_interval.proofs.encode_line.write_run.Goals.{After-run_length-count}
 
-pub overflow_add-stop : goal.overflow_add-stop
-overflow_add-stop c =
-    let l = stop_within c.args.line.now c.args.x c.args.value c.run_length-count.result c.requires.column
-    (counted c.args.line.now c.args.x c.args.value c.run_length-count.result c.run_length-count.ensures) in let w = c.requires.width in
-    omega arith
+-- the run's columns, counted in the whole line
+counted_is : (c : After-run_length-count) → c.run_length-count.result
+    ≡ prefix_len (λ s. eqb s c.args.value) (drop c.args.x c.args.line.now)
+counted_is c = counted c.args.line.now c.args.x c.args.value c.run_length-count.result c.run_length-count.ensures.value
 
 pub returns-then-stop-line-clause-column : goal.returns-then-stop-line-clause-column
 returns-then-stop-line-clause-column c =
     let up : Above = above_of c.args.place.now in
     let s = stretch_to_end c.args.line.now c.args.x c.args.value c.run_length-count.result c.requires.column
-    (counted c.args.line.now c.args.x c.args.value c.run_length-count.result c.run_length-count.ensures) up c.requires.value
+    (counted_is (goal.at.returns-then-stop-line-clause-column c).After-run_length-count) up c.requires.value
     c.args.place.now.component c.requires.run c.if-stop-line.true in
     c.if-stop-line.true ∙ ap (λ (z : Stretch). z.next) (sym s)
 
@@ -35,7 +36,7 @@ returns-then-stop-line-clause-written c =
     let before : List Bool = c.args.encoder.now.writer in let after : List Bool = c.write_run_to_end.new.writer in
     let r : ℕ = c.run_index-run_index.result in let r_is : r ≡ get_or coder.run_indices k 0 = c.run_index-run_index.ensures.value in
     let s = stretch_to_end c.args.line.now c.args.x c.args.value count c.requires.column
-    (counted c.args.line.now c.args.x c.args.value c.run_length-count.result c.run_length-count.ensures) up c.requires.value k
+    (counted_is (goal.at.returns-then-stop-line-clause-written c).After-run_length-count) up c.requires.value k
     c.requires.run c.if-stop-line.true in
     let old : Written = record { cells = cells; run_indices = coder.run_indices; written = before } in
     let new : Written = record { cells = cells; run_indices = set coder.run_indices k index; written = after } in
@@ -46,30 +47,6 @@ returns-then-stop-line-clause-written c =
     subst (λ (z : Written). Writes p old z ((stretch (length c.args.line.now) k up c.args.line.now c.args.x).event ∷ []))
     (written_same _ _ _ _ _ _ (sym c.set_run_index.ensures.cells) (sym c.set_run_index.ensures.run_indices) refl)
     (subst (λ (z : Stretch). Writes p old new (z.event ∷ [])) (sym s) writes)
-
-pub overflow_cast-count-2 : goal.overflow_cast-count-2
-overflow_cast-count-2 c =
-    let l = stop_within c.args.line.now c.args.x c.args.value c.run_length-count.result c.requires.column
-    (counted c.args.line.now c.args.x c.args.value c.run_length-count.result c.run_length-count.ensures) in let w = c.requires.width in
-    omega arith
-
-pub neighbours-neighbours-requires : goal.neighbours-neighbours-requires
-neighbours-neighbours-requires c =
-    let l = stop_within c.args.line.now c.args.x c.args.value c.run_length-count.result c.requires.column
-    (counted c.args.line.now c.args.x c.args.value c.run_length-count.result c.run_length-count.ensures) in
-    let f = c.if-stop-line.false in omega arith
-
-pub offset_bounds-line-stop : goal.offset_bounds-line-stop
-offset_bounds-line-stop c =
-    let l = stop_within c.args.line.now c.args.x c.args.value c.run_length-count.result c.requires.column
-    (counted c.args.line.now c.args.x c.args.value c.run_length-count.result c.run_length-count.ensures) in let w = c.requires.width in
-    omega arith
-
-pub bounds-line-stop : goal.bounds-line-stop
-bounds-line-stop c =
-    let l = stop_within c.args.line.now c.args.x c.args.value c.run_length-count.result c.requires.column
-    (counted c.args.line.now c.args.x c.args.value c.run_length-count.result c.run_length-count.ensures) in
-    let f = c.if-stop-line.false in omega arith
 
 pub write_interrupting-requires-clause-above : goal.write_interrupting-requires-clause-above
 write_interrupting-requires-clause-above c =
@@ -82,22 +59,16 @@ pub write_interrupting-requires-clause-another : goal.write_interrupting-require
 write_interrupting-requires-clause-another c = λ e.
     let up : Above = above_of c.args.place.now in
     let v = stop_value c.args.line.now c.args.x c.args.value c.run_length-count.result c.requires.column
-    (counted c.args.line.now c.args.x c.args.value c.run_length-count.result c.run_length-count.ensures) up c.requires.value in
+    (counted_is (goal.at.write_interrupting-requires-clause-another c).After-run_length-count) up c.requires.value in
     stop_differs c.args.line.now c.args.x c.args.value c.run_length-count.result c.requires.column
-    (counted c.args.line.now c.args.x c.args.value c.run_length-count.result c.run_length-count.ensures) c.if-stop-line.false
+    (counted_is (goal.at.write_interrupting-requires-clause-another c).After-run_length-count) c.if-stop-line.false
     (e ∙ ap (λ (n : Neighbours). n.ra) c.neighbours-neighbours.ensures ∙ v)
-
-pub overflow_add-result : goal.overflow_add-result
-overflow_add-result c =
-    let l = stop_within c.args.line.now c.args.x c.args.value c.run_length-count.result c.requires.column
-    (counted c.args.line.now c.args.x c.args.value c.run_length-count.result c.run_length-count.ensures) in let w = c.requires.width in
-    omega arith
 
 pub returns-clause-column : goal.returns-clause-column
 returns-clause-column c =
     let up : Above = above_of c.args.place.now in
     let s = stretch_interrupted c.args.line.now c.args.x c.args.value c.run_length-count.result c.requires.column
-    (counted c.args.line.now c.args.x c.args.value c.run_length-count.result c.run_length-count.ensures) up c.requires.value
+    (counted_is (goal.at.returns-clause-column c).After-run_length-count) up c.requires.value
     c.args.place.now.component c.requires.run c.if-stop-line.false in
     ap (λ (z : Stretch). z.next) (sym s)
 
@@ -113,7 +84,7 @@ returns-clause-written c =
     let count : ℕ = c.run_length-count.result in let near : Neighbours = c.neighbours-neighbours.result in
     let sample : ℕ = get_or c.args.line.now (c.args.x + count) 0 in
     let s = stretch_interrupted c.args.line.now c.args.x c.args.value count c.requires.column
-    (counted c.args.line.now c.args.x c.args.value c.run_length-count.result c.run_length-count.ensures) up c.requires.value k
+    (counted_is (goal.at.returns-clause-written c).After-run_length-count) up c.requires.value k
     c.requires.run c.if-stop-line.false in
     let old : Written = record { cells = cells; run_indices = coder.run_indices; written = before } in
     let new : Written = record { cells = cells'; run_indices = set coder.run_indices k c.lowered.result; written = after } in

@@ -2,7 +2,7 @@ use Rattle.std.proofs.Common.{◌≡◌, ℕ, List, Bool, true, ◌++◌, w32, t
 use Rattle.std.specs.Prelude.{ℤ}
 use Rattle.std.proofs.lemmas.Int.{ints}
 use Rattle.jls_context.specs.declared.mode.Neighbours.{Neighbours}
-use Rattle.jls_context.specs.Mode.{context}
+use Rattle.jls_context.specs.Mode.{IsRegularMode, context}
 use Rattle.jls_values.specs.Params.{limit, qbpp}
 use Rattle.jls_context.specs.Regular.{updated, regular_k}
 use Rattle.jls_bits.specs.Golomb.{golomb, has_golomb}
@@ -13,14 +13,19 @@ use Rattle.jls_interval.specs.Code.{regular_bits}
 use Rattle.jls_interval.proofs.AfterEvents.{after_regular, sample_bits}
 use Rattle.jls_interval.proofs.SamplesRead.{along}
 use Rattle.jls_interval.proofs.line_samples.take_sample.Goals as goal
+use Rattle.jls_interval.proofs.line_samples.take_sample.Goals.{In-Regular}
 
-pub sample_of-requires-clause-mode : goal.sample_of-requires-clause-mode
-sample_of-requires-clause-mode c =
+-- the mode of the sample, by its gradients
+mode_is : (c : In-Regular) → IsRegularMode c.args.coder.now.cells.parameters c.args.neighbours c.in-Regular.cell c.in-Regular.negative
+mode_is c =
     let a : to_z w32 (of_z w32 c.args.gradients.first) ≡ c.args.gradients.first = omega (arith, ints) in
     let b : to_z w32 (of_z w32 c.args.gradients.second) ≡ c.args.gradients.second = omega (arith, ints) in
     let d : to_z w32 (of_z w32 c.gradient-third.result) ≡ c.gradient-third.result = omega (arith, ints) in
     c.in-Regular.ensures c.args.neighbours
     (record { first = a ∙ c.requires.first; second = b ∙ c.requires.second; third = d ∙ c.gradient-third.ensures.value })
+
+pub sample_of-requires-clause-mode : goal.sample_of-requires-clause-mode
+sample_of-requires-clause-mode c = mode_is (goal.at.sample_of-requires-clause-mode c).In-Regular
 
 pub sample_of-requires-clause-code : goal.sample_of-requires-clause-code
 sample_of-requires-clause-code c =
@@ -29,22 +34,13 @@ sample_of-requires-clause-code c =
     c.requires.lengths.qbpp_is c.in-Some.ensures.some.0
 
 pub update_regular-requires-clause-cell : goal.update_regular-requires-clause-cell
-update_regular-requires-clause-cell c =
-    let a : to_z w32 (of_z w32 c.args.gradients.first) ≡ c.args.gradients.first = omega (arith, ints) in
-    let b : to_z w32 (of_z w32 c.args.gradients.second) ≡ c.args.gradients.second = omega (arith, ints) in
-    let d : to_z w32 (of_z w32 c.gradient-third.result) ≡ c.gradient-third.result = omega (arith, ints) in
-    (c.in-Regular.ensures c.args.neighbours
-    (record { first = a ∙ c.requires.first; second = b ∙ c.requires.second; third = d ∙ c.gradient-third.ensures.value })).at_most
+update_regular-requires-clause-cell c = (mode_is (goal.at.update_regular-requires-clause-cell c).In-Regular).at_most
 
 pub returns-in-Some-sample_of-clause-prefix : goal.returns-in-Some-sample_of-clause-prefix
 returns-in-Some-sample_of-clause-prefix c =
     let old = c.args.coder.now in let cells : Variables = old.cells in let p = cells.parameters in
     let near : Neighbours = c.args.neighbours in
-    let a : to_z w32 (of_z w32 c.args.gradients.first) ≡ c.args.gradients.first = omega (arith, ints) in
-    let b : to_z w32 (of_z w32 c.args.gradients.second) ≡ c.args.gradients.second = omega (arith, ints) in
-    let d : to_z w32 (of_z w32 c.gradient-third.result) ≡ c.gradient-third.result = omega (arith, ints) in
-    let m = c.in-Regular.ensures near
-    (record { first = a ∙ c.requires.first; second = b ∙ c.requires.second; third = d ∙ c.gradient-third.ensures.value }) in
+    let m = mode_is (goal.at.returns-in-Some-sample_of-clause-prefix c).In-Regular in
     let q : ℕ = c.in-Regular.cell in let q_is : q ≡ context p near = m.context_is in
     let v : ℕ = c.in-Some-sample_of.sample.value in let e : ℤ = c.in-Some-sample_of.sample.error in let s = c.in-Some-sample_of.ensures in
     let u = c.update_regular.ensures in
@@ -67,11 +63,7 @@ pub returns-in-Some-of_short-clause-prefix : goal.returns-in-Some-of_short-claus
 returns-in-Some-of_short-clause-prefix c =
     let old = c.args.coder.now in let cells : Variables = old.cells in let p = cells.parameters in
     let near : Neighbours = c.args.neighbours in
-    let a : to_z w32 (of_z w32 c.args.gradients.first) ≡ c.args.gradients.first = omega (arith, ints) in
-    let b : to_z w32 (of_z w32 c.args.gradients.second) ≡ c.args.gradients.second = omega (arith, ints) in
-    let d : to_z w32 (of_z w32 c.gradient-third.result) ≡ c.gradient-third.result = omega (arith, ints) in
-    let m = c.in-Regular.ensures near
-    (record { first = a ∙ c.requires.first; second = b ∙ c.requires.second; third = d ∙ c.gradient-third.ensures.value }) in
+    let m = mode_is (goal.at.returns-in-Some-of_short-clause-prefix c).In-Regular in
     let code : CodeState = c.in-Some-of_short.code in let s = c.in-Some-of_short.ensures in
     let same : c.take_code.new.self ≡ c.args.chunk.now = c.in-None.ensures.none in
     let opened : IsOpen (regular_k (cell_at cells c.in-Regular.cell)) (limit p) (qbpp p) code =

@@ -5,7 +5,7 @@ use Rattle.std.specs.List.{AllByRecursion}
 use Rattle.std.specs.Vec.{vec_len}
 use Rattle.std.proofs.lemmas.Int.{ints}
 use Rattle.std.proofs.lemmas.List.{append-nil}
-use Rattle.jls_values.specs.Params.{CodingParameters, limit, qbpp}
+use Rattle.jls_values.specs.Params.{limit, qbpp}
 use Rattle.jls_context.specs.declared.mode.Neighbours.{Neighbours}
 use Rattle.jls_context.specs.declared.interruption.RunCell.{RunCell}
 use Rattle.jls_context.specs.Interruption.{run_k, run_updated}
@@ -34,14 +34,7 @@ use Rattle.jls_interval.proofs.push_event.push_to_interrupted.Goals as goal
 
 -- where a run of so many samples is interrupted
 module _ (old : LineReader) (place : Place) (count : ℕ) where
-  abbrev p : CodingParameters
-  p = old.coder.cells.parameters
-
-  abbrev w : ℕ
-  w = old.width
-
-  abbrev line : List ℕ
-  line = old.line.items
+  open old use {width as w, line.{items as line}, coder.{cells.{parameters as p}}}
 
   abbrev up : Above
   up = above_of place

@@ -11,16 +11,6 @@ returns-then-self-eq0-clause-none c =
     let e : c.args.self.now ≡ replicate n false = sym c.self.view_is ∙ ap (λ z. bits n z) c.if-self-eq0.true ∙ zero_bits n in
     e ∙ ap (λ z. replicate z false) (sym (length-bits n v) ∙ ap length c.self.view_is)
 
-pub overflow_sub-result : goal.overflow_sub-result
-overflow_sub-result c = let l =
-    below_place c.self.inside.count c.ilog2-first.result c.self.inside.value c.ilog2-first.ensures.power_le c.self.invariant.1 in
-    omega (arith, l)
-
-pub overflow_sub-result-2 : goal.overflow_sub-result-2
-overflow_sub-result-2 c = let l =
-    below_place c.self.inside.count c.ilog2-first.result c.self.inside.value c.ilog2-first.ensures.power_le c.self.invariant.1 in
-    omega (arith, l)
-
 pub returns-clause-some : goal.returns-clause-some
 returns-clause-some c =
     let n : ℕ = c.self.inside.count in let b : ℕ = c.ilog2-first.result in let v : ℕ = c.self.inside.value in

@@ -7,16 +7,6 @@ use Rattle.jls_bits.proofs.chunk.Chunk.take_short.Goals as goal
 use Rattle.jls_bits.proofs.chunk.Chunk.take_short.Goals.{then-limit-zeros-via-then-limit-zeros}
 use Rattle.jls_bits.proofs.chunk.Chunk.take_short.Goals.{then-limit-zeros-via-else-limit-zeros+then-first-k}
 
-pub overflow_sub-zeros : goal.overflow_sub-zeros
-overflow_sub-zeros c = let l =
-    below_place c.self.inside.count c.ilog2-first.result c.self.inside.value c.ilog2-first.ensures.power_le c.self.invariant.1 in
-    omega (arith, l)
-
-pub overflow_sub-zeros-2 : goal.overflow_sub-zeros-2
-overflow_sub-zeros-2 c = let l =
-    below_place c.self.inside.count c.ilog2-first.result c.self.inside.value c.ilog2-first.ensures.power_le c.self.invariant.1 in
-    omega (arith, l)
-
 pub overflow_cast-result : goal.overflow_cast-result
 overflow_cast-result c =
     let b : ℕ = c.ilog2-first.result in let k : ℕ = c.args.k in let v : ℕ = c.self.inside.value in

@@ -3,12 +3,6 @@ use Rattle.std.proofs.lemmas.Int.{ints}
 use Rattle.jls_context.proofs.Sizes.{range-le-pow, interruption_mapped_at_most}
 use Rattle.jls_context.proofs.cells.Cells.run_code.Goals as goal
 
-pub error_mapped-requires-clause-error_at_least : goal.error_mapped-requires-clause-error_at_least
-error_mapped-requires-clause-error_at_least c = omega (arith, ints, c.run_cell-cell.ensures.variables.maxval_below)
-
-pub error_mapped-requires-clause-error_at_most : goal.error_mapped-requires-clause-error_at_most
-error_mapped-requires-clause-error_at_most c = omega (arith, ints, c.run_cell-cell.ensures.variables.maxval_below)
-
 pub returns-clause-mapped_at_most : goal.returns-clause-mapped_at_most
 returns-clause-mapped_at_most c =
     let p = c.args.self.now.parameters in let same : to_z w32 (of_z w32 c.args.error) ≡ c.args.error = omega (arith, ints) in

@@ -30,20 +30,11 @@ module _ {p : CodingParameters} {given : List Bool} {d : IntervalReader} {new : 
     (same : lines ≡ d.lines.items) (component : k ≡ length lines % d.components) (above_is : up ≡ above d.components (items lines))
     (wide : new.width ≡ d.reader.width) (parameters : new.coder.cells.parameters ≡ d.reader.coder.cells.parameters)
     (pushed : Pushes d.reader new chunk unread k up step) where
-  abbrev w : ℕ
-  w = d.reader.width
-
-  abbrev n : ℕ
-  n = d.components
+  open d use {components as n, reader.{width as w, line.{items as line}}}
+  open new use {line.{items as line'}}
 
   abbrev L : List (List ℕ)
   L = items d.lines.items
-
-  abbrev line : List ℕ
-  line = d.reader.line.items
-
-  abbrev line' : List ℕ
-  line' = new.line.items
 
   k_is : k ≡ length L % n
   k_is = component ∙ ap (λ z. length z % n) same ∙ ap (λ z. z % n) (sym (length-map d.lines.items (λ (v : Vec ℕ Global). v.items)))

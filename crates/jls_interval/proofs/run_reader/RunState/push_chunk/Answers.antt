@@ -1,4 +1,4 @@
-use Rattle.jls_interval.proofs.RunChunks.{taking_none, taking_more, taking_end, taking_all, not_more}
+use Rattle.jls_interval.proofs.RunChunks.{taking_none, taking_more, taking_end, taking_all}
 use Rattle.jls_interval.proofs.run_reader.RunState.push_chunk.Goals as goal
 
 pub loop-bit-init : goal.loop-bit-init
@@ -15,7 +15,7 @@ pub returns-in_default-push-clause-step : goal.returns-in_default-push-clause-st
 returns-in_default-push-clause-step c =
     taking_end c.args.width c.args.self c.args.chunk.now c.loop-bit.state c.loop-bit.chunk c.take_bit.new.self c.in-Some.bit
     c.loop-bit.invariant.taking c.in-Some.ensures.some c.push.result c.push.ensures.step
-    (not_more c.push.result c.in_default-push.not-More)
+    c.in_default-push.not-More
 
 pub returns-clause-step : goal.returns-clause-step
 returns-clause-step c = taking_all c.args.width c.args.self c.args.chunk.now c.loop-bit.state c.loop-bit.chunk c.take_bit.new.self
