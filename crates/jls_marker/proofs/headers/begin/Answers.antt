@@ -1,11 +1,11 @@
-use Rattle.std.proofs.Common.{◌≡◌, ◌<◌, ◌≤◌, ◌^◌, ℕ, List, true, length, map, sym, ap, subst, Ok, ◌∙◌}
+use Rattle.std.proofs.Common.{◌≡◌, ◌<◌, ℕ, true, length, map, sym, ap, subst, Ok, ◌∙◌}
 use Rattle.std.specs.Prelude.{is_ok}
 use Rattle.std.specs.List.{AllByRecursion}
 use Rattle.jls_values.specs.ParamsOf.{params_of}
 use Rattle.jls_values.specs.PresetParameters.{PresetParameters}
 use Rattle.jls_marker.specs.ComponentIndex.{index_of}
 use Rattle.jls_marker.specs.declared.headers.PresetValues.{PresetValues}
-use Rattle.jls_marker.proofs.Beginning.{are_known, known_there, indices_there, indices_below, bytes_below, params_known, bad_params, samples}
+use Rattle.jls_marker.proofs.Beginning.{are_known, known_there, indices_there, indices_below, bytes_below, params_known, bad_params}
 use Rattle.jls_marker.proofs.Beginning.{too_large, too_many, begins, ok_scan}
 use Rattle.jls_marker.proofs.headers.begin.Goals.{In-Some, In-Ok}
 use Rattle.jls_marker.proofs.headers.begin.Goals as goal
