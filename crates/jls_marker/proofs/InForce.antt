@@ -1,11 +1,11 @@
 -- What is in force after a segment, and what a scan has of it.
-use Rattle.std.proofs.Common.{◌≡◌, ℕ, true, List, [], ◌∷◌, Option, Some, None, Result, Ok, refl, sym, ap, ◌∙◌}
+use Rattle.std.proofs.Common.{◌≡◌, ℕ, true, List, [], ◌∷◌, ◌+◌, Option, Some, None, Result, Ok, refl, sym, ap, subst, ◌∙◌}
 use Rattle.std.specs.Prelude.{is_none, is_ok}
 use Rattle.jls_values.specs.Params.{CodingParameters}
 use Rattle.jls_values.specs.ParamsOf.{in_force, params_in_range, param_fault}
 use Rattle.jls_values.specs.Shape.{PictureShape}
 use Rattle.jls_values.specs.declared.params.ParamFault.{ParamFault}
-use Rattle.jls_marker.specs.HeaderLaws.{SetsItsOwn, HasWhatIsInForce}
+use Rattle.jls_marker.specs.HeaderLaws.{SetsItsOwn, HasWhatIsInForce, interval_in, presets_in, frame_in, newest}
 use Rattle.jls_marker.specs.HeaderState.{HeaderState}
 use Rattle.jls_marker.specs.Headers.{begin_tests, scan_in, scan_under, scan_judged, accepted, taking, headers_after}
 use Rattle.jls_marker.specs.Scan.{Scan}
@@ -19,6 +19,17 @@ use Rattle.jls_marker.proofs.HeaderSteps.{After, parts, began, from_taken}
 
 -- ---- a segment sets its own value
 
+-- a segment that is no frame, of which this is left
+other_sets : (h new after : HeaderState) (s : Segment) → frame_in s ≡ None → new.frame ≡ h.frame
+    → new.restart_interval ≡ newest (interval_in s) h.restart_interval → new.preset ≡ newest (presets_in s) h.preset → new ≡ after
+    → SetsItsOwn h after s
+other_sets h new after s none frame interval preset left = subst (λ (z : HeaderState). SetsItsOwn h z s) left (record {
+  restart_interval = interval;
+  preset = preset;
+  frame = λ f is. absurd cc;
+  no_frame = λ is. frame;
+})
+
 sets : (h after : HeaderState) (scan : Option Scan) (s : Segment) → accepted h s ≡ Ok (after, scan) → SetsItsOwn h after s
 sets h after scan (segment.Frame g) e =
     let t = all_pass ((is_none h.frame, fault.SecondFrame) ∷ []) (record h { frame = Some g }, None) (after, scan) e in
@@ -31,36 +42,15 @@ sets h after scan (segment.Frame g) e =
     }
 sets h after scan (segment.Scan s) e =
     let b = began h after scan (scan_under h s h.frame) e in
-    record {
-      restart_interval = ap (λ (x : HeaderState). x.restart_interval) b.2;
-      preset = ap (λ (x : HeaderState). x.preset) b.2;
-      frame = λ f is. absurd cc;
-      no_frame = λ is. ap (λ (x : HeaderState). x.frame) b.2;
-    }
+    other_sets h (record h { scans = h.scans + 1 }) after (segment.Scan s) refl refl refl refl (sym b.2)
 sets h after scan (segment.Preset a b c d r) e =
-    let p = parts (record h { preset = record { maxval = a; t1 = b; t2 = c; t3 = d; reset = r } }, None) (after, scan) e in
-    record {
-      restart_interval = ap (λ (x : HeaderState). x.restart_interval) (sym p.0);
-      preset = ap (λ (x : HeaderState). x.preset) (sym p.0);
-      frame = λ f is. absurd cc;
-      no_frame = λ is. ap (λ (x : HeaderState). x.frame) (sym p.0);
-    }
+    let new = record h { preset = record { maxval = a; t1 = b; t2 = c; t3 = d; reset = r } } in
+    other_sets h new after (segment.Preset a b c d r) refl refl refl refl (parts (new, None) (after, scan) e).0
 sets h after scan (segment.Restart n) e =
-    let p = parts (record h { restart_interval = n }, None) (after, scan) e in
-    record {
-      restart_interval = ap (λ (x : HeaderState). x.restart_interval) (sym p.0);
-      preset = ap (λ (x : HeaderState). x.preset) (sym p.0);
-      frame = λ f is. absurd cc;
-      no_frame = λ is. ap (λ (x : HeaderState). x.frame) (sym p.0);
-    }
+    let new = record h { restart_interval = n } in
+    other_sets h new after (segment.Restart n) refl refl refl refl (parts (new, None) (after, scan) e).0
 sets h after scan (segment.Skipped code) e =
-    let p = parts (h, None) (after, scan) e in
-    record {
-      restart_interval = ap (λ (x : HeaderState). x.restart_interval) (sym p.0);
-      preset = ap (λ (x : HeaderState). x.preset) (sym p.0);
-      frame = λ f is. absurd cc;
-      no_frame = λ is. ap (λ (x : HeaderState). x.frame) (sym p.0);
-    }
+    other_sets h h after (segment.Skipped code) refl refl refl refl (parts (h, None) (after, scan) e).0
 
 pub segments_set_their_own : (h after : HeaderState) (code : ℕ) (payload : List ℕ) (scan : Option Scan) (s : Segment)
     → segment_of code payload ≡ Ok s → headers_after h code payload ≡ Ok (after, scan) → SetsItsOwn h after s

@@ -1,4 +1,5 @@
 pub mod Beginning
+pub mod ComponentLayouts
 pub mod FaultsOf
 pub mod FirstFailing
 pub mod HeaderSteps

@@ -20,8 +20,21 @@ use Rattle.jls_marker.specs.declared.fault.MarkerFault.{MarkerFault}
 use Rattle.jls_marker.specs.declared.segment.Segment.{Segment}
 use Rattle.jls_marker.specs.declared.segment.Segment.TheVariants.{Frame, Scan}
 use Rattle.jls_marker.proofs.FirstFailing.{none_fails}
-use Rattle.jls_marker.proofs.Layouts.{frame_header_again, scan_header_again}
+use Rattle.jls_marker.proofs.ComponentLayouts.{frame_header_again, scan_header_again}
 use Rattle.jls_marker.proofs.Shapes.{shape_there}
+
+-- ---- components that are made of identifiers
+
+module _ {C : Type 0} (made : ℕ → C) where
+  -- have these again
+  ids_again : (id_of : C → ℕ) → ((id : ℕ) → id_of (made id) ≡ id) → (ids : List ℕ) → map id_of (map made ids) ≡ ids
+  ids_again id_of same [] = refl
+  ids_again id_of same (id ∷ ids) = λ i. same id i ∷ ids_again id_of same ids i
+
+  -- and pass a test that each passes
+  each_passes : (p : C → Bool) → ((id : ℕ) → p (made id) ≡ true) → (ids : List ℕ) → list_all p (map made ids) ≡ true
+  each_passes p each [] = refl
+  each_passes p each (id ∷ ids) = (λ i. each id i && each_passes p each ids i)
 
 -- ---- the frame
 
@@ -37,26 +50,19 @@ frame_bytes s =
     (ap (λ (n : ℕ). n ∷ flat_map (λ id. id ∷ 0x11 ∷ 0 ∷ []) s.ids) (sym (length-map s.ids frame_component))
     ∙ ap (λ (t : List ℕ). length (map frame_component s.ids) ∷ t) (sym (flat_map-map frame_component_bytes frame_component s.ids)))
 
-frame_ids_again : (ids : List ℕ) → map (λ c. c.id) (map frame_component ids) ≡ ids
-frame_ids_again [] = refl
-frame_ids_again (id ∷ ids) = ap (λ (t : List ℕ). id ∷ t) (frame_ids_again ids)
-
-sampled : (ids : List ℕ) → list_all (λ c. c.sampling == 0x11) (map frame_component ids) ≡ true
-sampled [] = refl
-sampled (id ∷ ids) = sampled ids
-
 abbrev framed : PictureShape → List ℕ → Result Segment MarkerFault
 framed s ids = Ok (Frame (record { precision = s.precision; width = s.width; height = s.height; ids = ids }))
 
 pub frame_reads_back : (s : PictureShape) → IsShape s → segment_of sof55 (frame_payload s) ≡ Ok (Frame s)
 frame_reads_back s is =
     let h = written_frame s in
-    let again = frame_ids_again s.ids in
+    let again = ids_again frame_component (λ c. c.id) (λ id. refl) s.ids in
     let shape : is_ok (shape_of s.precision s.width s.height (frame_ids h)) ≡ true =
     ap is_ok (ap (shape_of s.precision s.width s.height) again ∙ shape_there s is) in
     ap (λ (t : List ℕ). frame_of (frame_header t)) (frame_bytes s)
     ∙ ap frame_of (frame_header_again h is.height_below is.width_below)
-    ∙ none_fails (frame_tests h) (Frame (shape_in h)) (shape, (sampled s.ids, tt))
+    ∙ none_fails (frame_tests h) (Frame (shape_in h))
+    (shape, (each_passes frame_component (λ c. c.sampling == 0x11) (λ id. refl) s.ids, tt))
     ∙ ap (framed s) again
 
 -- ---- the scan
@@ -72,14 +78,6 @@ scan_bytes s =
     let tail = 0 ∷ (if s.line then 1 else 0) ∷ 0 ∷ [] in
     ap (λ (n : ℕ). n ∷ (flat_map (λ id. id ∷ 0 ∷ []) s.ids ++ tail)) (sym (length-map s.ids scan_component))
     ∙ ap (λ (t : List ℕ). length (map scan_component s.ids) ∷ (t ++ tail)) (sym (flat_map-map scan_component_bytes scan_component s.ids))
-
-scan_ids_again : (ids : List ℕ) → map (λ c. c.id) (map scan_component ids) ≡ ids
-scan_ids_again [] = refl
-scan_ids_again (id ∷ ids) = ap (λ (t : List ℕ). id ∷ t) (scan_ids_again ids)
-
-without_table : (ids : List ℕ) → list_all (λ c. c.table == 0) (map scan_component ids) ≡ true
-without_table [] = refl
-without_table (id ∷ ids) = without_table ids
 
 pub interleaved : (n : ℕ) (line : Bool) → (1 < n → line ≡ true)
     → (nat_le (if line then 1 else 0) 1 && (nat_le n 1 || ((if line then 1 else 0) == 1))) ≡ true
@@ -100,13 +98,14 @@ selected ids line = Ok (Scan (record { ids = ids; line = line }))
 pub scan_reads_back : (s : ScanSelection) → IsScanSelection s → segment_of sos (scan_payload s) ≡ Ok (Scan s)
 scan_reads_back s is =
     let h = written_scan s in
-    let again = scan_ids_again s.ids in
+    let again = ids_again scan_component (λ c. c.id) (λ id. refl) s.ids in
     let count : length h.components ≡ length s.ids = length-map s.ids scan_component in
     let differ : not (has_repeat (scan_ids h)) ≡ true = ap (λ (ids : List ℕ). not (has_repeat ids)) again ∙ ap not is.ids_differ in
     let by_line = interleaved (length h.components) s.line (λ lt. is.interleaved (let m = lt in omega (arith, count, m))) in
     ap (λ (t : List ℕ). scan_of (scan_header t)) (scan_bytes s)
     ∙ ap scan_of (scan_header_again h (let a = is.ids_at_least in omega (arith, count, a))
     (let a = is.ids_at_most in omega (arith, count, a)))
-    ∙ none_fails (scan_tests h) (Scan (selection_in h)) (differ, (without_table s.ids, (refl, (by_line, (refl, tt)))))
+    ∙ none_fails (scan_tests h) (Scan (selection_in h))
+    (differ, (each_passes scan_component (λ c. c.table == 0) (λ id. refl) s.ids, (refl, (by_line, (refl, tt)))))
     ∙ ap (λ (ids : List ℕ). selected ids ((if s.line then 1 else 0) == 1)) again
     ∙ ap (selected s.ids) (line_again s.line)

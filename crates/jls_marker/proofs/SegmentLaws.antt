@@ -1,8 +1,9 @@
 -- The laws of segments, whole.
 use Rattle.jls_marker.specs.SegmentLaws.{LayoutsAreRead, PayloadsAreRead, WrittenReadsBack}
 use Rattle.jls_marker.specs.declared.segment.Segment.TheVariants.{Frame, Scan, Preset, Restart, Skipped}
-use Rattle.jls_marker.proofs.Layouts.{frame_header_there, frame_header_of, scan_header_there, scan_header_of, preset_there}
-use Rattle.jls_marker.proofs.Layouts.{preset_of_layout, restart_there, restart_of_layout, preset_reads_back, restart_reads_back}
+use Rattle.jls_marker.proofs.ComponentLayouts.{frame_header_there, frame_header_of, scan_header_there, scan_header_of}
+use Rattle.jls_marker.proofs.Layouts.{preset_there, preset_of_layout, restart_there, restart_of_layout}
+use Rattle.jls_marker.proofs.Layouts.{preset_reads_back, restart_reads_back}
 use Rattle.jls_marker.proofs.ReadsBack.{frame_reads_back, scan_reads_back}
 use Rattle.jls_marker.proofs.SegmentsRead.{is_payload, is_read}
 

@@ -21,8 +21,8 @@ use Rattle.jls_marker.specs.declared.segment.Segment.{Segment}
 use Rattle.jls_marker.specs.declared.segment.Segment.TheVariants.{Frame, Scan, Preset, Restart, Skipped}
 use Rattle.jls_marker.specs.Faults.{first_failing}
 use Rattle.jls_marker.proofs.FirstFailing.{all_pass, none_fails, fine, fine_is}
-use Rattle.jls_marker.proofs.Layouts.{frame_header_there, frame_header_of, scan_header_there, scan_header_of, preset_there}
-use Rattle.jls_marker.proofs.Layouts.{preset_of_layout, restart_there, restart_of_layout}
+use Rattle.jls_marker.proofs.ComponentLayouts.{frame_header_there, frame_header_of, scan_header_there, scan_header_of}
+use Rattle.jls_marker.proofs.Layouts.{preset_there, preset_of_layout, restart_there, restart_of_layout}
 use Rattle.jls_marker.proofs.ReadsBack.{interleaved, line_again}
 use Rattle.jls_marker.proofs.Shapes.{shape_there, shape_in_range}
 

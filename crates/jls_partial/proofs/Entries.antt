@@ -7,7 +7,7 @@ use Rattle.std.specs.declared.cmp.Ordering.TheVariants.{Less}
 use Rattle.std.specs.Ordering.{nat_cmp, eq_by_cmp}
 use Rattle.std.specs.Cmp.Lexicographic.{slice_cmp}
 use Rattle.jls_values.specs.OrderedSet.{OrderedSet, from_list, contains, insert}
-use Rattle.jls_values.specs.OrderedSetLaws.{same_set, contains-from_list, contains-insert}
+use Rattle.jls_values.specs.OrderedSetLaws.{same_set, contains-from_list, contains-insert, or_false}
 use Rattle.std.specs.List.{list_any, AllByRecursion}
 use Rattle.std.specs.List.Sorted.{IsStrictlySortedBy}
 use Rattle.std.specs.BTreeMap.{is_at}
@@ -70,10 +70,6 @@ any-entries (e ∷ es) r h =
           (unwrap_or o [])) (none_kept (place_of r) e.0 es t h.0) ∙ or_false (list_any (eq_by_cmp S r.samples) e.1)
       | false ↦ λ t. refl
     ] refl
-  where
-    or_false : (b : Bool) → (b || false) ≡ b
-    or_false true = refl
-    or_false false = refl
 
 -- what holds at each place that is kept
 pub each_from_lookup : {X : Type 0} (P : LinePlace × X → Type 0) (es : List (LinePlace × X))

@@ -2,7 +2,7 @@
 use Rattle.std.proofs.Common.{◌≡◌, ℕ, zero, suc, ◌+◌, ◌<◌, ◌||◌, List, [], ◌∷◌, ◌++◌, length, get_or, take, drop, map, Option, Some, ap}
 use Rattle.std.proofs.Common.{sym, subst, ◌∙◌, append_assoc, arith}
 use Rattle.std.specs.Prelude.{IfSome, slice_get}
-use Rattle.std.proofs.lemmas.List.{map-append, length-map, get_or-map, take_more, drop_more}
+use Rattle.std.proofs.lemmas.List.{map-append, append-nil, length-map, get_or-map, take_at, take_more, drop_more}
 use Rattle.std.proofs.lemmas.List.Concat.{flat_map-cons}
 use Rattle.jls_values.specs.Join.{IsBelow, IsBetween}
 use Rattle.jls_values.specs.OrderedSet as set
@@ -58,6 +58,13 @@ module _ (L : PictureLines) (i : ℕ) (x ss : List ℕ) (lt : i < length (set.it
 
   pub kept_next : drop i (kept_lines L) ≡ (x, ss) ∷ drop (i + 1) (kept_lines L)
   kept_next = drop_more (kept_lines L) i (kept x) below ∙ ap (λ (k : Kept). k ∷ drop (i + 1) (kept_lines L)) here
+
+-- all of them
+pub kept_whole : (L : PictureLines) (i : ℕ) → length (set.items L.lines) ≡ i → take i (kept_lines L) ≡ kept_lines L
+kept_whole L i end =
+    let f = λ (y : List ℕ). let k : Kept = (y, line_sources L y) in k in
+    let many : length (kept_lines L) ≡ length (set.items L.lines) = length-map (set.items L.lines) f in
+    ap (take i) (sym (append-nil (kept_lines L))) ∙ take_at (kept_lines L) [] i (omega (arith, many, end))
 
 -- ---- a prefix of all readings
 

@@ -11,7 +11,7 @@ use Rattle.std.proofs.lemmas.List.{map-append}
 use Rattle.std.proofs.lemmas.List.Concat.{flat_map-cons}
 use Rattle.std.proofs.lemmas.List.Folds.{list_any-append}
 use Rattle.jls_values.specs.OrderedSet as set
-use Rattle.jls_values.specs.OrderedSetLaws.{same_set, contains-insert_all, contains-from_list, contains-empty}
+use Rattle.jls_values.specs.OrderedSetLaws.{same_set, contains-insert_all, contains-from_list, contains-empty, or_false}
 use Rattle.jls_values.specs.Shape.{PictureShape}
 use Rattle.jls_partial.specs.declared.line_place.LinePlace.{LinePlace}
 use Rattle.jls_partial.specs.Entries.{Entry, BareEntry, bare, at_place, kept_at_place, readings_of_entries, kept_readings, partial_of}
@@ -107,10 +107,6 @@ has-entries (e ∷ es) r g h =
           (none_kept (place_of r) e.0 es t h.0) ∙ or_false (has_item S r.samples g e.1)
       | false ↦ λ t. refl
     ] refl
-  where
-    or_false : (b : Bool) → (b || false) ≡ b
-    or_false true = refl
-    or_false false = refl
 
 -- ---- entries in order are the entries of their partial picture
 

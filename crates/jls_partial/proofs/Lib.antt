@@ -7,6 +7,7 @@ pub mod KeptEntries
 pub mod KeyedLists
 pub mod LineMarks
 pub mod LineSets
+pub mod LineUnions
 pub mod MarkSets
 pub mod Marked
 pub mod PackedLines
@@ -20,6 +21,7 @@ pub mod Searches
 pub mod SourcedLines
 pub mod Statuses
 pub mod Store
+pub mod StorePuts
 pub mod StoredLines
 pub mod TextEntries
 pub mod TextFields
@@ -29,5 +31,6 @@ pub mod TextLoops
 pub mod TextMerges
 pub mod TextReadings
 pub mod TextRows
+pub mod TextSources
 pub mod Unions
 pub mod Views

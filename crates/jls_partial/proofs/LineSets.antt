@@ -1,50 +1,54 @@
--- Sets of lines: what is kept, what one line more leaves, and lines taken one after the other.
+-- Sets of lines: what is kept, what one line more or one more source leaves, and the sources of each line.
 use Rattle.std.proofs.Common.{◌≡◌, ℕ, zero, suc, ◌+◌, ◌<◌, ◌≤◌, Bool, true, false, not, cond, eqb, ◌&&◌, ◌||◌, List, [], ◌∷◌, ◌++◌, length}
-use Rattle.std.proofs.Common.{get_or, set, take, drop, map, Option, Some, None, refl, ap, sym, subst, ◌∙◌, append_assoc, arith}
-use Rattle.std.specs.Prelude.{IfSome, IsTrue, ◌↔◌, slice_get}
-use Rattle.std.specs.declared.cmp.Ordering.{Ordering}
-use Rattle.std.specs.declared.cmp.Ordering.TheVariants.{Less}
-use Rattle.std.specs.Cmp.{IsTotalOrder}
-use Rattle.std.specs.Cmp.Lexicographic.{slice_cmp}
+use Rattle.std.proofs.Common.{get_or, set, take, drop, map, Option, Some, None, refl, ap, sym, subst, ◌∙◌, arith}
+use Rattle.std.specs.Prelude.{IsTrue, ◌↔◌}
 use Rattle.std.specs.List.{list_any, insert, AllByRecursion}
 use Rattle.std.specs.List.Sorted.{IsStrictlySortedBy}
-use Rattle.std.specs.Ordering.{nat_cmp, eq_by_cmp, is_eq}
+use Rattle.std.specs.Ordering.{nat_cmp, eq_by_cmp}
 use Rattle.std.proofs.Math.Seq.{map-set_same}
-use Rattle.std.proofs.lemmas.Bool.{and_parts, eqb-true, ne_eqb}
-use Rattle.std.proofs.lemmas.Cmp.{tied_itself, eq_by_cmp_equiv, nat_cmp_total, nat_list_cmp_total}
-use Rattle.std.proofs.lemmas.List.{map-set, map-append, length-map, length-set, get_or-map, take_more}
-use Rattle.std.proofs.lemmas.Map.Lookups.{CmpEqualImpliesEq, exact_unsigned}
-use Rattle.jls_values.specs.Join.{IsBelow}
+use Rattle.std.proofs.lemmas.Bool.{eqb-true, ne_eqb}
+use Rattle.std.proofs.lemmas.Cmp.{nat_cmp_total}
+use Rattle.std.proofs.lemmas.List.{map-set, length-map, length-set, get_or-map}
+use Rattle.std.proofs.lemmas.List.Elements.{All-from_recursion}
+use Rattle.std.proofs.lemmas.Map.Lookups.{exact_unsigned}
 use Rattle.jls_values.specs.OrderedSet as sets
-use Rattle.jls_values.specs.OrderedSetLaws.{items-from_list, same_set, contains-insert, contains-insert_all, contains-from_list, or_false}
-use Rattle.jls_values.specs.OrderedSetLaws.{contains-items, contains-union, contains-empty, insert_all-append}
+use Rattle.jls_values.specs.OrderedSetLaws.{items-from_list, same_set, contains-insert, contains-insert_all, contains-from_list}
+use Rattle.jls_values.specs.OrderedSetLaws.{contains-items, contains-empty}
+use Rattle.jls_values.proofs.Inserts.{all-insert}
 use Rattle.jls_partial.specs.declared.slots.Slot.{Slot}
 use Rattle.jls_partial.specs.declared.insert_fault.InsertFault.{InsertFault}
 use Rattle.jls_partial.specs.InsertFaults.{samples_fault}
-use Rattle.jls_partial.specs.LineSet.{PictureLines, with_lines, line_sources, union_of_lines, has_same_line_shape, AreLineMarksHeld}
-use Rattle.jls_partial.specs.LineSet.{kept_lines as kept_lines_of}
+use Rattle.jls_partial.specs.LineSet.{PictureLines, with_lines, line_sources}
 use Rattle.jls_partial.specs.LineSetLaws.{lines_total, lines_exact, line_marks_total, line_marks_exact}
 use Rattle.jls_partial.specs.Marks.{mark_cmp, marks_of}
 use Rattle.jls_partial.specs.MarkLaws.{contains-sources_of}
 use Rattle.jls_partial.specs.Packed.{Kept, kept_of, lines_of, IsGap}
 use Rattle.jls_partial.specs.PackedLines.{seen_lines, IsLineSet}
 use Rattle.jls_partial.specs.ReadingOrder.{same_samples}
-use Rattle.jls_partial.proofs.PackedLines.{kept_more, lines_more, packed_more, all-insert, from_list-insert, gap-new, there-held}
+use Rattle.jls_partial.proofs.PackedLines.{kept_more, lines_more, packed_more, from_list-insert, gap-new, there-held}
 use Rattle.jls_partial.proofs.PackedLines.{kept_lines, length-kept, inside_at, line_at}
-use Rattle.jls_partial.proofs.LineMarks.{has_mark, any_marks, marks_hold, marks-insert, marks-set}
-
-abbrev S : List ℕ → List ℕ → Ordering
-S = slice_cmp nat_cmp
+use Rattle.jls_partial.proofs.LineMarks.{marks_hold, marks-insert, marks-set}
+use Rattle.jls_partial.proofs.Entries.{S, any_all}
+use Rattle.jls_partial.proofs.MarkSets.{has_mark, any_marks, HasOwn, each_has_own}
 
 -- nothing is kept of an empty set
 pub none_kept : (precision width : ℕ) (packed : List ℕ) → precision ≤ 16 → 1 ≤ width → IsLineSet precision width packed []
 unfolding IsStrictlySortedBy
-none_kept precision width packed h wide = record { precision_at_most = h; width_at_least = wide; packed_lines = record { inside = tt; few = omega arith; sorted = tt }; fitting = tt }
+none_kept precision width packed h wide =
+    record {
+      precision_at_most = h;
+      width_at_least = wide;
+      packed_lines = record { inside = tt; few = omega arith; sorted = tt };
+      fitting =
+          tt;
+    }
 
-module _ (precision width : ℕ) (packed : List ℕ) (slots : List Slot) (s : PictureLines) (kept : IsLineSet precision width packed slots) (is : seen_lines precision width packed slots ≡ s) where
+module _ (precision width : ℕ) (packed : List ℕ) (slots : List Slot) (s : PictureLines) (kept : IsLineSet precision width packed slots)
+    (is : seen_lines precision width packed slots ≡ s) where
   -- the lines are what is kept, in order
   pub lines_kept : sets.items s.lines ≡ lines_of width packed slots
-  lines_kept = ap (λ (z : PictureLines). sets.items z.lines) (sym is) ∙ items-from_list lines_total (lines_of width packed slots) kept.packed_lines.sorted
+  lines_kept = ap (λ (z : PictureLines). sets.items z.lines) (sym is)
+      ∙ items-from_list lines_total (lines_of width packed slots) kept.packed_lines.sorted
 
   pub length_kept : length (sets.items s.lines) ≡ length slots
   length_kept = ap length lines_kept ∙ length-map slots (λ (t : Slot). take width (drop t.start packed))
@@ -53,23 +57,17 @@ module _ (precision width : ℕ) (packed : List ℕ) (slots : List Slot) (s : Pi
   pub found_held : (i : ℕ) (x : List ℕ) → i < length slots → get_or (lines_of width packed slots) i x ≡ x → sets.contains s.lines x ≡ true
   found_held i x lt same =
       let many : length (lines_of width packed slots) ≡ length slots = length-map slots (λ (t : Slot). take width (drop t.start packed)) in
-      ap (λ (z : PictureLines). sets.contains z.lines x) (sym is) ∙ there-held lines_total lines_exact (lines_of width packed slots) i x (omega (arith, many, lt)) same
+      ap (λ (z : PictureLines). sets.contains z.lines x) (sym is)
+      ∙ there-held lines_total lines_exact (lines_of width packed slots) i x (omega (arith, many, lt)) same
 
   pub gap_new : (i : ℕ) (x : List ℕ) → IsGap S (lines_of width packed slots) i x → sets.contains s.lines x ≡ false
-  gap_new i x gap = ap (λ (z : PictureLines). sets.contains z.lines x) (sym is) ∙ gap-new lines_total lines_exact (lines_of width packed slots) i x gap
+  gap_new i x gap = ap (λ (z : PictureLines). sets.contains z.lines x) (sym is)
+      ∙ gap-new lines_total lines_exact (lines_of width packed slots) i x gap
 
   -- what is held fits
   pub held_fits : (x : List ℕ) → sets.contains s.lines x ≡ true → samples_fault precision width x ≡ None
-  held_fits x h = any_all (lines_of width packed slots) kept.fitting (sym (contains-from_list lines_total (lines_of width packed slots) x) ∙ ap (λ (z : PictureLines). sets.contains z.lines x) is ∙ h)
-    where
-      any_all : (xs : List (List ℕ)) → AllByRecursion (λ samples. samples_fault precision width samples ≡ None) xs
-          → list_any (eq_by_cmp S x) xs ≡ true → samples_fault precision width x ≡ None
-      any_all [] h e = absurd cc
-      any_all (y ∷ xs) h e =
-          elim (eq_by_cmp S x y) as (λ b. eq_by_cmp S x y ≡ b → (b || list_any (eq_by_cmp S x) xs) ≡ true → samples_fault precision width x ≡ None) [
-            | true ↦ λ t _. subst (λ (z : List ℕ). samples_fault precision width z ≡ None) (sym (same_samples x y t)) h.0
-            | false ↦ λ t f. any_all xs h.1 f
-          ] refl e
+  held_fits x h = any_all (λ samples. samples_fault precision width samples ≡ None) x (lines_of width packed slots) kept.fitting
+      (sym (contains-from_list lines_total (lines_of width packed slots) x) ∙ ap (λ (z : PictureLines). sets.contains z.lines x) is ∙ h)
 
 -- a line that is held is held once
 pub insert-held : (s : sets.OrderedSet S) (x : List ℕ) → sets.contains s x ≡ true → sets.insert s x ≡ s
@@ -93,20 +91,26 @@ no_items = items-from_list nat_cmp_total [] tt
 pub none_where_no_items : (s : sets.OrderedSet nat_cmp) (xs : List ℕ) (b : Bool) → xs ≡ sets.items s → b ≡ eqb (length xs) 0
     → IsTrue b ↔ (s ≡ sets.empty)
 none_where_no_items s [] b e test = (
-  λ _. same_set nat_cmp_total exact_unsigned _ _ (λ q. contains-items s q ∙ ap (list_any (eq_by_cmp nat_cmp q)) (sym e) ∙ sym (contains-empty nat_cmp q)),
+  λ _. same_set nat_cmp_total exact_unsigned _ _
+      (λ q. contains-items s q ∙ ap (list_any (eq_by_cmp nat_cmp q)) (sym e) ∙ sym (contains-empty nat_cmp q)),
   λ _. test,
 )
 none_where_no_items s (x ∷ xs) b e test = (
-  λ t. let long : eqb (length (x ∷ xs)) 0 ≡ false = ne_eqb (length (x ∷ xs)) 0 (λ z. omega arith) in let bad : true ≡ false = sym t ∙ test ∙ long in absurd cc,
+  λ t. let long : eqb (length (x ∷ xs)) 0 ≡ false = ne_eqb (length (x ∷ xs)) 0 (λ z. omega arith) in let bad : true ≡ false = sym t ∙ test
+      ∙ long in absurd cc,
   λ z. let same : x ∷ xs ≡ [] = e ∙ ap sets.items z ∙ no_items in absurd cc,
 )
 
-module _ (precision width : ℕ) (packed samples : List ℕ) (slots : List Slot) (i : ℕ) (kept : IsLineSet precision width packed slots) (gap : IsGap S (lines_of width packed slots) i samples) (fits : samples_fault precision width samples ≡ None) (len : length samples ≡ width) (sources : sets.OrderedSet nat_cmp) where
+module _ (precision width : ℕ) (packed samples : List ℕ) (slots : List Slot) (i : ℕ) (kept : IsLineSet precision width packed slots)
+    (gap : IsGap S (lines_of width packed slots) i samples) (fits : samples_fault precision width samples ≡ None)
+    (len : length samples ≡ width) (sources : sets.OrderedSet nat_cmp) where
   in_slots : i ≤ length slots
-  in_slots = let many : length (lines_of width packed slots) ≡ length slots = length-map slots (λ (t : Slot). take width (drop t.start packed)) in let g = gap.within in omega (arith, many, g)
+  in_slots = let many : length (lines_of width packed slots) ≡ length slots =
+      length-map slots (λ (t : Slot). take width (drop t.start packed)) in let g = gap.within in omega (arith, many, g)
 
   in_kept : i ≤ length (kept_of width packed slots)
-  in_kept = let many : length (kept_of width packed slots) ≡ length slots = length-kept width packed slots in let g = in_slots in omega (arith, many, g)
+  in_kept = let many : length (kept_of width packed slots) ≡ length slots = length-kept width packed slots in let g = in_slots in
+      omega (arith, many, g)
 
   abbrev added : List Slot
   added = insert slots i (record { start = length packed; sources = sources })
@@ -117,16 +121,22 @@ module _ (precision width : ℕ) (packed samples : List ℕ) (slots : List Slot)
       record {
         precision_at_most = kept.precision_at_most;
         width_at_least = kept.width_at_least;
-        packed_lines = packed_more width packed samples slots i sources len in_slots kept.packed_lines.inside kept.width_at_least kept.packed_lines gap;
-        fitting = subst (AllByRecursion P) (sym (lines_more width packed samples slots i sources len in_slots kept.packed_lines.inside)) (all-insert P (lines_of width packed slots) i samples gap.within kept.fitting fits);
+        packed_lines = packed_more width packed samples slots i sources len in_slots kept.packed_lines.inside kept.width_at_least
+            kept.packed_lines gap;
+        fitting = subst (AllByRecursion P) (sym (lines_more width packed samples slots i sources len in_slots kept.packed_lines.inside))
+            (all-insert P (lines_of width packed slots) i samples gap.within kept.fitting fits);
       }
 
-  pub put_seen : seen_lines precision width (packed ++ samples) added ≡ with_lines (seen_lines precision width packed slots) ((samples, sets.items sources) ∷ [])
+  pub put_seen : seen_lines precision width (packed ++ samples) added
+      ≡ with_lines (seen_lines precision width packed slots) ((samples, sets.items sources) ∷ [])
   put_seen = λ j. record {
     precision = precision;
     width = width;
-    lines = (ap sets.from_list (lines_more width packed samples slots i sources len in_slots kept.packed_lines.inside) ∙ from_list-insert lines_total lines_exact (lines_of width packed slots) i samples gap.within) j;
-    marks = (ap (λ ks. sets.from_list {R = mark_cmp S} (marks_of ks)) (kept_more width packed samples slots i sources len in_slots kept.packed_lines.inside) ∙ marks-insert (kept_of width packed slots) i samples (sets.items sources) in_kept) j;
+    lines = (ap sets.from_list (lines_more width packed samples slots i sources len in_slots kept.packed_lines.inside)
+        ∙ from_list-insert lines_total lines_exact (lines_of width packed slots) i samples gap.within) j;
+    marks = (ap (λ ks. sets.from_list {R = mark_cmp S} (marks_of ks))
+        (kept_more width packed samples slots i sources len in_slots kept.packed_lines.inside)
+        ∙ marks-insert (kept_of width packed slots) i samples (sets.items sources) in_kept) j;
   }
 
 -- the samples of a line that fits
@@ -139,12 +149,15 @@ fitting_length precision width samples e = eqb-true (length samples) width (wide
 
 -- ---- a line that is held gets more sources
 
-module _ (precision width : ℕ) (packed samples : List ℕ) (slots : List Slot) (i : ℕ) (s : Slot) (kept : IsLineSet precision width packed slots) (lt : i < length slots) (is : s ≡ get_or slots i s) (found : get_or (lines_of width packed slots) i samples ≡ samples) (more : sets.OrderedSet nat_cmp) where
+module _ (precision width : ℕ) (packed samples : List ℕ) (slots : List Slot) (i : ℕ) (s : Slot)
+    (kept : IsLineSet precision width packed slots) (lt : i < length slots) (is : s ≡ get_or slots i s)
+    (found : get_or (lines_of width packed slots) i samples ≡ samples) (more : sets.OrderedSet nat_cmp) where
   abbrev changed : Slot
   changed = record { start = s.start; sources = more }
 
   lines_same : lines_of width packed (set slots i changed) ≡ lines_of width packed slots
-  lines_same = map-set_same (λ (t : Slot). take width (drop t.start packed)) slots i changed s (ap (λ (t : Slot). take width (drop t.start packed)) is)
+  lines_same = map-set_same (λ (t : Slot). take width (drop t.start packed)) slots i changed s
+      (ap (λ (t : Slot). take width (drop t.start packed)) is)
 
   its_samples : take width (drop s.start packed) ≡ samples
   its_samples = sym (line_at width packed slots i s samples lt is) ∙ found
@@ -162,7 +175,8 @@ module _ (precision width : ℕ) (packed samples : List ℕ) (slots : List Slot)
         precision_at_most = kept.precision_at_most;
         width_at_least = kept.width_at_least;
         packed_lines = record {
-          inside = all_set (λ t. t.start + width ≤ length packed) slots i changed kept.packed_lines.inside (inside_at width packed slots i s kept.packed_lines.inside lt is);
+          inside = all_set (λ t. t.start + width ≤ length packed) slots i changed kept.packed_lines.inside
+              (inside_at width packed slots i s kept.packed_lines.inside lt is);
           few = subst (λ (n : ℕ). n ≤ length packed) (sym (length-set slots i changed)) few;
           sorted = subst (IsStrictlySortedBy S) (sym lines_same) kept.packed_lines.sorted;
         };
@@ -176,39 +190,25 @@ module _ (precision width : ℕ) (packed samples : List ℕ) (slots : List Slot)
       let many_kept : length (kept_of width packed slots) ≡ length slots = length-kept width packed slots in
       let there = there-held lines_total lines_exact (lines_of width packed slots) i samples (omega (arith, many, lt)) found in
       let f = λ (t : Slot). let k : Kept = (take width (drop t.start packed), sets.items t.sources) in k in
-      let old : get_or (kept_of width packed slots) i (f s) ≡ (samples, sets.items s.sources) = get_or-map f slots i s (f s) lt ∙ ap f (sym is) ∙ ap (λ (x : List ℕ). (x, sets.items s.sources)) its_samples in
+      let old : get_or (kept_of width packed slots) i (f s) ≡ (samples, sets.items s.sources) = get_or-map f slots i s (f s) lt
+      ∙ ap f (sym is) ∙ ap (λ (x : List ℕ). (x, sets.items s.sources)) its_samples in
       λ j. record {
         precision = precision;
         width = width;
         lines = (ap sets.from_list lines_same ∙ sym (insert-held (sets.from_list (lines_of width packed slots)) samples there)) j;
         marks = (
-            ap (λ ks. sets.from_list {R = mark_cmp S} (marks_of ks)) (map-set f slots i changed ∙ (λ k. set (kept_of width packed slots) i (its_samples k, sets.items (grown k))))
+            ap (λ ks. sets.from_list {R = mark_cmp S} (marks_of ks))
+            (map-set f slots i changed ∙ (λ k. set (kept_of width packed slots) i (its_samples k, sets.items (grown k))))
             ∙ marks-set (kept_of width packed slots) i samples s.sources ss (f s) (omega (arith, many_kept, lt)) old
             ) j;
       }
 
 -- ---- the sources of a line
 
-not_above : (x : List ℕ) (t : ℕ) (ks : List Kept) → AllByRecursion (λ y. S x y ≡ Less) (map (λ k. k.0) ks) → has_mark x t ks ≡ false
-not_above x t [] h = refl
-not_above x t (k ∷ ks) h = (λ i. (is_eq (h.0 i) && list_any (eq_by_cmp nat_cmp t) k.1) || not_above x t ks h.1 i)
-
-each_line : (P : List ℕ → Type 0) (ks : List Kept) (i : ℕ) (d : Kept) → AllByRecursion P (map (λ k. k.0) ks) → i < length ks
-    → P (get_or ks i d).0
-each_line P [] i d h lt = absurd (omega arith)
-each_line P (k ∷ ks) zero d h lt = h.0
-each_line P (k ∷ ks) (suc i) d h lt = each_line P ks i d h.1 (omega arith)
-
 -- of lines that rise, each has its own sources
 own_sources : (ks : List Kept) (i : ℕ) (d : Kept) (t : ℕ) → IsStrictlySortedBy S (map (λ k. k.0) ks) → i < length ks
-    → has_mark (get_or ks i d).0 t ks ≡ list_any (eq_by_cmp nat_cmp t) (get_or ks i d).1
-unfolding IsStrictlySortedBy
-own_sources [] i d t h lt = absurd (omega arith)
-own_sources (k ∷ ks) zero d t h lt = (λ i. (is_eq (tied_itself nat_list_cmp_total k.0 i) && list_any (eq_by_cmp nat_cmp t) k.1) || not_above k.0 t ks h.0 i) ∙ or_false (list_any (eq_by_cmp nat_cmp t) k.1)
-own_sources (k ∷ ks) (suc i) d t h lt =
-    let less : S k.0 (get_or ks i d).0 ≡ Less = each_line (λ y. S k.0 y ≡ Less) ks i d h.0 (omega arith) in
-    let apart : eq_by_cmp S (get_or ks i d).0 k.0 ≡ false = (eq_by_cmp_equiv nat_list_cmp_total).symm (get_or ks i d).0 k.0 ∙ ap is_eq less in
-    ap (λ b. (b && list_any (eq_by_cmp nat_cmp t) k.1) || has_mark (get_or ks i d).0 t ks) apart ∙ own_sources ks i d t h.1 (omega arith)
+    → has_mark S (get_or ks i d).0 t ks ≡ list_any (eq_by_cmp nat_cmp t) (get_or ks i d).1
+own_sources ks i d t h lt = All-from_recursion (HasOwn S lines_total ks) ks (each_has_own S lines_total ks h) i d lt t
 
 pub sources_lent : (precision width : ℕ) (packed : List ℕ) (slots : List Slot) (p : PictureLines) (i : ℕ) (s : Slot)
     → IsLineSet precision width packed slots → seen_lines precision width packed slots ≡ p → i < length slots → s ≡ get_or slots i s
@@ -218,15 +218,15 @@ sources_lent precision width packed slots p i s kept seen lt is =
     let ks = kept_of width packed slots in
     let many : length ks ≡ length slots = length-kept width packed slots in
     let there : get_or ks i (f s) ≡ f s = get_or-map f slots i s (f s) lt ∙ ap f (sym is) in
-    let rises : IsStrictlySortedBy S (map (λ k. k.0) ks) = subst (IsStrictlySortedBy S) (sym (kept_lines width packed slots)) kept.packed_lines.sorted in
+    let rises : IsStrictlySortedBy S (map (λ k. k.0) ks) =
+    subst (IsStrictlySortedBy S) (sym (kept_lines width packed slots)) kept.packed_lines.sorted in
     ap sets.items (same_set nat_cmp_total exact_unsigned _ s.sources (λ t.
     contains-sources_of S p.marks (f s).0 t
     ∙ ap (λ (z : PictureLines). sets.contains z.marks ((f s).0, t)) (sym seen)
     ∙ marks_hold ks (f s).0 t
-    ∙ ap (λ (k : Kept). has_mark k.0 t ks) (sym there) ∙ own_sources ks i (f s) t rises (omega (arith, many, lt)) ∙ ap (λ (k : Kept). list_any (eq_by_cmp nat_cmp t) k.1) there
+    ∙ ap (λ (k : Kept). has_mark S k.0 t ks) (sym there) ∙ own_sources ks i (f s) t rises (omega (arith, many, lt))
+    ∙ ap (λ (k : Kept). list_any (eq_by_cmp nat_cmp t) k.1) there
     ∙ sym (contains-items s.sources t)))
-
--- ---- merging
 
 -- a mark that is held is of a line that is held
 pub marks_held : (precision width : ℕ) (packed : List ℕ) (slots : List Slot) (p : PictureLines)
@@ -238,127 +238,27 @@ marks_held precision width packed slots p seen x t h =
     ∙ ap (list_any (eq_by_cmp S x)) (sym (kept_lines width packed slots))
     ∙ has_line ks (sym (marks_hold ks x t) ∙ ap (λ (z : PictureLines). sets.contains z.marks (x, t)) seen ∙ h)
   where
-    has_line : (ks : List Kept) → has_mark x t ks ≡ true → list_any (eq_by_cmp S x) (map (λ k. k.0) ks) ≡ true
+    has_line : (ks : List Kept) → has_mark S x t ks ≡ true → list_any (eq_by_cmp S x) (map (λ k. k.0) ks) ≡ true
     has_line [] e = absurd cc
-    has_line (k ∷ ks) e = first (eq_by_cmp S x k.0) (list_any (eq_by_cmp nat_cmp t) k.1) (has_mark x t ks) (list_any (eq_by_cmp S x) (map (λ k. k.0) ks)) (has_line ks) e
+    has_line (k ∷ ks) e = first (eq_by_cmp S x k.0) (list_any (eq_by_cmp nat_cmp t) k.1) (has_mark S x t ks)
+        (list_any (eq_by_cmp S x) (map (λ k. k.0) ks)) (has_line ks) e
       where
         first : (a b c d : Bool) → (c ≡ true → d ≡ true) → ((a && b) || c) ≡ true → (a || d) ≡ true
         first true b c d f e = refl
         first false b c d f e = f e
 
 -- the sources that were gathered for a new line are those that were given
-pub with_own : (s : PictureLines) (x ss : List ℕ) → with_lines s ((x, sets.items (sets.insert_all (sets.empty {R = nat_cmp}) ss)) ∷ []) ≡ with_lines s ((x, ss) ∷ [])
-with_own s x ss = ap (λ ms. record { precision = s.precision; width = s.width; lines = sets.insert s.lines x; marks = ms }) (same_set line_marks_total line_marks_exact _ _ (λ m.
+pub with_own : (s : PictureLines) (x ss : List ℕ)
+    → with_lines s ((x, sets.items (sets.insert_all (sets.empty {R = nat_cmp}) ss)) ∷ []) ≡ with_lines s ((x, ss) ∷ [])
+with_own s x ss = ap (λ ms. record { precision = s.precision; width = s.width; lines = sets.insert s.lines x; marks = ms })
+    (same_set line_marks_total line_marks_exact _ _ (λ m.
     contains-insert_all line_marks_total s.marks (marks_of ((x, sets.items (sets.insert_all (sets.empty {R = nat_cmp}) ss)) ∷ [])) m
-    ∙ ap (λ b. sets.contains s.marks m || b) (any_marks m.0 m.1 ((x, sets.items (sets.insert_all (sets.empty {R = nat_cmp}) ss)) ∷ []) ∙ ap (λ b. (eq_by_cmp S m.0 x && b) || false) (gathered m.1) ∙ sym (any_marks m.0 m.1 ((x, ss) ∷ [])))
+    ∙ ap (λ b. sets.contains s.marks m || b)
+    (any_marks S m.0 m.1 ((x, sets.items (sets.insert_all (sets.empty {R = nat_cmp}) ss)) ∷ [])
+    ∙ ap (λ b. (eq_by_cmp S m.0 x && b) || false) (gathered m.1) ∙ sym (any_marks S m.0 m.1 ((x, ss) ∷ [])))
     ∙ sym (contains-insert_all line_marks_total s.marks (marks_of ((x, ss) ∷ [])) m)))
   where
-    gathered : (t : ℕ) → list_any (eq_by_cmp nat_cmp t) (sets.items (sets.insert_all (sets.empty {R = nat_cmp}) ss)) ≡ list_any (eq_by_cmp nat_cmp t) ss
-    gathered t = sym (contains-items (sets.insert_all (sets.empty {R = nat_cmp}) ss) t) ∙ contains-insert_all nat_cmp_total sets.empty ss t ∙ ap (λ b. b || list_any (eq_by_cmp nat_cmp t) ss) (contains-empty nat_cmp t)
-
-marks_of-append : (xs ys : List Kept) → marks_of (xs ++ ys) ≡ marks_of xs ++ marks_of ys
-marks_of-append [] ys = refl
-marks_of-append (x ∷ xs) ys = ap (λ t. map (λ source. (x.0, source)) x.1 ++ t) (marks_of-append xs ys) ∙ sym (append_assoc (map (λ source. (x.0, source)) x.1) (marks_of xs) (marks_of ys))
-
-pub with_lines-append : (s : PictureLines) (xs ys : List Kept) → with_lines s (xs ++ ys) ≡ with_lines (with_lines s xs) ys
-with_lines-append s xs ys = λ j. record {
-  precision = s.precision;
-  width = s.width;
-  lines = (ap (sets.insert_all s.lines) (map-append (λ (k : Kept). k.0) xs ys) ∙ insert_all-append s.lines (map (λ (k : Kept). k.0) xs) (map (λ (k : Kept). k.0) ys)) j;
-  marks = (ap (sets.insert_all s.marks) (marks_of-append xs ys) ∙ insert_all-append s.marks (marks_of xs) (marks_of ys)) j;
-}
-
--- all lines of the other with their sources make the union
-lines_again : (f : List ℕ → List ℕ) (xs : List (List ℕ)) → map (λ (k : Kept). k.0) (map (λ x. (x, f x)) xs) ≡ xs
-lines_again f [] = refl
-lines_again f (x ∷ xs) = ap (λ t. x ∷ t) (lines_again f xs)
-
-has_all : (p : PictureLines) (y : List ℕ) (t : ℕ) (xs : List (List ℕ))
-    → has_mark y t (map (λ x. (x, line_sources p x)) xs) ≡ (list_any (eq_by_cmp S y) xs && sets.contains p.marks (y, t))
-has_all p y t [] = refl
-has_all p y t (x ∷ xs) =
-    elim (eq_by_cmp S y x) as (λ b. eq_by_cmp S y x ≡ b → ((b && list_any (eq_by_cmp nat_cmp t) (line_sources p x)) || has_mark y t (map (λ x. (x, line_sources p x)) xs)) ≡ ((b || list_any (eq_by_cmp S y) xs) && sets.contains p.marks (y, t))) [
-      | true ↦ λ e.
-          let own : list_any (eq_by_cmp nat_cmp t) (line_sources p x) ≡ sets.contains p.marks (y, t) =
-          ap (λ (z : List ℕ). list_any (eq_by_cmp nat_cmp t) (line_sources p z)) (sym (same_samples y x e)) ∙ sym (contains-items _ t) ∙ contains-sources_of S p.marks y t in
-          (λ i. own i || has_all p y t xs i) ∙ absorb (sets.contains p.marks (y, t)) (list_any (eq_by_cmp S y) xs)
-      | false ↦ λ e. has_all p y t xs
-    ] refl
-  where
-    absorb : (a b : Bool) → (a || (b && a)) ≡ a
-    absorb true b = refl
-    absorb false true = refl
-    absorb false false = refl
-
-pub all_is_union : (s p : PictureLines) → AreLineMarksHeld p → with_lines s (kept_lines_of p) ≡ union_of_lines s p
-all_is_union s p held = λ j. record {
-  precision = s.precision;
-  width = s.width;
-  lines = ap (sets.insert_all s.lines) (lines_again (line_sources p) (sets.items p.lines)) j;
-  marks = same_set line_marks_total line_marks_exact (sets.insert_all s.marks (marks_of (kept_lines_of p))) (sets.union s.marks p.marks) (λ m.
-      contains-insert_all line_marks_total s.marks (marks_of (kept_lines_of p)) m
-      ∙ ap (λ b. sets.contains s.marks m || b) (any_marks m.0 m.1 (kept_lines_of p) ∙ has_all p m.0 m.1 (sets.items p.lines) ∙ ap (λ b. b && sets.contains p.marks m) (sym (contains-items p.lines m.0)) ∙ implied (sets.contains p.lines m.0) (sets.contains p.marks m) (held m.0 m.1))
-      ∙ sym (contains-union line_marks_total s.marks p.marks m)) j;
-}
-  where
-    implied : (a b : Bool) → (b ≡ true → a ≡ true) → (a && b) ≡ b
-    implied true b f = refl
-    implied false true f = f refl
-    implied false false f = refl
-
-module _ {K : Type 0} {R : K → K → Ordering} (o : IsTotalOrder R) (exact : CmpEqualImpliesEq R) where
-  absorbed : (a b : Bool) → (a || (a || b)) ≡ (a || b)
-  absorbed true b = refl
-  absorbed false b = refl
-
-  prefix_above : (s : sets.OrderedSet R) (xs : List K) → sets.union s (sets.insert_all s xs) ≡ sets.insert_all s xs
-  prefix_above s xs = same_set o exact _ _ (λ q.
-      contains-union o s (sets.insert_all s xs) q
-      ∙ ap (λ b. sets.contains s q || b) (contains-insert_all o s xs q)
-      ∙ absorbed (sets.contains s q) (list_any (eq_by_cmp R q) xs)
-      ∙ sym (contains-insert_all o s xs q))
-
-  prefix_below : (s : sets.OrderedSet R) (xs ys : List K)
-      → sets.union (sets.insert_all s xs) (sets.insert_all s (xs ++ ys)) ≡ sets.insert_all s (xs ++ ys)
-  prefix_below s xs ys = ap (sets.union (sets.insert_all s xs)) (insert_all-append s xs ys) ∙ prefix_above (sets.insert_all s xs) ys ∙ sym (insert_all-append s xs ys)
-
--- some of the lines are held: all that was held is, and nothing that the union does not hold
-pub prefix_between : (s p : PictureLines) → AreLineMarksHeld p → (xs ys : List Kept) → kept_lines_of p ≡ xs ++ ys
-    → IsBelow union_of_lines s (with_lines s xs) × IsBelow union_of_lines (with_lines s xs) (union_of_lines s p)
-prefix_between s p held xs ys is =
-    let all : union_of_lines s p ≡ with_lines s (xs ++ ys) = sym (all_is_union s p held) ∙ ap (with_lines s) is in (
-      λ j. record {
-        precision = s.precision;
-        width = s.width;
-        lines = prefix_above lines_total lines_exact s.lines (map (λ (k : Kept). k.0) xs) j;
-        marks = prefix_above line_marks_total line_marks_exact s.marks (marks_of xs) j;
-      },
-      subst (λ (z : PictureLines). IsBelow union_of_lines (with_lines s xs) z) (sym all) (λ j. record {
-        precision = s.precision;
-        width = s.width;
-        lines = (ap (λ ls. sets.union (sets.insert_all s.lines (map (λ (k : Kept). k.0) xs)) (sets.insert_all s.lines ls)) (map-append (λ (k : Kept). k.0) xs ys) ∙ prefix_below lines_total lines_exact s.lines (map (λ (k : Kept). k.0) xs) (map (λ (k : Kept). k.0) ys) ∙ ap (sets.insert_all s.lines) (sym (map-append (λ (k : Kept). k.0) xs ys))) j;
-        marks = (ap (λ ms. sets.union (sets.insert_all s.marks (marks_of xs)) (sets.insert_all s.marks ms)) (marks_of-append xs ys) ∙ prefix_below line_marks_total line_marks_exact s.marks (marks_of xs) (marks_of ys) ∙ ap (sets.insert_all s.marks) (sym (marks_of-append xs ys))) j;
-      }),
-    )
-
--- sets of one precision and width
-pub agree : (s p : PictureLines) → has_same_line_shape s p ≡ true → (s.precision ≡ p.precision) × (s.width ≡ p.width)
-agree s p e = let parts = and_parts (eqb s.precision p.precision) (eqb s.width p.width) e in (eqb-true s.precision p.precision parts.0, eqb-true s.width p.width parts.1)
-
--- one more of the lines of the other was taken
-pub one_more : (s into p : PictureLines) (i : ℕ) (x ss : List ℕ) → i < length (sets.items p.lines)
-    → slice_get (sets.items p.lines) i ≡ Some x → IfSome (slice_get (sets.items p.lines) i) (λ samples. ss ≡ line_sources p samples)
-    → into ≡ with_lines s (take i (kept_lines_of p)) → with_lines into ((x, ss) ∷ []) ≡ with_lines s (take (i + 1) (kept_lines_of p))
-one_more s into p i x ss lt value own so_far =
-    let sources : ss ≡ line_sources p x = subst (λ (o : Option (List ℕ)). IfSome o (λ samples. ss ≡ line_sources p samples)) value own in
-    let f = λ (y : List ℕ). let k : Kept = (y, line_sources p y) in k in
-    let many : length (kept_lines_of p) ≡ length (sets.items p.lines) = length-map (sets.items p.lines) f in
-    let item : get_or (sets.items p.lines) i x ≡ x = read (sets.items p.lines) i value in
-    let here : get_or (kept_lines_of p) i (f x) ≡ (x, ss) = get_or-map f (sets.items p.lines) i x (f x) lt ∙ ap f item ∙ ap (λ (ts : List ℕ). (x, ts)) (sym sources) in
-    ap (λ (z : PictureLines). with_lines z ((x, ss) ∷ [])) so_far ∙ sym (with_lines-append s (take i (kept_lines_of p)) ((x, ss) ∷ []))
-    ∙ ap (λ (k : Kept). with_lines s (take i (kept_lines_of p) ++ k ∷ [])) (sym here) ∙ ap (with_lines s) (sym (take_more (kept_lines_of p) i (f x) (omega (arith, many, lt))))
-  where
-    read : (xs : List (List ℕ)) (i : ℕ) → slice_get xs i ≡ Some x → get_or xs i x ≡ x
-    read [] i e = absurd cc
-    read (y ∷ xs) zero e = cc
-    read (y ∷ xs) (suc i) e = read xs i e
+    gathered : (t : ℕ) → list_any (eq_by_cmp nat_cmp t) (sets.items (sets.insert_all (sets.empty {R = nat_cmp}) ss))
+        ≡ list_any (eq_by_cmp nat_cmp t) ss
+    gathered t = sym (contains-items (sets.insert_all (sets.empty {R = nat_cmp}) ss) t) ∙ contains-insert_all nat_cmp_total sets.empty ss t
+        ∙ ap (λ b. b || list_any (eq_by_cmp nat_cmp t) ss) (contains-empty nat_cmp t)

@@ -14,6 +14,17 @@ use Rattle.jls_values.specs.OrderedSetLaws.{contains-items, contains-insert_all,
 use Rattle.jls_partial.specs.Marks.{mark_cmp, marks_of, sources_of}
 use Rattle.jls_partial.specs.MarkLaws.{eq_mark, contains-sources_of}
 
+-- a test that follows from another adds nothing to it
+pub implied : (a b : Bool) → (b ≡ true → a ≡ true) → (a && b) ≡ b
+implied true b f = refl
+implied false true f = f refl
+implied false false f = refl
+
+-- items beside what each of them is given
+pub named : {K J : Type 0} (f : K → J) (xs : List K) → map (λ (k : K × J). k.0) (map (λ x. (x, f x)) xs) ≡ xs
+named f [] = refl
+named f (x ∷ xs) = ap (λ t. x ∷ t) (named f xs)
+
 module _ {K : Type 0} where
   pub marks_of-append : (xs ys : List (K × List ℕ)) → marks_of (xs ++ ys) ≡ marks_of xs ++ marks_of ys
   marks_of-append [] ys = refl
@@ -72,7 +83,7 @@ module _ {K : Type 0} (R : K → K → Ordering) where
 
   module _ (o : IsTotalOrder R) where
     -- of items that rise, each has its own sources
-    abbrev HasOwn : List (K × List ℕ) → K × List ℕ → Type 0
+    abbrev pub HasOwn : List (K × List ℕ) → K × List ℕ → Type 0
     HasOwn ks k = (s : ℕ) → has_mark k.0 s ks ≡ list_any (eq_by_cmp nat_cmp s) k.1
 
     following : (first : K × List ℕ) (ks later : List (K × List ℕ)) → AllByRecursion (λ y. R first.0 y ≡ Less) (map (λ k. k.0) later)

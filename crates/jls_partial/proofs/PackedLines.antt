@@ -17,6 +17,7 @@ use Rattle.std.proofs.lemmas.Map.Keys.{Less-from_sorted}
 use Rattle.std.proofs.lemmas.Map.Lookups.{CmpEqualImpliesEq}
 use Rattle.jls_values.specs.OrderedSet as set
 use Rattle.jls_values.specs.OrderedSetLaws.{same_set, contains-insert, contains-from_list}
+use Rattle.jls_values.proofs.Inserts.{map-insert, all-insert, any-insert, none_at_gap}
 use Rattle.jls_partial.specs.declared.slots.Slot.{Slot}
 use Rattle.jls_partial.specs.LineSetLaws.{lines_exact}
 use Rattle.jls_partial.specs.Packed.{Kept, kept_of, lines_of, IsPacked, IsGap}
@@ -69,29 +70,6 @@ pub line_at : (width : ℕ) (packed : List ℕ) (slots : List Slot) (i : ℕ) (s
 line_at width packed slots i s x lt is = get_or-map (λ (t : Slot). take width (drop t.start packed)) slots i s x lt
     ∙ ap (λ (t : Slot). take width (drop t.start packed)) (sym is)
 
-pub map-insert : {A B : Type 0} (f : A → B) (xs : List A) (i : ℕ) (x : A) → i ≤ length xs
-    → map f (insert xs i x) ≡ insert (map f xs) i (f x)
-map-insert f xs zero x le = refl
-map-insert f [] (suc i) x le = absurd (omega arith)
-map-insert f (y ∷ xs) (suc i) x le = ap (λ t. f y ∷ t) (map-insert f xs i x (omega arith))
-
-pub all-insert : {A : Type 0} (P : A → Type 0) (xs : List A) (i : ℕ) (x : A) → i ≤ length xs → AllByRecursion P xs → P x
-    → AllByRecursion P (insert xs i x)
-all-insert P xs zero x le h p = (p, h)
-all-insert P [] (suc i) x le h p = absurd (omega arith)
-all-insert P (y ∷ xs) (suc i) x le h p = (h.0, all-insert P xs i x (omega arith) h.1 p)
-
-pub any-insert : {A : Type 0} (p : A → Bool) (xs : List A) (i : ℕ) (x : A) → i ≤ length xs
-    → list_any p (insert xs i x) ≡ (p x || list_any p xs)
-any-insert p xs zero x le = refl
-any-insert p [] (suc i) x le = absurd (omega arith)
-any-insert p (y ∷ xs) (suc i) x le = ap (λ b. p y || b) (any-insert p xs i x (omega arith)) ∙ turn (p y) (p x) (list_any p xs)
-  where
-    turn : (a b c : Bool) → (a || (b || c)) ≡ (b || (a || c))
-    turn true true c = refl
-    turn true false c = refl
-    turn false b c = refl
-
 module _ {K : Type 0} {R : K → K → Ordering} (o : IsTotalOrder R) (exact : CmpEqualImpliesEq R) where
   next : (y : K) (xs : List K) (i : ℕ) (x : K) → IsGap R (y ∷ xs) (suc i) x → IsGap R xs i x
   next y xs i x g = record {
@@ -116,21 +94,7 @@ module _ {K : Type 0} {R : K → K → Ordering} (o : IsTotalOrder R) (exact : C
 
   -- an item that has a gap is not in the set
   pub gap-new : (xs : List K) (i : ℕ) (x : K) → IsGap R xs i x → set.contains (set.from_list {R = R} xs) x ≡ false
-  gap-new xs i x g = contains-from_list o xs x ∙ none xs i g
-    where
-      none : (xs : List K) (i : ℕ) → IsGap R xs i x → list_any (eq_by_cmp R x) xs ≡ false
-      none [] i g = refl
-      none (y ∷ xs) zero g =
-          ap (λ b. b || list_any (eq_by_cmp R x) xs) (ap is_eq (g.above 0 (omega arith) (omega arith)))
-          ∙ none xs zero (record {
-            within = omega arith;
-            below = λ k lt. absurd (omega arith);
-            above =
-                λ k le lt. g.above (suc k) (omega arith) (omega arith);
-          })
-      none (y ∷ xs) (suc i) g =
-          ap (λ b. b || list_any (eq_by_cmp R x) xs) (ap is_eq (o.antisymm x y ∙ ap ordering_reverse (g.below 0 (omega arith))))
-          ∙ none xs i (next y xs i x g)
+  gap-new xs i x g = contains-from_list o xs x ∙ none_at_gap o xs i x x (λ k lt inside. g.below k lt) g.above
 
   -- an item that stands in the list is in the set
   pub there-held : (xs : List K) (i : ℕ) (x : K) → i < length xs → get_or xs i x ≡ x → set.contains (set.from_list {R = R} xs) x ≡ true

@@ -18,6 +18,7 @@ use Rattle.std.proofs.lemmas.Map.Keys.{Less-from_sorted}
 use Rattle.std.proofs.lemmas.Option.{get_or_from_slice_get}
 use Rattle.std.proofs.Math.Nat.{eq-or-lt_of_le}
 use Rattle.jls_values.specs.OrderedSetLaws.{contains-from_list}
+use Rattle.jls_values.proofs.Inserts.{map-insert, all-insert}
 use Rattle.jls_partial.specs.declared.slots.Slots.{Slots}
 use Rattle.jls_partial.specs.declared.slots.Slots.TheVariants.{Empty}
 use Rattle.jls_partial.specs.declared.line_place.LinePlace.{LinePlace}
@@ -26,7 +27,7 @@ use Rattle.jls_partial.specs.Packed.{IsGap}
 use Rattle.jls_partial.specs.Pages.{Row, page_of, IsPage}
 use Rattle.jls_partial.specs.LinePlace.{place_cmp}
 use Rattle.jls_partial.specs.ReadingOrder.{place_total, place_exact, same_place}
-use Rattle.jls_partial.proofs.PackedLines.{turned_greater, gap-new, sorted-insert, map-insert, all-insert}
+use Rattle.jls_partial.proofs.PackedLines.{turned_greater, gap-new, sorted-insert}
 use Rattle.jls_partial.proofs.StoredLines.{Updated}
 
 -- ---- where a search ends
@@ -78,7 +79,6 @@ after_last rows at last sorted read lt =
     record {
       within = omega (arith, many);
       below = λ k inside.
-          let there = place_at rows k (at, Empty) at inside in
           let highest : get_or (map (λ r. r.0) rows) (length rows - 1) at ≡ last.0 =
           place_at rows (length rows - 1) (at, Empty) at (omega (arith, inside)) ∙ ap (λ (z : Row). z.0) last_is in
           elim (eq-or-lt_of_le {n = k} {m = length rows - 1} (omega (arith, inside))) [

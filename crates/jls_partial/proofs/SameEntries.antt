@@ -13,7 +13,7 @@ use Rattle.jls_partial.specs.Packed.{Kept}
 use Rattle.jls_partial.specs.declared.line_place.LinePlace.{LinePlace}
 use Rattle.jls_partial.specs.PartialLaws.{eqb_itself, itself_list, one_shape}
 use Rattle.jls_partial.proofs.Growth.{kept_next}
-use Rattle.jls_partial.proofs.Store.{lines_named}
+use Rattle.jls_partial.proofs.MarkSets.{named}
 
 -- both begin with what was gone through
 pub record GoAlong {X : Type 0} (one other it left : List X) : Type 0 where
@@ -128,7 +128,7 @@ shapes_differ s t differ is other =
 pub samples_same : (L M : PictureLines) (i : ℕ) (x y : List ℕ) → slice_get (items L.lines) i ≡ Some x → slice_get (items M.lines) i ≡ Some y
     → kept_lines L ≡ kept_lines M → x ≡ y
 samples_same L M i x y v v' same =
-    let lines = sym (lines_named L (items L.lines)) ∙ ap (map (λ (k : Kept). k.0)) same ∙ lines_named M (items M.lines) in
+    let lines = sym (named (line_sources L) (items L.lines)) ∙ ap (map (λ (k : Kept). k.0)) same ∙ named (line_sources M) (items M.lines) in
     let e : Some x ≡ Some y = sym v ∙ ap (λ (xs : List (List ℕ)). slice_get xs i) lines ∙ v' in
     cc
 

@@ -126,41 +126,53 @@ samples_of_fit shape c l (x ∷ xs) h =
 abbrev pub IsSaidEntry : Version → PictureShape → Entry → Type 0
 IsSaidEntry version shape e = IsEntry shape (bare e) × AllByRecursion (IsSaid version) e.1
 
-entry_takes : (size : ℕ) (version : Version) (shape : PictureShape) (before : Option LinePlace) (bytes : List ℕ) (x : Entry × List ℕ)
-    → IsBytes bytes → entry_fields size version shape before bytes ≡ Ok x
-    → Takes bytes (entry_text version x.0) x.1 × (may_follow shape before x.0.0 ≡ true) × IsSaidEntry version shape x.0
+-- what an entry was read from: its place, the number of its readings, and these
+pub entry_parts : (size : ℕ) (version : Version) (shape : PictureShape) (before : Option LinePlace) (bytes : List ℕ) (x : Entry × List ℕ)
+    → entry_fields size version shape before bytes ≡ Ok x
+    → (p : LinePlace × List ℕ) × (n : ℕ × List ℕ) × (r : List Kept × List ℕ) × (place_fields size shape before bytes ≡ Ok p)
+    × (count_field size p.1 ≡ Ok n) × (readings_fields size version shape None n.0 n.1 ≡ Ok r) × (((p.0, r.0), r.1) ≡ x)
 unfolding entry_fields
-entry_takes size version shape before bytes x fits e =
+entry_parts size version shape before bytes x e =
     let p = bind_ok (place_fields size shape before bytes)
     (λ at. count_field size at.1 >>= λ count. readings_fields size version shape None count.0 count.1 >>= λ readings. Ok
     ((at.0, readings.0), readings.1)) x e in
     let n = bind_ok (count_field size p.0.1)
     (λ count. readings_fields size version shape None count.0 count.1 >>= λ readings. Ok ((p.0.0, readings.0), readings.1)) x p.2 in
     let r = bind_ok (readings_fields size version shape None n.0.0 n.0.1) (λ readings. Ok ((p.0.0, readings.0), readings.1)) x n.2 in
-    let t0 = place_takes size shape before bytes p.0 fits p.1 in
-    let t1 = count_takes size p.0.1 n.0 t0.0.rest_fits n.1 in
-    let t2 = readings_take size version shape None n.0.0 n.0.1 r.0 t1.0.rest_fits r.1 in
-    let count : length r.0.0 ≡ n.0.0 = t2.1 in
-    let samples = map (λ (k : Kept). k.0) r.0.0 in
-    let bare_count : length samples ≡ length r.0.0 = length-map r.0.0 (λ (k : Kept). k.0) in
-    let below : n.0.0 < 2 ^ 64 = t1.1 in
-    let some : 1 ≤ n.0.0 = t1.2 in
-    let inside = in_picture shape before p.0.0 t0.1 in
-    let body = flat_map (reading_text version) r.0.0 in
-    let e12 = Takes-then p.0.1 (to_be_bytes w64 n.0.0) n.0.1 body r.0.1 t1.0 t2.0 in
-    let e02 = Takes-then bytes (place_text p.0.0) p.0.1 (to_be_bytes w64 n.0.0 ++ body) r.0.1 t0.0 e12 in
     let made : Entry × List ℕ = ((p.0.0, r.0.0), r.0.1) in
-    let is : IsEntry shape (p.0.0, samples) = record {
+    (p.0, n.0, r.0, p.1, n.1, r.1, ok_is made x r.2)
+
+entry_takes : (size : ℕ) (version : Version) (shape : PictureShape) (before : Option LinePlace) (bytes : List ℕ) (x : Entry × List ℕ)
+    → IsBytes bytes → entry_fields size version shape before bytes ≡ Ok x
+    → Takes bytes (entry_text version x.0) x.1 × (may_follow shape before x.0.0 ≡ true) × IsSaidEntry version shape x.0
+entry_takes size version shape before bytes x fits e =
+    let parts = entry_parts size version shape before bytes x e in
+    let p = parts.0 in
+    let n = parts.1 in
+    let r = parts.2 in
+    let t0 = place_takes size shape before bytes p fits parts.3 in
+    let t1 = count_takes size p.1 n t0.0.rest_fits parts.4 in
+    let t2 = readings_take size version shape None n.0 n.1 r t1.0.rest_fits parts.5 in
+    let count : length r.0 ≡ n.0 = t2.1 in
+    let samples = map (λ (k : Kept). k.0) r.0 in
+    let bare_count : length samples ≡ length r.0 = length-map r.0 (λ (k : Kept). k.0) in
+    let below : n.0 < 2 ^ 64 = t1.1 in
+    let some : 1 ≤ n.0 = t1.2 in
+    let inside = in_picture shape before p.0 t0.1 in
+    let body = flat_map (reading_text version) r.0 in
+    let e12 = Takes-then p.1 (to_be_bytes w64 n.0) n.1 body r.1 t1.0 t2.0 in
+    let e02 = Takes-then bytes (place_text p.0) p.1 (to_be_bytes w64 n.0 ++ body) r.1 t0.0 e12 in
+    let is : IsEntry shape (p.0, samples) = record {
       read = omega (arith, bare_count, count, some);
       sorted = sorted_from_rise samples t2.2;
       countable = omega (arith, bare_count, count, below);
-      fitting = all_fit_there shape p.0.0.component p.0.0.line samples inside.0 inside.1 t2.3;
+      fitting = all_fit_there shape p.0.component p.0.line samples inside.0 inside.1 t2.3;
     } in
-    let whole : Takes bytes (entry_text version (p.0.0, r.0.0)) r.0.1 =
-    subst (λ (t : List ℕ). Takes bytes t r.0.1) (sym (append_assoc (place_text p.0.0) (to_be_bytes w64 (length r.0.0)) body))
-    (subst (λ (k : ℕ). Takes bytes (place_text p.0.0 ++ (to_be_bytes w64 k ++ body)) r.0.1) (sym count) e02) in
+    let whole : Takes bytes (entry_text version (p.0, r.0)) r.1 =
+    subst (λ (t : List ℕ). Takes bytes t r.1) (sym (append_assoc (place_text p.0) (to_be_bytes w64 (length r.0)) body))
+    (subst (λ (k : ℕ). Takes bytes (place_text p.0 ++ (to_be_bytes w64 k ++ body)) r.1) (sym count) e02) in
     subst (λ (y : Entry × List ℕ). Takes bytes (entry_text version y.0) y.1 × (may_follow shape before y.0.0 ≡ true)
-    × IsSaidEntry version shape y.0) (ok_is made x r.2) (whole, t0.1, (is, t2.4))
+    × IsSaidEntry version shape y.0) parts.6 (whole, t0.1, (is, t2.4))
 
 entry_again : (size : ℕ) (version : Version) (shape : PictureShape) (before : Option LinePlace) (e : Entry) (rest : List ℕ) → IsShape shape
     → may_follow shape before e.0 ≡ true → IsSaidEntry version shape e

@@ -1,10 +1,9 @@
 -- A field that is read is the field that was written, and what was written is read again.
-use Rattle.std.proofs.Common.{◌≡◌, ℕ, zero, suc, ◌+◌, ◌^◌, ◌<◌, ◌≤◌, Bool, true, false, cond, ltb, eqb, List, [], ◌∷◌, ◌++◌, length, get_or}
+use Rattle.std.proofs.Common.{◌≡◌, ℕ, suc, ◌+◌, ◌^◌, ◌<◌, ◌≤◌, Bool, true, false, cond, ltb, eqb, List, [], ◌∷◌, ◌++◌, length, get_or}
 use Rattle.std.proofs.Common.{take, drop, Option, Some, None, Result, Ok, Err, refl, sym, ap, subst, ◌∙◌, append_assoc, arith, inl, inr}
-use Rattle.std.specs.Prelude.{◌||◌, nat_lt}
 use Rattle.std.specs.Int.{Width, w16, w32, w64, byte_len, from_be_bytes, to_be_bytes}
 use Rattle.std.specs.List.{AllByRecursion}
-use Rattle.std.proofs.lemmas.Bool.{cases_lt, ltb-false, eqb-true, eq-eqb, ne_eqb, le-ltb, or_parts, or_from}
+use Rattle.std.proofs.lemmas.Bool.{cases_lt, ltb-false, eqb-true, eq-eqb, le-ltb}
 use Rattle.std.proofs.lemmas.List.{take_at, drop_at, take-append-drop, length-append, length-take, get_or-drop, get_or-take, get_or_past}
 use Rattle.std.proofs.lemmas.Nat.{be_bytes_2, be_bytes_4, be_bytes_8, from_be_bytes-to_be_bytes_2, from_be_bytes-to_be_bytes_4}
 use Rattle.std.proofs.lemmas.Nat.{from_be_bytes-to_be_bytes_8}
@@ -12,6 +11,7 @@ use Rattle.jls_values.specs.Shape.{PictureShape, IsShape, has_repeat}
 use Rattle.jls_values.specs.ShapeOf.{size_fault, unless_fault, shape_of}
 use Rattle.jls_values.specs.declared.shape.ShapeFault.{ShapeFault}
 use Rattle.jls_values.specs.declared.shape.ShapeFault.TheVariants.{RepeatedId}
+use Rattle.jls_values.proofs.ShapeRanges.{sizes_in_range, no_size_fault}
 use Rattle.jls_partial.specs.declared.text_fault.TextFault.{TextFault}
 use Rattle.jls_partial.specs.declared.text_fault.TextFault.TheVariants as fault
 use Rattle.jls_partial.specs.declared.version.Version.{Version}
@@ -225,32 +225,6 @@ version_again size Two rest = refl
 
 -- ---- the shape
 
-size_none : (p x y n : ℕ) → size_fault p x y n ≡ None → ((2 ≤ p) × (p ≤ 16)) × (1 ≤ x) × (1 ≤ y) × ((1 ≤ n) × (n ≤ 4))
-size_none p x y n e =
-    let a = first_none (nat_lt p 2 || nat_lt 16 p) _ _ e in
-    let b = first_none (eqb x 0) _ _ a.1 in
-    let c = first_none (eqb y 0) _ _ b.1 in
-    let d = first_none (eqb n 0 || nat_lt 4 n) _ _ c.1 in
-    let ps = or_parts (nat_lt p 2) (nat_lt 16 p) a.0 in
-    let ns = or_parts (eqb n 0) (nat_lt 4 n) d.0 in
-    ((ltb-false _ _ ps.0, ltb-false _ _ ps.1), positive x b.0, positive y c.0, (positive n ns.0, ltb-false _ _ ns.1))
-  where
-    first_none : (b : Bool) (f : ShapeFault) (o : Option ShapeFault) → cond b (Some f) o ≡ None → (b ≡ false) × (o ≡ None)
-    first_none true f o e = absurd cc
-    first_none false f o e = (refl, e)
-
-    positive : (n : ℕ) → eqb n 0 ≡ false → 1 ≤ n
-    positive zero e = absurd cc
-    positive (suc n) e = omega arith
-
-none_from : (p x y n : ℕ) → 2 ≤ p → p ≤ 16 → 1 ≤ x → 1 ≤ y → 1 ≤ n → n ≤ 4 → size_fault p x y n ≡ None
-none_from p x y n p2 p16 x1 y1 n1 n4 =
-    let a : (nat_lt p 2 || nat_lt 16 p) ≡ false = or_from _ _ (le-ltb _ _ p2) (le-ltb _ _ p16) in
-    let b : eqb x 0 ≡ false = ne_eqb x 0 (λ e. absurd (omega (arith, e, x1))) in
-    let c : eqb y 0 ≡ false = ne_eqb y 0 (λ e. absurd (omega (arith, e, y1))) in
-    let d : (eqb n 0 || nat_lt 4 n) ≡ false = or_from _ _ (ne_eqb n 0 (λ e. absurd (omega (arith, e, n1)))) (le-ltb _ _ n4) in
-    rw (a, b, c, d) refl
-
 judged_ok : {A : Type 0} (o : Option ShapeFault) (x y : A) → unless_bad_shape o x ≡ Ok y → (o ≡ None) × (x ≡ y)
 judged_ok None x y e = (refl, cc)
 judged_ok (Some f) x y e = absurd cc
@@ -311,7 +285,7 @@ shape_takes size bytes shape rest fits e =
     let t3 = byte_takes size y.0.1 n.0.0 n.0.1 t2.0.rest_fits n.1 in
     let t4 = bytes_take size n.0.0 j.0 i.0.0 i.0.1 (subst IsBytes {x = n.0.1} {y = j.0} g.1 t3.0.rest_fits) i.1 in
     let made = shape_made p.0.0 x.0.0 y.0.0 i.0.0 s.0 (made_ok (shape_of p.0.0 x.0.0 y.0.0 i.0.0) s.0 s.1) in
-    let sizes = size_none p.0.0 x.0.0 y.0.0 n.0.0 g.0 in
+    let sizes = sizes_in_range p.0.0 x.0.0 y.0.0 n.0.0 g.0 in
     let count : length i.0.0 ≡ n.0.0 = t4.1 in
     let e34 = Takes-then y.0.1 (n.0.0 ∷ []) n.0.1 i.0.0 i.0.1 t3.0
     (subst (λ (b : List ℕ). Takes b i.0.0 i.0.1) {x = j.0} {y = n.0.1} (sym g.1) t4.0) in
@@ -324,12 +298,12 @@ shape_takes size bytes shape rest fits e =
     let is : IsShape (four p.0.0 x.0.0 y.0.0 i.0.0) = record {
       precision_at_least = sizes.0.0;
       precision_at_most = sizes.0.1;
-      width_at_least = sizes.1;
+      width_at_least = sizes.1.0;
       width_below = t1.1;
-      height_at_least = sizes.2;
+      height_at_least = sizes.1.1;
       height_below = t2.1;
-      ids_at_least = let k = sizes.3.0 in omega (arith, count, k);
-      ids_at_most = let k = sizes.3.1 in omega (arith, count, k);
+      ids_at_least = let k = sizes.2.0 in omega (arith, count, k);
+      ids_at_most = let k = sizes.2.1 in omega (arith, count, k);
       ids_are_bytes = t4.2;
       ids_differ = made.0;
     } in
@@ -347,7 +321,7 @@ shape_again size shape rest is =
     let ids = length shape.ids ∷ shape.ids in
     let regrouped : shape_text shape ++ rest ≡ shape.precision ∷ (x ++ (y ++ (length shape.ids ∷ (shape.ids ++ rest)))) =
     ap (λ (t : List ℕ). shape.precision ∷ t) (append_assoc (x ++ y) ids rest ∙ append_assoc x y (ids ++ rest)) in
-    let none = none_from shape.precision shape.width shape.height (length shape.ids) is.precision_at_least is.precision_at_most
+    let none = no_size_fault shape.precision shape.width shape.height (length shape.ids) is.precision_at_least is.precision_at_most
     is.width_at_least is.height_at_least is.ids_at_least is.ids_at_most in
     let differ = is.ids_differ in
     ap (shape_fields size) regrouped

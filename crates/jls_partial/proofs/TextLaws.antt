@@ -38,10 +38,11 @@ use Rattle.jls_partial.proofs.KeptEntries.{SourcesRise, readings_are, holds_read
 use Rattle.jls_partial.proofs.KeptEntries.{partial_again}
 use Rattle.jls_partial.proofs.MarkSets.{has_item, has_mark, sources_again}
 use Rattle.jls_partial.proofs.ReadBack.{readings_kept}
-use Rattle.jls_partial.proofs.Store.{either, all_items, small_of as small_in}
+use Rattle.jls_partial.proofs.StorePuts.{either, all_items, small_of as small_in}
 use Rattle.jls_partial.proofs.TextFields.{IsBytes, bind_ok, passed_ok, ok_is, Takes-then, wide32, number_takes, number_again, magic_takes}
 use Rattle.jls_partial.proofs.TextFields.{magic_again, version_takes, version_again, shape_takes, shape_again}
-use Rattle.jls_partial.proofs.TextReadings.{SaysSources, IsSaid}
+use Rattle.jls_partial.proofs.TextReadings.{IsSaid}
+use Rattle.jls_partial.proofs.TextSources.{SaysSources}
 use Rattle.jls_partial.proofs.TextEntries.{IsSaidEntry, Follow, sorted_from_follow, follow_from_sorted, entries_take, entries_read}
 
 -- ---- the text

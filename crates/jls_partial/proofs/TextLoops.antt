@@ -36,6 +36,25 @@ fails_then (fault.Order n) read f h = ap (λ r. r >>= f) h
 fails_then (fault.Sample n) read f h = ap (λ r. r >>= f) h
 fails_then (fault.Trailing n) read f h = ap (λ r. r >>= f) h
 
+-- of a loop that counts up to `count`: what a step leaves, where the next thing fails, and where none is left
+next : {B : Type 0} (count i : ℕ) (before after : ℕ → B) (total : B) → i < count → ((n : ℕ) → before (suc n) ≡ after n)
+    → before (count - i) ≡ total → after (count - (i + 1)) ≡ total
+next count i before after total lt step so_far =
+    let k : suc (count - (i + 1)) ≡ count - i = omega arith in
+    sym (step (count - (i + 1))) ∙ ap before k ∙ so_far
+
+next_fails : {A B C : Type 0} (e : TextFault) (count i : ℕ) (first : Result A TextFault) (rest : ℕ → A → Result B TextFault)
+    (g : B → Result C TextFault) (fields : ℕ → Result B TextFault) (total : Result C TextFault)
+    → ((n : ℕ) → fields (suc n) ≡ (first >>= rest n)) → i < count → Fails e first → (fields (count - i) >>= g) ≡ total → Fails e total
+next_fails e count i first rest g fields total step lt h so_far =
+    let n = count - (i + 1) in
+    let k : suc n ≡ count - i = omega arith in
+    subst (Fails e) (ap (λ r. r >>= g) (sym (step n) ∙ ap fields k) ∙ so_far)
+    (fails_then e (first >>= rest n) g (fails_then e first (rest n) h))
+
+none_left : {B : Type 0} (count i : ℕ) (before : ℕ → B) (total : B) → count ≤ i → before (count - i) ≡ total → total ≡ before 0
+none_left count i before total le so_far = let k : count - i ≡ 0 = omega arith in sym so_far ∙ ap before k
+
 -- ---- the magic
 
 pub magic_goes_on : (size : ℕ) (wanted : List ℕ) (want : ℕ) (others bytes : List ℕ) (byte : ℕ) (after : List ℕ)
@@ -101,11 +120,9 @@ pub samples_go_on : (size limit : ℕ) (prefix : List ℕ) (count i : ℕ) (byte
     → after_samples (prefix ++ x ∷ []) (samples_fields size limit (count - (i + 1)) after) ≡ total
 unfolding samples_fields
 samples_go_on size limit prefix count i bytes x after total lt h so_far =
-    let k : count - i ≡ suc (count - (i + 1)) = omega arith in
-    let one : after_samples prefix (samples_fields size limit (count - i) bytes)
-    ≡ after_samples (prefix ++ x ∷ []) (samples_fields size limit (count - (i + 1)) after) =
-    rw (k, h) (regroup_samples prefix x (samples_fields size limit (count - (i + 1)) after)) in
-    sym one ∙ so_far
+    next count i (λ n. after_samples prefix (samples_fields size limit n bytes))
+    (λ n. after_samples (prefix ++ x ∷ []) (samples_fields size limit n after)) total lt
+    (λ n. rw h (regroup_samples prefix x (samples_fields size limit n after))) so_far
 
 pub samples_end : (e : TextFault) (size limit : ℕ) (prefix : List ℕ) (count i : ℕ) (bytes : List ℕ)
     (total : Result (List ℕ × List ℕ) TextFault)
@@ -113,22 +130,17 @@ pub samples_end : (e : TextFault) (size limit : ℕ) (prefix : List ℕ) (count 
     → after_samples prefix (samples_fields size limit (count - i) bytes) ≡ total → Fails e total
 unfolding samples_fields
 samples_end e size limit prefix count i bytes total lt h so_far =
-    let k : suc (count - (i + 1)) ≡ count - i = omega arith in
-    let rest = λ (first : ℕ × List ℕ). samples_fields size limit (count - (i + 1)) first.1 >>= λ others. Ok
-    (first.0 ∷ others.0, others.1) in
-    let here : Fails e (samples_fields size limit (suc (count - (i + 1))) bytes) = fails_then e (sample_field size limit bytes) rest h in
-    subst (Fails e) so_far (fails_then e (samples_fields size limit (count - i) bytes) (λ x. Ok (prefix ++ x.0, x.1))
-    (subst (λ (n : ℕ). Fails e (samples_fields size limit n bytes)) k here))
+    next_fails e count i (sample_field size limit bytes)
+    (λ n first. samples_fields size limit n first.1 >>= λ others. Ok (first.0 ∷ others.0, others.1)) (λ x. Ok (prefix ++ x.0, x.1))
+    (λ n. samples_fields size limit n bytes) total (λ n. refl) lt h so_far
 
 pub samples_done : (size limit : ℕ) (prefix : List ℕ) (count i : ℕ) (bytes : List ℕ) (total : Result (List ℕ × List ℕ) TextFault) → count
     ≤ i
     → after_samples prefix (samples_fields size limit (count - i) bytes) ≡ total → total ≡ Ok (prefix, bytes)
 unfolding samples_fields
 samples_done size limit prefix count i bytes total le so_far =
-    let k : count - i ≡ 0 = omega arith in
-    let one : after_samples prefix (samples_fields size limit (count - i) bytes) ≡ Ok (prefix, bytes) =
-    rw k (ap (λ (xs : List ℕ). Ok (xs, bytes)) (append-nil prefix)) in
-    sym so_far ∙ one
+    none_left count i (λ n. after_samples prefix (samples_fields size limit n bytes)) total le so_far
+    ∙ ap (λ (xs : List ℕ). Ok (xs, bytes)) (append-nil prefix)
 
 -- ---- sources
 
@@ -139,11 +151,9 @@ pub sources_go_on : (size : ℕ) (before : Option ℕ) (prefix : List ℕ) (coun
     → after_samples (prefix ++ x ∷ []) (sources_fields size (Some x) (count - (i + 1)) after) ≡ total
 unfolding sources_fields
 sources_go_on size before prefix count i bytes x after total lt h so_far =
-    let k : count - i ≡ suc (count - (i + 1)) = omega arith in
-    let one : after_samples prefix (sources_fields size before (count - i) bytes)
-    ≡ after_samples (prefix ++ x ∷ []) (sources_fields size (Some x) (count - (i + 1)) after) =
-    rw (k, h) (regroup_samples prefix x (sources_fields size (Some x) (count - (i + 1)) after)) in
-    sym one ∙ so_far
+    next count i (λ n. after_samples prefix (sources_fields size before n bytes))
+    (λ n. after_samples (prefix ++ x ∷ []) (sources_fields size (Some x) n after)) total lt
+    (λ n. rw h (regroup_samples prefix x (sources_fields size (Some x) n after))) so_far
 
 pub sources_end : (e : TextFault) (size : ℕ) (before : Option ℕ) (prefix : List ℕ) (count i : ℕ) (bytes : List ℕ)
     (total : Result (List ℕ × List ℕ) TextFault)
@@ -151,22 +161,17 @@ pub sources_end : (e : TextFault) (size : ℕ) (before : Option ℕ) (prefix : L
     → after_samples prefix (sources_fields size before (count - i) bytes) ≡ total → Fails e total
 unfolding sources_fields
 sources_end e size before prefix count i bytes total lt h so_far =
-    let k : suc (count - (i + 1)) ≡ count - i = omega arith in
-    let rest = λ (first : ℕ × List ℕ). sources_fields size (Some first.0) (count - (i + 1)) first.1 >>= λ others. Ok
-    (first.0 ∷ others.0, others.1) in
-    let here : Fails e (sources_fields size before (suc (count - (i + 1))) bytes) = fails_then e (source_field size before bytes) rest h in
-    subst (Fails e) so_far (fails_then e (sources_fields size before (count - i) bytes) (λ x. Ok (prefix ++ x.0, x.1))
-    (subst (λ (n : ℕ). Fails e (sources_fields size before n bytes)) k here))
+    next_fails e count i (source_field size before bytes)
+    (λ n first. sources_fields size (Some first.0) n first.1 >>= λ others. Ok (first.0 ∷ others.0, others.1))
+    (λ x. Ok (prefix ++ x.0, x.1)) (λ n. sources_fields size before n bytes) total (λ n. refl) lt h so_far
 
 pub sources_done : (size : ℕ) (before : Option ℕ) (prefix : List ℕ) (count i : ℕ) (bytes : List ℕ)
     (total : Result (List ℕ × List ℕ) TextFault)
     → count ≤ i → after_samples prefix (sources_fields size before (count - i) bytes) ≡ total → total ≡ Ok (prefix, bytes)
 unfolding sources_fields
 sources_done size before prefix count i bytes total le so_far =
-    let k : count - i ≡ 0 = omega arith in
-    let one : after_samples prefix (sources_fields size before (count - i) bytes) ≡ Ok (prefix, bytes) =
-    rw k (ap (λ (xs : List ℕ). Ok (xs, bytes)) (append-nil prefix)) in
-    sym so_far ∙ one
+    none_left count i (λ n. after_samples prefix (sources_fields size before n bytes)) total le so_far
+    ∙ ap (λ (xs : List ℕ). Ok (xs, bytes)) (append-nil prefix)
 
 -- ---- readings of one line
 
@@ -200,11 +205,9 @@ pub readings_go_on : (size : ℕ) (version : Version) (shape : PictureShape) (p 
     → with_readings (with_kept p at k) at (readings_fields size version shape (Some k.0) (count - (i + 1)) after) ≡ total
 unfolding readings_fields
 readings_go_on size version shape p at before count i bytes k after total lt h so_far =
-    let n : count - i ≡ suc (count - (i + 1)) = omega arith in
-    let one : with_readings p at (readings_fields size version shape before (count - i) bytes)
-    ≡ with_readings (with_kept p at k) at (readings_fields size version shape (Some k.0) (count - (i + 1)) after) =
-    rw (n, h) (regroup_readings p at k (readings_fields size version shape (Some k.0) (count - (i + 1)) after)) in
-    sym one ∙ so_far
+    next count i (λ n. with_readings p at (readings_fields size version shape before n bytes))
+    (λ n. with_readings (with_kept p at k) at (readings_fields size version shape (Some k.0) n after)) total lt
+    (λ n. rw h (regroup_readings p at k (readings_fields size version shape (Some k.0) n after))) so_far
 
 pub readings_end : (e : TextFault) (size : ℕ) (version : Version) (shape : PictureShape) (p : PartialPicture) (at : LinePlace)
     (before : Option (List ℕ)) (count i : ℕ) (bytes : List ℕ) (total : Result (PartialPicture × List ℕ) TextFault)
@@ -213,14 +216,10 @@ pub readings_end : (e : TextFault) (size : ℕ) (version : Version) (shape : Pic
     → with_readings p at (readings_fields size version shape before (count - i) bytes) ≡ total → Fails e total
 unfolding readings_fields
 readings_end e size version shape p at before count i bytes total lt h so_far =
-    let k : suc (count - (i + 1)) ≡ count - i = omega arith in
-    let rest = λ (first : Kept × List ℕ). readings_fields size version shape (Some first.0.0) (count - (i + 1)) first.1 >>= λ others. Ok
-    (first.0 ∷ others.0, others.1) in
-    let here : Fails e (readings_fields size version shape before (suc (count - (i + 1))) bytes) =
-    fails_then e (kept_fields size version shape before bytes) rest h in
-    subst (Fails e) so_far (fails_then e (readings_fields size version shape before (count - i) bytes)
-    (λ x. Ok (with_all p (map (kept_at_place at) x.0), x.1))
-    (subst (λ (n : ℕ). Fails e (readings_fields size version shape before n bytes)) k here))
+    next_fails e count i (kept_fields size version shape before bytes)
+    (λ n first. readings_fields size version shape (Some first.0.0) n first.1 >>= λ others. Ok (first.0 ∷ others.0, others.1))
+    (λ x. Ok (with_all p (map (kept_at_place at) x.0), x.1)) (λ n. readings_fields size version shape before n bytes) total (λ n. refl) lt
+    h so_far
 
 pub readings_done : (size : ℕ) (version : Version) (shape : PictureShape) (p : PartialPicture) (at : LinePlace) (before : Option (List ℕ))
     (count i : ℕ) (bytes : List ℕ) (total : Result (PartialPicture × List ℕ) TextFault)
@@ -228,9 +227,7 @@ pub readings_done : (size : ℕ) (version : Version) (shape : PictureShape) (p :
     → with_readings p at (readings_fields size version shape before (count - i) bytes) ≡ total → total ≡ Ok (p, bytes)
 unfolding readings_fields
 readings_done size version shape p at before count i bytes total le so_far =
-    let k : count - i ≡ 0 = omega arith in
-    let one : with_readings p at (readings_fields size version shape before (count - i) bytes) ≡ Ok (p, bytes) = rw k refl in
-    sym so_far ∙ one
+    none_left count i (λ n. with_readings p at (readings_fields size version shape before n bytes)) total le so_far
 
 -- ---- entries
 
@@ -257,27 +254,22 @@ entry_given p q at after (Ok ((a, xs), bytes)) e =
     )
 entry_given p q at after (Err f) e = absurd cc
 
-entries_step : (size : ℕ) (version : Version) (shape : PictureShape) (p : PartialPicture) (before : Option LinePlace) (count i : ℕ)
-    (bytes : List ℕ) (at : LinePlace) (xs : List Kept) (after : List ℕ)
-    → i < count
-    → entry_fields size version shape before bytes ≡ Ok ((at, xs), after)
-    → with_entries p (entries_fields size version shape before (count - i) bytes)
-    ≡ with_entries (with_all p (map (kept_at_place at) xs)) (entries_fields size version shape (Some at) (count - (i + 1)) after)
-unfolding entries_fields
-entries_step size version shape p before count i bytes at xs after lt first =
-    let k : count - i ≡ suc (count - (i + 1)) = omega arith in
-    rw (k, first) (regroup_entries p (at, xs) (entries_fields size version shape (Some at) (count - (i + 1)) after))
-
 pub entries_go_on : (size : ℕ) (version : Version) (shape : PictureShape) (p q : PartialPicture) (before : Option LinePlace) (count i : ℕ)
     (bytes : List ℕ) (at : LinePlace) (after : List ℕ) (total : Result (PartialPicture × List ℕ) TextFault)
     → i < count
     → with_entry p (entry_fields size version shape before bytes) ≡ Ok (q, at, after)
     → with_entries p (entries_fields size version shape before (count - i) bytes) ≡ total
     → with_entries q (entries_fields size version shape (Some at) (count - (i + 1)) after) ≡ total
+unfolding entries_fields
 entries_go_on size version shape p q before count i bytes at after total lt h so_far =
     let given = entry_given p q at after (entry_fields size version shape before bytes) h in
-    ap (λ (z : PartialPicture). with_entries z (entries_fields size version shape (Some at) (count - (i + 1)) after)) (sym given.2)
-    ∙ sym (entries_step size version shape p before count i bytes at given.0 after lt given.1) ∙ so_far
+    let rest = λ (n : ℕ). entries_fields size version shape (Some at) n after in
+    subst (λ (z : PartialPicture). with_entries z (rest (count - (i + 1))) ≡ total) given.2
+    (next count i (λ n. with_entries p (entries_fields size version shape before n bytes))
+    (λ n. with_entries (with_all p (map (kept_at_place at) given.0)) (rest n)) total lt
+    (λ n. ap (λ (r : Result (Entry × List ℕ) TextFault). with_entries p (r >>= λ first.
+    entries_fields size version shape (Some first.0.0) n first.1 >>= λ others. Ok (first.0 ∷ others.0, others.1))) given.1
+    ∙ regroup_entries p (at, given.0) (rest n)) so_far)
 
 pub entry_keeps_shape : (size : ℕ) (version : Version) (shape : PictureShape) (p q : PartialPicture) (before : Option LinePlace)
     (bytes : List ℕ) (at : LinePlace) (after : List ℕ)
@@ -287,23 +279,8 @@ entry_keeps_shape size version shape p q before bytes at after h = let given =
 
 -- a fault of an entry that is read into a partial is one of the entry
 pub fault_given : {A B : Type 0} (e : TextFault) (read : Result A TextFault) (f : A → B) → Fails e (read >>= λ x. Ok (f x)) → Fails e read
-fault_given fault.OutOfMemory read f h = tt
-fault_given (fault.Magic n) (Ok x) f h = absurd cc
-fault_given (fault.Magic n) (Err d) f h = cc
-fault_given (fault.BadShape n) (Ok x) f h = absurd cc
-fault_given (fault.BadShape n) (Err d) f h = cc
-fault_given (fault.Truncated n) (Ok x) f h = absurd cc
-fault_given (fault.Truncated n) (Err d) f h = cc
-fault_given (fault.Place n) (Ok x) f h = absurd cc
-fault_given (fault.Place n) (Err d) f h = cc
-fault_given (fault.Count n) (Ok x) f h = absurd cc
-fault_given (fault.Count n) (Err d) f h = cc
-fault_given (fault.Order n) (Ok x) f h = absurd cc
-fault_given (fault.Order n) (Err d) f h = cc
-fault_given (fault.Sample n) (Ok x) f h = absurd cc
-fault_given (fault.Sample n) (Err d) f h = cc
-fault_given (fault.Trailing n) (Ok x) f h = absurd cc
-fault_given (fault.Trailing n) (Err d) f h = cc
+fault_given {A} {B} e (Ok x) f h = fails_then {A = B} {B = A} e (Ok (f x)) (λ y. Ok x) h
+fault_given {A} {B} e (Err d) f h = fails_then {A = B} {B = A} e (Err d) (λ y. Err d) h
 
 pub entries_end : (e : TextFault) (size : ℕ) (version : Version) (shape : PictureShape) (p : PartialPicture) (before : Option LinePlace)
     (count i : ℕ) (bytes : List ℕ) (total : Result (PartialPicture × List ℕ) TextFault)
@@ -312,15 +289,11 @@ pub entries_end : (e : TextFault) (size : ℕ) (version : Version) (shape : Pict
     → with_entries p (entries_fields size version shape before (count - i) bytes) ≡ total → Fails e total
 unfolding entries_fields
 entries_end e size version shape p before count i bytes total lt h so_far =
-    let k : suc (count - (i + 1)) ≡ count - i = omega arith in
-    let rest = λ (first : Entry × List ℕ). entries_fields size version shape (Some first.0.0) (count - (i + 1)) first.1 >>= λ others. Ok
-    (first.0 ∷ others.0, others.1) in
-    let here : Fails e (entries_fields size version shape before (suc (count - (i + 1))) bytes) =
-    fails_then e (entry_fields size version shape before bytes) rest
-    (fault_given e (entry_fields size version shape before bytes) (λ x. (with_all p (map (kept_at_place x.0.0) x.0.1), x.0.0, x.1)) h) in
-    subst (Fails e) so_far (fails_then e (entries_fields size version shape before (count - i) bytes)
-    (λ x. Ok (with_all p (kept_readings x.0), x.1))
-    (subst (λ (n : ℕ). Fails e (entries_fields size version shape before n bytes)) k here))
+    next_fails e count i (entry_fields size version shape before bytes)
+    (λ n first. entries_fields size version shape (Some first.0.0) n first.1 >>= λ others. Ok (first.0 ∷ others.0, others.1))
+    (λ x. Ok (with_all p (kept_readings x.0), x.1)) (λ n. entries_fields size version shape before n bytes) total (λ n. refl) lt
+    (fault_given e (entry_fields size version shape before bytes) (λ x. (with_all p (map (kept_at_place x.0.0) x.0.1), x.0.0, x.1)) h)
+    so_far
 
 pub entries_done : (size : ℕ) (version : Version) (shape : PictureShape) (p : PartialPicture) (before : Option LinePlace) (count i : ℕ)
     (bytes : List ℕ) (total : Result (PartialPicture × List ℕ) TextFault)
@@ -328,9 +301,7 @@ pub entries_done : (size : ℕ) (version : Version) (shape : PictureShape) (p : 
     → with_entries p (entries_fields size version shape before (count - i) bytes) ≡ total → total ≡ Ok (p, bytes)
 unfolding entries_fields
 entries_done size version shape p before count i bytes total le so_far =
-    let k : count - i ≡ 0 = omega arith in
-    let one : with_entries p (entries_fields size version shape before (count - i) bytes) ≡ Ok (p, bytes) = rw k refl in
-    sym so_far ∙ one
+    none_left count i (λ n. with_entries p (entries_fields size version shape before n bytes)) total le so_far
 
 -- ---- the whole
 

@@ -17,6 +17,7 @@ use Rattle.jls_partial.specs.TextPrefix.{unless_fault, readings_prefix, entry_pr
 use Rattle.jls_partial.specs.TextReading.{◌>>=◌, kept_fields, readings_fields, place_fields, count_field, entry_fields, entries_fields}
 use Rattle.jls_partial.proofs.Growth.{IsSoFar, more_so_far, prefix_so_far}
 use Rattle.jls_partial.proofs.TextFields.{bind_ok, ok_is}
+use Rattle.jls_partial.proofs.TextEntries.{entry_parts}
 use Rattle.jls_partial.proofs.TextLoops.{entry_given}
 
 -- ---- prefixes
@@ -77,20 +78,13 @@ entry_prefix_is size version shape before bytes at count_bytes count rest p c =
 
 whole_entry : (size : ℕ) (version : Version) (shape : PictureShape) (before : Option LinePlace) (bytes : List ℕ) (x : Entry × List ℕ)
     → entry_fields size version shape before bytes ≡ Ok x → entry_prefix size version shape before bytes ≡ map (kept_at_place x.0.0) x.0.1
-unfolding entry_prefix entry_fields
 whole_entry size version shape before bytes x e =
-    let a = bind_ok (place_fields size shape before bytes)
-    (λ place. count_field size place.1 >>= λ count. readings_fields size version shape None count.0 count.1 >>= λ readings. Ok
-    ((place.0, readings.0), readings.1)) x e in
-    let b = bind_ok (count_field size a.0.1)
-    (λ count. readings_fields size version shape None count.0 count.1 >>= λ readings. Ok ((a.0.0, readings.0), readings.1)) x a.2 in
-    let r = bind_ok (readings_fields size version shape None b.0.0 b.0.1) (λ readings. Ok ((a.0.0, readings.0), readings.1)) x b.2 in
-    let made : Entry × List ℕ = ((a.0.0, r.0.0), r.0.1) in
-    (λ j. unless_fault (a.1 j) (λ place. unless_fault (count_field size place.1)
-    (λ count. map (kept_at_place place.0) (readings_prefix size version shape None count.0 count.1))))
-    ∙ (λ j. unless_fault (b.1 j) (λ count. map (kept_at_place a.0.0) (readings_prefix size version shape None count.0 count.1)))
-    ∙ ap (map (kept_at_place a.0.0)) (whole_readings size version shape None b.0.0 b.0.1 r.0 r.1)
-    ∙ ap (λ (y : Entry × List ℕ). map (kept_at_place y.0.0) y.0.1) (ok_is made x r.2)
+    let parts = entry_parts size version shape before bytes x e in
+    let p = parts.0 in
+    let n = parts.1 in
+    entry_prefix_is size version shape before bytes p.0 p.1 n.0 n.1 parts.3 parts.4
+    ∙ ap (map (kept_at_place p.0)) (whole_readings size version shape None n.0 n.1 parts.2 parts.5)
+    ∙ ap (λ (y : Entry × List ℕ). map (kept_at_place y.0.0) y.0.1) parts.6
 
 -- the next entry, and those after it
 next_prefix : (size : ℕ) (version : Version) (shape : PictureShape) (before : Option LinePlace) (count i : ℕ) (bytes : List ℕ) → i < count

@@ -1,32 +1,30 @@
 -- Readings that are read are those that were written, and readings that were written are read again.
 use Rattle.std.proofs.Common.{◌≡◌, ℕ, zero, suc, ◌+◌, map, ◌^◌, ◌<◌, ◌≤◌, Bool, true, false, cond, leb, eqb, List, [], ◌∷◌, ◌++◌, length}
 use Rattle.std.proofs.Common.{Option, Some, None, Ok, Err, refl, sym, ap, subst, ◌∙◌, append_assoc, arith}
-use Rattle.std.specs.Prelude.{nat_le, nat_lt, not}
-use Rattle.std.specs.Cmp.{nat_cmp_is}
-use Rattle.std.specs.Int.{w16, w32, w64, to_be_bytes}
-use Rattle.std.specs.Ordering.{nat_cmp, is_lt}
+use Rattle.std.specs.Prelude.{nat_le, not}
+use Rattle.std.specs.Int.{w16, to_be_bytes}
+use Rattle.std.specs.Ordering.{is_lt}
 use Rattle.std.specs.declared.cmp.Ordering.{Ordering}
 use Rattle.std.specs.declared.cmp.Ordering.TheVariants.{Less, Equal, Greater}
 use Rattle.std.specs.List.{list_any, flat_map, AllByRecursion}
 use Rattle.std.specs.List.Sorted.{IsStrictlySortedBy}
-use Rattle.std.proofs.lemmas.Bool.{leb-false, ltb-true, lt-ltb, eqb-true, eq-eqb, or_parts, or_from}
-use Rattle.std.proofs.lemmas.Cmp.{nat_cmp_total, nat_list_cmp_total, ranked}
+use Rattle.std.proofs.lemmas.Bool.{leb-false, eqb-true, eq-eqb, or_parts, or_from}
+use Rattle.std.proofs.lemmas.Cmp.{nat_list_cmp_total}
 use Rattle.std.proofs.lemmas.List.Concat.{flat_map-cons}
 use Rattle.jls_values.specs.Shape.{PictureShape}
 use Rattle.jls_values.specs.SourceList.{IsSourceList}
-use Rattle.jls_values.proofs.SourceLists.{sources-none}
 use Rattle.jls_partial.specs.declared.version.Version.{Version}
-use Rattle.jls_partial.specs.declared.version.Version.TheVariants.{One, Two}
 use Rattle.jls_partial.specs.Packed.{Kept}
 use Rattle.jls_partial.specs.declared.text_fault.TextFault.TheVariants as fault
 use Rattle.jls_partial.specs.declared.insert_fault.InsertFault.{InsertFault}
 use Rattle.jls_partial.specs.InsertFaults.{samples_fault}
 use Rattle.jls_partial.specs.Text.{samples_text, sources_text, reading_text}
 use Rattle.jls_partial.specs.TextReading.{◌>>=◌, offset, number_field, sample_field, samples_fields, is_above, reading_fields}
-use Rattle.jls_partial.specs.TextReading.{is_source_above, source_field, sources_fields, own_sources_fields, kept_fields, readings_fields}
+use Rattle.jls_partial.specs.TextReading.{own_sources_fields, kept_fields, readings_fields}
 use Rattle.jls_partial.proofs.Entries.{S}
-use Rattle.jls_partial.proofs.TextFields.{IsBytes, bind_ok, guard_ok, passed_ok, ok_is, Takes, Takes-then, wide16, wide32, wide64}
+use Rattle.jls_partial.proofs.TextFields.{IsBytes, bind_ok, guard_ok, passed_ok, ok_is, Takes, Takes-then, wide16}
 use Rattle.jls_partial.proofs.TextFields.{number_takes, number_again}
+use Rattle.jls_partial.proofs.TextSources.{SaysSources, own_take, own_again}
 
 -- ---- samples
 
@@ -50,16 +48,23 @@ pub samples_take : (size limit n : ℕ) (bytes : List ℕ) (x : List ℕ × List
     → Takes bytes (samples_text x.0) x.1 × (length x.0 ≡ n) × (list_any (λ s. nat_le limit s) x.0 ≡ false)
 unfolding samples_fields
 samples_take size limit zero bytes x fits e =
-    subst (λ (y : List ℕ × List ℕ). Takes bytes (samples_text y.0) y.1 × (length y.0 ≡ 0) × (list_any (λ s. nat_le limit s) y.0 ≡ false)) (ok_is ([], bytes) x e) (record { parts = refl; rest_fits = fits }, refl, refl)
+    subst (λ (y : List ℕ × List ℕ). Takes bytes (samples_text y.0) y.1 × (length y.0 ≡ 0) × (list_any (λ s. nat_le limit s) y.0 ≡ false))
+    (ok_is ([], bytes) x e) (record { parts = refl; rest_fits = fits }, refl, refl)
 samples_take size limit (suc n) bytes x fits e =
-    let a = bind_ok (sample_field size limit bytes) (λ first. samples_fields size limit n first.1 >>= λ others. Ok (first.0 ∷ others.0, others.1)) x e in
+    let a = bind_ok (sample_field size limit bytes)
+    (λ first. samples_fields size limit n first.1 >>= λ others. Ok (first.0 ∷ others.0, others.1)) x e in
     let b = bind_ok (samples_fields size limit n a.0.1) (λ others. Ok (a.0.0 ∷ others.0, others.1)) x a.2 in
     let first = sample_takes size limit bytes a.0 fits a.1 in
     let second = samples_take size limit n a.0.1 b.0 first.0.rest_fits b.1 in
     let both = Takes-then bytes (to_be_bytes w16 a.0.0) a.0.1 (samples_text b.0.0) b.0.1 first.0 second.0 in
     let made : List ℕ × List ℕ = (a.0.0 ∷ b.0.0, b.0.1) in
-    subst (λ (y : List ℕ × List ℕ). Takes bytes (samples_text y.0) y.1 × (length y.0 ≡ suc n) × (list_any (λ s. nat_le limit s) y.0 ≡ false)) (ok_is made x b.2)
-    (subst (λ (t : List ℕ). Takes bytes t b.0.1) (sym (flat_map-cons (to_be_bytes w16) a.0.0 b.0.0)) both, ap suc second.1, or_from (leb limit a.0.0) _ first.1 second.2)
+    subst (λ (y : List ℕ × List ℕ). Takes bytes (samples_text y.0) y.1 × (length y.0 ≡ suc n)
+    × (list_any (λ s. nat_le limit s) y.0 ≡ false)) (ok_is made x b.2) (
+      subst (λ (t : List ℕ). Takes bytes t b.0.1) (sym (flat_map-cons (to_be_bytes w16) a.0.0 b.0.0)) both,
+      ap suc second.1,
+      or_from
+          (leb limit a.0.0) _ first.1 second.2,
+    )
 
 pub samples_again : (size limit : ℕ) (xs rest : List ℕ) → limit ≤ 2 ^ 16 → list_any (λ s. nat_le limit s) xs ≡ false
     → samples_fields size limit (length xs) (samples_text xs ++ rest) ≡ Ok (xs, rest)
@@ -69,7 +74,8 @@ samples_again size limit (x ∷ xs) rest le h =
     let p = or_parts (leb limit x) (list_any (λ s. nat_le limit s) xs) h in
     let regrouped : samples_text (x ∷ xs) ++ rest ≡ to_be_bytes w16 x ++ (samples_text xs ++ rest) =
     ap (λ (t : List ℕ). t ++ rest) (flat_map-cons (to_be_bytes w16) x xs) ∙ append_assoc (to_be_bytes w16 x) (samples_text xs) rest in
-    ap (samples_fields size limit (suc (length xs))) regrouped ∙ rw (sample_again size limit x (samples_text xs ++ rest) le p.0, samples_again size limit xs rest le p.1) refl
+    ap (samples_fields size limit (suc (length xs))) regrouped
+    ∙ rw (sample_again size limit x (samples_text xs ++ rest) le p.0, samples_again size limit xs rest le p.1) refl
 
 -- ---- a reading
 
@@ -97,35 +103,42 @@ pub reading_takes : (size : ℕ) (shape : PictureShape) (before : Option (List �
     → Takes bytes (samples_text x.0) x.1 × (is_above before x.0 ≡ true) × (samples_fault shape.precision shape.width x.0 ≡ None)
 unfolding reading_fields
 reading_takes size shape before bytes x fits e =
-    let a = bind_ok (samples_fields size (2 ^ shape.precision) shape.width bytes) (λ s. cond (is_above before s.0) (Ok s) (Err (fault.Order (offset size bytes)))) x e in
+    let a = bind_ok (samples_fields size (2 ^ shape.precision) shape.width bytes)
+    (λ s. cond (is_above before s.0) (Ok s) (Err (fault.Order (offset size bytes)))) x e in
     let g = passed_ok (is_above before a.0.0) (fault.Order (offset size bytes)) a.0 x a.2 in
     let t = samples_take size (2 ^ shape.precision) shape.width bytes a.0 fits a.1 in
-    subst (λ (y : List ℕ × List ℕ). Takes bytes (samples_text y.0) y.1 × (is_above before y.0 ≡ true) × (samples_fault shape.precision shape.width y.0 ≡ None)) g.1
+    subst (λ (y : List ℕ × List ℕ). Takes bytes (samples_text y.0) y.1 × (is_above before y.0 ≡ true)
+    × (samples_fault shape.precision shape.width y.0 ≡ None)) g.1
     (t.0, g.0, fits_from shape.precision shape.width a.0.0 t.1 t.2)
 
 samples_fit : (size limit n : ℕ) (bytes : List ℕ) (x : List ℕ × List ℕ) → samples_fields size limit n bytes ≡ Ok x
     → (length x.0 ≡ n) × (list_any (λ s. nat_le limit s) x.0 ≡ false)
 unfolding samples_fields sample_field
-samples_fit size limit zero bytes x e = subst (λ (y : List ℕ × List ℕ). (length y.0 ≡ 0) × (list_any (λ s. nat_le limit s) y.0 ≡ false)) (ok_is ([], bytes) x e) (refl, refl)
+samples_fit size limit zero bytes x e =
+    subst (λ (y : List ℕ × List ℕ). (length y.0 ≡ 0) × (list_any (λ s. nat_le limit s) y.0 ≡ false)) (ok_is ([], bytes) x e) (refl, refl)
 samples_fit size limit (suc n) bytes x e =
-    let a = bind_ok (sample_field size limit bytes) (λ first. samples_fields size limit n first.1 >>= λ others. Ok (first.0 ∷ others.0, others.1)) x e in
+    let a = bind_ok (sample_field size limit bytes)
+    (λ first. samples_fields size limit n first.1 >>= λ others. Ok (first.0 ∷ others.0, others.1)) x e in
     let b = bind_ok (samples_fields size limit n a.0.1) (λ others. Ok (a.0.0 ∷ others.0, others.1)) x a.2 in
     let s = bind_ok (number_field size w16 bytes) (λ s. cond (leb limit s.0) (Err (fault.Sample (offset size bytes))) (Ok s)) a.0 a.1 in
     let g = guard_ok (leb limit s.0.0) (fault.Sample (offset size bytes)) s.0 a.0 s.2 in
     let first : leb limit a.0.0 ≡ false = ap (λ (y : ℕ × List ℕ). leb limit y.0) (sym g.1) ∙ g.0 in
     let second = samples_fit size limit n a.0.1 b.0 b.1 in
     let made : List ℕ × List ℕ = (a.0.0 ∷ b.0.0, b.0.1) in
-    subst (λ (y : List ℕ × List ℕ). (length y.0 ≡ suc n) × (list_any (λ s. nat_le limit s) y.0 ≡ false)) (ok_is made x b.2) (ap suc second.0, or_from (leb limit a.0.0) _ first second.1)
+    subst (λ (y : List ℕ × List ℕ). (length y.0 ≡ suc n) × (list_any (λ s. nat_le limit s) y.0 ≡ false)) (ok_is made x b.2)
+    (ap suc second.0, or_from (leb limit a.0.0) _ first second.1)
 
 -- a reading that is read fits the shape
 pub reading_fits : (size : ℕ) (shape : PictureShape) (before : Option (List ℕ)) (bytes : List ℕ) (x : List ℕ × List ℕ)
     → reading_fields size shape before bytes ≡ Ok x → samples_fault shape.precision shape.width x.0 ≡ None
 unfolding reading_fields
 reading_fits size shape before bytes x e =
-    let a = bind_ok (samples_fields size (2 ^ shape.precision) shape.width bytes) (λ s. cond (is_above before s.0) (Ok s) (Err (fault.Order (offset size bytes)))) x e in
+    let a = bind_ok (samples_fields size (2 ^ shape.precision) shape.width bytes)
+    (λ s. cond (is_above before s.0) (Ok s) (Err (fault.Order (offset size bytes)))) x e in
     let g = passed_ok (is_above before a.0.0) (fault.Order (offset size bytes)) a.0 x a.2 in
     let t = samples_fit size (2 ^ shape.precision) shape.width bytes a.0 a.1 in
-    subst (λ (y : List ℕ × List ℕ). samples_fault shape.precision shape.width y.0 ≡ None) g.1 (fits_from shape.precision shape.width a.0.0 t.0 t.1)
+    subst (λ (y : List ℕ × List ℕ). samples_fault shape.precision shape.width y.0 ≡ None) g.1
+    (fits_from shape.precision shape.width a.0.0 t.0 t.1)
 
 pub reading_again : (size : ℕ) (shape : PictureShape) (before : Option (List ℕ)) (xs rest : List ℕ) → 2 ^ shape.precision ≤ 2 ^ 16
     → is_above before xs ≡ true → samples_fault shape.precision shape.width xs ≡ None
@@ -134,7 +147,8 @@ unfolding reading_fields
 reading_again size shape before xs rest le above fit =
     let p = fits_parts shape.precision shape.width xs fit in
     let again : samples_fields size (2 ^ shape.precision) shape.width (samples_text xs ++ rest) ≡ Ok (xs, rest) =
-    subst (λ (n : ℕ). samples_fields size (2 ^ shape.precision) n (samples_text xs ++ rest) ≡ Ok (xs, rest)) p.0 (samples_again size (2 ^ shape.precision) xs rest le p.1) in
+    subst (λ (n : ℕ). samples_fields size (2 ^ shape.precision) n (samples_text xs ++ rest) ≡ Ok (xs, rest)) p.0
+    (samples_again size (2 ^ shape.precision) xs rest le p.1) in
     rw (again, above) refl
 
 -- ---- readings of one line
@@ -176,139 +190,6 @@ unfolding IsStrictlySortedBy
 rise_from_sorted [] s = tt
 rise_from_sorted (x ∷ xs) s = (refl, rise_above x xs s.0 s.1)
 
--- ---- sources
-
--- each is above the one before
-abbrev SourcesRise : Option ℕ → List ℕ → Type 0
-SourcesRise before [] = Unit {0}
-SourcesRise before (n ∷ ns) = (is_source_above before n ≡ true) × SourcesRise (Some n) ns
-
-less_from_lower : (b n : ℕ) → nat_lt b n ≡ true → nat_cmp b n ≡ Less
-less_from_lower b n e = sym (nat_cmp_is b n Less (ltb-true b n e))
-
-lower_from_less : (b n : ℕ) → nat_cmp b n ≡ Less → nat_lt b n ≡ true
-lower_from_less b n e = lt-ltb b n (ranked b n Less (sym e))
-
-sources_further : (b n : ℕ) (ns : List ℕ) → nat_cmp b n ≡ Less → AllByRecursion (λ m. nat_cmp n m ≡ Less) ns
-    → AllByRecursion (λ m. nat_cmp b m ≡ Less) ns
-sources_further b n [] e h = tt
-sources_further b n (m ∷ ns) e h = (nat_cmp_total.trans b n m e h.0, sources_further b n ns e h.1)
-
-sources_above : (b : ℕ) (ns : List ℕ) → SourcesRise (Some b) ns
-    → AllByRecursion (λ n. nat_cmp b n ≡ Less) ns × IsStrictlySortedBy nat_cmp ns
-unfolding IsStrictlySortedBy
-sources_above b [] h = (tt, tt)
-sources_above b (n ∷ ns) h =
-    let others = sources_above n ns h.1 in
-    let first = less_from_lower b n h.0 in
-    ((first, sources_further b n ns first others.0), others)
-
-sources_sorted : (ns : List ℕ) → SourcesRise None ns → IsStrictlySortedBy nat_cmp ns
-unfolding IsStrictlySortedBy
-sources_sorted [] h = tt
-sources_sorted (n ∷ ns) h = sources_above n ns h.1
-
-sources_rise_above : (b : ℕ) (ns : List ℕ) → AllByRecursion (λ n. nat_cmp b n ≡ Less) ns → IsStrictlySortedBy nat_cmp ns
-    → SourcesRise (Some b) ns
-unfolding IsStrictlySortedBy
-sources_rise_above b [] h s = tt
-sources_rise_above b (n ∷ ns) h s = (lower_from_less b n h.0, sources_rise_above n ns s.0 s.1)
-
-sources_rise : (ns : List ℕ) → IsStrictlySortedBy nat_cmp ns → SourcesRise None ns
-unfolding IsStrictlySortedBy
-sources_rise [] s = tt
-sources_rise (n ∷ ns) s = (refl, sources_rise_above n ns s.0 s.1)
-
--- numbers that rise below a limit are few
-few_above : (low limit : ℕ) (ns : List ℕ) → low ≤ limit → IsStrictlySortedBy nat_cmp ns → AllByRecursion (λ n. low ≤ n) ns
-    → AllByRecursion (λ n. n < limit) ns → length ns + low ≤ limit
-unfolding IsStrictlySortedBy
-few_above low limit [] le s h k = omega arith
-few_above low limit (n ∷ ns) le s h k =
-    let first : low ≤ n = h.0 in
-    let below : n < limit = k.0 in
-    let rest : length ns + (n + 1) ≤ limit = few_above (n + 1) limit ns (omega (arith, below)) s.1 (all_above n ns s.0) k.1 in
-    omega (arith, rest, first)
-  where
-    all_above : (n : ℕ) (ns : List ℕ) → AllByRecursion (λ m. nat_cmp n m ≡ Less) ns → AllByRecursion (λ m. n + 1 ≤ m) ns
-    all_above n [] h = tt
-    all_above n (m ∷ ns) h = (let lt = ranked n m Less (sym h.0) in omega (arith, lt), all_above n ns h.1)
-
-all_from_zero : (ns : List ℕ) → AllByRecursion (λ n. 0 ≤ n) ns
-all_from_zero [] = tt
-all_from_zero (n ∷ ns) = (omega arith, all_from_zero ns)
-
-few_sources : (ns : List ℕ) → IsSourceList ns → length ns < 2 ^ 64
-few_sources ns is =
-    let few : length ns + 0 ≤ 2 ^ 32 = few_above 0 (2 ^ 32) ns (omega arith) is.sorted (all_from_zero ns) is.small in
-    omega (arith, few)
-
-source_takes : (size : ℕ) (before : Option ℕ) (bytes : List ℕ) (x : ℕ × List ℕ) → IsBytes bytes → source_field size before bytes ≡ Ok x
-    → Takes bytes (to_be_bytes w32 x.0) x.1 × (is_source_above before x.0 ≡ true) × (x.0 < 2 ^ 32)
-unfolding source_field
-source_takes size before bytes x fits e =
-    let a = bind_ok (number_field size w32 bytes) (λ s. cond (is_source_above before s.0) (Ok s) (Err (fault.Order (offset size bytes)))) x e in
-    let g = passed_ok (is_source_above before a.0.0) (fault.Order (offset size bytes)) a.0 x a.2 in
-    let t = number_takes size w32 (2 ^ 32) wide32 bytes a.0.0 a.0.1 fits a.1 in
-    subst (λ (y : ℕ × List ℕ). Takes bytes (to_be_bytes w32 y.0) y.1 × (is_source_above before y.0 ≡ true) × (y.0 < 2 ^ 32)) g.1 (t.0, g.0, t.1)
-
-source_again : (size : ℕ) (before : Option ℕ) (n : ℕ) (rest : List ℕ) → is_source_above before n ≡ true → n < 2 ^ 32
-    → source_field size before (to_be_bytes w32 n ++ rest) ≡ Ok (n, rest)
-unfolding source_field
-source_again size before n rest above lt = rw (number_again size w32 (2 ^ 32) wide32 n rest lt, above) refl
-
-sources_take : (size : ℕ) (before : Option ℕ) (n : ℕ) (bytes : List ℕ) (x : List ℕ × List ℕ) → IsBytes bytes
-    → sources_fields size before n bytes ≡ Ok x
-    → Takes bytes (flat_map (to_be_bytes w32) x.0) x.1 × (length x.0 ≡ n) × SourcesRise before x.0 × AllByRecursion (λ s. s < 2 ^ 32) x.0
-unfolding sources_fields
-sources_take size before zero bytes x fits e =
-    subst (λ (y : List ℕ × List ℕ). Takes bytes (flat_map (to_be_bytes w32) y.0) y.1 × (length y.0 ≡ 0) × SourcesRise before y.0 × AllByRecursion (λ s. s < 2 ^ 32) y.0) (ok_is ([], bytes) x e)
-    (record { parts = refl; rest_fits = fits }, refl, tt, tt)
-sources_take size before (suc n) bytes x fits e =
-    let a = bind_ok (source_field size before bytes) (λ first. sources_fields size (Some first.0) n first.1 >>= λ others. Ok (first.0 ∷ others.0, others.1)) x e in
-    let b = bind_ok (sources_fields size (Some a.0.0) n a.0.1) (λ others. Ok (a.0.0 ∷ others.0, others.1)) x a.2 in
-    let first = source_takes size before bytes a.0 fits a.1 in
-    let second = sources_take size (Some a.0.0) n a.0.1 b.0 first.0.rest_fits b.1 in
-    let both = Takes-then bytes (to_be_bytes w32 a.0.0) a.0.1 (flat_map (to_be_bytes w32) b.0.0) b.0.1 first.0 second.0 in
-    let made : List ℕ × List ℕ = (a.0.0 ∷ b.0.0, b.0.1) in
-    subst (λ (y : List ℕ × List ℕ). Takes bytes (flat_map (to_be_bytes w32) y.0) y.1 × (length y.0 ≡ suc n) × SourcesRise before y.0 × AllByRecursion (λ s. s < 2 ^ 32) y.0) (ok_is made x b.2)
-    (subst (λ (t : List ℕ). Takes bytes t b.0.1) (sym (flat_map-cons (to_be_bytes w32) a.0.0 b.0.0)) both, ap suc second.1, (first.1, second.2), (first.2, second.3))
-
-sources_again : (size : ℕ) (before : Option ℕ) (ns rest : List ℕ) → SourcesRise before ns → AllByRecursion (λ s. s < 2 ^ 32) ns
-    → sources_fields size before (length ns) (flat_map (to_be_bytes w32) ns ++ rest) ≡ Ok (ns, rest)
-unfolding sources_fields
-sources_again size before [] rest rise small = refl
-sources_again size before (n ∷ ns) rest rise small =
-    let regrouped : flat_map (to_be_bytes w32) (n ∷ ns) ++ rest ≡ to_be_bytes w32 n ++ (flat_map (to_be_bytes w32) ns ++ rest) =
-    ap (λ (t : List ℕ). t ++ rest) (flat_map-cons (to_be_bytes w32) n ns) ∙ append_assoc (to_be_bytes w32 n) (flat_map (to_be_bytes w32) ns) rest in
-    ap (sources_fields size before (suc (length ns))) regrouped ∙ rw (source_again size before n (flat_map (to_be_bytes w32) ns ++ rest) rise.0 small.0, sources_again size (Some n) ns rest rise.1 small.1) refl
-
--- whether a text of this version says all of these sources
-abbrev pub SaysSources : Version → List ℕ → Type 0
-SaysSources One sources = sources ≡ []
-SaysSources Two sources = Unit {0}
-
-own_take : (size : ℕ) (version : Version) (bytes : List ℕ) (x : List ℕ × List ℕ) → IsBytes bytes
-    → own_sources_fields size version bytes ≡ Ok x → Takes bytes (sources_text version x.0) x.1 × IsSourceList x.0 × SaysSources version x.0
-unfolding own_sources_fields
-own_take size One bytes x fits e =
-    subst (λ (y : List ℕ × List ℕ). Takes bytes [] y.1 × IsSourceList y.0 × (y.0 ≡ [])) (ok_is ([], bytes) x e) (record { parts = refl; rest_fits = fits }, sources-none, refl)
-own_take size Two bytes x fits e =
-    let c = bind_ok (number_field size w64 bytes) (λ count. sources_fields size None count.0 count.1) x e in
-    let t = number_takes size w64 (2 ^ 64) wide64 bytes c.0.0 c.0.1 fits c.1 in
-    let s = sources_take size None c.0.0 c.0.1 x t.0.rest_fits c.2 in
-    let both = Takes-then bytes (to_be_bytes w64 c.0.0) c.0.1 (flat_map (to_be_bytes w32) x.0) x.1 t.0 s.0 in
-    (subst (λ (n : ℕ). Takes bytes (to_be_bytes w64 n ++ flat_map (to_be_bytes w32) x.0) x.1) (sym s.1) both, record { sorted = sources_sorted x.0 s.2; small = s.3 }, tt)
-
-own_again : (size : ℕ) (version : Version) (ns rest : List ℕ) → IsSourceList ns → SaysSources version ns
-    → own_sources_fields size version (sources_text version ns ++ rest) ≡ Ok (ns, rest)
-unfolding own_sources_fields
-own_again size One ns rest is says = ap (λ (t : List ℕ). Ok (t, rest)) (sym says)
-own_again size Two ns rest is says =
-    let body = flat_map (to_be_bytes w32) ns in
-    ap (own_sources_fields size Two) (append_assoc (to_be_bytes w64 (length ns)) body rest)
-    ∙ rw (number_again size w64 (2 ^ 64) wide64 (length ns) (body ++ rest) (few_sources ns is)) (sources_again size None ns rest (sources_rise ns is.sorted) is.small)
-
 -- ---- a reading with its sources
 
 -- what a text of a version says of the sources of a reading
@@ -317,16 +198,19 @@ IsSaid version k = IsSourceList k.1 × SaysSources version k.1
 
 kept_takes : (size : ℕ) (version : Version) (shape : PictureShape) (before : Option (List ℕ)) (bytes : List ℕ) (x : Kept × List ℕ)
     → IsBytes bytes → kept_fields size version shape before bytes ≡ Ok x
-    → Takes bytes (reading_text version x.0) x.1 × (is_above before x.0.0 ≡ true) × (samples_fault shape.precision shape.width x.0.0 ≡ None) × IsSaid version x.0
+    → Takes bytes (reading_text version x.0) x.1 × (is_above before x.0.0 ≡ true) × (samples_fault shape.precision shape.width x.0.0 ≡ None)
+    × IsSaid version x.0
 unfolding kept_fields
 kept_takes size version shape before bytes x fits e =
-    let a = bind_ok (reading_fields size shape before bytes) (λ samples. own_sources_fields size version samples.1 >>= λ sources. Ok ((samples.0, sources.0), sources.1)) x e in
+    let a = bind_ok (reading_fields size shape before bytes)
+    (λ samples. own_sources_fields size version samples.1 >>= λ sources. Ok ((samples.0, sources.0), sources.1)) x e in
     let b = bind_ok (own_sources_fields size version a.0.1) (λ sources. Ok ((a.0.0, sources.0), sources.1)) x a.2 in
     let first = reading_takes size shape before bytes a.0 fits a.1 in
     let second = own_take size version a.0.1 b.0 first.0.rest_fits b.1 in
     let both = Takes-then bytes (samples_text a.0.0) a.0.1 (sources_text version b.0.0) b.0.1 first.0 second.0 in
     let made : Kept × List ℕ = ((a.0.0, b.0.0), b.0.1) in
-    subst (λ (y : Kept × List ℕ). Takes bytes (reading_text version y.0) y.1 × (is_above before y.0.0 ≡ true) × (samples_fault shape.precision shape.width y.0.0 ≡ None) × IsSaid version y.0) (ok_is made x b.2)
+    subst (λ (y : Kept × List ℕ). Takes bytes (reading_text version y.0) y.1 × (is_above before y.0.0 ≡ true)
+    × (samples_fault shape.precision shape.width y.0.0 ≡ None) × IsSaid version y.0) (ok_is made x b.2)
     (both, first.1, first.2, (second.1, second.2))
 
 kept_again : (size : ℕ) (version : Version) (shape : PictureShape) (before : Option (List ℕ)) (k : Kept) (rest : List ℕ)
@@ -335,29 +219,45 @@ kept_again : (size : ℕ) (version : Version) (shape : PictureShape) (before : O
 unfolding kept_fields
 kept_again size version shape before k rest le above fit said =
     ap (kept_fields size version shape before) (append_assoc (samples_text k.0) (sources_text version k.1) rest)
-    ∙ rw (reading_again size shape before k.0 (sources_text version k.1 ++ rest) le above fit, own_again size version k.1 rest said.0 said.1) refl
+    ∙ rw (
+      reading_again size shape before k.0 (sources_text version k.1 ++ rest) le above fit,
+      own_again size version k.1 rest said.0
+          said.1,
+    ) refl
 
 -- ---- all readings of a line
 
 abbrev Samples : List Kept → List (List ℕ)
 Samples ks = map (λ k. k.0) ks
 
-pub readings_take : (size : ℕ) (version : Version) (shape : PictureShape) (before : Option (List ℕ)) (n : ℕ) (bytes : List ℕ) (x : List Kept × List ℕ)
+pub readings_take : (size : ℕ) (version : Version) (shape : PictureShape) (before : Option (List ℕ)) (n : ℕ) (bytes : List ℕ)
+    (x : List Kept × List ℕ)
     → IsBytes bytes → readings_fields size version shape before n bytes ≡ Ok x
-    → Takes bytes (flat_map (reading_text version) x.0) x.1 × (length x.0 ≡ n) × Rise before (Samples x.0) × AllByRecursion (λ s. samples_fault shape.precision shape.width s ≡ None) (Samples x.0) × AllByRecursion (IsSaid version) x.0
+    → Takes bytes (flat_map (reading_text version) x.0) x.1 × (length x.0 ≡ n) × Rise before (Samples x.0)
+    × AllByRecursion (λ s. samples_fault shape.precision shape.width s ≡ None) (Samples x.0) × AllByRecursion (IsSaid version) x.0
 unfolding readings_fields
 readings_take size version shape before zero bytes x fits e =
-    subst (λ (y : List Kept × List ℕ). Takes bytes (flat_map (reading_text version) y.0) y.1 × (length y.0 ≡ 0) × Rise before (Samples y.0) × AllByRecursion (λ s. samples_fault shape.precision shape.width s ≡ None) (Samples y.0) × AllByRecursion (IsSaid version) y.0) (ok_is ([], bytes) x e)
+    subst (λ (y : List Kept × List ℕ). Takes bytes (flat_map (reading_text version) y.0) y.1 × (length y.0 ≡ 0) × Rise before (Samples y.0)
+    × AllByRecursion (λ s. samples_fault shape.precision shape.width s ≡ None) (Samples y.0) × AllByRecursion (IsSaid version) y.0)
+    (ok_is ([], bytes) x e)
     (record { parts = refl; rest_fits = fits }, refl, tt, tt, tt)
 readings_take size version shape before (suc n) bytes x fits e =
-    let a = bind_ok (kept_fields size version shape before bytes) (λ first. readings_fields size version shape (Some first.0.0) n first.1 >>= λ others. Ok (first.0 ∷ others.0, others.1)) x e in
+    let a = bind_ok (kept_fields size version shape before bytes)
+    (λ first. readings_fields size version shape (Some first.0.0) n first.1 >>= λ others. Ok (first.0 ∷ others.0, others.1)) x e in
     let b = bind_ok (readings_fields size version shape (Some a.0.0.0) n a.0.1) (λ others. Ok (a.0.0 ∷ others.0, others.1)) x a.2 in
     let first = kept_takes size version shape before bytes a.0 fits a.1 in
     let second = readings_take size version shape (Some a.0.0.0) n a.0.1 b.0 first.0.rest_fits b.1 in
     let both = Takes-then bytes (reading_text version a.0.0) a.0.1 (flat_map (reading_text version) b.0.0) b.0.1 first.0 second.0 in
     let made : List Kept × List ℕ = (a.0.0 ∷ b.0.0, b.0.1) in
-    subst (λ (y : List Kept × List ℕ). Takes bytes (flat_map (reading_text version) y.0) y.1 × (length y.0 ≡ suc n) × Rise before (Samples y.0) × AllByRecursion (λ s. samples_fault shape.precision shape.width s ≡ None) (Samples y.0) × AllByRecursion (IsSaid version) y.0) (ok_is made x b.2)
-    (subst (λ (t : List ℕ). Takes bytes t b.0.1) (sym (flat_map-cons (reading_text version) a.0.0 b.0.0)) both, ap suc second.1, (first.1, second.2), (first.2, second.3), (first.3, second.4))
+    subst (λ (y : List Kept × List ℕ). Takes bytes (flat_map (reading_text version) y.0) y.1 × (length y.0 ≡ suc n)
+    × Rise before (Samples y.0) × AllByRecursion (λ s. samples_fault shape.precision shape.width s ≡ None) (Samples y.0)
+    × AllByRecursion (IsSaid version) y.0) (ok_is made x b.2) (
+      subst (λ (t : List ℕ). Takes bytes t b.0.1) (sym (flat_map-cons (reading_text version) a.0.0 b.0.0)) both,
+      ap suc second.1,
+      (first.1, second.2),
+      (first.2, second.3),
+      (first.3, second.4),
+    )
 
 pub readings_again : (size : ℕ) (version : Version) (shape : PictureShape) (before : Option (List ℕ)) (ks : List Kept) (rest : List ℕ)
     → 2 ^ shape.precision ≤ 2 ^ 16 → Rise before (Samples ks)
@@ -366,7 +266,13 @@ pub readings_again : (size : ℕ) (version : Version) (shape : PictureShape) (be
 unfolding readings_fields
 readings_again size version shape before [] rest le rise fit said = refl
 readings_again size version shape before (k ∷ ks) rest le rise fit said =
-    let regrouped : flat_map (reading_text version) (k ∷ ks) ++ rest ≡ reading_text version k ++ (flat_map (reading_text version) ks ++ rest) =
-    ap (λ (t : List ℕ). t ++ rest) (flat_map-cons (reading_text version) k ks) ∙ append_assoc (reading_text version k) (flat_map (reading_text version) ks) rest in
+    let regrouped : flat_map (reading_text version) (k ∷ ks) ++ rest
+    ≡ reading_text version k ++ (flat_map (reading_text version) ks ++ rest) =
+    ap (λ (t : List ℕ). t ++ rest) (flat_map-cons (reading_text version) k ks)
+    ∙ append_assoc (reading_text version k) (flat_map (reading_text version) ks) rest in
     ap (readings_fields size version shape before (suc (length ks))) regrouped
-    ∙ rw (kept_again size version shape before k (flat_map (reading_text version) ks ++ rest) le rise.0 fit.0 said.0, readings_again size version shape (Some k.0) ks rest le rise.1 fit.1 said.1) refl
+    ∙ rw (
+      kept_again size version shape before k (flat_map (reading_text version) ks ++ rest) le rise.0 fit.0 said.0,
+      readings_again size
+          version shape (Some k.0) ks rest le rise.1 fit.1 said.1,
+    ) refl

@@ -17,6 +17,7 @@ use Rattle.jls_values.specs.SourceList.{IsSourceList}
 use Rattle.jls_values.specs.OrderedSet as set
 use Rattle.jls_values.specs.OrderedSetLaws.{same_set, contains-insert, contains-insert_all, contains-from_list, contains-union}
 use Rattle.jls_values.specs.OrderedSetLaws.{insert_all-append}
+use Rattle.jls_values.proofs.Inserts.{all-insert, any-insert, none_at_gap}
 
 -- a list in ascending order
 abbrev pub Rises : List ℕ → Type 0
@@ -59,37 +60,11 @@ next y xs i x g = record {
 is_less : (x y : ℕ) → x < y → nat_cmp x y ≡ Less
 is_less x y lt = sym (nat_cmp_is x y Less lt)
 
-is_greater : (x y : ℕ) → y < x → nat_cmp x y ≡ Greater
-is_greater x y lt = sym (nat_cmp_is x y Greater lt)
-
 -- a number that has a gap does not stand in the list
 pub gap-new : (xs : List ℕ) (i x : ℕ) → IsGap xs i x → set.contains (set.from_list {R = nat_cmp} xs) x ≡ false
-gap-new xs i x g = contains-from_list nat_cmp_total xs x ∙ none xs i g
-  where
-    none : (xs : List ℕ) (i : ℕ) → IsGap xs i x → list_any (eq_by_cmp nat_cmp x) xs ≡ false
-    none [] i g = refl
-    none (y ∷ xs) zero g =
-        ap (λ b. b || list_any (eq_by_cmp nat_cmp x) xs) (ap is_eq (is_less x y (g.above 0 (omega arith) (omega arith))))
-        ∙ none xs zero (record {
-          within = omega arith;
-          below = λ k lt. absurd (omega arith);
-          above =
-              λ k le lt. g.above (suc k) (omega arith) (omega arith);
-        })
-    none (y ∷ xs) (suc i) g =
-        ap (λ b. b || list_any (eq_by_cmp nat_cmp x) xs) (ap is_eq (is_greater x y (g.below 0 (omega arith))))
-        ∙ none xs i (next y xs i x g)
-
--- what a list with one number more passes
-any-insert : (p : ℕ → Bool) (xs : List ℕ) (i x : ℕ) → i ≤ length xs → list_any p (insert xs i x) ≡ (p x || list_any p xs)
-any-insert p xs zero x le = refl
-any-insert p [] (suc i) x le = absurd (omega arith)
-any-insert p (y ∷ xs) (suc i) x le = ap (λ b. p y || b) (any-insert p xs i x (omega arith)) ∙ turn (p y) (p x) (list_any p xs)
-  where
-    turn : (a b c : Bool) → (a || (b || c)) ≡ (b || (a || c))
-    turn true true c = refl
-    turn true false c = refl
-    turn false b c = refl
+gap-new xs i x g = contains-from_list nat_cmp_total xs x
+    ∙ none_at_gap nat_cmp_total xs i x 0 (λ k lt inside. is_less (get_or xs k 0) x (g.below k lt))
+    (λ k le lt. is_less x (get_or xs k 0) (g.above k le lt))
 
 -- one number more in the list is one more in the set
 pub from_list-insert : (xs : List ℕ) (i x : ℕ) → i ≤ length xs → set.from_list {R = nat_cmp} (insert xs i x)
@@ -98,11 +73,6 @@ from_list-insert xs i x le = same_set nat_cmp_total exact_unsigned _ _ (λ q.
     contains-from_list nat_cmp_total (insert xs i x) q ∙ any-insert (eq_by_cmp nat_cmp q) xs i x le
     ∙ ap (λ b. eq_by_cmp nat_cmp q x || b) (sym (contains-from_list nat_cmp_total xs q))
     ∙ sym (contains-insert nat_cmp_total (set.from_list xs) x q))
-
-pub all-insert : (P : ℕ → Type 0) (xs : List ℕ) (i x : ℕ) → i ≤ length xs → AllByRecursion P xs → P x → AllByRecursion P (insert xs i x)
-all-insert P xs zero x le h p = (p, h)
-all-insert P [] (suc i) x le h p = absurd (omega arith)
-all-insert P (y ∷ xs) (suc i) x le h p = (h.0, all-insert P xs i x (omega arith) h.1 p)
 
 all-above : (x : ℕ) (xs : List ℕ) → ((k : ℕ) → k < length xs → x < get_or xs k 0) → AllByRecursion (λ y. nat_cmp x y ≡ Less) xs
 all-above x [] h = tt

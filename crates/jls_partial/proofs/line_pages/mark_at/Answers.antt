@@ -1,4 +1,4 @@
-use Rattle.std.proofs.Common.{◌≡◌, ◌<◌, List, Some, None, length, ap, sym, subst, ◌∙◌, arith}
+use Rattle.std.proofs.Common.{◌≡◌, ◌<◌, List, Some, None, length, ap, sym, subst, ◌∙◌}
 use Rattle.std.specs.BTreeMap.{is_at}
 use Rattle.std.specs.Map.{lookup}
 use Rattle.std.proofs.lemmas.Result.{on_ok_weaker, on_err_weaker}
@@ -10,7 +10,7 @@ use Rattle.jls_partial.specs.Pages.{Row, page_cmp, page_of, pages_seen}
 use Rattle.jls_partial.specs.Stored.{AddsSource, rows_seen, stored_at}
 use Rattle.jls_partial.proofs.Pages.{rows_there, rows_here, page_written, IsPageWritten, lines_there, lines_missed, page_changes}
 use Rattle.jls_partial.proofs.Pages.{pages_packed, page_same}
-use Rattle.jls_partial.proofs.Store.{no_items}
+use Rattle.jls_partial.proofs.Store.{none_below}
 use Rattle.jls_partial.proofs.StoredLines.{itself}
 use Rattle.jls_partial.proofs.line_pages.mark_at.Goals.{In-Some, After-mark_row}
 use Rattle.jls_partial.proofs.line_pages.mark_at.Goals as goal
@@ -45,12 +45,10 @@ unreachable-requires c =
     let packed = c.args.packed.now in
     let es = c.args.pages.now.entries in
     let at = c.args.at in
-    let below = c.requires.within in
     let missing : lookup (is_at (page_cmp (page_of at))) es ≡ None =
     ap (λ (z : PageNumber). lookup (is_at (page_cmp z)) es) (sym c.page.ensures) ∙ sym c.in-None.ensures.value in
-    let empty : length (set.items (stored_at (pages_seen packed es) at).lines) ≡ 0 =
-    ap (λ (L : PictureLines). length (set.items L.lines)) (lines_missed packed es at c.requires.pages.pages missing) ∙ ap length no_items in
-    absurd (omega (arith, empty, below))
+    none_below packed.precision packed.width c.args.i (stored_at (pages_seen packed es) at)
+    (lines_missed packed es at c.requires.pages.pages missing) c.requires.within
 
 pub returns-clause-pages : goal.returns-clause-pages
 returns-clause-pages c =

@@ -1,12 +1,12 @@
-use Rattle.std.proofs.Common.{◌≡◌, ℕ, ◌<◌, List, [], length, take, drop, ap, sym, subst, ◌∙◌, arith}
+use Rattle.std.proofs.Common.{◌≡◌, ◌<◌, length, take, drop, ap, sym, subst, ◌∙◌, arith}
 use Rattle.std.specs.Prelude.{OnErr, Ok, Err}
-use Rattle.std.proofs.lemmas.List.{append-nil, take_at, take-append-drop, length-map}
+use Rattle.std.proofs.lemmas.List.{take-append-drop}
 use Rattle.jls_values.specs.Join.{IsBetween}
 use Rattle.jls_values.specs.OrderedSet.{items}
-use Rattle.jls_partial.specs.LineSet.{PictureLines, with_lines, kept_lines, line_sources, union_of_lines}
+use Rattle.jls_partial.specs.LineSet.{PictureLines, with_lines, kept_lines, union_of_lines}
 use Rattle.jls_partial.specs.Merging.{TakesPrefixOfLines}
-use Rattle.jls_partial.specs.Packed.{Kept}
-use Rattle.jls_partial.proofs.LineSets.{one_more, all_is_union, prefix_between}
+use Rattle.jls_partial.proofs.Growth.{kept_whole}
+use Rattle.jls_partial.proofs.LineUnions.{one_more, all_is_union, prefix_between}
 use Rattle.jls_partial.proofs.line_set.merge_lines.Goals as goal
 
 pub returns-in_err-take-clause-err : goal.returns-in_err-take-clause-err
@@ -51,10 +51,6 @@ pub returns-clause-ok : goal.returns-clause-ok
 returns-clause-ok c =
     let s = c.args.into.now in
     let p = c.args.other.now in
-    let kl = kept_lines p in
-    let f = λ (y : List ℕ). let k : Kept = (y, line_sources p y) in k in
-    let many : length kl ≡ length (items p.lines) = length-map (items p.lines) f in
     let end = c.len-i-end.ensures.value in
-    let all : length kl ≡ c.loop-i.i = omega (arith, many, end) in
-    c.loop-i.invariant ∙ ap (with_lines s) (ap (take c.loop-i.i) (sym (append-nil kl)) ∙ take_at kl [] c.loop-i.i all)
-    ∙ all_is_union s p c.len-i-end.ensures.sources
+    let all : length (items p.lines) ≡ c.loop-i.i = omega (arith, end) in
+    c.loop-i.invariant ∙ ap (with_lines s) (kept_whole p c.loop-i.i all) ∙ all_is_union s p c.len-i-end.ensures.sources

@@ -1,14 +1,14 @@
-use Rattle.std.proofs.Common.{◌≡◌, ◌<◌, ◌∷◌, [], ◌∙◌, List, ℕ, None, length, map, take, drop, ap, sym, subst, arith}
-use Rattle.std.proofs.lemmas.List.{map-append, append-nil, length-map, take_at, take-append-drop}
+use Rattle.std.proofs.Common.{◌≡◌, ◌<◌, ◌∷◌, [], ◌∙◌, None, length, map, take, drop, ap, sym, subst, arith}
+use Rattle.std.proofs.lemmas.List.{map-append, take-append-drop}
 use Rattle.std.proofs.lemmas.Result.{err_from_is_err_and}
 use Rattle.jls_values.specs.OrderedSet.{items}
 use Rattle.jls_values.specs.Shape.{PictureShape}
 use Rattle.jls_partial.specs.Entries.{kept_at_place}
 use Rattle.jls_partial.specs.InsertFaults.{reading_fault}
-use Rattle.jls_partial.specs.LineSet.{kept_lines, line_sources}
+use Rattle.jls_partial.specs.LineSet.{kept_lines}
 use Rattle.jls_partial.specs.Packed.{Kept}
 use Rattle.jls_partial.specs.Partial.{PartialPicture, with_all}
-use Rattle.jls_partial.proofs.Growth.{kept_more, with_all-append}
+use Rattle.jls_partial.proofs.Growth.{kept_more, kept_whole, with_all-append}
 use Rattle.jls_partial.proofs.Views.{all-slice_get}
 use Rattle.jls_partial.proofs.merging.merge_line.Goals as goal
 
@@ -50,10 +50,6 @@ loop-i-preserved c =
 pub returns-clause-ok : goal.returns-clause-ok
 returns-clause-ok c =
     let L = c.args.lines.now in
-    let ks = kept_lines L in
-    let g = λ (y : List ℕ). let k : Kept = (y, line_sources L y) in k in
-    let many : length ks ≡ length (items L.lines) = length-map (items L.lines) g in
     let end = c.len-i-end.ensures.value in
-    let all : length ks ≡ c.loop-i.i = omega (arith, many, end) in
     c.loop-i.invariant ∙ ap (λ xs. with_all c.args.into.now (map (kept_at_place c.args.at) xs))
-    (ap (take c.loop-i.i) (sym (append-nil ks)) ∙ take_at ks [] c.loop-i.i all)
+    (kept_whole L c.loop-i.i (let all : length (items L.lines) ≡ c.loop-i.i = omega (arith, end) in all))
