@@ -30,5 +30,4 @@ pub returns-then-count-gt0 : goal.returns-then-count-gt0
 returns-then-count-gt0 c =
     takes_fill c.args.self.now c.args.bytes.now c.fill_len-count.result (AtMarker true) (c.requires.place ∙ ap AtMarker c.if-fill.true)
     (omega (arith, c.if-count-gt0.true)) c.fill_len-count.ensures.within
-    (fill_at_marker c.args.bytes.now c.fill_len-count.result c.fill_len-count.ensures.within c.fill_len-count.ensures.fill) refl tt
-    c.requires.header_bytes
+    (fill_at_marker _ _ c.fill_len-count.ensures.within c.fill_len-count.ensures.fill) refl tt c.requires.header_bytes
