@@ -20,7 +20,8 @@ use Rattle.jls_interval.specs.declared.decode_piece.PieceFault.TheVariants as pi
 use Rattle.jls_interval.proofs.CutStates.{over_head}
 use Rattle.jls_interval.proofs.HeadLines.{prefix_lines}
 use Rattle.jls_marker.specs.Scan.{Scan, IsScan, intervals, row_count, first_row}
-use Rattle.jls_copy.specs.Pieces.{placed, Lines, Fault}
+use Rattle.jls_copy.specs.Numbers.{Interval}
+use Rattle.jls_copy.specs.Pieces.{placed, Lines, Fault, IsOutcomeAt}
 use Rattle.jls_copy.specs.Findings.{AddsCut, IsKindOf, with_readings, picture_of, kept_with}
 use Rattle.jls_copy.specs.ReaderState.{piece_found}
 use Rattle.jls_copy.specs.Sound.{IsDecodingOf, IsOpenPiece}
@@ -105,13 +106,21 @@ module _ (s : Scan) (k : ℕ) (d : IntervalBytes) (piece : OpenPiece) (is : piec
       → fault ≡ piece_fault.OutOfMemory → ⊥
   not_memory head fault h e = said (Head head piece_fault.OutOfMemory) (subst (λ f. CutFinishes d (Head head f)) e h)
 
+  its_head : (head : Vec (Vec ℕ Global) Global) (fault : PieceFault) → CutFinishes d (Head head fault)
+      → IsHeadOfPiece (interval_shape s.params s.width (length s.components) count) fed_bytes (items head)
+  its_head head piece_fault.Long h = (said (Head head piece_fault.Long) h).1
+  its_head head piece_fault.Broken h = (said (Head head piece_fault.Broken) h).1
+  its_head head piece_fault.OutOfMemory h = absurd (said (Head head piece_fault.OutOfMemory) h)
+
+  its_fault : (head : Vec (Vec ℕ Global) Global) (fault : PieceFault) (f : PieceKind) → CutFinishes d (Head head fault) → IsKindOf fault f
+      → IsOutcomeAt s (Interval k) fed_bytes (Fault f)
+  its_fault head piece_fault.Long f h e = rw e ((said (Head head piece_fault.Long) h).0)
+  its_fault head piece_fault.Broken f h e = rw e ((said (Head head piece_fault.Broken) h).0)
+  its_fault head piece_fault.OutOfMemory f h e = absurd e
+
   pub cut_lines : (head : Vec (Vec ℕ Global) Global) (fault : PieceFault) → CutFinishes d (Head head fault)
       → (n : ℕ) × (n ≤ count) × AreLines s.params s.width n (items head)
-  cut_lines head piece_fault.Long h =
-      head_lines s.params s.width (length s.components) count fed_bytes (items head) (said (Head head piece_fault.Long) h).1
-  cut_lines head piece_fault.Broken h =
-      head_lines s.params s.width (length s.components) count fed_bytes (items head) (said (Head head piece_fault.Broken) h).1
-  cut_lines head piece_fault.OutOfMemory h = absurd (said (Head head piece_fault.OutOfMemory) h)
+  cut_lines head fault h = head_lines s.params s.width (length s.components) count fed_bytes (items head) (its_head head fault h)
 
   module _ (ok : IsScan s) (shape : PictureShape) (index offset : ℕ) (old new : Findings) where
     pub whole_adds : (lines : Vec (Vec ℕ Global) Global) → CutFinishes d (Whole lines)
@@ -143,36 +152,17 @@ module _ (s : Scan) (k : ℕ) (d : IntervalBytes) (piece : OpenPiece) (is : piec
         → new.records.items ≡ kept_with old.records.items (record { scan = index; interval = k; offset = offset; kind = f } ∷ [])
         → new.record_count ≡ old.record_count + 1
         → AddsCut (Some shape) (piece_found index s offset piece ∷ []) old new
-    head_adds head piece_fault.Long f h e p r c =
-        let now = said (Head head piece_fault.Long) h in
+    head_adds head fault f h e p r c =
         rw whole (
           shape,
           refl,
           record {
-            outcome = Fault kind.Long;
-            is_outcome = now.0;
+            outcome = Fault f;
+            is_outcome = its_fault head fault f h e;
             head = items head;
-            is_head = now.1;
-            picture_is =
-                ap (picture_of shape) p;
-            records_are = rw e at r;
+            is_head = its_head head fault h;
+            picture_is = ap (picture_of shape) p;
+            records_are = r;
             count_is = c;
           },
         )
-    head_adds head piece_fault.Broken f h e p r c =
-        let now = said (Head head piece_fault.Broken) h in
-        rw whole (
-          shape,
-          refl,
-          record {
-            outcome = Fault kind.Broken;
-            is_outcome = now.0;
-            head = items head;
-            is_head = now.1;
-            picture_is =
-                ap (picture_of shape) p;
-            records_are = rw e at r;
-            count_is = c;
-          },
-        )
-    head_adds head piece_fault.OutOfMemory f h e p r c = absurd e

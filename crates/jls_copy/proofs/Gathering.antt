@@ -26,7 +26,7 @@ use Rattle.jls_copy.specs.Findings.{Adds, HoldsShape, with_readings, picture_of,
 use Rattle.jls_copy.specs.Gathers.{Gathers}
 use Rattle.jls_copy.specs.Pieces.{AreOutcomes, readings, records}
 use Rattle.jls_copy.specs.ReaderState.{ReaderState, Step, Reading, reading, reading_with, reading_from, step_from, closed_at, segment_taken}
-use Rattle.jls_copy.specs.Machine.{state_of, Takes}
+use Rattle.jls_copy.specs.Machine.{IsMachine, state_of, Takes}
 use Rattle.jls_copy.specs.Reader.{IsReading}
 use Rattle.jls_copy.specs.declared.machine.Machine.{Machine}
 use Rattle.jls_copy.specs.declared.findings.Findings.{Findings}
@@ -42,21 +42,26 @@ are_more [] (x ∷ os) p o h i = absurd h
 are_more (x ∷ ps) [] p o h i = absurd h
 are_more (x ∷ ps) (y ∷ os) p o h i = (h.0, are_more ps os p o h.1 i)
 
+-- what pieces give by their outcomes, one piece after the other
+more_given : {A : Type 0} (one : FoundPiece → PieceOutcome → List A) (all : List FoundPiece → List PieceOutcome → List A) → all [] [] ≡ []
+    → ((p : FoundPiece) (o : PieceOutcome) (ps : List FoundPiece) (os : List PieceOutcome)
+    → all (p ∷ ps) (o ∷ os) ≡ one p o ++ all ps os)
+    → (ps : List FoundPiece) (os : List PieceOutcome) (p : FoundPiece) (o : PieceOutcome) → AreOutcomes ps os
+    → all (ps ++ p ∷ []) (os ++ o ∷ []) ≡ all ps os ++ one p o
+more_given one all none first [] [] p o h = rw (first, none) (append-nil (one p o))
+more_given one all none first [] (x ∷ os) p o h = absurd h
+more_given one all none first (x ∷ ps) [] p o h = absurd h
+more_given one all none first (x ∷ ps) (y ∷ os) p o h =
+    first x y (ps ++ p ∷ []) (os ++ o ∷ []) ∙ ap (λ t. one x y ++ t) (more_given one all none first ps os p o h.1)
+    ∙ sym (append_assoc (one x y) (all ps os) (one p o)) ∙ ap (λ t. t ++ one p o) (sym (first x y ps os))
+
 pub readings_more : (ps : List FoundPiece) (os : List PieceOutcome) (p : FoundPiece) (o : PieceOutcome) → AreOutcomes ps os
     → readings (ps ++ p ∷ []) (os ++ o ∷ []) ≡ readings ps os ++ readings_of p o
-readings_more [] [] p o h = append-nil (readings_of p o)
-readings_more [] (x ∷ os) p o h = absurd h
-readings_more (x ∷ ps) [] p o h = absurd h
-readings_more (x ∷ ps) (y ∷ os) p o h = ap (λ t. readings_of x y ++ t) (readings_more ps os p o h.1)
-    ∙ sym (append_assoc (readings_of x y) (readings ps os) (readings_of p o))
+readings_more ps os p o h = more_given readings_of readings refl (λ p o ps os. refl) ps os p o h
 
 pub records_more : (ps : List FoundPiece) (os : List PieceOutcome) (p : FoundPiece) (o : PieceOutcome) → AreOutcomes ps os
     → records (ps ++ p ∷ []) (os ++ o ∷ []) ≡ records ps os ++ records_of p o
-records_more [] [] p o h = append-nil (records_of p o)
-records_more [] (x ∷ os) p o h = absurd h
-records_more (x ∷ ps) [] p o h = absurd h
-records_more (x ∷ ps) (y ∷ os) p o h = ap (λ t. records_of x y ++ t) (records_more ps os p o h.1)
-    ∙ sym (append_assoc (records_of x y) (records ps os) (records_of p o))
+records_more ps os p o h = more_given records_of records refl (λ p o ps os. refl) ps os p o h
 
 -- the first 4,096 records are kept
 kept_one : (xs : List PieceRecord) (r : PieceRecord) → kept_with (take 4096 xs) (r ∷ []) ≡ take 4096 (xs ++ r ∷ [])
@@ -290,3 +295,14 @@ bytes_between n m at xs each =
     all : (xs : List ℕ) → ((k : ℕ) → get_or xs k 0 < 256) → AllByRecursion (λ x. x < 256) xs
     all [] each = tt
     all (x ∷ xs) each = (each 0, all xs (λ k. each (suc k)))
+
+-- the machine of a reader can take a step
+pub is_machine : (m : Machine) (bytes : List ℕ) → IsReading m bytes → IsMachine m
+is_machine m bytes h = record {
+  count_below = omega (arith, h.count_is, h.few);
+  records_below = omega (arith, h.records_counted, h.count_is, h.few);
+  following = h.following;
+  place_is = h.place_is;
+  shape_is = held_shape _ _ _ h.gathers;
+  header_bytes = h.header_bytes;
+}

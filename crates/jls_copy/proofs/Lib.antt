@@ -4,6 +4,7 @@ mod UnitsCut
 pub mod NumbersGiven
 mod CutExamples
 mod DefinitionExamples
+mod OnePieceFile
 pub mod TwoScanExamples
 pub mod ByLineExamples
 pub mod TwoByLineExamples

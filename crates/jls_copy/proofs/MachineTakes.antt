@@ -30,6 +30,18 @@ takes_stretch m n bytes count p q is there some within leads none headers payloa
   header_bytes = small;
 }
 
+-- bytes that leave the machine as it is
+pub takes_fill : (m : Machine) (bytes : List ℕ) (count : ℕ) (p : CopyPosition) → m.place ≡ p → 0 < count → count ≤ length bytes
+    → LeadsTo p (take count bytes) p → closed_at p (get_or bytes 0 0) ≡ [] → IsPlace m.headers.frame p m.payload.items
+    → length m.payload.items ≤ 65535 → Takes m bytes m count
+takes_fill m bytes count p is some within leads none sound small =
+    takes_stretch m m bytes count p p is is some within leads none refl refl refl refl sound small
+
+-- how long a payload is with more bytes
+grown : {count : ℕ} (bytes old new : List ℕ) → new ≡ old ++ take count bytes → length (take count bytes) ≡ count
+    → length new ≡ length old + count
+grown bytes old new is taken = ap length is ∙ length-append old (take _ bytes) ∙ ap (λ k. length old + k) taken
+
 -- a part of a payload
 pub takes_part : (m n : Machine) (bytes : List ℕ) (count marker code size : ℕ) → m.place ≡ InPayload marker code size → n.place ≡ m.place
     → 0 < count → count ≤ length bytes → n.payload.items ≡ m.payload.items ++ take count bytes
@@ -37,8 +49,6 @@ pub takes_part : (m n : Machine) (bytes : List ℕ) (count marker code size : �
     → n.headers ≡ m.headers → n.findings ≡ m.findings → n.count ≡ m.count → Takes m bytes n count
 takes_part m n bytes count marker code size is there some within payload open_ small headers kept same =
     let taken : length (take count bytes) ≡ count = length-take-le count bytes within in
-    let grown : length n.payload.items ≡ length m.payload.items + count = ap length payload
-    ∙ length-append m.payload.items (take count bytes) ∙ ap (λ k. length m.payload.items + k) taken in
     record {
       some = some;
       within = within;
@@ -46,8 +56,8 @@ takes_part m n bytes count marker code size is there some within payload open_ s
           (payload_from m.headers marker code size ps (take count bytes) m.count m.payload.items (omega (arith, open_, taken)));
       found = rw is kept;
       count_is = same;
-      place_is = rw (there, is) (omega (arith, open_, grown));
-      header_bytes = omega (arith, open_, grown, small);
+      place_is = rw (there, is) (omega (arith, open_, grown bytes _ _ payload taken));
+      header_bytes = omega (arith, open_, grown bytes _ _ payload taken, small);
     }
 
 -- the rest of a payload
@@ -59,8 +69,6 @@ pub takes_rest : (m n : Machine) (bytes : List ℕ) (count marker code size : �
     → n.findings ≡ m.findings → n.count ≡ m.count → IsPlace n.headers.frame n.place n.payload.items → Takes m bytes n count
 takes_rest m n bytes count marker code size is some within payload whole small place headers kept same sound =
     let taken : length (take count bytes) ≡ count = length-take-le count bytes within in
-    let grown : length n.payload.items ≡ length m.payload.items + count = ap length payload
-    ∙ length-append m.payload.items (take count bytes) ∙ ap (λ k. length m.payload.items + k) taken in
     record {
       some = some;
       within = within;
@@ -71,7 +79,7 @@ takes_rest m n bytes count marker code size is some within payload whole small p
       found = rw is kept;
       count_is = same;
       place_is = sound;
-      header_bytes = omega (arith, whole, grown, small);
+      header_bytes = omega (arith, whole, grown bytes _ _ payload taken, small);
     }
 
 -- a whole segment

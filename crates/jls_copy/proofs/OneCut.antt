@@ -62,27 +62,17 @@ same_fills zero (suc k) e = cc
 same_fills (suc n) zero e = cc
 same_fills (suc n) (suc k) e = ap suc (same_fills n k (let t : fill_bytes n ≡ fill_bytes k = cc in t))
 
-mark_no_end : (m : ℕ) → m < 8 → ends_scan_data (208 + m) ≡ false
-mark_no_end zero h = refl
-mark_no_end (suc zero) h = refl
-mark_no_end (suc (suc zero)) h = refl
-mark_no_end (suc (suc (suc zero))) h = refl
-mark_no_end (suc (suc (suc (suc zero)))) h = refl
-mark_no_end (suc (suc (suc (suc (suc zero))))) h = refl
-mark_no_end (suc (suc (suc (suc (suc (suc zero)))))) h = refl
-mark_no_end (suc (suc (suc (suc (suc (suc (suc zero))))))) h = refl
-mark_no_end (suc (suc (suc (suc (suc (suc (suc (suc m)))))))) h = absurd (omega arith)
-
-mark_closes : (m : ℕ) → m < 8 → closes_piece (208 + m) ≡ true
-mark_closes zero h = refl
-mark_closes (suc zero) h = refl
-mark_closes (suc (suc zero)) h = refl
-mark_closes (suc (suc (suc zero))) h = refl
-mark_closes (suc (suc (suc (suc zero)))) h = refl
-mark_closes (suc (suc (suc (suc (suc zero))))) h = refl
-mark_closes (suc (suc (suc (suc (suc (suc zero)))))) h = refl
-mark_closes (suc (suc (suc (suc (suc (suc (suc zero))))))) h = refl
-mark_closes (suc (suc (suc (suc (suc (suc (suc (suc m)))))))) h = absurd (omega arith)
+-- the code of a mark closes a piece, and ends no scan data
+of_mark : (m : ℕ) → m < 8 → (ends_scan_data (208 + m) ≡ false) × (closes_piece (208 + m) ≡ true)
+of_mark zero h = (refl, refl)
+of_mark (suc zero) h = (refl, refl)
+of_mark (suc (suc zero)) h = (refl, refl)
+of_mark (suc (suc (suc zero))) h = (refl, refl)
+of_mark (suc (suc (suc (suc zero)))) h = (refl, refl)
+of_mark (suc (suc (suc (suc (suc zero))))) h = (refl, refl)
+of_mark (suc (suc (suc (suc (suc (suc zero)))))) h = (refl, refl)
+of_mark (suc (suc (suc (suc (suc (suc (suc zero))))))) h = (refl, refl)
+of_mark (suc (suc (suc (suc (suc (suc (suc (suc m)))))))) h = absurd (omega arith)
 
 end_closes : (c : ℕ) → ends_scan_data c ≡ true → closes_piece c ≡ true
 end_closes c h = grind (arith, nat_tests)
@@ -122,7 +112,7 @@ no_more_marks : (s : ScanEnd) (k m : ℕ) (x : List ℕ) → IsScanEnd s → m <
 no_more_marks (at_input n) k m x p low e = no_mark n k (208 + m) x (λ f. omega arith) e
 no_more_marks (at_marker n c y) k m x p low e =
     let r = same_mark n k c (208 + m) y x (end_not_fill c p) (λ f. omega arith) e in
-    let r1 : c ≡ 208 + m = r.1 in let never : ends_scan_data (208 + m) ≡ false = mark_no_end m low in
+    let r1 : c ≡ 208 + m = r.1 in let never : ends_scan_data (208 + m) ≡ false = (of_mark m low).0 in
     let ends : ends_scan_data (208 + m) ≡ true = rw r1 at p in cc
 
 -- a closed piece before some bytes
@@ -147,20 +137,20 @@ same [] [] u v s t pc pd pu pv ps pt e =
 same [] (d ∷ ds) u v s t pc pd pu pv ps pt e =
     let rest : List ℕ = flat_map closed_bytes ds ++ (v ++ end_bytes t) in
     let f : u ++ end_bytes s ≡ d.piece ++ (fill_bytes d.fill ++ (255 ∷ (208 + d.mark) ∷ rest)) = e ∙ simp append_assoc refl in
-    let r = same_piece u d.piece _ _ pu pd.0.0 (break_stop s ps) (break_mark d.fill (208 + d.mark) rest (mark_closes d.mark pd.0.1)) f in
+    let r = same_piece u d.piece _ _ pu pd.0.0 (break_stop s ps) (break_mark d.fill (208 + d.mark) rest (of_mark d.mark pd.0.1).1) f in
     absurd (no_more_marks s d.fill d.mark rest ps pd.0.1 r.1)
 same (c ∷ cs) [] u v s t pc pd pu pv ps pt e =
     let rest : List ℕ = flat_map closed_bytes cs ++ (u ++ end_bytes s) in
     let f : v ++ end_bytes t ≡ c.piece ++ (fill_bytes c.fill ++ (255 ∷ (208 + c.mark) ∷ rest)) = sym e ∙ simp append_assoc refl in
-    let r = same_piece v c.piece _ _ pv pc.0.0 (break_stop t pt) (break_mark c.fill (208 + c.mark) rest (mark_closes c.mark pc.0.1)) f in
+    let r = same_piece v c.piece _ _ pv pc.0.0 (break_stop t pt) (break_mark c.fill (208 + c.mark) rest (of_mark c.mark pc.0.1).1) f in
     absurd (no_more_marks t c.fill c.mark rest pt pc.0.1 r.1)
 same (c ∷ cs) (d ∷ ds) u v s t pc pd pu pv ps pt e =
     let x : List ℕ = flat_map closed_bytes cs ++ (u ++ end_bytes s) in
     let y : List ℕ = flat_map closed_bytes ds ++ (v ++ end_bytes t) in
     let f : c.piece ++ (fill_bytes c.fill ++ (255 ∷ (208 + c.mark) ∷ x)) ≡ d.piece ++ (fill_bytes d.fill ++ (255 ∷ (208 + d.mark) ∷ y)) =
     simp append_assoc at e in
-    let r = same_piece c.piece d.piece _ _ pc.0.0 pd.0.0 (break_mark c.fill (208 + c.mark) x (mark_closes c.mark pc.0.1))
-    (break_mark d.fill (208 + d.mark) y (mark_closes d.mark pd.0.1)) f in
+    let r = same_piece c.piece d.piece _ _ pc.0.0 pd.0.0 (break_mark c.fill (208 + c.mark) x (of_mark c.mark pc.0.1).1)
+    (break_mark d.fill (208 + d.mark) y (of_mark d.mark pd.0.1).1) f in
     let q = same_mark c.fill d.fill (208 + c.mark) (208 + d.mark) x y (λ g. omega (arith, pc.0.1)) (λ g. omega (arith, pd.0.1)) r.1 in
     let m : c.mark ≡ d.mark = omega (arith, q.1) in
     let i = same cs ds u v s t pc.1 pd.1 pu pv ps pt q.2 in

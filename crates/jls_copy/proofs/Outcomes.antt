@@ -6,13 +6,14 @@ use Rattle.std.specs.declared.vec.Vec.{Vec}
 use Rattle.std.specs.declared.alloc.Global.{Global}
 use Rattle.jls_values.specs.Shape.{PictureShape}
 use Rattle.jls_values.specs.Params.{CodingParameters}
-use Rattle.jls_interval.specs.Reads.{Reads, IsLong, IsBroken}
+use Rattle.jls_interval.specs.Reads.{Reads}
 use Rattle.jls_interval.specs.PieceFaults.{OutcomeIs}
 use Rattle.jls_interval.specs.declared.decode_piece.PieceFault.{PieceFault}
 use Rattle.jls_interval.specs.declared.decode_piece.PieceFault.TheVariants as piece_fault
 use Rattle.jls_marker.specs.Scan.{Scan, row_count, first_row}
 use Rattle.jls_interval.specs.IntervalBytes.{IntervalBytes, interval_asked}
-use Rattle.jls_copy.specs.Pieces.{placed, Lines, Fault}
+use Rattle.jls_copy.specs.Numbers.{Interval}
+use Rattle.jls_copy.specs.Pieces.{placed, Lines, Fault, IsOutcomeAt}
 use Rattle.jls_copy.specs.Findings.{Adds, IsKindOf, with_readings, picture_of, kept_with}
 use Rattle.jls_copy.specs.ReaderState.{piece_found, piece_with, scan_with}
 use Rattle.jls_copy.specs.Sound.{IsDecodingOf, IsOpenPiece, IsOpenScan}
@@ -69,31 +70,19 @@ module _ (shape : PictureShape) (index : ℕ) (s : Scan) (offset k : ℕ) (old n
     whole : piece ≡ Within k (decoding_with s k fed_bytes)
     whole = is ∙ ap (Within k) (decoding_is s k d open_is)
 
-    long_adds : Finishes d (Err piece_fault.Long) → new.partial ≡ old.partial
-        → new.records.items ≡ kept_with old.records.items (record { scan = index; interval = k; offset = offset; kind = kind.Long } ∷ [])
-        → new.record_count ≡ old.record_count + 1
-        → Adds (Some shape) (piece_found index s offset piece ∷ []) old new
-    long_adds h p r c =
-        let now : IsLong (interval_of s k) fed_bytes =
-        subst (λ x. Finishes x (Err piece_fault.Long)) (decoding_is s k d open_is) h in
-        rw whole (shape, refl, Fault kind.Long, now, record { picture_is = rw p refl; records_are = r; count_is = c })
-
-    broken_adds : Finishes d (Err piece_fault.Broken) → new.partial ≡ old.partial
-        → new.records.items ≡ kept_with old.records.items (record { scan = index; interval = k; offset = offset; kind = kind.Broken } ∷ [])
-        → new.record_count ≡ old.record_count + 1
-        → Adds (Some shape) (piece_found index s offset piece ∷ []) old new
-    broken_adds h p r c =
-        let now : IsBroken (interval_of s k) fed_bytes =
-        subst (λ x. Finishes x (Err piece_fault.Broken)) (decoding_is s k d open_is) h in
-        rw whole (shape, refl, Fault kind.Broken, now, record { picture_is = rw p refl; records_are = r; count_is = c })
+    -- what it says of a fault
+    is_fault : (fault : PieceFault) (f : PieceKind) → Finishes d (Err fault) → IsKindOf fault f
+        → IsOutcomeAt s (Interval k) fed_bytes (Fault f)
+    is_fault piece_fault.Long f h e = rw e (subst (λ x. Finishes x (Err piece_fault.Long)) (decoding_is s k d open_is) h)
+    is_fault piece_fault.Broken f h e = rw e (subst (λ x. Finishes x (Err piece_fault.Broken)) (decoding_is s k d open_is) h)
+    is_fault piece_fault.OutOfMemory f h e = absurd e
 
     pub fault_adds : (fault : PieceFault) (f : PieceKind) → Finishes d (Err fault) → IsKindOf fault f → new.partial ≡ old.partial
         → new.records.items ≡ kept_with old.records.items (record { scan = index; interval = k; offset = offset; kind = f } ∷ [])
         → new.record_count ≡ old.record_count + 1
         → Adds (Some shape) (piece_found index s offset piece ∷ []) old new
-    fault_adds piece_fault.Long f h e p r c = long_adds h p (rw e at r) c
-    fault_adds piece_fault.Broken f h e p r c = broken_adds h p (rw e at r) c
-    fault_adds piece_fault.OutOfMemory f h e p r c = absurd e
+    fault_adds fault f h e p r c =
+        rw whole (shape, refl, Fault f, is_fault fault f h e, record { picture_is = rw p refl; records_are = r; count_is = c })
 
     pub lines_add : (lines : Vec (Vec ℕ Global) Global) → Finishes d (Ok lines)
         → new.partial ≡ Some (with_readings (picture_of shape old.partial)

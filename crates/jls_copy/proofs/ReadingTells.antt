@@ -15,7 +15,7 @@ use Rattle.jls_copy.specs.ReaderLaws.{ReadingTells}
 use Rattle.jls_copy.specs.declared.place.CopyPosition.{CopyPosition}
 use Rattle.jls_copy.specs.declared.place.CopyPosition.TheVariants.{Start, AtMarker, AtLength, InLength, InPayload, InScan, Done}
 use Rattle.jls_copy.proofs.TellsMore.{start_more, start_fill_more, marker_more, fill_marker_more, fill_length}
-use Rattle.jls_copy.proofs.TellsSegment.{length_more, payload_more, ended_more}
+use Rattle.jls_copy.proofs.TellsSegment.{at_segment, length_more, payload_more, ended_more}
 use Rattle.jls_copy.proofs.TellsScan.{scan_more}
 
 abbrev TellsStep : Step → List FoundPiece → List ℕ → Type 0
@@ -42,17 +42,8 @@ tells_more (AtMarker true) h payload ps x b count low c (n, before, us, p, e) =
 tells_more (AtLength marker code) h payload ps x b count low c d =
     rw append-nil (
       low,
-      record {
-        before = d.before;
-        fill = d.fill;
-        following = d.following;
-        units = d.units;
-        passed = d.passed;
-        whole = ap (λ y. y ++ b ∷ []) d.whole ∙ simp append_assoc refl;
-        marker_at = d.marker_at;
-        known = d.known;
-        follows = d.follows;
-      },
+      at_segment d.before h d.units ps d.following d.passed d.fill code d.known d.follows (x ++ b ∷ []) (b ∷ []) marker
+          (ap (λ y. y ++ b ∷ []) d.whole ∙ simp append_assoc refl) d.marker_at,
     )
 tells_more (InLength marker code high) h payload ps x b count low c (lh, d) =
     rw append-nil (length_more d.before h d.units ps d.following d.passed d.fill code d.known d.follows x count marker high b lh low d.whole

@@ -2,7 +2,7 @@
 use Rattle.std.proofs.Common.{◌≡◌, ℕ, Bool, true, false, cond, eqb, List, [], ◌∷◌, Option, Some, None, Result, Ok, Err, refl, subst}
 use Rattle.std.specs.Prelude.{◌||◌, ◌==◌, is_none}
 use Rattle.std.specs.List.{list_all}
-use Rattle.std.proofs.lemmas.Bool.{and_parts}
+use Rattle.std.proofs.lemmas.Bool.{and_parts, or_from}
 use Rattle.jls_values.specs.Shape.{PictureShape}
 use Rattle.jls_marker.specs.Faults.{first_failing}
 use Rattle.jls_marker.specs.HeaderState.{HeaderState}
@@ -31,6 +31,10 @@ first_fine [] v all = tt
 first_fine ((true, g) ∷ tests) v all = first_fine tests v (and_parts (is_of_segment g) (list_all (λ t. is_of_segment t.1) tests) all).1
 first_fine ((false, g) ∷ tests) v all = (and_parts (is_of_segment g) (list_all (λ t. is_of_segment t.1) tests) all).0
 
+cond_fine : {A : Type 0} (b : Bool) (x y : Result A MarkerFault) → (b ≡ true → IsFine x) → (b ≡ false → IsFine y) → IsFine (cond b x y)
+cond_fine true x y t f = t refl
+cond_fine false x y t f = f refl
+
 -- Payloads ---------------------------------------------------------------------------------------------------------
 
 frame_fine : (o : Option FrameHeader) → IsFine (frame_of o)
@@ -47,56 +51,22 @@ preset_fine (Some p) = tt
 
 lse_fine : (payload : List ℕ) → IsFine (lse_of payload)
 lse_fine [] = refl
-lse_fine (id ∷ values) = by_id (id == 1)
-  where
-    by_id : (t : Bool)
-        → IsFine (cond t (preset_of (preset_parameters values))
-        (first_failing (((id == 2) || (id == 3), fault.LseId) ∷ []) (segment.Skipped lse)))
-    by_id true = preset_fine (preset_parameters values)
-    by_id false = first_fine (((id == 2) || (id == 3), fault.LseId) ∷ []) (segment.Skipped lse) refl
+lse_fine (id ∷ values) = cond_fine (id == 1) _ _ (λ _. preset_fine (preset_parameters values))
+    (λ _. first_fine (((id == 2) || (id == 3), fault.LseId) ∷ []) (segment.Skipped lse) refl)
 
 restart_fine : (o : Option ℕ) → IsFine (restart_of o)
 restart_fine None = refl
 restart_fine (Some n) = tt
 
-module _ (code : ℕ) (payload : List ℕ) where
-  abbrev from_skipped : Result Segment MarkerFault
-  from_skipped = cond (is_skipped code) (Ok (segment.Skipped code)) (Err fault.UnknownMarker)
-
-  abbrev from_dri : Result Segment MarkerFault
-  from_dri = cond (eqb code dri) (restart_of (restart_interval payload)) from_skipped
-
-  abbrev from_lse : Result Segment MarkerFault
-  from_lse = cond (eqb code lse) (lse_of payload) from_dri
-
-  abbrev from_sos : Result Segment MarkerFault
-  from_sos = cond (eqb code sos) (scan_of (scan_header payload)) from_lse
-
-  at_skipped : (t : Bool) → t ≡ true → IsFine (cond t (Ok (segment.Skipped code)) (Err fault.UnknownMarker))
-  at_skipped true known = tt
-  at_skipped false known = absurd cc
-
-  at_dri : (t : Bool) → (t || is_skipped code) ≡ true → IsFine (cond t (restart_of (restart_interval payload)) from_skipped)
-  at_dri true known = restart_fine (restart_interval payload)
-  at_dri false known = at_skipped (is_skipped code) known
-
-  at_lse : (t : Bool) → (t || (eqb code dri || is_skipped code)) ≡ true → IsFine (cond t (lse_of payload) from_dri)
-  at_lse true known = lse_fine payload
-  at_lse false known = at_dri (eqb code dri) known
-
-  at_sos : (t : Bool) → (t || (eqb code lse || (eqb code dri || is_skipped code))) ≡ true
-      → IsFine (cond t (scan_of (scan_header payload)) from_lse)
-  at_sos true known = scan_fine (scan_header payload)
-  at_sos false known = at_lse (eqb code lse) known
-
-  at_frame : (t : Bool) → (t || (eqb code sos || (eqb code lse || (eqb code dri || is_skipped code)))) ≡ true
-      → IsFine (cond t (frame_of (frame_header payload)) from_sos)
-  at_frame true known = frame_fine (frame_header payload)
-  at_frame false known = at_sos (eqb code sos) known
-
-  segment_fine : has_segment code ≡ true → IsFine (segment_of code payload)
-  unfolding has_segment
-  segment_fine known = at_frame (eqb code sof55) known
+segment_fine : (code : ℕ) (payload : List ℕ) → has_segment code ≡ true → IsFine (segment_of code payload)
+unfolding has_segment
+segment_fine code payload known =
+    cond_fine (eqb code sof55) _ _ (λ _. frame_fine (frame_header payload))
+    (λ a. cond_fine (eqb code sos) _ _ (λ _. scan_fine (scan_header payload))
+    (λ b. cond_fine (eqb code lse) _ _ (λ _. lse_fine payload)
+    (λ c. cond_fine (eqb code dri) _ _ (λ _. restart_fine (restart_interval payload))
+    (λ d. cond_fine (is_skipped code) _ _ (λ _. tt)
+    (λ e. let never : has_segment code ≡ false = or_from _ _ a (or_from _ _ b (or_from _ _ c (or_from _ _ d e))) in absurd cc)))))
 
 -- Headers ----------------------------------------------------------------------------------------------------------
 

@@ -6,9 +6,10 @@ use Rattle.std.proofs.lemmas.List.{append-nil}
 use Rattle.std.proofs.lemmas.Grind.{flat_map-append}
 use Rattle.std.proofs.lemmas.Bool.{cases_eq, cases_Bool}
 use Rattle.std.proofs.lemmas.Bool.Decides.{nat_tests}
-use Rattle.std.specs.List.{flat_map}
+use Rattle.std.specs.List.{flat_map, AllByRecursion}
 use Rattle.jls_copy.proofs.HeaderFacts.{scan_has_frame}
-use Rattle.jls_copy.specs.ScanData.{fill_bytes, ClosedPiece, closed_bytes, ends_scan_data, is_restart_code, closes_piece}
+use Rattle.jls_copy.specs.ScanData.{fill_bytes, ClosedPiece, IsClosedPiece, IsPiece, closed_bytes, ends_scan_data}
+use Rattle.jls_copy.specs.ScanData.{is_restart_code, closes_piece}
 use Rattle.jls_copy.specs.Numbers.{PieceNumber, Interval, BeyondLast, number_after, given_last}
 use Rattle.jls_marker.specs.HeaderState.{HeaderState}
 use Rattle.jls_marker.specs.Scan.{Scan, intervals}
@@ -19,8 +20,8 @@ use Rattle.jls_copy.specs.Pieces.{pieces_from}
 use Rattle.jls_copy.specs.ReaderState as state
 use Rattle.jls_copy.specs.ReaderState.{class_of, one_more, held_bytes, piece_with, piece_opened, number_of, bytes_of, found, scan_with}
 use Rattle.jls_copy.specs.ReaderState.{scan_after}
-use Rattle.jls_copy.specs.Tells.{SameBytes, HeldIs, FedAs, IsFed, AlikePiece, AlikePieces, Passed, passed_scan, InScanData, given_after}
-use Rattle.jls_copy.specs.Tells.{Tells}
+use Rattle.jls_copy.specs.Tells.{SameBytes, HeldIs, FedAs, IsFed, AlikePiece, AlikePieces, Passed, passed_scan, ScanPieces, InScanData}
+use Rattle.jls_copy.specs.Tells.{Tells, given_after}
 use Rattle.jls_copy.specs.declared.piece.OpenPiece.{OpenPiece}
 use Rattle.jls_copy.specs.declared.piece.OpenPiece.TheVariants as open_piece
 use Rattle.jls_copy.specs.declared.scan.Held.{Held}
@@ -126,76 +127,64 @@ opened_as s (Interval k) = inl refl
 opened_as s (BeyondLast k) = tt
 
 module _ (o : OpenScan) (h : HeaderState) (ps : List FoundPiece) (x : List ℕ) (d : InScanData o h ps x) (b : ℕ) where
-  start_length : ℕ
-  start_length = length d.before + length (segment_unit_bytes d.fill d.code d.payload)
+  abbrev start : ℕ
+  start = length d.before + length (segment_unit_bytes d.fill d.code d.payload)
+
+  -- the scan goes on, with what the byte changes of it
+  goes_on : (last : ℕ) (held : Held) (offset : ℕ) (opened : OpenPiece) (qs : List FoundPiece)
+      → (closed : List ClosedPiece) → AllByRecursion IsClosedPiece closed → (piece : List ℕ) → IsPiece piece
+      → (prefix : List FoundPiece) → ScanPieces d.old.scans o.plan start closed prefix (number_of opened) offset
+      → last ≡ given_after (intervals o.plan) 0 closed → offset ≡ start + length (flat_map closed_bytes closed)
+      → (here : List FoundPiece) → AlikePieces here prefix → FedAs (number_of opened) (bytes_of opened) piece → IsFed opened
+      → (n : ℕ) → HeldIs held n → qs ≡ d.earlier ++ here
+      → x ++ b ∷ [] ≡ d.before ++ (segment_unit_bytes d.fill d.code d.payload ++ (flat_map closed_bytes closed ++ (piece ++ fill_bytes n)))
+      → InScanData (record o { last = last; held = held; offset = offset; piece = opened }) h qs (x ++ b ∷ [])
+  goes_on last held offset opened qs closed each piece piece_is prefix pieces_are given_is offset_is here alike fed_as fed_is n held_is
+      found_are whole = record {
+        before = d.before;
+        old = d.old;
+        units = d.units;
+        earlier = d.earlier;
+        following = d.following;
+        passed = d.passed;
+        fill = d.fill;
+        code = d.code;
+        payload = d.payload;
+        known = d.known;
+        size = d.size;
+        follows = d.follows;
+        plan_is = d.plan_is;
+        index_is = d.index_is;
+        closed = closed;
+        each = each;
+        piece = piece;
+        piece_is = piece_is;
+        prefix = prefix;
+        pieces_are = pieces_are;
+        given_is = given_is;
+        offset_is = offset_is;
+        here = here;
+        here_alike = alike;
+        fed_as = fed_as;
+        fed_is = fed_is;
+        held = n;
+        held_is = held_is;
+        found_are = found_are;
+        whole = whole;
+      }
 
   fill_tells : b ≡ 255 → InScanData (record o { held = one_more o.held }) h (ps ++ []) (x ++ b ∷ [])
-  fill_tells e = record {
-    before = d.before;
-    old = d.old;
-    units = d.units;
-    earlier = d.earlier;
-    following = d.following;
-    passed = d.passed;
-    fill = d.fill;
-    code = d.code;
-    payload = d.payload;
-    known = d.known;
-    size = d.size;
-    follows = d.follows;
-    plan_is = d.plan_is;
-    index_is = d.index_is;
-    closed = d.closed;
-    each = d.each;
-    piece = d.piece;
-    piece_is = d.piece_is;
-    prefix = d.prefix;
-    pieces_are = d.pieces_are;
-    given_is = d.given_is;
-    offset_is = d.offset_is;
-    here = d.here;
-    here_alike = d.here_alike;
-    fed_as = d.fed_as;
-    fed_is = d.fed_is;
-    held = suc d.held;
-    held_is = more_held o.held d.held d.held_is;
-    found_are = append-nil ps ∙ d.found_are;
-    whole = ap (λ y. y ++ b ∷ []) d.whole ∙ rw e (simp append_assoc (rw fill_snoc refl));
-  }
+  fill_tells e = goes_on o.last (one_more o.held) o.offset o.piece (ps ++ []) d.closed d.each d.piece d.piece_is d.prefix d.pieces_are
+      d.given_is d.offset_is d.here d.here_alike d.fed_as d.fed_is (suc d.held) (more_held o.held d.held d.held_is)
+      (append-nil ps ∙ d.found_are) (ap (λ y. y ++ b ∷ []) d.whole ∙ rw e (simp append_assoc (rw fill_snoc refl)))
 
   data_tells : b ≢ 255 → (0 < d.held → closes_piece b ≡ false) → InScanData (scan_with o b) h (ps ++ []) (x ++ b ∷ [])
-  data_tells ne free = record {
-    before = d.before;
-    old = d.old;
-    units = d.units;
-    earlier = d.earlier;
-    following = d.following;
-    passed = d.passed;
-    fill = d.fill;
-    code = d.code;
-    payload = d.payload;
-    known = d.known;
-    size = d.size;
-    follows = d.follows;
-    plan_is = d.plan_is;
-    index_is = d.index_is;
-    closed = d.closed;
-    each = d.each;
-    piece = d.piece ++ (fill_bytes d.held ++ b ∷ []);
-    piece_is = piece_more d.piece d.held b d.piece_is ne free;
-    prefix = d.prefix;
-    pieces_are = rw number_with d.pieces_are;
-    given_is = d.given_is;
-    offset_is = d.offset_is;
-    here = d.here;
-    here_alike = d.here_alike;
-    fed_as = fed_more o.piece d.piece o.held d.held b d.held_is d.fed_is d.fed_as;
-    fed_is = fed_with o.piece _ d.fed_is;
-    held = 0;
-    held_is = refl;
-    found_are = append-nil ps ∙ d.found_are;
-    whole = ap (λ y. y ++ b ∷ []) d.whole ∙ simp (append_assoc, append-nil) refl;
-  }
+  data_tells ne free =
+      goes_on o.last Nothing o.offset (piece_with o.piece (held_bytes o.held ++ b ∷ [])) (ps ++ []) d.closed d.each
+      (d.piece ++ (fill_bytes d.held ++ b ∷ [])) (piece_more d.piece d.held b d.piece_is ne free) d.prefix (rw number_with d.pieces_are)
+      d.given_is d.offset_is d.here d.here_alike (fed_more o.piece d.piece o.held d.held b d.held_is d.fed_is d.fed_as)
+      (fed_with o.piece _ d.fed_is) 0 refl (append-nil ps ∙ d.found_are)
+      (ap (λ y. y ++ b ∷ []) d.whole ∙ simp (append_assoc, append-nil) refl)
 
   pub alike_now : AlikePiece (found o)
       (record { scan = d.old.scans; plan = o.plan; number = number_of o.piece; offset = o.offset; bytes = d.piece })
@@ -211,8 +200,7 @@ module _ (o : OpenScan) (h : HeaderState) (ps : List FoundPiece) (x : List ℕ) 
       let bytes : x ++ b ∷ [] ≡ d.before
       ++ (segment_unit_bytes d.fill d.code d.payload ++ (flat_map closed_bytes (d.closed ++ closing ∷ []) ++ ([] ++ []))) =
       ap (λ y. y ++ b ∷ []) d.whole ∙ rw hm (simp (append_assoc, append-nil, flat_map-append, ← fill_more m) (rw back refl)) in
-      let size : count + 1 ≡ length d.before + length (segment_unit_bytes d.fill d.code d.payload)
-      + length (flat_map closed_bytes (d.closed ++ closing ∷ [])) =
+      let size : count + 1 ≡ start + length (flat_map closed_bytes (d.closed ++ closing ∷ [])) =
       ap (λ n. n + 1) c ∙ sym (length-append x (b ∷ [])) ∙ ap length bytes ∙ length-append d.before _
       ∙ (omega (
         arith,
@@ -220,57 +208,20 @@ module _ (o : OpenScan) (h : HeaderState) (ps : List FoundPiece) (x : List ℕ) 
         ap length (append-nil (flat_map closed_bytes (d.closed ++ closing ∷ []))),
       )) in
       let number : PieceNumber = number_after (intervals o.plan) o.last (b - 208) in
-      record {
-        before = d.before;
-        old = d.old;
-        units = d.units;
-        earlier = d.earlier;
-        following = d.following;
-        passed = d.passed;
-        fill = d.fill;
-        code = d.code;
-        payload = d.payload;
-        known = d.known;
-        size = d.size;
-        follows = d.follows;
-        plan_is = d.plan_is;
-        index_is = d.index_is;
-        closed = d.closed ++ closing ∷ [];
-        each = each_more d.closed closing d.each (d.piece_is, low);
-        piece = [];
-        piece_is = tt;
-        prefix = d.prefix ++ record { scan = d.old.scans; plan = o.plan; number = number_of o.piece; offset = o.offset; bytes = d.piece }
-            ∷ [];
-        pieces_are = λ w.
-            pieces_snoc d.old.scans o.plan 0 (Interval 0) (length d.before + length (segment_unit_bytes d.fill d.code d.payload)) d.closed
-            closing w
-            ∙ rw (d.pieces_are d.piece, opened_number, ← given, size)
-            (ap (λ k. (d.prefix ++ record {
-              scan = d.old.scans;
-              plan = o.plan;
-              number = number_of o.piece;
-              offset = o.offset;
-              bytes =
-                  d.piece;
-            } ∷ [])
-            ++ record { scan = d.old.scans; plan = o.plan; number = number; offset = k; bytes = w } ∷ []) (shut d.before closing));
-        given_is = rw (given_snoc, ← given) refl;
-        offset_is = size;
-        here = d.here ++ found o ∷ [];
-        here_alike = alike_more d.here d.prefix (found o) _ d.here_alike alike_now;
-        fed_as = opened_as o.plan number;
-        fed_is = opened_fed o.plan number;
-        held = 0;
-        held_is = refl;
-        found_are = ap (λ y. y ++ found o ∷ []) d.found_are ∙ append_assoc d.earlier d.here (found o ∷ []);
-        whole = bytes;
-      }
+      let now : FoundPiece = record { scan = d.old.scans; plan = o.plan; number = number_of o.piece; offset = o.offset; bytes = d.piece } in
+      goes_on (given_last o.last number) Nothing (count + 1) (piece_opened o.plan number) (ps ++ found o ∷ []) (d.closed ++ closing ∷ [])
+      (each_more d.closed closing d.each (d.piece_is, low)) [] tt (d.prefix ++ now ∷ [])
+      (λ w. pieces_snoc d.old.scans o.plan 0 (Interval 0) start d.closed closing w
+      ∙ rw (d.pieces_are d.piece, opened_number, ← given, size)
+      (ap (λ k. (d.prefix ++ now ∷ []) ++ record { scan = d.old.scans; plan = o.plan; number = number; offset = k; bytes = w } ∷ [])
+      (shut d.before closing)))
+      (rw (given_snoc, ← given) refl) size (d.here ++ found o ∷ []) (alike_more d.here d.prefix (found o) _ d.here_alike alike_now)
+      (opened_as o.plan number) (opened_fed o.plan number) 0 refl
+      (ap (λ y. y ++ found o ∷ []) d.found_are ∙ append_assoc d.earlier d.here (found o ∷ [])) bytes
     where
       shut : (before : List ℕ) (closing : ClosedPiece)
-          → length d.before + length (segment_unit_bytes d.fill d.code d.payload) + length (flat_map closed_bytes d.closed)
-          + length (closed_bytes closing)
-          ≡ length d.before + length (segment_unit_bytes d.fill d.code d.payload)
-          + length (flat_map closed_bytes (d.closed ++ closing ∷ []))
+          → start + length (flat_map closed_bytes d.closed) + length (closed_bytes closing)
+          ≡ start + length (flat_map closed_bytes (d.closed ++ closing ∷ []))
       shut before closing = rw (flat_map-append, append-nil)
           (omega (arith, length-append (flat_map closed_bytes d.closed) (closed_bytes closing)))
 
@@ -280,8 +231,7 @@ module _ (o : OpenScan) (h : HeaderState) (ps : List FoundPiece) (x : List ℕ) 
       let unit : CopyUnit = scan d.fill d.code d.payload o.plan d.closed d.piece by_marker in
       let y : List ℕ = d.before ++ unit_bytes unit in
       let alike : AlikePieces (d.here ++ found o ∷ [])
-      (pieces_from (piece_begun d.old.scans o.plan (Interval 0) (length d.before + length (segment_unit_bytes d.fill d.code d.payload))) 0
-      d.closed d.piece) =
+      (pieces_from (piece_begun d.old.scans o.plan (Interval 0) start) 0 d.closed d.piece) =
       subst (AlikePieces (d.here ++ found o ∷ [])) (sym (d.pieces_are d.piece))
       (alike_more d.here d.prefix (found o) _ d.here_alike alike_now) in
       let passed : Passed y h (d.units ++ unit ∷ []) (d.earlier ++ (d.here ++ found o ∷ [])) true =

@@ -13,7 +13,7 @@ use Rattle.jls_copy.specs.Pieces.{FoundPiece}
 use Rattle.jls_copy.specs.Course.{CopyUnit, segment, segment_unit_bytes, EndsHere, at_eoi, at_eoi_before_a_frame, at_no_marker}
 use Rattle.jls_copy.specs.Course.{at_unknown_code, at_short_length, at_refused_segment}
 use Rattle.jls_copy.specs.ReaderState.{Step, segment_taken, length_known, payload_grown}
-use Rattle.jls_copy.specs.Tells.{Passed, passed_segment, Follows, EndedAt, ended, without_soi, without_ff, Tells}
+use Rattle.jls_copy.specs.Tells.{Passed, passed_segment, AtSegment, Follows, EndedAt, ended, without_soi, without_ff, Tells}
 use Rattle.jls_marker.specs.declared.fault.MarkerFault.{MarkerFault}
 use Rattle.jls_marker.specs.declared.fault.MarkerFault.TheVariants as fault
 use Rattle.jls_copy.specs.declared.end.End.{End}
@@ -30,6 +30,21 @@ cond_tells false s t ps x p q = q refl
 module _ (before : List ℕ) (h : HeaderState) (us : List CopyUnit) (ps : List FoundPiece) (following : Bool)
     (passed : Passed before h us ps following)
     (fill code : ℕ) (known : has_segment code ≡ true) (follows : following ≡ true → ends_scan_data code ≡ true) where
+  -- so much of a segment
+  pub at_segment : (x tail : List ℕ) (marker : ℕ) → x ≡ before ++ (fill_bytes fill ++ (255 ∷ code ∷ tail)) → marker ≡ length before + fill
+      → AtSegment marker code h ps x tail
+  at_segment x tail marker w m = record {
+    before = before;
+    fill = fill;
+    following = following;
+    units = us;
+    passed = passed;
+    whole = w;
+    marker_at = m;
+    known = known;
+    follows = follows;
+  }
+
   -- a whole segment
   taken : (payload x : List ℕ) (count marker : ℕ) → x ≡ before ++ segment_unit_bytes fill code payload → length payload + 2 < 2 ^ 16
       → count + 1 ≡ length x → marker ≡ length before + fill
@@ -96,21 +111,7 @@ module _ (before : List ℕ) (h : HeaderState) (us : List CopyUnit) (ps : List F
       taken [] x count marker (rw (hz, bz) at w) (omega arith) c m (headers_after h code []) refl)
       (λ u. let more : 256 * high + b ≢ 2 = grind (arith, nat_tests) in
       let dh : (256 * high + b) / 256 ≡ high = omega arith in
-      let db : (256 * high + b) % 256 ≡ b = omega arith in (
-        omega arith,
-        omega arith,
-        record {
-          before = before;
-          fill = fill;
-          following = following;
-          units = us;
-          passed = passed;
-          whole = rw (dh, db) w;
-          marker_at = m;
-          known = known;
-          follows = follows;
-        },
-      )))
+      let db : (256 * high + b) % 256 ≡ b = omega arith in (omega arith, omega arith, at_segment x _ marker (rw (dh, db) w) m)))
 
   -- one byte more of a payload
   payload_tells : (x payload : List ℕ) (count marker size : ℕ)
@@ -120,21 +121,7 @@ module _ (before : List ℕ) (h : HeaderState) (us : List CopyUnit) (ps : List F
       cond_tells (length payload + 2 == size) _ _ ps x
       (λ t. let e : length payload + 2 ≡ size = grind (arith, nat_tests) in
       taken payload x count marker (rw e w) (omega arith) c m (headers_after h code payload) refl)
-      (λ t. let e : length payload + 2 ≢ size = grind (arith, nat_tests) in (
-        omega arith,
-        small,
-        record {
-          before = before;
-          fill = fill;
-          following = following;
-          units = us;
-          passed = passed;
-          whole = w;
-          marker_at = m;
-          known = known;
-          follows = follows;
-        },
-      ))
+      (λ t. let e : length payload + 2 ≢ size = grind (arith, nat_tests) in (omega arith, small, at_segment x _ marker w m))
 
   pub length_more : (x : List ℕ) (count marker high b : ℕ) → high < 256 → b < 256
       → x ≡ before ++ (fill_bytes fill ++ (255 ∷ code ∷ high ∷ [])) → count ≡ length x → marker ≡ length before + fill

@@ -7,16 +7,15 @@ use Rattle.jls_values.specs.Params.{CodingParameters}
 use Rattle.jls_values.specs.Shape.{PictureShape}
 use Rattle.jls_partial.specs.Reading.{reading_of}
 use Rattle.jls_marker.specs.ComponentIndex.{index_of}
-use Rattle.jls_marker.specs.MarkerCodes.{has_segment}
 use Rattle.jls_marker.specs.HeaderState.{HeaderState, no_headers}
 use Rattle.jls_marker.specs.Headers.{headers_after}
 use Rattle.jls_marker.specs.Scan.{Scan}
 use Rattle.jls_interval.specs.Lines.{interval_shape}
 use Rattle.jls_copy.specs.Numbers.{Interval}
 use Rattle.jls_copy.specs.IntervalOf.{interval_of}
-use Rattle.jls_copy.specs.Course.{by_marker, CopyUnit, segment, scan, Course, IsCourse, with_soi, at_eoi, for_good}
+use Rattle.jls_copy.specs.Course.{Course, IsCourse}
 use Rattle.jls_copy.specs.Pieces.{FoundPiece, Lines, readings_of, pieces}
-use Rattle.jls_copy.specs.declared.end.End.TheVariants.{Eoi}
+use Rattle.jls_copy.proofs.OnePieceFile.{course_of_one_piece, one_piece_course}
 
 abbrev pub shape : PictureShape
 shape = record { precision = 8; width = 2; height = 2; ids = 1 ∷ 2 ∷ [] }
@@ -40,40 +39,22 @@ framed = record no_headers { frame = Some shape }
 abbrev final : HeaderState
 final = record framed { scans = 1 }
 
-abbrev units : List CopyUnit
-units =
-    segment 0 0xF7 (0x08 ∷ 0x00 ∷ 0x02 ∷ 0x00 ∷ 0x02 ∷ 0x02 ∷ 0x01 ∷ 0x11 ∷ 0x00 ∷ 0x02 ∷ 0x11 ∷ 0x00 ∷ [])
-    ∷ scan 0 0xDA (0x02 ∷ 0x01 ∷ 0x00 ∷ 0x02 ∷ 0x00 ∷ 0x00 ∷ 0x01 ∷ 0x00 ∷ []) plan [] (0xF1 ∷ 0x7A ∷ 0x50 ∷ []) by_marker
-    ∷ []
-
-abbrev pub course : Course
-course = record { begin = 2; units = units; headers = final; end = Eoi 33 }
-
-pub is_course : IsCourse file course
-unfolding headers_after index_of has_segment
-is_course =
-    with_soi 0 _ units final (Eoi 33) (
-      framed,
-      _,
-      refl,
-      ((refl, lit< tt), refl),
-      (
-        final,
-        0xFF ∷ 0xD9 ∷ [],
-        refl,
-        (
-          (refl, lit< tt),
-          refl,
-          tt,
-          ((λ h. refl), ((λ h. refl), (λ (h : 0x50 ≡ 0xFF). omega (arith, h)))),
-          record { fill = 0; code = 0xD9; following = []; bytes_are = refl; ends = refl },
-        ),
-        (refl, for_good final 33 (0xFF ∷ 0xD9 ∷ []) (Eoi 33) (at_eoi final 33 0 [] refl)),
-      ),
-    )
-
 abbrev pub piece : FoundPiece
 piece = record { scan = 0; plan = plan; number = Interval 0; offset = 30; bytes = 0xF1 ∷ 0x7A ∷ 0x50 ∷ [] }
+
+abbrev frame : List ℕ
+frame = 0x08 ∷ 0x00 ∷ 0x02 ∷ 0x00 ∷ 0x02 ∷ 0x02 ∷ 0x01 ∷ 0x11 ∷ 0x00 ∷ 0x02 ∷ 0x11 ∷ 0x00 ∷ []
+
+abbrev sos : List ℕ
+sos = 0x02 ∷ 0x01 ∷ 0x00 ∷ 0x02 ∷ 0x00 ∷ 0x00 ∷ 0x01 ∷ 0x00 ∷ []
+
+abbrev pub course : Course
+course = course_of_one_piece frame sos plan piece.bytes final
+
+pub is_course : IsCourse file course
+unfolding headers_after index_of
+is_course = one_piece_course frame sos plan piece.bytes framed final (lit< tt) refl (lit< tt) refl
+    ((λ h. refl), ((λ h. refl), (λ (h : 0x50 ≡ 0xFF). omega (arith, h)))) refl
 
 its_piece : pieces course ≡ piece ∷ []
 its_piece = refl

@@ -19,9 +19,7 @@ use Rattle.jls_copy_laws.specs.CourseGives.{FoundPieceGives, FoundHeadGives, Cou
 use Rattle.jls_copy_laws.specs.Gives.{PieceGives, ScanGives, GivesReading}
 use Rattle.jls_copy_laws.proofs.CopyScans.{course_has_scans, one_list_of_scans}
 use Rattle.jls_copy_laws.proofs.CutOff.{all_cut, cut_stands, units_of}
-use Rattle.jls_copy_laws.proofs.Members.{is_first, in_rest, none_in, first_or_rest, all_at, in_flat_map, of_flat_map, all_from}
-
--- Members ----------------------------------------------------------------------------------------------------------
+use Rattle.jls_copy_laws.proofs.Members.{is_first, in_rest, none_in, first_or_rest, only_member, all_at, in_flat_map, of_flat_map, all_from}
 
 -- One scan ---------------------------------------------------------------------------------------------------------
 
@@ -43,86 +41,55 @@ abbrev numbered_pieces : Scan → PieceNumber → ℕ → List ClosedPiece → L
 numbered_pieces s number given closed last cut =
     zip (number ∷ numbers_after (intervals s) given (map (λ c. c.mark) closed)) (scan_pieces closed last cut)
 
--- a piece that is found is one of them
-record Corresponds (index : ℕ) (s : Scan) (numbered : List (PieceNumber × ScanPiece)) (p : FoundPiece) : Type 0 where
+-- a piece that is found is this one of them
+record Corresponds (index : ℕ) (s : Scan) (numbered : List (PieceNumber × ScanPiece)) (p : FoundPiece) (piece : ScanPiece) : Type 0 where
   number : PieceNumber
-  piece : ScanPiece
   offset : ℕ
   among : Contains numbered (number, piece)
   same : p ≡ found index s number offset piece.bytes
 
+is_the_first : (index : ℕ) (s : Scan) (number : PieceNumber) (at : ℕ) (piece : ScanPiece) (others : List (PieceNumber × ScanPiece))
+    (p : FoundPiece) → found index s number at piece.bytes ≡ p → Corresponds index s ((number, piece) ∷ others) p piece
+is_the_first index s number at piece others p e =
+    record { number = number; offset = at; among = is_first (number, piece) others; same = sym e }
+
+is_later : (index : ℕ) (s : Scan) (first : PieceNumber × ScanPiece) (others : List (PieceNumber × ScanPiece)) (p : FoundPiece)
+    (piece : ScanPiece) → Corresponds index s others p piece → Corresponds index s (first ∷ others) p piece
+is_later index s first others p piece r =
+    record { number = r.number; offset = r.offset; among = in_rest (r.number, piece) first others r.among; same = r.same }
+
 found_corresponds : (index : ℕ) (s : Scan) (number : PieceNumber) (given at : ℕ) (closed : List ClosedPiece) (last : List ℕ) (cut : Bool)
     (p : FoundPiece) → Contains (pieces_from (piece_begun index s number at) given closed last) p
-    → Corresponds index s (numbered_pieces s number given closed last cut) p
+    → (piece : ScanPiece) × Corresponds index s (numbered_pieces s number given closed last cut) p piece
 found_corresponds index s number given at [] last cut p m =
-    elim (first_or_rest p (found index s number at last) [] m) [
-      | inl e ↦ record {
-        number = number;
-        piece = record { bytes = last; ended_by_input = cut };
-        offset = at;
-        among = is_first (number, record { bytes = last; ended_by_input = cut }) [];
-        same = sym e;
-      }
-      | inr later ↦ absurd (none_in p later)
-    ]
+    let piece : ScanPiece = record { bytes = last; ended_by_input = cut } in
+    (piece, is_the_first index s number at piece [] p (only_member p (found index s number at last) m))
 found_corresponds index s number given at (c ∷ closed) last cut p m =
     let next = number_after (intervals s) given c.mark in
     let following = at + length (closed_bytes c) in
     let others = numbered_pieces s next (given_last given next) closed last cut in
     let found_after = pieces_from (piece_begun index s next following) (given_last given next) closed last in
     elim (first_or_rest p (found index s number at c.piece) found_after m) [
-      | inl e ↦ record {
-        number = number;
-        piece = whole_piece c;
-        offset = at;
-        among = is_first (number, whole_piece c) others;
-        same = sym e;
-      }
+      | inl e ↦ (whole_piece c, is_the_first index s number at (whole_piece c) others p e)
       | inr later ↦ (
           let r = found_corresponds index s next (given_last given next) following closed last cut p later in
-          record {
-            number = r.number;
-            piece = r.piece;
-            offset = r.offset;
-            among = in_rest (r.number, r.piece) (number, whole_piece c) others r.among;
-            same = r.same;
-          })
+          (r.0, is_later index s (number, whole_piece c) others p r.0 r.1))
     ]
 
 -- the last piece that is found is the last of them
-record IsLastOf (index : ℕ) (s : Scan) (last : List ℕ) (cut : Bool) (numbered : List (PieceNumber × ScanPiece)) (p : FoundPiece)
-    : Type 0 where
-  number : PieceNumber
-  offset : ℕ
-  among : Contains numbered (number, record { bytes = last; ended_by_input = cut })
-  same : p ≡ found index s number offset last
-
 last_corresponds : (index : ℕ) (s : Scan) (number : PieceNumber) (given at : ℕ) (closed : List ClosedPiece) (last : List ℕ) (cut : Bool)
     (p : FoundPiece) → Contains (last_piece (pieces_from (piece_begun index s number at) given closed last)) p
-    → IsLastOf index s last cut (numbered_pieces s number given closed last cut) p
+    → Corresponds index s (numbered_pieces s number given closed last cut) p (record { bytes = last; ended_by_input = cut })
 last_corresponds index s number given at [] last cut p m =
-    elim (first_or_rest p (found index s number at last) [] m) [
-      | inl e ↦ record {
-        number = number;
-        offset = at;
-        among = is_first (number, record { bytes = last; ended_by_input = cut }) [];
-        same = sym e;
-      }
-      | inr later ↦ absurd (none_in p later)
-    ]
+    is_the_first index s number at (record { bytes = last; ended_by_input = cut }) [] p (only_member p (found index s number at last) m)
 last_corresponds index s number given at (c ∷ closed) last cut p m =
     let next = number_after (intervals s) given c.mark in
     let following = at + length (closed_bytes c) in
-    let others = numbered_pieces s next (given_last given next) closed last cut in
     let later = after_first (found index s number at c.piece) (piece_begun index s next following)
     (given_last given next) closed last p m in
-    let r = last_corresponds index s next (given_last given next) following closed last cut p later in
-    record {
-      number = r.number;
-      offset = r.offset;
-      among = in_rest (r.number, record { bytes = last; ended_by_input = cut }) (number, whole_piece c) others r.among;
-      same = r.same;
-    }
+    is_later index s (number, whole_piece c) (numbered_pieces s next (given_last given next) closed last cut) p
+    (record { bytes = last; ended_by_input = cut })
+    (last_corresponds index s next (given_last given next) following closed last cut p later)
   where
     -- the last piece is after the first
     after_first : (q begun : FoundPiece) (given : ℕ) (closed : List ClosedPiece) (last : List ℕ) (p : FoundPiece)
@@ -135,14 +102,11 @@ number_found : (index : ℕ) (s : Scan) (number : PieceNumber) (given at : ℕ) 
     (n : PieceNumber) (piece : ScanPiece) → Contains (numbered_pieces s number given closed last cut) (n, piece)
     → (offset : ℕ) × Contains (pieces_from (piece_begun index s number at) given closed last) (found index s n offset piece.bytes)
 number_found index s number given at [] last cut n piece m =
-    elim (first_or_rest (n, piece) (number, record { bytes = last; ended_by_input = cut }) [] m) [
-      | inl e ↦ (
-        at,
-        subst (λ (q : PieceNumber × ScanPiece). Contains (found index s number at last ∷ []) (found index s q.0 at q.1.bytes)) e
-            (is_first (found index s number at last) []),
-      )
-      | inr later ↦ absurd (none_in (n, piece) later)
-    ]
+    let e = only_member (n, piece) (number, record { bytes = last; ended_by_input = cut }) m in (
+      at,
+      subst (λ (q : PieceNumber × ScanPiece). Contains (found index s number at last ∷ []) (found index s q.0 at q.1.bytes)) e
+          (is_first (found index s number at last) []),
+    )
 number_found index s number given at (c ∷ closed) last cut n piece m =
     let next = number_after (intervals s) given c.mark in
     let following = at + length (closed_bytes c) in
@@ -165,15 +129,12 @@ cut_found : (index : ℕ) (s : Scan) (number : PieceNumber) (given at : ℕ) (cl
     → (offset : ℕ) × (cut ≡ true)
     × Contains (last_piece (pieces_from (piece_begun index s number at) given closed last)) (found index s n offset piece.bytes)
 cut_found index s number given at [] last cut n piece m is =
-    elim (first_or_rest (n, piece) (number, record { bytes = last; ended_by_input = cut }) [] m) [
-      | inl e ↦ (
-        at,
-        ap (λ (q : PieceNumber × ScanPiece). q.1.ended_by_input) e ∙ is,
-        subst (λ (q : PieceNumber × ScanPiece). Contains (found index s number at last ∷ []) (found index s q.0 at q.1.bytes)) e
-            (is_first (found index s number at last) []),
-      )
-      | inr later ↦ absurd (none_in (n, piece) later)
-    ]
+    let e = only_member (n, piece) (number, record { bytes = last; ended_by_input = cut }) m in (
+      at,
+      ap (λ (q : PieceNumber × ScanPiece). q.1.ended_by_input) e ∙ is,
+      subst (λ (q : PieceNumber × ScanPiece). Contains (found index s number at last ∷ []) (found index s q.0 at q.1.bytes)) e
+          (is_first (found index s number at last) []),
+    )
 cut_found index s number given at (c ∷ closed) last cut n piece m is =
     let next = number_after (intervals s) given c.mark in
     let following = at + length (closed_bytes c) in
@@ -224,13 +185,13 @@ unit_gives index at (scan fill code payload s closed last closing) p r m g =
     let begin = at + length (segment_unit_bytes fill code payload) in
     let cut = is_by_input closing in
     let f = found_corresponds index s (Interval 0) 0 begin closed last cut p m in
-    let fed = piece_gives index s f.number f.offset f.piece r (subst (λ x. FoundPieceGives x r) f.same g) in (
+    let fed = piece_gives index s f.1.number f.1.offset f.0 r (subst (λ x. FoundPieceGives x r) f.1.same g) in (
       scan_with s closed last closing,
       is_first (scan_with s closed last closing) [],
       (
         fed.0,
-        f.piece,
-        subst (λ n. Contains (numbered_pieces s (Interval 0) 0 closed last cut) (n, f.piece)) fed.1 f.among,
+        f.0,
+        subst (λ n. Contains (numbered_pieces s (Interval 0) 0 closed last cut) (n, f.0)) fed.1 f.1.among,
         fed.2,
       ),
     )
@@ -323,10 +284,7 @@ by_unit_of : (copy : List ℕ) (c : Course) (r : Reading) → IsCourse copy c �
     → (d : ScanWithData) → Contains (scans_of_unit u) d → ScanGives d r → CourseGives c r
 by_unit_of copy c r is (segment fill code payload) among d here g = absurd (none_in d here)
 by_unit_of copy c r is (scan fill code payload s closed last closing) among d here g =
-    elim (first_or_rest d (scan_with s closed last closing) [] here) [
-      | inl same ↦ by (subst (λ x. ScanGives x r) (sym same) g)
-      | inr later ↦ absurd (none_in d later)
-    ]
+    by (subst (λ x. ScanGives x r) (sym (only_member d (scan_with s closed last closing) here)) g)
   where
     u : CopyUnit
     u = scan fill code payload s closed last closing

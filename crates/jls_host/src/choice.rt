@@ -3,6 +3,15 @@
 ghost use Rattle.std.specs.Prelude.{◌≡◌};
 ghost use Rattle.jls_host.specs.Choices.{ending_of, is_jpeg_prefix, way_of};
 
+/// The exit status that says that memory ran out.
+const OUT_OF_MEMORY: u8 = 5;
+
+/// The byte with which a marker begins, and the fill byte before one (T.81 B.1.1.2).
+const MARKER_PREFIX: u8 = 0xFF;
+
+/// The code of SOI (T.81 B.1.1.3).
+const SOI: u8 = 0xD8;
+
 /// What stands at a name, where a link is not followed.
 #[derive(Clone, Copy, Debug, PartialEq, Eq)]
 pub enum Standing {
@@ -54,7 +63,7 @@ pub fn way_to_make(standing: Standing, opens: bool, is_guarded: bool) -> Way
 pub fn ending_of_run(status: u8, write_failures: u64) -> Ending
     ensures { result ≡ ending_of status write_failures }
 {
-    if write_failures == 0 && status != 5 {
+    if write_failures == 0 && status != OUT_OF_MEMORY {
         Ending::Keep
     } else {
         Ending::Drop
@@ -65,5 +74,5 @@ pub fn ending_of_run(status: u8, write_failures: u64) -> Ending
 pub fn begins_as_jpeg(first: u8, second: u8) -> bool
     ensures { result ≡ is_jpeg_prefix first second }
 {
-    first == 0xFF && (second == 0xD8 || second == 0xFF)
+    first == MARKER_PREFIX && (second == SOI || second == MARKER_PREFIX)
 }

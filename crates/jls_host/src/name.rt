@@ -5,8 +5,11 @@ ghost use Rattle.std.specs.Prelude.{◌≡◌, ◌++◌, ◌<◌, codes, decimal
 use arrayvec::ArrayString;
 use itoa::Buffer;
 
-/// The name of a file, of at most 4,096 bytes. Linux has no longer path.
-pub type Name = ArrayString<4096>;
+/// The most bytes of a name. Linux has no longer path.
+const MOST_BYTES: usize = 4096;
+
+/// The name of a file, of at most 4,096 bytes.
+pub type Name = ArrayString<MOST_BYTES>;
 
 /// The name of a file beside an output: the output's name, then `.jls-salvage-` and this number. `None` if that is longer than 4,096
 /// bytes.

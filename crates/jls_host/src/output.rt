@@ -11,7 +11,7 @@ use std::io::Write;
 /// The most files beside one output that are tried.
 const TRIES: u32 = 10_000;
 
-/// A file beside an output: the output's name, its own, and its mode.
+/// A file beside an output: the output's name, its own name, and the mode of the regular file that stands at the output's name.
 #[derive(Drop)]
 struct FileBeside {
     name: Name,

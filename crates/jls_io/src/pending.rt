@@ -9,11 +9,14 @@ use crate::device::Sink;
 use crate::writing::write_all;
 use arrayvec::ArrayVec;
 
+/// The most bytes that wait.
+const MOST_PENDING: usize = 4096;
+
 /// The end of a line that is not handed out yet, in a buffer on the stack; and whether all writes of the line went well so far. A write
 /// that fails ends the line.
 #[derive(Drop)]
 pub(crate) struct Pending {
-    bytes: ArrayVec<u8, 4096>,
+    bytes: ArrayVec<u8, MOST_PENDING>,
     went: bool,
 }
 

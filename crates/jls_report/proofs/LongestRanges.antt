@@ -1,6 +1,6 @@
 -- The ranges that a report has are the longest ones, and its disputed lines those of the picture.
 use Rattle.std.proofs.Common.{◌≡◌, ℕ, zero, suc, ◌+◌, ◌-◌, ◌<◌, ◌≤◌, Bool, true, false, cond, ◌&&◌, ◌||◌, length, refl, ap, sym, subst, ◌∙◌}
-use Rattle.std.proofs.Common.{arith, inl, inr}
+use Rattle.std.proofs.Common.{arith, ◌⊎◌, inl, inr}
 use Rattle.std.specs.Prelude.{◌==◌, not, Contains}
 use Rattle.std.specs.List.{range_with_len, prefix_len}
 use Rattle.std.proofs.lemmas.Bool.{and_parts, ne_eqb, leb-true, le-leb, not-true, and_from}
@@ -106,13 +106,18 @@ longest_ends p component first last range =
 
 -- an entry of a report begins with a line of a component
 pub found_at : (p : PartialPicture) (e : ReportEntry) → Contains (report_entries p) e
-    → (component line : ℕ) × (component < length p.shape.ids) × (line < p.shape.height) × Contains (entries_at p component line) e
+    → (component line : ℕ) × (component < length p.shape.ids) × (line < p.shape.height)
+    × (((begins_range p component line ≡ true) × (Missing component line (line + missing_from p component line - 1) ≡ e))
+    ⊎ ((begins_range p component line ≡ false) × (is_disputed p component line ≡ true)
+    × (Disputed component line (reading_count p component line) ≡ e)))
 found_at p e there =
     let of_component = found_over (component_entries p) 0 (length p.shape.ids) e there in
     let of_line = found_over (entries_at p of_component.0) 0 p.shape.height e of_component.2 in
     let component_in : of_component.0 < length p.shape.ids = omega (arith, of_component.1) in
     let line_in : of_line.0 < p.shape.height = omega (arith, of_line.1) in
-    (of_component.0, of_line.0, component_in, line_in, of_line.2)
+    let c = of_component.0 in
+    let l = of_line.0 in
+    (c, l, component_in, line_in, one_of (begins_range p c l) (is_disputed p c l) _ _ e of_line.2)
 
 pub listed_at : (p : PartialPicture) (e : ReportEntry) (component line : ℕ) → component < length p.shape.ids → line < p.shape.height
     → Contains (entries_at p component line) e → Contains (report_entries p) e
@@ -128,8 +133,7 @@ pub ranges_are_longest : RangesAreLongest
 ranges_are_longest p component first last = (
   λ there.
       let at = found_at p (Missing component first last) there in
-      elim (one_of (begins_range p at.0 at.1) (is_disputed p at.0 at.1) (Missing at.0 at.1 (at.1 + missing_from p at.0 at.1 - 1))
-      (Disputed at.0 at.1 (reading_count p at.0 at.1)) (Missing component first last) at.4) [
+      elim at.4 [
         | inl w ↦
             let range = range_is_longest p at.0 at.1 at.2 at.3 w.0 in
             let c_is : at.0 ≡ component = cc w.1 in
@@ -159,8 +163,7 @@ pub disputed_are_listed : DisputedAreListed
 disputed_are_listed p component line readings = (
   λ there.
       let at = found_at p (Disputed component line readings) there in
-      elim (one_of (begins_range p at.0 at.1) (is_disputed p at.0 at.1) (Missing at.0 at.1 (at.1 + missing_from p at.0 at.1 - 1))
-      (Disputed at.0 at.1 (reading_count p at.0 at.1)) (Disputed component line readings) at.4) [
+      elim at.4 [
         | inl w ↦ absurd (cc w.1)
         | inr w ↦
             let c_is : at.0 ≡ component = cc w.2 in

@@ -23,6 +23,10 @@ prefix_of old new held holds a b count h =
       holds_them = subst (λ (t : List ℕ). Appends held holds t) (sym (take-append-le count a b (omega (arith, less)))) h.holds_them;
     }
 
+pub handed_as : {old new : History} {held holds : Option (List ℕ)} (a b : List ℕ) → a ≡ b → HandedOut old new held holds a
+    → HandedOut old new held holds b
+handed_as a b e h = rw e at h
+
 module _ (old mid new : History) (held keeps holds : Option (List ℕ)) where
   pub handed_on : (a b : List ℕ) → HandedOut old mid held keeps a → HandedOut mid new keeps holds b → HandedOut old new held holds (a ++ b)
   handed_on a b h k = record {

@@ -1,5 +1,6 @@
 -- The scans of a file, counted as they are written.
-use Rattle.std.proofs.Common.{◌≡◌, ℕ, zero, suc, ◌+◌, ◌≤◌, ◌<◌, Bool, true, false, cond, List, [], ◌∷◌, ◌++◌, length, map, refl, ap, arith}
+use Rattle.std.proofs.Common.{◌≡◌, ℕ, zero, suc, ◌+◌, ◌≤◌, ◌<◌, Bool, true, false, cond, List, [], ◌∷◌, ◌++◌, length, map}
+use Rattle.std.proofs.Common.{refl, sym, ap, subst, arith}
 use Rattle.std.specs.List.{flat_map, range_with_len}
 use Rattle.std.proofs.lemmas.Bool.{ne_eqb}
 use Rattle.jls_values.specs.Shape.{IsShape}
@@ -49,3 +50,10 @@ pub marked_some : (pic : WholePicture) (o : WriteOptions) (first count k : ℕ)
     → 0 < length (marked_interval pic (scan_from pic o first count) k)
 marked_some pic o first count zero = omega arith
 marked_some pic o first count (suc k) = rw (ne_eqb (suc k) 0 (λ e. absurd (omega (arith, e)))) (omega arith)
+
+-- so can one of them, of so many components
+pub part_fits : (pic : WholePicture) (o : WriteOptions) (first end count : ℕ) → OptionsFit pic o → IsShape pic.shape
+    → AreCodingParameters o.params → end ≡ scan_count pic o → first < end → count ≡ components_of_scan pic.shape o
+    → IsScanFrom pic o first count
+part_fits pic o first end count fit shape params end_is below count_is =
+    subst (IsScanFrom pic o first) (sym count_is) (scan_fits pic o first fit shape params (omega (arith, end_is, below)))

@@ -23,32 +23,12 @@ loop-line-preserved c =
       | then-place-components w ↦ record {
         shape_is = shape ∙ c.loop-line.invariant.shape_is;
         fit = rw (took, w.row-is, w.place-is) (fit_below _ _ _ _ _ _ fit w.if-place-components.true);
-        leads = grind (
-          arith,
-          nat_tests,
-          here,
-          took,
-          c.deref.ensures.value,
-          c.loop-line.invariant.leads,
-          w.row-is,
-          w.place-is,
-          w.if-place-components.true,
-        );
+        leads = grind (arith, nat_tests, here, took, c.deref.ensures.value, c.loop-line.invariant.leads);
       }
       | else-place-components w ↦ record {
         shape_is = shape ∙ c.loop-line.invariant.shape_is;
         fit = rw (took, w.row-is, w.place-is)
             (fit_beside _ _ _ _ _ _ fit (omega (arith, c.loop-line.invariant.fit.place_in, w.if-place-components.false)));
-        leads = grind (
-          arith,
-          nat_tests,
-          here,
-          took,
-          c.deref.ensures.value,
-          c.loop-line.invariant.leads,
-          w.row-is,
-          w.place-is,
-          w.if-place-components.false,
-        );
+        leads = grind (arith, nat_tests, here, took, c.deref.ensures.value, c.loop-line.invariant.leads);
       }
     ]

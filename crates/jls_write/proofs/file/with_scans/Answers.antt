@@ -1,20 +1,15 @@
 use Rattle.std.proofs.Common.{◌≡◌, ℕ, ◌++◌, List, ap, sym, subst, ◌∙◌, arith}
 use Rattle.std.specs.List.{flat_map, range_with_len}
 use Rattle.jls_write.specs.Options.{components_of_scan}
-use Rattle.jls_write.specs.Parts.{scan_from, scan_count, IsScanFrom}
+use Rattle.jls_write.specs.Parts.{scan_from, scan_count}
 use Rattle.jls_write.specs.WrittenFile.{scan_of, scan_bytes}
 use Rattle.jls_write.proofs.Joining.{joined_more}
-use Rattle.jls_write.proofs.Scans.{made_of_scans, scan_fits}
+use Rattle.jls_write.proofs.Scans.{made_of_scans, part_fits}
 use Rattle.jls_write.proofs.file.with_scans.Goals as goal
 
 pub with_scan-requires : goal.with_scan-requires
-with_scan-requires c =
-    let pic = c.args.picture.now in
-    let o = c.args.options.now in
-    let end = c.scan_count-first-end.ensures.value in
-    subst (λ n. IsScanFrom pic o c.loop-first.first n) (sym c.components_of_scan-count.ensures)
-    (scan_fits pic o c.loop-first.first c.requires.fit c.scan_count-first-end.ensures.ranges c.requires.params
-    (omega (arith, end, c.loop-first-test.true)))
+with_scan-requires c = part_fits _ _ _ _ _ c.requires.fit c.scan_count-first-end.ensures.ranges c.requires.params
+    c.scan_count-first-end.ensures.value c.loop-first-test.true c.components_of_scan-count.ensures
 
 pub loop-first-preserved : goal.loop-first-preserved
 loop-first-preserved c =

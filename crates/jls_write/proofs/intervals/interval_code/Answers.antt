@@ -5,6 +5,7 @@ use Rattle.jls_values.specs.Params.{CodingParameters}
 use Rattle.jls_interval.specs.Reads.{packed}
 use Rattle.jls_marker.specs.Scan.{Scan, first_row, row_count}
 use Rattle.jls_write.specs.Picture.{WholePicture}
+use Rattle.jls_write.specs.Options.{WriteOptions}
 use Rattle.jls_write.specs.WrittenFile as spec
 use Rattle.jls_write.specs.Parts.{scan_from}
 use Rattle.jls_write.proofs.IntervalLines.{lines_fit, length_range}
@@ -18,6 +19,14 @@ rows_are pic s k first end lines first_is end_is is =
     is ∙ ap (λ n. flat_map (spec.row_lines pic s.components) (range_with_len first n)) size
     ∙ ap (λ n. flat_map (spec.row_lines pic s.components) (range_with_len n (row_count s k))) first_is
 
+-- the code of the interval from what the function passes
+code_is : (pic : WholePicture) (o : WriteOptions) (first count k width : ℕ) (p : CodingParameters) (lines : List (List ℕ)) → p ≡ o.params
+    → width ≡ pic.shape.width → lines ≡ spec.interval_lines pic (scan_from pic o first count) k
+    → packed p width count lines ≡ spec.interval_code pic (scan_from pic o first count) k
+code_is pic o first count k width p lines params width_is is =
+    rw (params, width_is, is) (ap (λ n. packed o.params pic.shape.width n (spec.interval_lines pic (scan_from pic o first count) k))
+    (sym (length_range first count)))
+
 pub encode_interval-requires : goal.encode_interval-requires
 encode_interval-requires c =
     let part = c.args.part.now in
@@ -25,32 +34,21 @@ encode_interval-requires c =
     let width_is : c.width-width.result ≡ pic.shape.width = c.width-width.ensures.value ∙ ap (λ shape. shape.width) c.shape.ensures in
     let deref_is : map (λ line. line.now) c.deref.result.now ≡ map (λ line. line.now) c.in_ok-lines.lines.items =
     ap (map (λ line. line.now)) c.deref.ensures.value in
-    let lines_are = rows_are pic (scan_from pic part.options part.first part.count) c.args.interval c.rows-first.result.0
-    c.rows-first.result.1 (map (λ line. line.now) c.in_ok-lines.lines.items)
+    let lines_are = rows_are pic (scan_from pic part.options part.first part.count) c.args.interval _ _ _
     c.rows-first.ensures.first c.rows-first.ensures.count c.in_ok-lines.ensures.lines in
-    let fit = lines_fit pic part.options part.first part.count c.args.interval (map (λ line. line.now) c.in_ok-lines.lines.items)
-    c.requires.part c.requires.interval lines_are c.in_ok-lines.ensures.each in
-    rw (width_is, c.params.ensures, deref_is) fit
+    rw (width_is, c.params.ensures, deref_is) (lines_fit pic part.options part.first part.count c.args.interval _ c.requires.part
+    c.requires.interval lines_are c.in_ok-lines.ensures.each)
 
 pub returns : goal.returns
 returns c =
     let part = c.args.part.now in
-    let pic = part.picture.now in
-    let width_is : c.width-width.result ≡ pic.shape.width = c.width-width.ensures.value ∙ ap (λ shape. shape.width) c.shape.ensures in
-    let deref_is : map (λ line. line.now) c.deref.result.now ≡ map (λ line. line.now) c.in_ok-lines.lines.items =
-    ap (map (λ line. line.now)) c.deref.ensures.value in
-    let lines_are = rows_are pic (scan_from pic part.options part.first part.count) c.args.interval c.rows-first.result.0
-    c.rows-first.result.1 (map (λ line. line.now) c.in_ok-lines.lines.items)
-    c.rows-first.ensures.first c.rows-first.ensures.count c.in_ok-lines.ensures.lines in
-    let code_is : packed c.params.result c.width-width.result part.count (map (λ line. line.now) c.deref.result.now)
-    ≡ spec.interval_code pic (scan_from pic part.options part.first part.count) c.args.interval =
-    ap (λ (p : CodingParameters). packed p c.width-width.result part.count (map (λ line. line.now) c.deref.result.now)) c.params.ensures
-    ∙ ap (λ w. packed part.options.params w part.count (map (λ line. line.now) c.deref.result.now)) width_is
-    ∙ ap (packed part.options.params pic.shape.width part.count) (deref_is ∙ lines_are)
-    ∙ ap (λ n. packed part.options.params pic.shape.width n
-    (spec.interval_lines pic (scan_from pic part.options part.first part.count) c.args.interval))
-    (sym (length_range part.first part.count)) in
+    let s = scan_from part.picture.now part.options part.first part.count in
+    let lines_are : map (λ line. line.now) c.deref.result.now ≡ spec.interval_lines part.picture.now s c.args.interval =
+    ap (map (λ line. line.now)) c.deref.ensures.value
+    ∙ rows_are part.picture.now s c.args.interval _ _ _ c.rows-first.ensures.first c.rows-first.ensures.count
+    c.in_ok-lines.ensures.lines in
     IfOk-weaker c.encode_interval.result
     (λ bytes. bytes.items ≡ packed c.params.result c.width-width.result part.count (map (λ line. line.now) c.deref.result.now))
-    (λ bytes. bytes.items ≡ spec.interval_code pic (scan_from pic part.options part.first part.count) c.args.interval)
-    (λ bytes is. is ∙ code_is) c.encode_interval.ensures.packed
+    (λ bytes. bytes.items ≡ spec.interval_code part.picture.now s c.args.interval)
+    (λ bytes is. is ∙ code_is part.picture.now part.options part.first part.count c.args.interval _ _ _ c.params.ensures
+    (c.width-width.ensures.value ∙ ap (λ shape. shape.width) c.shape.ensures) lines_are) c.encode_interval.ensures.packed

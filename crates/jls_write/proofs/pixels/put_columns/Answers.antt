@@ -6,12 +6,10 @@ use Rattle.jls_write.proofs.pixels.put_columns.Goals as goal
 
 pub put_column-requires : goal.put_column-requires
 put_column-requires c =
-    let so_far = c.loop-column.invariant.len in
-    let inside = c.loop-column-test.true in
     record {
-      room = omega (arith, so_far, inside, c.requires.few, c.requires.room);
-      they_fit = lines_to_fewer c.args.wide c.args.end (c.loop-column.column + 1) (lent c.args.lines.now) (omega (arith, inside))
-          c.requires.they_fit;
+      room = omega (arith, c.loop-column.invariant.len, c.loop-column-test.true, c.requires.few, c.requires.room);
+      they_fit = lines_to_fewer c.args.wide c.args.end (c.loop-column.column + 1) (lent c.args.lines.now)
+          (omega (arith, c.loop-column-test.true)) c.requires.they_fit;
     }
 
 pub loop-column-preserved : goal.loop-column-preserved

@@ -10,11 +10,9 @@ bounds-line-column c =
 
 pub put_sample-requires : goal.put_sample-requires
 put_sample-requires c =
-    let so_far = c.loop-column.invariant.len in
-    let inside = c.loop-column-test.true in
     record {
-      room = omega (arith, so_far, inside, c.requires.few, c.requires.room);
-      fits = λ narrow. c.requires.they_fit.fit narrow 0 c.loop-column.column (omega arith) inside;
+      room = omega (arith, c.loop-column.invariant.len, c.loop-column-test.true, c.requires.few, c.requires.room);
+      fits = λ narrow. c.requires.they_fit.fit narrow 0 c.loop-column.column (omega arith) c.loop-column-test.true;
     }
 
 pub loop-column-preserved : goal.loop-column-preserved

@@ -1,8 +1,10 @@
-use Rattle.std.proofs.Common.{◌≡◌, ℕ, ◌++◌, List, [], length, sym, ap, subst, ◌∙◌, arith, length-append}
+use Rattle.std.proofs.Common.{◌≡◌, ℕ, ◌++◌, List, [], length, sym, ap, ◌∙◌, arith, length-append}
 use Rattle.std.proofs.lemmas.List.{append-nil}
 use Rattle.std.proofs.lemmas.Result.{on_ok_weaker}
-use Rattle.jls_write.specs.Outcomes.{HandedOut, HandedPrefix, StoppedBy}
-use Rattle.jls_write.proofs.Handing.{handed_on, if_err_weaker}
+use Rattle.jls_write.specs.Outcomes.{HandedPrefix, StoppedBy}
+use Rattle.jls_write.proofs.Handing.{handed_as, handed_on, if_err_weaker}
+use Rattle.jls_marker.specs.Scan.{Scan}
+use Rattle.jls_write.specs.Picture.{WholePicture}
 use Rattle.jls_write.specs.Parts.{scan_from}
 use Rattle.jls_write.specs.Stops.{StopsIn}
 use Rattle.jls_write.specs.WrittenFile.{before_interval, interval_code, marked_interval}
@@ -32,46 +34,39 @@ returns-in-Err-clause-stops g c =
     (marked_interval pic (scan_from pic part.options part.first part.count) c.args.interval)
     (marked_some pic part.options part.first part.count c.args.interval)
 
+-- what stands before an interval, and its code
+marked : (pic : WholePicture) (s : Scan) (k : ℕ) (mark code : List ℕ) → mark ≡ before_interval pic s k → code ≡ interval_code pic s k
+    → mark ++ code ≡ marked_interval pic s k
+marked pic s k mark code mark_is code_is =
+    ap (λ (t : List ℕ). t ++ code) mark_is ∙ ap (λ (t : List ℕ). before_interval pic s k ++ t) code_is
+
 pub returns-in_ok-count-in-Ok-clause-all : goal.returns-in_ok-count-in-Ok-clause-all
 returns-in_ok-count-in-Ok-clause-all g c =
-    let history = g.W.Device.history in
-    let contents = g.W.Sink.contents in
-    let part = c.args.part.now in
-    let s = scan_from part.picture.now part.options part.first part.count in
-    let mark = c.deref.result.now in
-    let code = c.deref-in-Ok.result.now in
-    let all_is : mark ++ code ≡ marked_interval part.picture.now s c.args.interval =
-    ap (λ (t : List ℕ). t ++ code) (c.deref.ensures.value ∙ c.in-Ok.ensures.before)
-    ∙ ap (λ (t : List ℕ). before_interval part.picture.now s c.args.interval ++ t) (c.deref-in-Ok.ensures.value ∙ c.in-Ok.ensures.code) in
-    on_ok_weaker c.write_part-in-Ok.result (λ second.
-    subst (λ (t : List ℕ). HandedOut (history c.args.sink.now) (history c.write_part-in-Ok.new.sink) (contents c.args.sink.now)
-    (contents c.write_part-in-Ok.new.sink) t) all_is
-    (handed_on (history c.args.sink.now) (history c.write_part.new.sink) (history c.write_part-in-Ok.new.sink) (contents c.args.sink.now)
-    (contents c.write_part.new.sink) (contents c.write_part-in-Ok.new.sink)
-    mark code c.in_ok-count-in-Ok.ensures.all second)) c.write_part-in-Ok.ensures.all
+    let s = scan_from c.args.part.now.picture.now c.args.part.now.options c.args.part.now.first c.args.part.now.count in
+    let all_is = marked c.args.part.now.picture.now s c.args.interval c.deref.result.now c.deref-in-Ok.result.now
+    (c.deref.ensures.value ∙ c.in-Ok.ensures.before) (c.deref-in-Ok.ensures.value ∙ c.in-Ok.ensures.code) in
+    on_ok_weaker c.write_part-in-Ok.result
+    (λ second. handed_as _ _ all_is (handed_on _ _ _ _ _ _ _ _ c.in_ok-count-in-Ok.ensures.all second)) c.write_part-in-Ok.ensures.all
 
 pub returns-in_ok-count-in-Ok-clause-stops : goal.returns-in_ok-count-in-Ok-clause-stops
 returns-in_ok-count-in-Ok-clause-stops g c =
     let history = g.W.Device.history in
     let contents = g.W.Sink.contents in
     let part = c.args.part.now in
-    let s = scan_from part.picture.now part.options part.first part.count in
     let mark = c.deref.result.now in
     let code = c.deref-in-Ok.result.now in
-    let marked = marked_interval part.picture.now s c.args.interval in
-    let all_is : mark ++ code ≡ marked =
-    ap (λ (t : List ℕ). t ++ code) (c.deref.ensures.value ∙ c.in-Ok.ensures.before)
-    ∙ ap (λ (t : List ℕ). before_interval part.picture.now s c.args.interval ++ t) (c.deref-in-Ok.ensures.value ∙ c.in-Ok.ensures.code) in
+    let s = scan_from part.picture.now part.options part.first part.count in
+    let all = marked_interval part.picture.now s c.args.interval in
+    let all_is : mark ++ code ≡ all = marked part.picture.now s c.args.interval mark code
+    (c.deref.ensures.value ∙ c.in-Ok.ensures.before) (c.deref-in-Ok.ensures.value ∙ c.in-Ok.ensures.code) in
     if_err_weaker c.write_part-in-Ok.result
     (λ fault. StoppedBy fault c.in_ok-count-in-Ok.count
     (HandedPrefix (history c.write_part.new.sink) (history c.write_part-in-Ok.new.sink) (contents c.write_part.new.sink)
     (contents c.write_part-in-Ok.new.sink) code))
     (λ fault. StopsIn fault c.args.before (history c.args.sink.now) (history c.write_part-in-Ok.new.sink) (contents c.args.sink.now)
-    (contents c.write_part-in-Ok.new.sink) marked)
-    (λ fault stopped. stops_on (history c.args.sink.now) (history c.write_part.new.sink) (history c.write_part-in-Ok.new.sink)
-    (contents c.args.sink.now) (contents c.write_part.new.sink) (contents c.write_part-in-Ok.new.sink)
-    fault c.args.before c.in_ok-count-in-Ok.count mark code [] marked c.in_ok-count-in-Ok.ensures.count
-    (sym (append-nil (mark ++ code) ∙ all_is)) c.in_ok-count-in-Ok.ensures.all
+    (contents c.write_part-in-Ok.new.sink) all)
+    (λ fault stopped. stops_on _ _ (history c.write_part-in-Ok.new.sink) _ _ (contents c.write_part-in-Ok.new.sink) fault c.args.before _
+    mark code [] all c.in_ok-count-in-Ok.ensures.count (sym (append-nil (mark ++ code) ∙ all_is)) c.in_ok-count-in-Ok.ensures.all
     (stops_by (history c.write_part.new.sink) (history c.write_part-in-Ok.new.sink) (contents c.write_part.new.sink)
     (contents c.write_part-in-Ok.new.sink) fault c.in_ok-count-in-Ok.count code stopped))
     c.write_part-in-Ok.ensures.prefix

@@ -1,30 +1,36 @@
-use Rattle.std.proofs.Common.{◌≡◌, ℕ, ◌+◌, ◌++◌, List, [], ◌∷◌, length, sym, ap, subst, ◌∙◌, arith, length-append, append_assoc}
+use Rattle.std.proofs.Common.{◌≡◌, ℕ, ◌+◌, ◌++◌, List, [], ◌∷◌, length, sym, ap, ◌∙◌, arith, length-append, append_assoc}
 use Rattle.std.proofs.lemmas.List.{append-nil}
 use Rattle.std.proofs.lemmas.Result.{err_from_is_err_and}
-use Rattle.jls_write.specs.Outcomes.{HandedOut}
-use Rattle.jls_write.proofs.Handing.{handed_on}
-use Rattle.jls_write.specs.Stops.{StopsIn}
-use Rattle.jls_write.specs.WrittenFile.{scans_bytes, written_file}
+use Rattle.jls_write.proofs.Handing.{handed_as, handed_on}
+use Rattle.jls_write.specs.Picture.{WholePicture}
+use Rattle.jls_write.specs.Options.{WriteOptions}
+use Rattle.jls_write.specs.WrittenFile.{header_bytes, scans_bytes, written_file}
 use Rattle.jls_write.proofs.FileLength.{header_at_most, all_scans_at_most}
 use Rattle.jls_write.proofs.FileHanding.{stops_by, stops_first, stops_on}
 use Rattle.jls_write.proofs.write.write_jls.Goals as goal
 
+-- the file is its header, and then its scans and EOI
+file_is : (pic : WholePicture) (o : WriteOptions) (header : List ℕ) → header ≡ header_bytes pic o
+    → header ++ (scans_bytes pic o ++ 0xFF ∷ 0xD9 ∷ []) ≡ written_file pic o
+file_is pic o header is = ap (λ (t : List ℕ). t ++ (scans_bytes pic o ++ 0xFF ∷ 0xD9 ∷ [])) is
+
+parts : (pic : WholePicture) (o : WriteOptions) (header : List ℕ) → header ≡ header_bytes pic o
+    → written_file pic o ≡ (header ++ scans_bytes pic o) ++ 0xFF ∷ 0xD9 ∷ []
+parts pic o header is = sym (append_assoc header (scans_bytes pic o) (0xFF ∷ 0xD9 ∷ []) ∙ file_is pic o header is)
+
 pub returns-in_err-count-in-Ok-clause-stops : goal.returns-in_err-count-in-Ok-clause-stops
 returns-in_err-count-in-Ok-clause-stops g c =
-    let history = g.W.Device.history in
-    let contents = g.W.Sink.contents in
+    let old = g.W.Device.history c.args.sink.now in
+    let new = g.W.Device.history c.write_part.new.sink in
+    let held = g.W.Sink.contents c.args.sink.now in
+    let holds = g.W.Sink.contents c.write_part.new.sink in
     let pic = c.args.picture.now in
-    let o = c.args.options.now in
     let header = c.deref.result.now in
-    let rest = scans_bytes pic o ++ 0xFF ∷ 0xD9 ∷ [] in
-    let all_is : header ++ rest ≡ written_file pic o = ap (λ (t : List ℕ). t ++ rest) (c.deref.ensures.value ∙ c.in-Ok.ensures.value) in
+    let fault = c.in_err-count-in-Ok.field-0.0 in
     let p = err_from_is_err_and c.from_residual.result c.from_residual.ensures.1 in
-    rw (p.1, p.2) (subst (λ (t : List ℕ). StopsIn c.in_err-count-in-Ok.field-0.0 0 (history c.args.sink.now) (history c.write_part.new.sink)
-    (contents c.args.sink.now) (contents c.write_part.new.sink) t) all_is
-    (stops_first (history c.args.sink.now) (history c.write_part.new.sink) (contents c.args.sink.now) (contents c.write_part.new.sink)
-    c.in_err-count-in-Ok.field-0.0 0 header rest
-    (stops_by (history c.args.sink.now) (history c.write_part.new.sink) (contents c.args.sink.now) (contents c.write_part.new.sink)
-    c.in_err-count-in-Ok.field-0.0 0 header c.in_err-count-in-Ok.ensures.prefix)))
+    rw (p.1, p.2) (stops_first old new held holds fault 0 header (scans_bytes pic c.args.options.now ++ 0xFF ∷ 0xD9 ∷ [])
+    (written_file pic c.args.options.now) (sym (file_is pic c.args.options.now header (c.deref.ensures.value ∙ c.in-Ok.ensures.value)))
+    (stops_by old new held holds fault 0 header c.in_err-count-in-Ok.ensures.prefix))
 
 pub write_scans-requires-clause-early : goal.write_scans-requires-clause-early
 write_scans-requires-clause-early g c =
@@ -35,20 +41,14 @@ write_scans-requires-clause-early g c =
 
 pub returns-in_err-count-in-Ok-2-clause-stops : goal.returns-in_err-count-in-Ok-2-clause-stops
 returns-in_err-count-in-Ok-2-clause-stops g c =
-    let history = g.W.Device.history in
-    let contents = g.W.Sink.contents in
     let pic = c.args.picture.now in
     let o = c.args.options.now in
     let header = c.deref.result.now in
-    let scans = scans_bytes pic o in
-    let eoi : List ℕ = 0xFF ∷ 0xD9 ∷ [] in
-    let all_is : written_file pic o ≡ header ++ scans ++ eoi =
-    ap (λ (t : List ℕ). t ++ (scans ++ eoi)) (sym (c.deref.ensures.value ∙ c.in-Ok.ensures.value)) ∙ sym (append_assoc header scans eoi) in
     let p = err_from_is_err_and c.from_residual-in_err-count-in-Ok-2.result c.from_residual-in_err-count-in-Ok-2.ensures.1 in
-    rw (p.1, p.2) (stops_on (history c.args.sink.now) (history c.write_part.new.sink) (history c.write_scans.new.sink)
-    (contents c.args.sink.now) (contents c.write_part.new.sink) (contents c.write_scans.new.sink)
-    c.in_err-count-in-Ok-2.field-0.0 0 c.in_ok-count-in-Ok.count header scans eoi (written_file pic o) c.in_ok-count-in-Ok.ensures.count
-    all_is c.in_ok-count-in-Ok.ensures.all c.in_err-count-in-Ok-2.ensures.stops)
+    rw (p.1, p.2) (stops_on _ _ (g.W.Device.history c.write_scans.new.sink) _ _ (g.W.Sink.contents c.write_scans.new.sink)
+    c.in_err-count-in-Ok-2.field-0.0 0 _ header (scans_bytes pic o) (0xFF ∷ 0xD9 ∷ []) (written_file pic o)
+    c.in_ok-count-in-Ok.ensures.count (parts pic o header (c.deref.ensures.value ∙ c.in-Ok.ensures.value))
+    c.in_ok-count-in-Ok.ensures.all c.in_err-count-in-Ok-2.ensures.stops)
 
 pub write_part-requires-in-Ok : goal.write_part-requires-in-Ok
 write_part-requires-in-Ok g c =
@@ -61,47 +61,26 @@ write_part-requires-in-Ok g c =
 
 pub returns-in_err-write_part-in-Ok-clause-stops : goal.returns-in_err-write_part-in-Ok-clause-stops
 returns-in_err-write_part-in-Ok-clause-stops g c =
-    let history = g.W.Device.history in
-    let contents = g.W.Sink.contents in
-    let pic = c.args.picture.now in
+    let new = g.W.Device.history c.write_part-in-Ok.new.sink in
+    let holds = g.W.Sink.contents c.write_part-in-Ok.new.sink in
     let o = c.args.options.now in
     let header = c.deref.result.now in
-    let scans = scans_bytes pic o in
+    let before = header ++ scans_bytes c.args.picture.now o in
     let eoi : List ℕ = 0xFF ∷ 0xD9 ∷ [] in
-    let all_is : written_file pic o ≡ (header ++ scans) ++ eoi ++ [] =
-    ap (λ (t : List ℕ). t ++ (scans ++ eoi)) (sym (c.deref.ensures.value ∙ c.in-Ok.ensures.value)) ∙ sym (append_assoc header scans eoi)
-    ∙ sym (append-nil ((header ++ scans) ++ eoi)) in
-    let both = handed_on (history c.args.sink.now) (history c.write_part.new.sink) (history c.write_scans.new.sink)
-    (contents c.args.sink.now) (contents c.write_part.new.sink) (contents c.write_scans.new.sink)
-    header scans c.in_ok-count-in-Ok.ensures.all c.in_ok-count-in-Ok-2.ensures.all in
-    let sizes = length-append header scans in
+    let sizes = length-append header (scans_bytes c.args.picture.now o) in
     let first = c.in_ok-count-in-Ok.ensures.count in
     let second = c.in_ok-count-in-Ok-2.ensures.count in
-    let counted : c.in_ok-count-in-Ok-2.count ≡ 0 + length (header ++ scans) = omega (arith, sizes, first, second) in
+    let counted : c.in_ok-count-in-Ok-2.count ≡ 0 + length before = omega (arith, sizes, first, second) in
     let p = err_from_is_err_and c.from_residual-in_err-write_part-in-Ok.result c.from_residual-in_err-write_part-in-Ok.ensures.1 in
     let fault = c.in_err-write_part-in-Ok.field-0.0 in
-    rw (p.1, p.2) (stops_on (history c.args.sink.now) (history c.write_scans.new.sink) (history c.write_part-in-Ok.new.sink)
-    (contents c.args.sink.now) (contents c.write_scans.new.sink) (contents c.write_part-in-Ok.new.sink)
-    fault 0 c.in_ok-count-in-Ok-2.count (header ++ scans) eoi [] (written_file pic o) counted all_is both
-    (stops_by (history c.write_scans.new.sink) (history c.write_part-in-Ok.new.sink) (contents c.write_scans.new.sink)
-    (contents c.write_part-in-Ok.new.sink) fault c.in_ok-count-in-Ok-2.count eoi c.in_err-write_part-in-Ok.ensures.prefix))
+    rw (p.1, p.2) (stops_on _ _ new _ _ holds fault 0 _ before eoi [] (written_file c.args.picture.now o) counted
+    (parts c.args.picture.now o header (c.deref.ensures.value ∙ c.in-Ok.ensures.value) ∙ sym (append-nil (before ++ eoi)))
+    (handed_on _ _ _ _ _ _ _ _ c.in_ok-count-in-Ok.ensures.all c.in_ok-count-in-Ok-2.ensures.all)
+    (stops_by (g.W.Device.history c.write_scans.new.sink) new (g.W.Sink.contents c.write_scans.new.sink) holds fault
+    c.in_ok-count-in-Ok-2.count eoi c.in_err-write_part-in-Ok.ensures.prefix))
 
 pub returns-in_ok-write_part-in-Ok-clause-all : goal.returns-in_ok-write_part-in-Ok-clause-all
 returns-in_ok-write_part-in-Ok-clause-all g c =
-    let history = g.W.Device.history in
-    let contents = g.W.Sink.contents in
-    let pic = c.args.picture.now in
-    let o = c.args.options.now in
-    let header = c.deref.result.now in
-    let scans = scans_bytes pic o in
-    let eoi : List ℕ = 0xFF ∷ 0xD9 ∷ [] in
-    let all_is : header ++ (scans ++ eoi) ≡ written_file pic o =
-    ap (λ (t : List ℕ). t ++ (scans ++ eoi)) (c.deref.ensures.value ∙ c.in-Ok.ensures.value) in
-    let rest = handed_on (history c.write_part.new.sink) (history c.write_scans.new.sink) (history c.write_part-in-Ok.new.sink)
-    (contents c.write_part.new.sink) (contents c.write_scans.new.sink) (contents c.write_part-in-Ok.new.sink)
-    scans eoi c.in_ok-count-in-Ok-2.ensures.all c.in_ok-write_part-in-Ok.ensures.all in
-    subst (λ (t : List ℕ). HandedOut (history c.args.sink.now) (history c.write_part-in-Ok.new.sink) (contents c.args.sink.now)
-    (contents c.write_part-in-Ok.new.sink) t) all_is
-    (handed_on (history c.args.sink.now) (history c.write_part.new.sink) (history c.write_part-in-Ok.new.sink) (contents c.args.sink.now)
-    (contents c.write_part.new.sink) (contents c.write_part-in-Ok.new.sink)
-    header (scans ++ eoi) c.in_ok-count-in-Ok.ensures.all rest)
+    handed_as _ _ (file_is c.args.picture.now c.args.options.now c.deref.result.now (c.deref.ensures.value ∙ c.in-Ok.ensures.value))
+    (handed_on _ _ _ _ _ _ _ _ c.in_ok-count-in-Ok.ensures.all
+    (handed_on _ _ _ _ _ _ _ _ c.in_ok-count-in-Ok-2.ensures.all c.in_ok-write_part-in-Ok.ensures.all))

@@ -1,15 +1,11 @@
-use Rattle.std.proofs.Common.{◌≡◌, ℕ, ◌+◌, ◌-◌, ◌≤◌, ◌^◌, ◌++◌, List, length, sym, ap, subst, ◌∙◌, arith, length-append}
-use Rattle.std.specs.List.{flat_map, range_with_len}
+use Rattle.std.proofs.Common.{◌^◌, ℕ, List, refl, arith}
 use Rattle.std.proofs.lemmas.Result.{err_from_is_err_and}
-use Rattle.jls_values.proofs.Lists.{flat_map_more}
 use Rattle.jls_marker.specs.Scan.{intervals}
-use Rattle.jls_write.specs.Outcomes.{HandedOut}
-use Rattle.jls_write.proofs.Handing.{handed_on}
-use Rattle.jls_write.proofs.OneMore.{flat_map_one, three_parts, length-flat_map-le}
+use Rattle.jls_write.proofs.OneMore.{length-flat_map-le}
 use Rattle.jls_write.specs.Parts.{scan_from}
 use Rattle.jls_write.specs.WrittenFile.{marked_interval, scan_bytes}
 use Rattle.jls_write.proofs.FileLength.{marked_at_most}
-use Rattle.jls_write.proofs.FileHanding.{stops_on}
+use Rattle.jls_write.proofs.FileHanding.{part_out, part_counted, part_stops}
 use Rattle.jls_write.proofs.write.write_scan.Goals as goal
 
 pub write_interval-requires-clause-early : goal.write_interval-requires-clause-early
@@ -25,41 +21,20 @@ write_interval-requires-clause-early g c =
 
 pub returns-in_err-count-clause-stops : goal.returns-in_err-count-clause-stops
 returns-in_err-count-clause-stops g c =
-    let history = g.W.Device.history in
-    let contents = g.W.Sink.contents in
-    let part = c.args.part.now in
-    let s = scan_from part.picture.now part.options part.first part.count in
-    let f : ℕ → List ℕ = marked_interval part.picture.now s in
-    let k = c.loop-interval.interval in
+    let pic = c.args.part.now.picture.now in
+    let s = scan_from pic c.args.part.now.options c.args.part.now.first c.args.part.now.count in
     let value = c.intervals-interval-end.ensures.value in
-    let low : k ≤ k + 1 = omega arith in
-    let high : k + 1 ≤ intervals s = omega (arith, value, c.loop-interval-test.true) in
     let p = err_from_is_err_and c.from_residual.result c.from_residual.ensures.1 in
-    rw (p.1, p.2) (stops_on (history c.args.sink.now) (history c.loop-interval.sink) (history c.write_interval.new.sink)
-    (contents c.args.sink.now) (contents c.loop-interval.sink) (contents c.write_interval.new.sink)
-    c.in_err-count.field-0.0 c.args.before c.loop-interval.count (flat_map f (range_with_len 0 k)) (f k)
-    (flat_map f (range_with_len (k + 1) (intervals s - (k + 1)))) (scan_bytes part.picture.now s)
-    c.loop-interval.invariant.counted (three_parts f k (k + 1) (intervals s) (f k) low high (sym (flat_map_one f k)))
-    c.loop-interval.invariant.out c.in_err-count.ensures.stops)
+    rw (p.1, p.2) (part_stops (marked_interval pic s) c.loop-interval.interval _ _ (g.W.Device.history c.write_interval.new.sink)
+    _ _ (g.W.Sink.contents c.write_interval.new.sink) c.in_err-count.field-0.0 c.args.before _ (intervals s) (scan_bytes pic s)
+    c.loop-interval.invariant.counted c.loop-interval.invariant.out c.in_err-count.ensures.stops
+    (omega (arith, value, c.loop-interval-test.true)) refl)
 
 pub loop-interval-preserved : goal.loop-interval-preserved
 loop-interval-preserved g c =
-    let history = g.W.Device.history in
-    let contents = g.W.Sink.contents in
     let part = c.args.part.now in
     let f : ℕ → List ℕ = marked_interval part.picture.now (scan_from part.picture.now part.options part.first part.count) in
-    let k = c.loop-interval.interval in
-    let before = flat_map f (range_with_len 0 k) in
-    let both : flat_map f (range_with_len 0 (k + 1)) ≡ before ++ f k = flat_map_more f k in
-    let sizes : length (flat_map f (range_with_len 0 (k + 1))) ≡ length before + length (f k) = ap length both
-    ∙ length-append before (f k) in
-    let counted = c.loop-interval.invariant.counted in
-    let count = c.in_ok-count.ensures.count in
     record {
-      counted = omega (arith, sizes, counted, count);
-      out = subst (λ (t : List ℕ). HandedOut (history c.args.sink.now) (history c.write_interval.new.sink) (contents c.args.sink.now)
-          (contents c.write_interval.new.sink) t) (sym both)
-          (handed_on (history c.args.sink.now) (history c.loop-interval.sink) (history c.write_interval.new.sink) (contents c.args.sink.now)
-          (contents c.loop-interval.sink) (contents c.write_interval.new.sink)
-          before (f k) c.loop-interval.invariant.out c.in_ok-count.ensures.all);
+      counted = part_counted f c.loop-interval.interval _ _ _ c.loop-interval.invariant.counted c.in_ok-count.ensures.count;
+      out = part_out f c.loop-interval.interval c.loop-interval.invariant.out c.in_ok-count.ensures.all;
     }

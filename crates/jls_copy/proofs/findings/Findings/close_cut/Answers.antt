@@ -18,15 +18,14 @@ returns-in-Beyond c =
 pub returns-in-Whole : goal.returns-in-Whole
 returns-in-Whole c =
     let said = subst (CutFinishes c.in-Within.decoder) c.in-Whole.is c.in_ok-lines-in-Within.ensures.cut_end in
-    on_ok3 c.take.result (whole_adds c.args.plan.now c.in-Within.interval c.in-Within.decoder c.args.fed.piece c.in-Within.is
-    c.requires.sound c.width-width.ensures.ranges c.args.shape.now c.args.fed.scan c.args.fed.offset c.args.self.now c.take.new.self
-    c.in-Whole.lines said)
-    c.take.ensures.picture c.take.ensures.records c.take.ensures.count
+    on_ok3 c.take.result (whole_adds c.args.plan.now _ _ _ c.in-Within.is c.requires.sound c.width-width.ensures.ranges c.args.shape.now
+    c.args.fed.scan c.args.fed.offset c.args.self.now c.take.new.self c.in-Whole.lines said) c.take.ensures.picture c.take.ensures.records
+    c.take.ensures.count
 
 pub returns-in-Head : goal.returns-in-Head
 returns-in-Head c =
     let said = subst (CutFinishes c.in-Within.decoder) c.in-Head.is c.in_ok-lines-in-Within.ensures.cut_end in
-    on_ok3 c.take_head.result (head_adds c.args.plan.now c.in-Within.interval c.in-Within.decoder c.args.fed.piece c.in-Within.is
-    c.requires.sound c.width-width.ensures.ranges c.args.shape.now c.args.fed.scan c.args.fed.offset c.args.self.now c.take_head.new.self
-    c.in-Head.head c.in-Head.fault c.kind_of.result said c.kind_of.ensures)
+    on_ok3 c.take_head.result (head_adds c.args.plan.now _ _ _ c.in-Within.is c.requires.sound c.width-width.ensures.ranges
+    c.args.shape.now c.args.fed.scan c.args.fed.offset c.args.self.now c.take_head.new.self c.in-Head.head c.in-Head.fault _ said
+    c.kind_of.ensures)
     c.take_head.ensures.picture c.take_head.ensures.records c.take_head.ensures.count

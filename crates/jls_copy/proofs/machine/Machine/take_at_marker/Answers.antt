@@ -2,7 +2,7 @@ use Rattle.std.proofs.Common.{◌≡◌, ℕ, ◌+◌, ◌-◌, ◌*◌, ◌<◌
 use Rattle.jls_copy.specs.ReaderState.{with_segment}
 use Rattle.jls_copy.specs.declared.place.CopyPosition.TheVariants.{AtMarker}
 use Rattle.jls_copy.proofs.Idle.{fill_at_marker}
-use Rattle.jls_copy.proofs.MachineTakes.{takes_stretch, takes_segment}
+use Rattle.jls_copy.proofs.MachineTakes.{takes_fill, takes_segment}
 use Rattle.jls_copy.proofs.machine.Machine.take_at_marker.Goals as goal
 
 pub returns-in-Some : goal.returns-in-Some
@@ -28,9 +28,6 @@ returns-in-Some c =
 
 pub returns-then-count-gt0 : goal.returns-then-count-gt0
 returns-then-count-gt0 c =
-    let there : c.args.self.now.place ≡ AtMarker true = c.requires.place ∙ ap AtMarker c.if-fill.true in
-    takes_stretch c.args.self.now c.args.self.now c.args.bytes.now c.fill_len-count.result (AtMarker true) (AtMarker true) there there
-    (omega (arith, c.if-count-gt0.true))
-    c.fill_len-count.ensures.within
-    (fill_at_marker c.args.bytes.now c.fill_len-count.result c.fill_len-count.ensures.within c.fill_len-count.ensures.fill)
-    refl refl refl refl refl tt c.requires.header_bytes
+    takes_fill c.args.self.now c.args.bytes.now c.fill_len-count.result (AtMarker true) (c.requires.place ∙ ap AtMarker c.if-fill.true)
+    (omega (arith, c.if-count-gt0.true)) c.fill_len-count.ensures.within
+    (fill_at_marker _ _ c.fill_len-count.ensures.within c.fill_len-count.ensures.fill) refl tt c.requires.header_bytes

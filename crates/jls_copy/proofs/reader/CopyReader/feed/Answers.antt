@@ -2,7 +2,7 @@ use Rattle.std.proofs.Common.{◌≡◌, ℕ, List, ◌+◌, ◌-◌, ◌≤◌,
 use Rattle.std.proofs.Common.{length-drop}
 use Rattle.std.proofs.lemmas.List.{append-nil, take_all, length-take-le}
 use Rattle.std.proofs.Math.Seq.{take-add}
-use Rattle.jls_copy.proofs.Gathering.{held_shape, reading_on, of_fed, bytes_between}
+use Rattle.jls_copy.proofs.Gathering.{is_machine, reading_on, of_fed, bytes_between}
 use Rattle.jls_copy.proofs.reader.CopyReader.feed.Goals as goal
 
 pub loop-at-init : goal.loop-at-init
@@ -29,16 +29,7 @@ take-requires-clause-few c =
     )
 
 pub take-requires-clause-machine : goal.take-requires-clause-machine
-take-requires-clause-machine c =
-    let h = c.loop-at.invariant.reading in
-    record {
-      count_below = omega (arith, h.count_is, h.few);
-      records_below = omega (arith, h.records_counted, h.count_is, h.few);
-      following = h.following;
-      place_is = h.place_is;
-      shape_is = held_shape _ _ _ h.gathers;
-      header_bytes = h.header_bytes;
-    }
+take-requires-clause-machine c = is_machine _ _ c.loop-at.invariant.reading
 
 pub loop-at-preserved : goal.loop-at-preserved
 loop-at-preserved c =
