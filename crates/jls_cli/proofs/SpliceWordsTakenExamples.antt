@@ -40,7 +40,8 @@ AsksForCeiling text n = AskFor (with_words (codes "--max" ∷ text ∷ [])) (two
 
 ceilings-asked : AsksForCeiling (codes "4095") 4095 × AsksForCeiling (codes "0") 0 × AsksForCeiling (codes "65535") 65535
 unfolding clap_on_literals
-ceilings-asked = (record { taken = inl refl; asks = refl }, record { taken = inl refl; asks = refl }, record { taken = inl refl; asks = refl })
+ceilings-asked =
+    (record { taken = inl refl; asks = refl }, record { taken = inl refl; asks = refl }, record { taken = inl refl; asks = refl })
 
 -- all options
 all_options-asked : AskFor

@@ -30,7 +30,8 @@ returns-then-eq-2 c =
     let source = c.get_str-then-eq-2.ensures ∙ first_value-rows found (codes "source") in
     let out = c.get_str-then-eq-2-2.ensures ∙ first_value-rows found (codes "OUT") in
     let files = c.get_strs.ensures ∙ raw_values-rows found (codes "FILE") in
-    let named = asks_join c.in-Some.name.now (rows_of found) (sym c.eq.ensures ∙ c.if-eq.false) (sym c.eq-else-eq.ensures ∙ c.if-eq-2.true) in
+    let named = asks_join c.in-Some.name.now (rows_of found) (sym c.eq.ensures ∙ c.if-eq.false)
+    (sym c.eq-else-eq.ensures ∙ c.if-eq-2.true) in
     c.asked_join.ensures ∙ ((λ i. spec.asked_join (source i) (out i) (files i)) ∙ asks (goal.at.returns-then-eq-2 c).In-Some _ named)
 
 pub returns-then-eq-3 : goal.returns-then-eq-3
@@ -50,6 +51,8 @@ returns-then-eq-4 c =
     let out = c.get_str-then-eq-4-3.ensures ∙ first_value-rows found (codes "OUT") in
     let file = c.get_str-then-eq-4-4.ensures ∙ first_value-rows found (codes "FILE") in
     let options = c.options_of-options.ensures ∙ (λ i. spec.options_of (ilv i) (ri i)) in
-    let named = asks_write c.in-Some.name.now (rows_of found) (sym c.eq.ensures ∙ c.if-eq.false) (sym c.eq-else-eq.ensures ∙ c.if-eq-2.false)
+    let named = asks_write c.in-Some.name.now (rows_of found) (sym c.eq.ensures ∙ c.if-eq.false)
+    (sym c.eq-else-eq.ensures ∙ c.if-eq-2.false)
     (sym c.eq-else-eq-2.ensures ∙ c.if-eq-3.false) (sym c.eq-else-eq-3.ensures ∙ c.if-eq-4.true) in
-    c.asked_write.ensures ∙ ((λ i. spec.asked_write (format i) (options i) (out i) (file i)) ∙ asks (goal.at.returns-then-eq-4 c).In-Some _ named)
+    c.asked_write.ensures ∙ ((λ i. spec.asked_write (format i) (options i) (out i) (file i))
+    ∙ asks (goal.at.returns-then-eq-4 c).In-Some _ named)

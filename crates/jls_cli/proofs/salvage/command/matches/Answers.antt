@@ -7,6 +7,6 @@ use Rattle.jls_cli.proofs.salvage.command.matches.Goals as goal
 
 pub returns : goal.returns
 returns c =
-    let a = answered salvage_app salvage_is_simple _ (map string_bytes c.args.words.now) c.in_ok-command.ensures c.try_get_matches_from.result
-    c.try_get_matches_from.ensures.passes c.try_get_matches_from.ensures.kinds c.try_get_matches_from.ensures.matches in
+    let a = answered salvage_app salvage_is_simple _ (map string_bytes c.args.words.now) c.in_ok-command.ensures
+    _ c.try_get_matches_from.ensures.passes c.try_get_matches_from.ensures.kinds c.try_get_matches_from.ensures.matches in
     record { rows = a.4; no_fault = a.0; passes = a.1; refused = a.2 }
