@@ -5,7 +5,7 @@ use Rattle.std.proofs.lemmas.Grind.{flat_map-append}
 use Rattle.std.proofs.lemmas.List.{append-nil}
 use Rattle.jls_partial.specs.Partial.{PartialPicture}
 use Rattle.jls_partial.specs.Text.{text}
-use Rattle.jls_io.specs.Event.{Event, opened, not_opened, gave, read_failed, created, not_created, took, write_failed, is_read, is_opening}
+use Rattle.jls_io.specs.Event.{Event, gave, read_failed, took, is_read, is_opening}
 use Rattle.jls_io.specs.Event.{is_creation, bytes_given, bytes_given_by, bytes_taken}
 use Rattle.jls_io.specs.Writing.{AreWrites}
 use Rattle.jls_station.specs.Given.{Given, GivesPartial}
@@ -16,7 +16,6 @@ use Rattle.jls_io.specs.Outputs.{HandsOut}
 use Rattle.jls_salvage_run.specs.Joining.{JoinIsDone}
 use Rattle.jls_salvage_run.specs.CommandLaws.{before_next, input_bytes, output_bytes}
 use Rattle.jls_station.specs.declared.input.ReadStop.{ReadStop}
-use Rattle.jls_station.specs.declared.input.ReadStop.TheVariants.{Whole, Failed, Turns}
 
 -- Events that open no input and create no output -----------------------------------------------------------------
 
@@ -31,12 +30,7 @@ past_one : (e : Event) (more : List Event) → is_read e ≡ true
     → (is_opening e ≡ false) × (input_bytes (e ∷ more) ≡ input_bytes more) × (output_bytes (e ∷ more) ≡ output_bytes more)
 past_one (gave room bytes) more h = (refl, refl, refl)
 past_one read_failed more h = (refl, refl, refl)
-past_one (opened name) more h = absurd cc
-past_one (not_opened name) more h = absurd cc
-past_one (created name) more h = absurd cc
-past_one (not_created name) more h = absurd cc
-past_one (took bytes) more h = absurd cc
-past_one write_failed more h = absurd cc
+past_one e more h = absurd cc
 
 -- what comes after them is as it was
 past_all : (events rest : List Event) → AreReads events
@@ -53,35 +47,15 @@ past_all (e ∷ events) rest h =
 reads_on : (Enough : List ℕ → Type 0) (fed : List ℕ) (reads : List Event) → GoesOn Enough fed reads → AreReads reads
 reads_on Enough fed [] h = tt
 reads_on Enough fed (gave room bytes ∷ more) h = (refl, reads_on Enough (fed ++ bytes) more h.3)
-reads_on Enough fed (opened name ∷ more) h = absurd h
-reads_on Enough fed (not_opened name ∷ more) h = absurd h
-reads_on Enough fed (read_failed ∷ more) h = absurd h
-reads_on Enough fed (created name ∷ more) h = absurd h
-reads_on Enough fed (not_created name ∷ more) h = absurd h
-reads_on Enough fed (took bytes ∷ more) h = absurd h
-reads_on Enough fed (write_failed ∷ more) h = absurd h
+reads_on Enough fed (e ∷ more) h = absurd h
 
 -- the last read gave nothing
 last_read : (Enough : List ℕ → Type 0) (bytes : List ℕ) (last : List Event) (stop : ReadStop) → StopsWith Enough bytes last stop
     → AreReads last × (bytes_given last ≡ [])
-last_read Enough bytes [] Whole h = (tt, refl)
-last_read Enough bytes [] Turns h = (tt, refl)
-last_read Enough bytes [] Failed h = absurd h
-last_read Enough bytes (gave room [] ∷ []) Whole h = ((refl, tt), refl)
-last_read Enough bytes (gave room [] ∷ []) Failed h = absurd h
-last_read Enough bytes (gave room [] ∷ []) Turns h = absurd h
-last_read Enough bytes (gave room [] ∷ e ∷ more) stop h = absurd h
-last_read Enough bytes (gave room (b ∷ bs) ∷ more) stop h = absurd h
-last_read Enough bytes (opened name ∷ more) stop h = absurd h
-last_read Enough bytes (not_opened name ∷ more) stop h = absurd h
-last_read Enough bytes (read_failed ∷ []) Failed h = ((refl, tt), refl)
-last_read Enough bytes (read_failed ∷ []) Whole h = absurd h
-last_read Enough bytes (read_failed ∷ []) Turns h = absurd h
-last_read Enough bytes (read_failed ∷ e ∷ more) stop h = absurd h
-last_read Enough bytes (created name ∷ more) stop h = absurd h
-last_read Enough bytes (not_created name ∷ more) stop h = absurd h
-last_read Enough bytes (took b ∷ more) stop h = absurd h
-last_read Enough bytes (write_failed ∷ more) stop h = absurd h
+last_read Enough bytes [] stop h = (tt, refl)
+last_read Enough bytes (gave room [] ∷ []) stop h = ((refl, tt), refl)
+last_read Enough bytes (read_failed ∷ []) stop h = ((refl, tt), refl)
+last_read Enough bytes last stop h = absurd h
 
 pub all_reads : (Enough : List ℕ → Type 0) (bytes : List ℕ) (reads : List Event) (stop : ReadStop) → IsRead Enough reads bytes stop
     → AreReads reads × (bytes_given reads ≡ bytes)
@@ -147,13 +121,7 @@ past_writes : (writes : List Event) → AreWrites writes
     → ReadsNone writes × (input_bytes writes ≡ []) × (before_next is_creation writes ≡ writes) × (output_bytes writes ≡ [])
 past_writes [] h = (refl, refl, refl, refl)
 past_writes (took bytes ∷ writes) h = let r = past_writes writes h.1 in (r.0, r.1, ap (λ (x : List Event). took bytes ∷ x) r.2, r.3)
-past_writes (opened name ∷ writes) h = absurd h
-past_writes (not_opened name ∷ writes) h = absurd h
-past_writes (gave room bytes ∷ writes) h = absurd h
-past_writes (read_failed ∷ writes) h = absurd h
-past_writes (created name ∷ writes) h = absurd h
-past_writes (not_created name ∷ writes) h = absurd h
-past_writes (write_failed ∷ writes) h = absurd h
+past_writes (e ∷ writes) h = absurd h
 
 -- what an output was handed is all that was
 pub handed_out : (out bytes : List ℕ) (writing : List Event) → HandsOut out bytes writing
