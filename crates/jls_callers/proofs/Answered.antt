@@ -1,5 +1,7 @@
 -- What is said of a call that answers so, and what follows.
-use Rattle.std.proofs.Common.{Result, Ok, Err, OnOk, OnErr, IfOk, IfErr}
+use Rattle.std.proofs.Common.{◌≡◌, ℕ, List, Option, Some, Result, Ok, Err, OnOk, OnErr, IfOk, IfErr, subst}
+use Rattle.std.specs.Prelude.{IfSome}
+use Rattle.std.proofs.lemmas.Result.{IfErr-at_err}
 
 module _ {T E : Type 0} where
   pub ok_both : (r : Result T E) (A B C : Type 0) → OnOk r A → OnOk r B → (A → B → C) → OnOk r C
@@ -21,3 +23,8 @@ module _ {T E : Type 0} where
   pub fault_then : (r : Result T E) (A B : E → Type 0) → IfErr r A → ((e : E) → A e → B e) → IfErr r B
   fault_then (Ok x) A B a f = tt
   fault_then (Err e) A B a f = f e a
+
+  -- a fault that is answered of known bytes
+  pub fault_at : (r : Result T E) (left : Option (List ℕ)) (Q : List ℕ → E → Type 0) (bytes : List ℕ) (f : E) → left ≡ Some bytes
+      → r ≡ Err f → IfErr r (λ e. IfSome left (λ b. Q b e)) → Q bytes f
+  fault_at r left Q bytes f is e h = subst (λ (o : Option (List ℕ)). IfSome o (λ b. Q b f)) is (IfErr-at_err _ e h)

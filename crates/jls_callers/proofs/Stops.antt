@@ -4,7 +4,7 @@ use Rattle.std.proofs.Common.{arith}
 use Rattle.std.proofs.lemmas.Bool.{false≢true}
 use Rattle.std.proofs.lemmas.List.{append-nil, length-append}
 use Rattle.std.specs.List.{list_any}
-use Rattle.jls_io.specs.Event.{Event, opened, not_opened, gave, read_failed, created, not_created, took, write_failed, is_failed_read}
+use Rattle.jls_io.specs.Event.{Event, gave, read_failed, is_failed_read}
 use Rattle.jls_io.specs.Event.{bytes_given}
 use Rattle.jls_partial.specs.Partial.{PartialPicture}
 use Rattle.jls_station.specs.Given.{Given, Gives, by_text, by_copy, CopyReport, FoundCopy}
@@ -31,14 +31,8 @@ Shows Turns count reads = (length reads ≡ 4294967295) × (4294967295 ≤ count
 
 failed_after : (on : List Event) → list_any is_failed_read (on ++ read_failed ∷ []) ≡ true
 failed_after [] = refl
-failed_after (opened name ∷ on) = failed_after on
-failed_after (not_opened name ∷ on) = failed_after on
-failed_after (gave room bytes ∷ on) = failed_after on
 failed_after (read_failed ∷ on) = refl
-failed_after (created name ∷ on) = failed_after on
-failed_after (not_created name ∷ on) = failed_after on
-failed_after (took bytes ∷ on) = failed_after on
-failed_after (write_failed ∷ on) = failed_after on
+failed_after (e ∷ on) = failed_after on
 
 module _ (E : List ℕ → Type 0) where
   -- each read that went on gave a byte at least
@@ -48,13 +42,7 @@ module _ (E : List ℕ → Type 0) where
       let n = some_each (fed ++ bytes) more h.3 in
       let some = h.1 in
       omega (arith, n, some, length-append bytes (bytes_given more))
-  some_each fed (opened name ∷ more) h = absurd h
-  some_each fed (not_opened name ∷ more) h = absurd h
-  some_each fed (read_failed ∷ more) h = absurd h
-  some_each fed (created name ∷ more) h = absurd h
-  some_each fed (not_created name ∷ more) h = absurd h
-  some_each fed (took bytes ∷ more) h = absurd h
-  some_each fed (write_failed ∷ more) h = absurd h
+  some_each fed (e ∷ more) h = absurd h
 
   -- how it stopped tells the last read: a failed one, or none
   abbrev LastOf : ReadStop → List Event → Type 0
@@ -65,29 +53,10 @@ module _ (E : List ℕ → Type 0) where
   pub last_of : (bytes : List ℕ) (last : List Event) (stop : ReadStop) → StopsWith E bytes last stop → LastOf stop last
   last_of bytes last Whole h = tt
   last_of bytes [] Turns h = refl
-  last_of bytes [] Failed h = absurd h
-  last_of bytes (gave room [] ∷ []) Failed h = absurd h
-  last_of bytes (gave room [] ∷ []) Turns h = absurd h
-  last_of bytes (gave room [] ∷ e ∷ more) Failed h = absurd h
-  last_of bytes (gave room [] ∷ e ∷ more) Turns h = absurd h
-  last_of bytes (gave room (b ∷ bs) ∷ more) Failed h = absurd h
-  last_of bytes (gave room (b ∷ bs) ∷ more) Turns h = absurd h
   last_of bytes (read_failed ∷ []) Failed h = refl
-  last_of bytes (read_failed ∷ []) Turns h = absurd h
-  last_of bytes (read_failed ∷ e ∷ more) Failed h = absurd h
-  last_of bytes (read_failed ∷ e ∷ more) Turns h = absurd h
-  last_of bytes (opened name ∷ more) Failed h = absurd h
-  last_of bytes (opened name ∷ more) Turns h = absurd h
-  last_of bytes (not_opened name ∷ more) Failed h = absurd h
-  last_of bytes (not_opened name ∷ more) Turns h = absurd h
-  last_of bytes (created name ∷ more) Failed h = absurd h
-  last_of bytes (created name ∷ more) Turns h = absurd h
-  last_of bytes (not_created name ∷ more) Failed h = absurd h
-  last_of bytes (not_created name ∷ more) Turns h = absurd h
-  last_of bytes (took b ∷ more) Failed h = absurd h
-  last_of bytes (took b ∷ more) Turns h = absurd h
-  last_of bytes (write_failed ∷ more) Failed h = absurd h
-  last_of bytes (write_failed ∷ more) Turns h = absurd h
+  last_of bytes (read_failed ∷ []) stop h = absurd h
+  last_of bytes (gave room [] ∷ []) stop h = absurd h
+  last_of bytes last stop h = absurd h
 
   pub shown : (reads : List Event) (bytes : List ℕ) (stop : ReadStop) → IsRead E reads bytes stop → Shows stop (length bytes) reads
   shown reads bytes Whole h = tt

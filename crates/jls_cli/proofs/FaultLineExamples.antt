@@ -1,165 +1,88 @@
 -- Fault lines of worked refusals, as both programs print them. The offsets of bad texts were counted by hand, each in a change of the text
 -- of a picture of 1x2 samples that ends at byte 31.
-use Rattle.std.proofs.Common.{◌≡◌, ◌∷◌, [], true, false, refl}
+use Rattle.std.proofs.Common.{◌≡◌, ◌∷◌, ◌++◌, ℕ, List, [], true, false, refl}
 use Rattle.std.specs.Prelude.{codes}
 use Rattle.std.specs.Char.{encode_utf8}
 use Rattle.std.specs.Str.{chars}
 use Rattle.jls_marker.specs.declared.fault.MarkerFault.TheVariants.{NoSoi, Ended}
+use Rattle.jls_partial.specs.declared.text_fault.TextFault.{TextFault}
 use Rattle.jls_partial.specs.declared.text_fault.TextFault.TheVariants as text_fault
 use Rattle.jls_station.specs.declared.input.InputFault.TheVariants as fault
 use Rattle.jls_station.specs.declared.input.ReadStop.TheVariants.{Failed}
+use Rattle.jls_cli.specs.declared.outcome.Cause.{Cause}
 use Rattle.jls_cli.specs.declared.outcome.Cause.TheVariants as cause
 use Rattle.jls_cli.specs.FaultLines.{cause_line}
 use Rattle.jls_report.proofs.PrintedNumbers.{d0, d1, d3, d4, d5, d6, d16, d18, d19, d29, d30, d31, d33, d60}
 
--- inputs that are not read
-not_opened : cause_line (codes "jls-salvage") (codes "N") cause.NotOpened ≡ codes "jls-salvage: N: cannot be opened\n"
-unfolding chars encode_utf8
-not_opened = refl
+-- for this cause at this name a program prints this after its own name
+abbrev Prints : List ℕ → List ℕ → Cause → List ℕ → Type 0
+Prints program name why said = cause_line program name why ≡ program ++ (codes ": " ++ said)
 
-not_read : cause_line (codes "jls-salvage") (codes "N") (cause.Input (fault.Read Failed 45)) ≡ codes "jls-salvage: N: read failed\n"
+abbrev Salvage : List ℕ → Cause → List ℕ → Type 0
+Salvage = Prints (codes "jls-salvage")
+
+-- inputs that are not read
+inputs : Salvage (codes "N") cause.NotOpened (codes "N: cannot be opened\n")
+    × Salvage (codes "N") (cause.Input (fault.Read Failed 45)) (codes "N: read failed\n")
 unfolding chars encode_utf8
-not_read = refl
+inputs = (refl, refl)
 
 -- copies without a picture
-no_soi : cause_line (codes "jls-salvage") (codes "N") (cause.Input (fault.NoPicture NoSoi 0))
-    ≡ codes "jls-salvage: N: no picture, fault 18 at 0\n"
+copies : Salvage (codes "N") (cause.Input (fault.NoPicture NoSoi 0)) (codes "N: no picture, fault 18 at 0\n")
+    × Salvage (codes "N") (cause.Input (fault.NoPicture Ended 33)) (codes "N: no picture, fault 19 at 33\n")
 unfolding chars encode_utf8
-no_soi = rw (d18, d0) refl
-
-ended : cause_line (codes "jls-salvage") (codes "N") (cause.Input (fault.NoPicture Ended 33))
-    ≡ codes "jls-salvage: N: no picture, fault 19 at 33\n"
-unfolding chars encode_utf8
-ended = rw (d19, d33) refl
+copies = (rw (d18, d0) refl, rw (d19, d33) refl)
 
 -- bad texts: another byte 4, a precision of 1, the last byte cut, line 1 before line 0, no reading, readings that do not ascend, a sample
 -- above the greatest, one byte more
-magic : cause_line (codes "jls-salvage") (codes "T") (cause.Input (fault.Text (text_fault.Magic 4)))
-    ≡ codes "jls-salvage: T: bad text, magic at 4\n"
-unfolding chars encode_utf8
-magic = rw d4 refl
+abbrev BadText : TextFault → List ℕ → Type 0
+BadText f said = Salvage (codes "T") (cause.Input (fault.Text f)) (codes "T: bad text, " ++ (said ++ codes "\n"))
 
-bad_shape : cause_line (codes "jls-salvage") (codes "T") (cause.Input (fault.Text (text_fault.BadShape 5)))
-    ≡ codes "jls-salvage: T: bad text, shape at 5\n"
+texts : BadText (text_fault.Magic 4) (codes "magic at 4") × BadText (text_fault.BadShape 5) (codes "shape at 5")
+    × BadText (text_fault.Truncated 30) (codes "truncated at 30") × BadText (text_fault.Place 16) (codes "place at 16")
+    × BadText (text_fault.Count 19) (codes "count at 19") × BadText (text_fault.Order 29) (codes "order at 29")
+    × BadText (text_fault.Sample 29) (codes "sample at 29") × BadText (text_fault.Trailing 31) (codes "trailing at 31")
 unfolding chars encode_utf8
-bad_shape = rw d5 refl
+texts = (rw d4 refl, rw d5 refl, rw d30 refl, rw d16 refl, rw d19 refl, rw d29 refl, rw d29 refl, rw d31 refl)
 
-truncated : cause_line (codes "jls-salvage") (codes "T") (cause.Input (fault.Text (text_fault.Truncated 30)))
-    ≡ codes "jls-salvage: T: bad text, truncated at 30\n"
+-- a picture of another shape, and files that are not written
+pictures : Salvage (codes "U") cause.ShapeDiffers (codes "U: shape differs\n")
+    × Salvage (codes "OUT") (cause.Unsettled 1 6 true) (codes "line 6 of component 1 is disputed\n")
+    × Salvage (codes "OUT") (cause.Unsettled 1 5 false) (codes "line 5 of component 1 is missing\n")
+    × Salvage (codes "OUT") cause.TooLarge (codes "interval too large, give --ri\n")
 unfolding chars encode_utf8
-truncated = rw d30 refl
-
-place : cause_line (codes "jls-salvage") (codes "T") (cause.Input (fault.Text (text_fault.Place 16)))
-    ≡ codes "jls-salvage: T: bad text, place at 16\n"
-unfolding chars encode_utf8
-place = rw d16 refl
-
-count : cause_line (codes "jls-salvage") (codes "T") (cause.Input (fault.Text (text_fault.Count 19)))
-    ≡ codes "jls-salvage: T: bad text, count at 19\n"
-unfolding chars encode_utf8
-count = rw d19 refl
-
-order : cause_line (codes "jls-salvage") (codes "T") (cause.Input (fault.Text (text_fault.Order 29)))
-    ≡ codes "jls-salvage: T: bad text, order at 29\n"
-unfolding chars encode_utf8
-order = rw d29 refl
-
-sample : cause_line (codes "jls-salvage") (codes "T") (cause.Input (fault.Text (text_fault.Sample 29)))
-    ≡ codes "jls-salvage: T: bad text, sample at 29\n"
-unfolding chars encode_utf8
-sample = rw d29 refl
-
-trailing : cause_line (codes "jls-salvage") (codes "T") (cause.Input (fault.Text (text_fault.Trailing 31)))
-    ≡ codes "jls-salvage: T: bad text, trailing at 31\n"
-unfolding chars encode_utf8
-trailing = rw d31 refl
-
--- a picture of another shape
-shape_differs : cause_line (codes "jls-salvage") (codes "U") cause.ShapeDiffers ≡ codes "jls-salvage: U: shape differs\n"
-unfolding chars encode_utf8
-shape_differs = refl
-
--- files that are not written
-disputed : cause_line (codes "jls-salvage") (codes "OUT") (cause.Unsettled 1 6 true)
-    ≡ codes "jls-salvage: line 6 of component 1 is disputed\n"
-unfolding chars encode_utf8
-disputed = rw (d6, d1) refl
-
-missing : cause_line (codes "jls-salvage") (codes "OUT") (cause.Unsettled 1 5 false)
-    ≡ codes "jls-salvage: line 5 of component 1 is missing\n"
-unfolding chars encode_utf8
-missing = rw (d5, d1) refl
-
-too_large : cause_line (codes "jls-salvage") (codes "OUT") cause.TooLarge ≡ codes "jls-salvage: interval too large, give --ri\n"
-unfolding chars encode_utf8
-too_large = refl
+pictures = (refl, rw (d6, d1) refl, rw (d5, d1) refl, refl)
 
 -- outputs
-not_created : cause_line (codes "jls-salvage") (codes "OUT") cause.NotCreated ≡ codes "jls-salvage: OUT: cannot be created\n"
+outputs : Salvage (codes "OUT") cause.NotCreated (codes "OUT: cannot be created\n")
+    × Salvage (codes "OUT") (cause.NotWritten 60) (codes "OUT: write failed after 60 bytes\n")
+    × Salvage (codes "-") (cause.NotWritten 0) (codes "-: write failed after 0 bytes\n")
 unfolding chars encode_utf8
-not_created = refl
+outputs = (refl, rw d60 refl, rw d0 refl)
 
-not_written : cause_line (codes "jls-salvage") (codes "OUT") (cause.NotWritten 60) ≡ codes "jls-salvage: OUT: write failed after 60 bytes\n"
-unfolding chars encode_utf8
-not_written = rw d60 refl
+-- copies of `jls-splice`, and its outputs with numbers
+abbrev Splice : List ℕ → Cause → List ℕ → Type 0
+Splice = Prints (codes "jls-splice")
 
-report_not_written : cause_line (codes "jls-salvage") (codes "-") (cause.NotWritten 0)
-    ≡ codes "jls-salvage: -: write failed after 0 bytes\n"
+splices : Splice (codes "P") cause.PartialPicture (codes "P: is a partial picture\n")
+    × Splice (codes "N") cause.NotRead (codes "N: read failed\n")
+    × Splice (codes "N") (cause.NoPicture NoSoi 0) (codes "N: no picture, fault 18 at 0\n")
+    × Splice (codes "A") (cause.FileNotCreated 3) (codes "A-3: cannot be created\n")
+    × Splice (codes "A") (cause.FileNotWritten 18 60) (codes "A-18: write failed after 60 bytes\n")
 unfolding chars encode_utf8
-report_not_written = rw d0 refl
-
--- copies of `jls-splice`
-partial_picture : cause_line (codes "jls-splice") (codes "P") cause.PartialPicture ≡ codes "jls-splice: P: is a partial picture\n"
-unfolding chars encode_utf8
-partial_picture = refl
-
-first_not_read : cause_line (codes "jls-splice") (codes "N") cause.NotRead ≡ codes "jls-splice: N: read failed\n"
-unfolding chars encode_utf8
-first_not_read = refl
-
-first_no_soi : cause_line (codes "jls-splice") (codes "N") (cause.NoPicture NoSoi 0) ≡ codes "jls-splice: N: no picture, fault 18 at 0\n"
-unfolding chars encode_utf8
-first_no_soi = rw (d18, d0) refl
-
--- its outputs with numbers
-file_not_created : cause_line (codes "jls-splice") (codes "A") (cause.FileNotCreated 3) ≡ codes "jls-splice: A-3: cannot be created\n"
-unfolding chars encode_utf8
-file_not_created = rw d3 refl
-
-file_not_written : cause_line (codes "jls-splice") (codes "A") (cause.FileNotWritten 18 60)
-    ≡ codes "jls-splice: A-18: write failed after 60 bytes\n"
-unfolding chars encode_utf8
-file_not_written = rw (d18, d60) refl
+splices = (refl, refl, rw (d18, d0) refl, rw d3 refl, rw (d18, d60) refl)
 
 -- want of memory, in whatever was done
-memory : cause_line (codes "jls-salvage") (codes "OUT") cause.OutOfMemory ≡ codes "jls-salvage: out of memory\n"
+memory : Salvage (codes "OUT") cause.OutOfMemory (codes "out of memory\n")
+    × Salvage (codes "N") (cause.Input fault.OutOfMemory) (codes "out of memory\n")
+    × Salvage (codes "T") (cause.Input (fault.Text text_fault.OutOfMemory)) (codes "out of memory\n")
 unfolding chars encode_utf8
-memory = refl
-
-memory_for_input : cause_line (codes "jls-salvage") (codes "N") (cause.Input fault.OutOfMemory) ≡ codes "jls-salvage: out of memory\n"
-unfolding chars encode_utf8
-memory_for_input = refl
-
-memory_for_text : cause_line (codes "jls-salvage") (codes "T") (cause.Input (fault.Text text_fault.OutOfMemory))
-    ≡ codes "jls-salvage: out of memory\n"
-unfolding chars encode_utf8
-memory_for_text = refl
+memory = (refl, refl, refl)
 
 -- names with ESC, with LINE FEED, with RIGHT-TO-LEFT OVERRIDE (U+202E) and with a backslash
-escape : cause_line (codes "jls-salvage") (0x1B ∷ codes "[2J") cause.NotOpened ≡ codes "jls-salvage: \\u{1b}[2J: cannot be opened\n"
+names : Salvage (0x1B ∷ codes "[2J") cause.NotOpened (codes "\\u{1b}[2J: cannot be opened\n")
+    × Salvage (codes "a\njls-salvage: b") cause.NotOpened (codes "a\\u{a}jls-salvage: b: cannot be opened\n")
+    × Salvage (97 ∷ 0xE2 ∷ 0x80 ∷ 0xAE ∷ 98 ∷ []) cause.NotOpened (codes "a\\u{202e}b: cannot be opened\n")
+    × Salvage (codes "a\\b") cause.NotOpened (codes "a\\\\b: cannot be opened\n")
 unfolding chars encode_utf8
-escape = refl
-
-two_lines : cause_line (codes "jls-salvage") (codes "a\njls-salvage: b") cause.NotOpened
-    ≡ codes "jls-salvage: a\\u{a}jls-salvage: b: cannot be opened\n"
-unfolding chars encode_utf8
-two_lines = refl
-
-override : cause_line (codes "jls-salvage") (97 ∷ 0xE2 ∷ 0x80 ∷ 0xAE ∷ 98 ∷ []) cause.NotOpened
-    ≡ codes "jls-salvage: a\\u{202e}b: cannot be opened\n"
-unfolding chars encode_utf8
-override = refl
-
-backslash : cause_line (codes "jls-salvage") (codes "a\\b") cause.NotOpened ≡ codes "jls-salvage: a\\\\b: cannot be opened\n"
-unfolding chars encode_utf8
-backslash = refl
+names = (refl, refl, refl, refl)

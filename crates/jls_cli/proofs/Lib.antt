@@ -1,13 +1,11 @@
 -- Lemmas of this crate.
 mod ErrorKinds
 mod FaultLineExamples
-mod Numbers
+mod NumbersRead
 pub mod OutputSteps
-mod SalvageSimpleCommand
 pub mod SalvageWordsRead
 mod SalvageWordsTakenExamples
-mod SpliceSimpleCommand
-mod SpliceWordsRead
+mod SimpleCommands
 mod SpliceWordsTakenExamples
 mod AnswerExamples
 mod StatusExamples

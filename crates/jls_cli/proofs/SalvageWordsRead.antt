@@ -1,17 +1,13 @@
 -- What a caller of clap reads of the rows of a command.
-use Rattle.std.proofs.Common.{◌≡◌, ◌∙◌, ap, subst, true, refl, List, Option, None, Some, Result, Ok, Err}
+use Rattle.std.proofs.Common.{◌≡◌, ◌∙◌, ap, true, refl, List, Option, None, Some}
 use Rattle.std.specs.Prelude.{codes, false, option_map, option_and_then}
 use Rattle.std.specs.Str.{bytes_eq}
-use Rattle.std.specs.Prelude.{IfOk}
-use Rattle.clap.specs.Words.{App, Row, Text, all_of, first_of}
+use Rattle.clap.specs.Words.{Row, Text, all_of, first_of}
 use Rattle.clap.specs.Matches.{subcommand_name_of}
-use Rattle.clap.specs.Simple.{HasMatchesOf, subcommand_of, subcommand_rows, subcommand_rows_of}
+use Rattle.clap.specs.Simple.{subcommand_rows, subcommand_rows_of}
 use Rattle.clap.specs.declared.parser.matches.ArgMatches.{ArgMatches}
 use Rattle.clap.specs.declared.parser.matches.ArgMatches.TheViews.{out-ArgMatches}
-use Rattle.clap.specs.declared.error.Error.{Error}
 use Rattle.jls_cli.specs.SalvageAsking.{Asked, asked_by, asked_check, asked_join, asked_show, asked_write, options_of}
-use Rattle.jls_cli.specs.SalvageWords.{salvage_app}
-use Rattle.jls_cli.proofs.SalvageSimpleCommand.{is_simple_program}
 
 -- the name and the rows, from both
 both_parts : {X : Type 0} (name_of : X → Text) (rows_in : X → List Row) (o : Option X) (name : Text) (rows : List Row)
@@ -57,10 +53,3 @@ pub asked_entered : (m : ArgMatches) (name : Text) (rows : List Row) (a : Option
     → asked_by name rows ≡ a
     → option_and_then (λ p. asked_by p.0 p.1) (subcommand_rows_of m) ≡ a
 asked_entered m name rows a e is = ap (option_and_then (λ (p : Text × List Row). asked_by p.0 p.1)) e ∙ is
-
--- the rows of the subcommand are those of the words
-pub rows_where_read : (app : App) (words : List Text) → app ≡ salvage_app → (r : Result ArgMatches Error)
-    → IfOk r (λ m. HasMatchesOf app words m)
-    → IfOk r (λ m. subcommand_rows_of m ≡ subcommand_of salvage_app words)
-rows_where_read app words e (Ok m) h = (subst (λ (a : App). HasMatchesOf a words m) e h is_simple_program).1
-rows_where_read app words e (Err f) h = tt

@@ -6,7 +6,8 @@ use Rattle.clap.specs.declared.error.kind.ErrorKind.{ErrorKind}
 use Rattle.clap.specs.declared.error.kind.ErrorKind.TheVariants as kind
 use Rattle.clap.proofs.OnLiterals.{clap_on_literals}
 use Rattle.jls_cli.specs.SalvageAsking.{AskFor, AskForNothing, format_is_known, check, join, show, write_pnm, write_jls}
-use Rattle.jls_cli.specs.SalvageWords.{salvage_app, AreRefused, AreTaken}
+use Rattle.jls_cli.specs.SalvageWords.{salvage_app, AreRefused}
+use Rattle.jls_cli.specs.Words.{Takes}
 
 -- `jls-salvage join OUT A B`
 abbrev pub two_files : List Text
@@ -83,35 +84,26 @@ refused words k untaken found = record {
   found = subst (λ (kinds : Kinds). IsAmong k kinds) (sym found) (inl refl);
 }
   where
-    either : AreTaken words → ⊥
+    either : Takes salvage_app words → ⊥
     either (inl taken) = cc
     either (inr none) = cc
 
 pub too_many_rows : AreRefused (with_rows (codes "65536")) kind.ValueValidation
 unfolding clap_on_literals
-too_many_rows = refused (with_rows (codes "65536")) kind.ValueValidation refl refl
+too_many_rows = refused _ _ refl refl
 
 -- words that have to be there, and are not: `jls-salvage check` and `jls-salvage join OUT`
-pub no_file : AreRefused (codes "jls-salvage" ∷ codes "check" ∷ []) kind.MissingRequiredArgument
+pub too_few : AreRefused (codes "jls-salvage" ∷ codes "check" ∷ []) kind.MissingRequiredArgument
+    × AreRefused (codes "jls-salvage" ∷ codes "join" ∷ codes "OUT" ∷ []) kind.MissingRequiredArgument
 unfolding clap_on_literals
-no_file = refused (codes "jls-salvage" ∷ codes "check" ∷ []) kind.MissingRequiredArgument refl refl
-
-pub no_input : AreRefused (codes "jls-salvage" ∷ codes "join" ∷ codes "OUT" ∷ []) kind.MissingRequiredArgument
-unfolding clap_on_literals
-no_input = refused (codes "jls-salvage" ∷ codes "join" ∷ codes "OUT" ∷ []) kind.MissingRequiredArgument refl refl
+too_few = (refused _ _ refl refl, refused _ _ refl refl)
 
 -- the version, of the program, and of a command with and without its words
-pub version : AreRefused (codes "jls-salvage" ∷ codes "--version" ∷ []) kind.DisplayVersion
+pub versions : AreRefused (codes "jls-salvage" ∷ codes "--version" ∷ []) kind.DisplayVersion
+    × AreRefused (codes "jls-salvage" ∷ codes "check" ∷ codes "--version" ∷ []) kind.DisplayVersion
+    × AreRefused (codes "jls-salvage" ∷ codes "check" ∷ codes "A" ∷ codes "--version" ∷ []) kind.DisplayVersion
 unfolding clap_on_literals
-version = refused (codes "jls-salvage" ∷ codes "--version" ∷ []) kind.DisplayVersion refl refl
-
-pub version_of_check : AreRefused (codes "jls-salvage" ∷ codes "check" ∷ codes "--version" ∷ []) kind.DisplayVersion
-unfolding clap_on_literals
-version_of_check = refused (codes "jls-salvage" ∷ codes "check" ∷ codes "--version" ∷ []) kind.DisplayVersion refl refl
-
-pub version_after_file : AreRefused (codes "jls-salvage" ∷ codes "check" ∷ codes "A" ∷ codes "--version" ∷ []) kind.DisplayVersion
-unfolding clap_on_literals
-version_after_file = refused (codes "jls-salvage" ∷ codes "check" ∷ codes "A" ∷ codes "--version" ∷ []) kind.DisplayVersion refl refl
+versions = (refused _ _ refl refl, refused _ _ refl refl, refused _ _ refl refl)
 
 -- a format that there is not
 pub as_gif-nothing : AskForNothing (as_format (codes "gif"))

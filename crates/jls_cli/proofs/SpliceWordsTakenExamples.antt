@@ -1,5 +1,5 @@
 -- Words that clap reads, and words that it refuses: the premises of the theorems on `run` hold of them.
-use Rattle.std.proofs.Common.{◌≡◌, true, false, List, [], ◌∷◌, ◌++◌, Some, None, refl, inl}
+use Rattle.std.proofs.Common.{◌≡◌, ℕ, true, false, List, [], ◌∷◌, ◌++◌, Some, None, refl, inl}
 use Rattle.std.specs.Prelude.{codes}
 use Rattle.clap.specs.Words.{Text, Kinds, fault_of}
 use Rattle.clap.specs.declared.error.kind.ErrorKind.TheVariants as kind
@@ -34,20 +34,14 @@ most_tries-asked : AskFor (with_words (codes "--tries" ∷ codes "4294967295" �
 unfolding clap_on_literals
 most_tries-asked = record { taken = inl refl; asks = refl }
 
--- `jls-splice --max 4095 OUT A B`
-ceiling-asked : AskFor (with_words (codes "--max" ∷ codes "4095" ∷ [])) (two_copies (record default { ceiling = Some 4095 }))
-unfolding clap_on_literals
-ceiling-asked = record { taken = inl refl; asks = refl }
+-- `jls-splice --max N OUT A B`
+abbrev AsksForCeiling : Text → ℕ → Type 0
+AsksForCeiling text n = AskFor (with_words (codes "--max" ∷ text ∷ [])) (two_copies (record default { ceiling = Some n }))
 
--- `jls-splice --max 0 OUT A B`
-least_ceiling-asked : AskFor (with_words (codes "--max" ∷ codes "0" ∷ [])) (two_copies (record default { ceiling = Some 0 }))
+ceilings-asked : AsksForCeiling (codes "4095") 4095 × AsksForCeiling (codes "0") 0 × AsksForCeiling (codes "65535") 65535
 unfolding clap_on_literals
-least_ceiling-asked = record { taken = inl refl; asks = refl }
-
--- `jls-splice --max 65535 OUT A B`
-most_ceiling-asked : AskFor (with_words (codes "--max" ∷ codes "65535" ∷ [])) (two_copies (record default { ceiling = Some 65535 }))
-unfolding clap_on_literals
-most_ceiling-asked = record { taken = inl refl; asks = refl }
+ceilings-asked =
+    (record { taken = inl refl; asks = refl }, record { taken = inl refl; asks = refl }, record { taken = inl refl; asks = refl })
 
 -- all options
 all_options-asked : AskFor

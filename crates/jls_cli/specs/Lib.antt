@@ -6,4 +6,5 @@ pub mod SalvageAsking
 pub mod SalvageWords
 pub mod SpliceAsking
 pub mod SpliceWords
+pub mod Words
 pub mod Answers

@@ -2,10 +2,9 @@
 use Rattle.std.specs.Prelude.{◌≡◌, ℕ, Bool, true, false, List, ◌∷◌, Option, Some, None, map, codes, if◌then◌else◌, option_map}
 use Rattle.std.specs.Prelude.{option_and_then}
 use Rattle.std.specs.Str.{bytes_eq}
-use Rattle.std.specs.Str.Parse.{digits_value, without_leading_plus}
-use Rattle.clap.specs.ValueTests.{is_unsigned_in}
 use Rattle.clap.specs.Words.{Row, Text, all_of, first_of, subcommand_of}
-use Rattle.jls_cli.specs.SalvageWords.{salvage_app, AreTaken}
+use Rattle.jls_cli.specs.SalvageWords.{salvage_app}
+use Rattle.jls_cli.specs.Words.{Takes, number_in}
 use Rattle.jls_cli.specs.declared.salvage.asked.Asked.{Asked as AskedValue}
 use Rattle.jls_cli.specs.declared.salvage.asked.Asked.TheVariants as asked
 
@@ -33,15 +32,11 @@ asked_show file = option_map show file
 abbrev pub is_by_line : Text → Option Bool
 is_by_line name = if bytes_eq name (codes "line") then Some true else if bytes_eq name (codes "none") then Some false else None
 
--- the number that a text is, in decimal and up to a greatest
-abbrev pub number_up_to : ℕ → Text → Option ℕ
-number_up_to most value = if is_unsigned_in 0 most value then Some (digits_value 10 (without_leading_plus value)) else None
-
 -- the source, if one is given; OUT and the FILEs
 abbrev pub asked_join : Option Text → Option Text → Option (List Text) → Option Asked
 asked_join None (Some out) (Some (first ∷ others)) = Some (join None out (first ∷ others))
 asked_join (Some source) (Some out) (Some (first ∷ others)) =
-    option_map (λ n. join (Some n) out (first ∷ others)) (number_up_to 4294967295 source)
+    option_map (λ n. join (Some n) out (first ∷ others)) (number_in 0 4294967295 source)
 asked_join _ _ _ = None
 
 -- both values, if both are there
@@ -51,7 +46,7 @@ both_of _ _ = None
 
 -- the interleave mode and the restart interval
 abbrev pub options_of : Option Text → Option Text → Option (Bool × ℕ)
-options_of (Some ilv) (Some ri) = both_of (is_by_line ilv) (number_up_to 65535 ri)
+options_of (Some ilv) (Some ri) = both_of (is_by_line ilv) (number_in 0 65535 ri)
 options_of _ _ = None
 
 -- the format that is asked for, the options, OUT and FILE
@@ -96,12 +91,12 @@ format_is_known words = format_is_known_by (subcommand_of salvage_app words)
 
 -- clap takes the words, and they ask for this
 pub record AskFor (words : List Text) (a : Asked) : Type 0 where
-  pub taken : AreTaken words
+  pub taken : Takes salvage_app words
   pub asks : asked_in words ≡ Some a
 
 -- clap takes the words, and they ask for nothing that there is
 pub record AskForNothing (words : List Text) : Type 0 where
-  pub taken : AreTaken words
+  pub taken : Takes salvage_app words
   pub asks : asked_in words ≡ None
 
 -- what is asked, as the code has it

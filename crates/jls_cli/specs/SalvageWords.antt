@@ -1,13 +1,9 @@
 -- What the words of a command line ask for, by clap's own definition of what a simple command takes.
-use Rattle.std.specs.Prelude.{◌≡◌, ◌⊎◌, Bool, true, false, List, [], ◌∷◌, Some, codes}
-use Rattle.clap.specs.Words.{App, Rule, Text, fault_of, IsAmong, new_app, new_rule, takes, with_rule, with_subcommand}
+use Rattle.std.specs.Prelude.{true, List, [], ◌∷◌, Some, codes}
+use Rattle.clap.specs.Words.{App, Rule, Text, new_app, with_rule, with_subcommand}
 use Rattle.clap.specs.declared.builder.ArgAction.TheVariants.{Append}
-use Rattle.clap.specs.declared.builder.value_parser.ValueParser.TheVariants.{Unsigned}
 use Rattle.clap.specs.declared.error.kind.ErrorKind.{ErrorKind}
-
--- one word that has to be there, under this name
-abbrev pub word_rule : Text → Rule
-word_rule id = record (new_rule id) { required = true }
+use Rattle.jls_cli.specs.Words.{Refuses, number_rule, option_rule, source_rule, word_rule}
 
 -- FILE..: one word or more
 abbrev pub files_rule : Rule
@@ -15,28 +11,15 @@ files_rule = record (word_rule (codes "FILE")) { action = Some Append }
 
 -- --as FORMAT, which has to be there
 abbrev pub as_rule : Rule
-as_rule = record (new_rule (codes "as")) { long = Some (codes "as"); value_names = 1; required = true }
+as_rule = record (option_rule (codes "as")) { required = true }
 
 -- --ilv MODE, none if it is not given
 abbrev pub ilv_rule : Rule
-ilv_rule = record (new_rule (codes "ilv")) { long = Some (codes "ilv"); value_names = 1; defaults = codes "none" ∷ [] }
+ilv_rule = record (option_rule (codes "ilv")) { defaults = codes "none" ∷ [] }
 
 -- --ri N, a number from 0 to 65535, 0 if it is not given
 abbrev pub ri_rule : Rule
-ri_rule = record (new_rule (codes "ri")) {
-  long = Some (codes "ri");
-  value_names = 1;
-  defaults = codes "0" ∷ [];
-  parser = Some (Unsigned 0 65535);
-}
-
--- --source N, a number from 0 to 2^32 - 1, which need not be there
-abbrev pub source_rule : Rule
-source_rule = record (new_rule (codes "source")) {
-  long = Some (codes "source");
-  value_names = 1;
-  parser = Some (Unsigned 0 4294967295);
-}
+ri_rule = record (number_rule (codes "ri") 0 65535) { defaults = codes "0" ∷ [] }
 
 -- the definition of `join` that clap gets
 abbrev pub join_app : App
@@ -69,11 +52,6 @@ abbrev pub salvage_app : App
 salvage_app = with_subcommand (with_subcommand (with_subcommand
     (with_subcommand bare_app check_app.top) show_app.top) join_app.top) write_app.top
 
--- by clap's own definitions the program takes the words, or there is no fault in them
-abbrev pub AreTaken : List Text → Type 0
-AreTaken words = (takes salvage_app words ≡ true) ⊎ (fault_of salvage_app words ≡ [])
-
 -- clap does not take the words, and this is one of the kinds of fault that its definition finds in them
-pub record AreRefused (words : List Text) (k : ErrorKind) : Type 0 where
-  pub not_taken : AreTaken words → ⊥
-  pub found : IsAmong k (fault_of salvage_app words)
+abbrev pub AreRefused : List Text → ErrorKind → Type 0
+AreRefused words k = Refuses salvage_app words k

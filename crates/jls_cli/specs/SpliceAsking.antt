@@ -1,10 +1,9 @@
 -- What the words of a command line of `jls-splice` ask for.
-use Rattle.std.specs.Prelude.{◌≡◌, ℕ, Bool, false, List, ◌∷◌, Option, Some, None, map, codes, if◌then◌else◌, option_map}
+use Rattle.std.specs.Prelude.{◌≡◌, ℕ, Bool, false, List, ◌∷◌, Option, Some, None, map, codes, option_map}
 use Rattle.std.specs.Str.{bytes_eq}
-use Rattle.std.specs.Str.Parse.{digits_value, without_leading_plus}
-use Rattle.clap.specs.ValueTests.{is_unsigned_in}
 use Rattle.clap.specs.Words.{Row, Text, all_of, first_of, matches_of}
-use Rattle.jls_cli.specs.SpliceWords.{splice_app, AreTaken}
+use Rattle.jls_cli.specs.SpliceWords.{splice_app}
+use Rattle.jls_cli.specs.Words.{Takes, number_in}
 use Rattle.jls_cli.specs.declared.splice.asked.Asked.{Asked as AskedValue}
 use Rattle.jls_cli.specs.declared.splice.asked.Options.{Options as OptionsValue}
 
@@ -26,10 +25,6 @@ pub record Asked : Type 0 where
   pub copies : List Text
 
 -- ---- by the values of the arguments
-
--- the number that a text is, in decimal, from a least to a greatest
-abbrev pub number_in : ℕ → ℕ → Text → Option ℕ
-number_in least most value = if is_unsigned_in least most value then Some (digits_value 10 (without_leading_plus value)) else None
 
 -- the source, if one is given; nothing, if what is given is no such number
 abbrev pub source_of : Option Text → Option (Option ℕ)
@@ -83,12 +78,12 @@ asked_in words = asked_by (matches_of splice_app words)
 
 -- clap takes the words, and they ask for this
 pub record AskFor (words : List Text) (a : Asked) : Type 0 where
-  pub taken : AreTaken words
+  pub taken : Takes splice_app words
   pub asks : asked_in words ≡ Some a
 
 -- clap takes the words, and they ask for nothing that there is
 pub record AskForNothing (words : List Text) : Type 0 where
-  pub taken : AreTaken words
+  pub taken : Takes splice_app words
   pub asks : asked_in words ≡ None
 
 -- the options, as the code has them

@@ -1,34 +1,17 @@
 -- What words the program takes, by clap's own definition of what a simple command takes.
-use Rattle.std.specs.Prelude.{◌≡◌, ◌⊎◌, true, List, [], ◌∷◌, Some, codes}
-use Rattle.clap.specs.Words.{App, Rule, Text, fault_of, IsAmong, new_app, new_rule, takes, with_rule}
+use Rattle.std.specs.Prelude.{true, List, [], ◌∷◌, Some, codes}
+use Rattle.clap.specs.Words.{App, Rule, Text, new_app, new_rule, with_rule}
 use Rattle.clap.specs.declared.builder.ArgAction.TheVariants.{Append, SetTrue}
-use Rattle.clap.specs.declared.builder.value_parser.ValueParser.TheVariants.{Unsigned}
 use Rattle.clap.specs.declared.error.kind.ErrorKind.{ErrorKind}
-
--- --source N, a number from 0 to 2^32 - 1, which need not be there
-abbrev pub source_rule : Rule
-source_rule = record (new_rule (codes "source")) {
-  long = Some (codes "source");
-  value_names = 1;
-  parser = Some (Unsigned 0 4294967295);
-}
+use Rattle.jls_cli.specs.Words.{Refuses, number_rule, option_rule, source_rule, word_rule}
 
 -- --tries N, a number from 1 to 2^32 - 1, 4096 if it is not given
 abbrev pub tries_rule : Rule
-tries_rule = record (new_rule (codes "tries")) {
-  long = Some (codes "tries");
-  value_names = 1;
-  defaults = codes "4096" ∷ [];
-  parser = Some (Unsigned 1 4294967295);
-}
+tries_rule = record (number_rule (codes "tries") 1 4294967295) { defaults = codes "4096" ∷ [] }
 
 -- --max N, a number from 0 to 2^16 - 1, which need not be there
 abbrev pub ceiling_rule : Rule
-ceiling_rule = record (new_rule (codes "max")) {
-  long = Some (codes "max");
-  value_names = 1;
-  parser = Some (Unsigned 0 65535);
-}
+ceiling_rule = number_rule (codes "max") 0 65535
 
 -- --progress, without a value
 abbrev pub progress_rule : Rule
@@ -36,15 +19,11 @@ progress_rule = record (new_rule (codes "progress")) { long = Some (codes "progr
 
 -- --file NAME, which need not be there
 abbrev pub file_rule : Rule
-file_rule = record (new_rule (codes "file")) { long = Some (codes "file"); value_names = 1 }
+file_rule = option_rule (codes "file")
 
 -- --files PREFIX, which need not be there
 abbrev pub files_rule : Rule
-files_rule = record (new_rule (codes "files")) { long = Some (codes "files"); value_names = 1 }
-
--- one word that has to be there, under this name
-abbrev pub word_rule : Text → Rule
-word_rule id = record (new_rule id) { required = true }
+files_rule = option_rule (codes "files")
 
 -- COPY.., after the first one: one word or more
 abbrev pub others_rule : Rule
@@ -66,11 +45,6 @@ options_app = with_rule (with_rule (with_rule numbers_app progress_rule) file_ru
 abbrev pub splice_app : App
 splice_app = with_rule (with_rule (with_rule options_app (word_rule (codes "OUT"))) (word_rule (codes "COPY"))) others_rule
 
--- by clap's own definitions the program takes the words, or there is no fault in them
-abbrev pub AreTaken : List Text → Type 0
-AreTaken words = (takes splice_app words ≡ true) ⊎ (fault_of splice_app words ≡ [])
-
 -- clap does not take the words, and this is one of the kinds of fault that its definition finds in them
-pub record AreRefused (words : List Text) (k : ErrorKind) : Type 0 where
-  pub not_taken : AreTaken words → ⊥
-  pub found : IsAmong k (fault_of splice_app words)
+abbrev pub AreRefused : List Text → ErrorKind → Type 0
+AreRefused words k = Refuses splice_app words k

@@ -17,6 +17,7 @@ use Rattle.jls_cli.specs.Outputs.{StopsAtOutput}
 use Rattle.jls_cli.specs.Outcomes.{Outcome, exit_status, finished, status_of_cause, status_of_done, status_of_input}
 use Rattle.jls_station.specs.Reading.{IsRead}
 use Rattle.jls_station.specs.declared.input.ReadStop.{ReadStop}
+use Rattle.jls_station.specs.declared.input.ReadStop.TheVariants.{Whole}
 use Rattle.jls_station.specs.declared.input.InputFault.{InputFault}
 use Rattle.jls_station.specs.declared.input.InputFault.TheVariants as fault
 use Rattle.jls_write.proofs.Lending.{or_false}
@@ -35,6 +36,7 @@ use Rattle.jls_salvage_run.specs.BrokenReads.{WritesInPart, DoneInPart, IsUnread
 use Rattle.jls_salvage_run.specs.Runs.{CameOf, Run, came_of, misused, helped, help_cut, nothing_begun, nothing_asked}
 use Rattle.jls_salvage_run.specs.Statuses.{source_of, inputs_of}
 use Rattle.jls_salvage_run.proofs.Finished.{status_of_unsettled}
+use Rattle.jls_salvage_run.proofs.InTurn.{ends_at_first, ends_at_stop}
 
 -- ---- the greatest status
 
@@ -96,32 +98,26 @@ not_at_output name bytes r _ (outputs.cut count writes _ _ h) fine = not_cut byt
 
 -- ---- one input
 
+unread : (name bytes : List ℕ) (stop : ReadStop) (reads : List Event) → IsRead IsEnough reads bytes stop → (stop ≡ Whole → ⊥)
+    → IsRefused bytes stop (fault.Read stop (length bytes)) → IsUnread name (opened name ∷ reads)
+unread name bytes stop reads is not h = record {
+  bytes = bytes;
+  stop = stop;
+  f = fault.Read stop (length bytes);
+  reads = reads;
+  events_are = refl;
+  is_read = is;
+  in_part = not;
+  refused = h;
+}
+
 refused_unread : (name bytes : List ℕ) (stop : ReadStop) (f : InputFault) (reads : List Event) → IsRead IsEnough reads bytes stop
     → IsRefused bytes stop f → status_of_input f ≡ 4 → IsUnread name (opened name ∷ reads)
 refused_unread name bytes _ _ reads is (no_text _ f t wrong) e = absurd (omega (arith, e))
-refused_unread name bytes stop _ reads is (text_not_read _ _ t not) e =
-    record {
-      bytes = bytes;
-      stop = stop;
-      f = fault.Read stop (length bytes);
-      reads = reads;
-      events_are = refl;
-      is_read = is;
-      in_part = not;
-      refused = text_not_read bytes stop t not;
-    }
+refused_unread name bytes stop _ reads is (text_not_read _ _ t not) e = unread name bytes stop reads is not (text_not_read bytes stop t not)
 refused_unread name bytes _ _ reads is (no_picture _ f offset t none) e = absurd (omega (arith, e))
 refused_unread name bytes stop _ reads is (copy_not_read _ _ f offset t not none) e =
-    record {
-      bytes = bytes;
-      stop = stop;
-      f = fault.Read stop (length bytes);
-      reads = reads;
-      events_are = refl;
-      is_read = is;
-      in_part = not;
-      refused = copy_not_read bytes stop f offset t not none;
-    }
+    unread name bytes stop reads is not (copy_not_read bytes stop f offset t not none)
 
 reads_unread : (name : List ℕ) (f : InputFault) (reads : List Event) → ReadsRefuse f reads → status_of_input f ≡ 4
     → IsUnread name (opened name ∷ reads)
@@ -134,21 +130,6 @@ unread_at_input source before _ _ (not_there _ _ _) e fine = absurd cc
 unread_at_input source before _ _ (refused _ _ n f reads h) e fine = reads_unread n.now f reads h e
 unread_at_input source before _ _ (other_shape _ _ _ g events h other) e fine = absurd (omega (arith, e))
 unread_at_input source before _ _ (no_memory _ _ _ g events h other) e fine = absurd (omega (arith, e))
-
--- the first input is the only one
-ends_at_first : (name : List ℕ) (events : List Event) → IsUnread name events → EndsAtUnread None (name ∷ []) events
-ends_at_first name events h = record {
-  before = [];
-  name = name;
-  after = [];
-  among = refl;
-  givens = [];
-  reading = [];
-  taken = record { in_turn = refl; one_shape = tt };
-  last = events;
-  unread = h;
-  events_are = refl;
-}
 
 -- ---- commands that end with 4
 
@@ -172,18 +153,7 @@ join_in_part source out names _ events (joining.done _ _ _ p settled whole _ h) 
     })
 join_in_part source out names _ events (joining.at_input _ _ _ r _ h) e fine =
     let last = (parts_fine h.reading h.last (subst NothingElseFailed h.events_are fine)).1 in
-    inr (record {
-      before = h.before;
-      name = r.name.now;
-      after = h.after;
-      among = h.among;
-      givens = h.givens;
-      reading = h.reading;
-      taken = h.taken;
-      last = h.last;
-      unread = unread_at_input source h.givens r h.last h.stops e last;
-      events_are = h.events_are;
-    })
+    inr (ends_at_stop (λ _. IsUnread) source names r events h (unread_at_input source h.givens r h.last h.stops e last))
 join_in_part source out names _ events (joining.no_memory _ _ _ n p whole _ named h) e fine = absurd (omega (arith, e))
 join_in_part source out names _ _ (joining.at_output _ _ _ r p whole reading written h stops) e fine =
     absurd (not_at_output _ _ r written stops (parts_fine reading written fine).1)
@@ -201,7 +171,11 @@ tell_in_part traced name _ events reported (reporting.done _ g settled whole _ _
           wrote;
     })
 tell_in_part traced name _ events _ (reporting.at_input _ r _ named h) e fine quiet =
-    inr (ends_at_first name events (subst (λ (n : List ℕ). IsUnread n events) named (unread_at_input None [] r events h e fine)), refl)
+    inr (
+      ends_at_first (λ _. IsUnread) name events
+          (subst (λ (n : List ℕ). IsUnread n events) named (unread_at_input None [] r events h e fine)),
+      refl,
+    )
 tell_in_part traced name _ events _ (reporting.no_memory _ n g _ named taken) e fine quiet = absurd (omega (arith, e))
 tell_in_part traced name _ events reported (reporting.not_printed _ n g count _ _ named taken wrote) e fine quiet =
     absurd (not_cut (lines traced g) count reported wrote quiet)
@@ -228,7 +202,8 @@ write_in_part format out name _ _ (writing.done _ _ _ g whole reading written ta
       handed = handed;
     })
 write_in_part format out name _ events (writing.at_input _ _ _ r _ named h) e fine =
-    inr (ends_at_first name events (subst (λ (n : List ℕ). IsUnread n events) named (unread_at_input None [] r events h e fine)))
+    inr (ends_at_first (λ _. IsUnread) name events
+    (subst (λ (n : List ℕ). IsUnread n events) named (unread_at_input None [] r events h e fine)))
 write_in_part format out name _ events (writing.unsettled _ _ _ r n g f _ named taken first because) e fine =
     let k = status_of_unsettled n g.partial f r because in absurd (omega (arith, k, e))
 write_in_part format out name _ _ (writing.at_file _ _ _ r g reading written named taken settled stops) e fine =

@@ -6,7 +6,7 @@ use Rattle.std.specs.List.{list_any}
 use Rattle.std.proofs.lemmas.List.{length-append}
 use Rattle.std.proofs.lemmas.List.Elements.{All-cons, All-nil, filter-append}
 use Rattle.std.proofs.lemmas.List.Folds.{list_any-append}
-use Rattle.jls_io.specs.Event.{Event, opened, not_opened, gave, read_failed, created, not_created, took, write_failed, is_read}
+use Rattle.jls_io.specs.Event.{Event, opened, gave, read_failed, created, write_failed, is_read}
 use Rattle.jls_io.specs.Writing.{WrotePrefix}
 use Rattle.jls_station.specs.Given.{Given}
 use Rattle.jls_station.specs.Reading.{GoesOn, StopsWith, IsRead}
@@ -62,37 +62,19 @@ failed_as a b e h = subst HadFailure (sym e) h
 all_reads : (E : List ℕ → Type 0) (fed : List ℕ) (reads : List Event) → GoesOn E fed reads → length (filter is_read reads) ≡ length reads
 all_reads E fed [] h = refl
 all_reads E fed (gave room bytes ∷ more) h = let r = all_reads E (fed ++ bytes) more h.3 in omega (arith, r)
-all_reads E fed (opened name ∷ more) h = absurd h
-all_reads E fed (not_opened name ∷ more) h = absurd h
-all_reads E fed (read_failed ∷ more) h = absurd h
-all_reads E fed (created name ∷ more) h = absurd h
-all_reads E fed (not_created name ∷ more) h = absurd h
-all_reads E fed (took bytes ∷ more) h = absurd h
-all_reads E fed (write_failed ∷ more) h = absurd h
+all_reads E fed (e ∷ more) h = absurd h
 
 module _ (E : List ℕ → Type 0) where
   last_failed : (bytes : List ℕ) (on last : List Event) (stop : ReadStop) → StopsWith E bytes last stop → (stop ≡ Whole → ⊥)
       → GoesOn E [] on
       → (stop ≡ Turns → length (on ++ last) ≡ 4294967295) → HadFailure (on ++ last)
-  last_failed bytes on [] Whole h not g all = absurd (not refl)
+  last_failed bytes on last Whole h not g all = absurd (not refl)
   last_failed bytes on [] Turns h not g all =
       failed_left on [] (inr (let n = all refl in omega (arith, all_reads E [] on g, length-append on [], n)))
-  last_failed bytes on [] Failed h not g all = absurd h
-  last_failed bytes on (gave room [] ∷ []) Whole h not g all = absurd (not refl)
-  last_failed bytes on (gave room [] ∷ []) Failed h not g all = absurd h
-  last_failed bytes on (gave room [] ∷ []) Turns h not g all = absurd h
-  last_failed bytes on (gave room [] ∷ e ∷ more) stop h not g all = absurd h
-  last_failed bytes on (gave room (b ∷ bs) ∷ more) stop h not g all = absurd h
   last_failed bytes on (read_failed ∷ []) Failed h not g all = failed_right on (read_failed ∷ []) (inl refl)
-  last_failed bytes on (read_failed ∷ []) Whole h not g all = absurd h
-  last_failed bytes on (read_failed ∷ []) Turns h not g all = absurd h
-  last_failed bytes on (read_failed ∷ e ∷ more) stop h not g all = absurd h
-  last_failed bytes on (opened name ∷ more) stop h not g all = absurd h
-  last_failed bytes on (not_opened name ∷ more) stop h not g all = absurd h
-  last_failed bytes on (created name ∷ more) stop h not g all = absurd h
-  last_failed bytes on (not_created name ∷ more) stop h not g all = absurd h
-  last_failed bytes on (took b ∷ more) stop h not g all = absurd h
-  last_failed bytes on (write_failed ∷ more) stop h not g all = absurd h
+  last_failed bytes on (read_failed ∷ []) stop h not g all = absurd h
+  last_failed bytes on (gave room [] ∷ []) stop h not g all = absurd h
+  last_failed bytes on last stop h not g all = absurd h
 
   read_in_part : (reads : List Event) (bytes : List ℕ) (stop : ReadStop) → IsRead E reads bytes stop → (stop ≡ Whole → ⊥) → HadFailure reads
   read_in_part reads bytes stop h not =

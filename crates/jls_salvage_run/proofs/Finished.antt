@@ -8,7 +8,7 @@ use Rattle.std.proofs.lemmas.List.{append-nil}
 use Rattle.clap.specs.Words.{Text}
 use Rattle.jls_partial.specs.Partial.{PartialPicture}
 use Rattle.jls_partial.specs.Status.{IsSettled}
-use Rattle.jls_io.specs.Event.{Event, History, GrewBy, opened, not_opened, gave, read_failed, created, not_created, took, write_failed}
+use Rattle.jls_io.specs.Event.{Event, History, GrewBy, took}
 use Rattle.jls_io.specs.Event.{bytes_taken}
 use Rattle.jls_io.specs.Writing.{Printed, AreWrites}
 use Rattle.jls_station.specs.Given.{Given}
@@ -30,12 +30,12 @@ use Rattle.jls_write.specs.declared.picture.PictureFault.{PictureFault}
 use Rattle.jls_write.specs.declared.picture.PictureFault.TheVariants.{Unsettled}
 use Rattle.jls_salvage_run.specs.declared.writing.Format.{Format}
 use Rattle.jls_salvage_run.specs.declared.writing.Format.TheVariants.{Pnm, Jls}
-use Rattle.jls_cli.specs.SalvageAsking.{Asked, AskFor}
+use Rattle.jls_cli.specs.SalvageAsking.{Asked, AskFor, check, show}
 use Rattle.jls_cli.specs.FaultLines.{fault_line}
 use Rattle.jls_salvage_run.specs.FaultLines.{program}
 use Rattle.jls_salvage_run.specs.Runs.{CameOf, Run, came_of, misused, helped, help_cut, nothing_begun, nothing_asked}
-use Rattle.jls_salvage_run.specs.RunLaws.{JoinRan, DoneJoinsRan, TellRan, DoneChecksRan, DoneShowsRan, WriteRan, DoneWritesRan}
-use Rattle.jls_salvage_run.specs.RunLaws.{UnsettledWritesStop, written_as}
+use Rattle.jls_salvage_run.specs.RunLaws.{JoinRan, DoneJoinsRan, TellRan, DoneTellsRan, DoneChecksRan, DoneShowsRan, WriteRan}
+use Rattle.jls_salvage_run.specs.RunLaws.{DoneWritesRan, UnsettledWritesStop, written_as}
 
 -- ---- what stops a command
 
@@ -77,13 +77,7 @@ none_written : (writes : List Event) → AreWrites writes → bytes_taken writes
 none_written [] h e = refl
 none_written (took [] ∷ more) h e = absurd (omega (arith, h.0))
 none_written (took (b ∷ bs) ∷ more) h e = absurd cc
-none_written (opened name ∷ more) h e = absurd h
-none_written (not_opened name ∷ more) h e = absurd h
-none_written (gave room bytes ∷ more) h e = absurd h
-none_written (read_failed ∷ more) h e = absurd h
-none_written (created name ∷ more) h e = absurd h
-none_written (not_created name ∷ more) h e = absurd h
-none_written (write_failed ∷ more) h e = absurd h
+none_written (x ∷ more) h e = absurd h
 
 none_printed : (events : List Event) → Printed [] events → events ≡ []
 none_printed events (inl h) = none_written events h.are_writes h.they_took
@@ -229,27 +223,24 @@ joins_finished words status desk desk' report report' faults faults' ran source 
           (none_printed ran.fault_events (subst (λ (line : List ℕ). Printed line ran.fault_events) f.2 c.printed)),
     )
 
-pub checks_finished : DoneChecksRan
-checks_finished words status desk desk' report report' faults faults' ran name k le =
+tells_finished : (traced : Bool) (asked : Text → Asked)
+    → ((name : Text) (outcome : Outcome) (desk report : List Event) → CameOf (asked name) outcome desk report
+    → PrintsReport (lines traced) name outcome desk report) → DoneTellsRan traced asked
+tells_finished traced asked prints words status desk desk' report report' faults faults' ran name k le =
     let c = came_of_run words status ran.desk_events ran.report_events ran.fault_events ran.run _ k le in
-    let f = tell_finished true name c.outcome ran.desk_events ran.report_events desk desk' report report' c.came ran.desk_is ran.report_is
-    (omega (arith, le, c.status_is)) in (
+    let f = tell_finished traced name c.outcome ran.desk_events ran.report_events desk desk' report report'
+    (prints name c.outcome ran.desk_events ran.report_events c.came) ran.desk_is ran.report_is (omega (arith, le, c.status_is)) in (
       f.0,
-      subst (λ (s : ℕ). TellRan true name f.0 s desk desk' report report') (sym c.status_is) f.1,
+      subst (λ (s : ℕ). TellRan traced name f.0 s desk desk' report report') (sym c.status_is) f.1,
       unchanged faults faults' ran.fault_events ran.faults_are
           (none_printed ran.fault_events (subst (λ (line : List ℕ). Printed line ran.fault_events) f.2 c.printed)),
     )
 
+pub checks_finished : DoneChecksRan
+checks_finished = tells_finished true check (λ name outcome desk report h. h)
+
 pub shows_finished : DoneShowsRan
-shows_finished words status desk desk' report report' faults faults' ran name k le =
-    let c = came_of_run words status ran.desk_events ran.report_events ran.fault_events ran.run _ k le in
-    let f = tell_finished false name c.outcome ran.desk_events ran.report_events desk desk' report report' c.came ran.desk_is ran.report_is
-    (omega (arith, le, c.status_is)) in (
-      f.0,
-      subst (λ (s : ℕ). TellRan false name f.0 s desk desk' report report') (sym c.status_is) f.1,
-      unchanged faults faults' ran.fault_events ran.faults_are
-          (none_printed ran.fault_events (subst (λ (line : List ℕ). Printed line ran.fault_events) f.2 c.printed)),
-    )
+shows_finished = tells_finished false show (λ name outcome desk report h. h)
 
 pub writes_finished : DoneWritesRan
 writes_finished words status desk desk' report report' faults faults' ran format out name k is =

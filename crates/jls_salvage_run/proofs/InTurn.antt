@@ -1,6 +1,6 @@
 -- Inputs taken one after the other.
 use Rattle.std.proofs.Common.{◌≡◌, ℕ, ◌+◌, ◌<◌, Bool, true, false, List, [], ◌∷◌, ◌++◌, Option, length, get_or, map, take, drop, refl, sym}
-use Rattle.std.proofs.Common.{subst, ap, ◌∙◌, append_assoc, arith}
+use Rattle.std.proofs.Common.{None, subst, ap, ◌∙◌, append_assoc, arith}
 use Rattle.std.specs.Borrow.{Bor}
 use Rattle.std.specs.Prelude.{◌↔◌, ◌&&◌, IsTrue, All}
 use Rattle.std.proofs.Math.Seq.{get_or-append_seam}
@@ -18,7 +18,7 @@ use Rattle.jls_cli.proofs.OutputSteps.{grew_after}
 use Rattle.jls_station.specs.Given.{Given}
 use Rattle.jls_station.specs.Inputs.{ReadsGive, ReadsRefuse}
 use Rattle.jls_salvage_run.specs.AllInputs.{partials, AreOfOneShape, IsOfOtherShape, IsUnionOf, IsTaken, TakesInTurn, TakesUnion, StopsAt}
-use Rattle.jls_salvage_run.specs.AllInputs.{not_there, refused, StopsAtInput}
+use Rattle.jls_salvage_run.specs.AllInputs.{not_there, refused, EndsAt, StopsAtInput}
 use Rattle.jls_station.specs.declared.input.ReadStop.TheVariants.{Whole}
 use Rattle.jls_station.specs.declared.input.InputFault.{InputFault}
 use Rattle.jls_cli.specs.Outcomes.{refusal_at}
@@ -221,3 +221,34 @@ module _ {X : Type 0} (f : X → List ℕ) where
   names_split xs i d lt =
       ap (map f) (sym (take-append-drop i xs)) ∙ (map-append f (take i xs) (drop i xs)
       ∙ ap (λ (ys : List X). map f (take i xs) ++ map f ys) (drop_more xs i d lt))
+
+-- inputs of which the only one is so, and the one that stops a join
+module _ (IsLast : List Given → List ℕ → List Event → Type 0) where
+  pub ends_at_first : (name : List ℕ) (events : List Event) → IsLast [] name events → EndsAt IsLast None (name ∷ []) events
+  ends_at_first name events h = record {
+    before = [];
+    name = name;
+    after = [];
+    among = refl;
+    givens = [];
+    reading = [];
+    taken = record { in_turn = refl; one_shape = tt };
+    last = events;
+    is_last = h;
+    events_are = refl;
+  }
+
+  pub ends_at_stop : (source : Option ℕ) (names : List (List ℕ)) (r : Refusal) (events : List Event)
+      (h : StopsAtInput source names r events) → IsLast h.givens r.name.now h.last → EndsAt IsLast source names events
+  ends_at_stop source names r events h is = record {
+    before = h.before;
+    name = r.name.now;
+    after = h.after;
+    among = h.among;
+    givens = h.givens;
+    reading = h.reading;
+    taken = h.taken;
+    last = h.last;
+    is_last = is;
+    events_are = h.events_are;
+  }

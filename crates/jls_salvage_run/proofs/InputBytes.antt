@@ -4,7 +4,7 @@ use Rattle.std.proofs.lemmas.Grind.{flat_map-append}
 use Rattle.std.proofs.lemmas.List.{append-nil}
 use Rattle.jls_partial.specs.Partial.{PartialPicture}
 use Rattle.jls_partial.specs.Text.{text}
-use Rattle.jls_io.specs.Event.{Event, opened, not_opened, gave, read_failed, created, not_created, took, write_failed, is_read, is_opening}
+use Rattle.jls_io.specs.Event.{Event, gave, read_failed, took, is_read, is_opening}
 use Rattle.jls_io.specs.Event.{is_creation, bytes_given, bytes_given_by, bytes_taken}
 use Rattle.jls_io.specs.Writing.{AreWrites}
 use Rattle.jls_station.specs.Given.{Given, GivesPartial}
@@ -22,12 +22,7 @@ past_one : (e : Event) (more : List Event) → is_read e ≡ true
     → (is_opening e ≡ false) × (input_bytes (e ∷ more) ≡ input_bytes more) × (output_bytes (e ∷ more) ≡ output_bytes more)
 past_one (gave room bytes) more h = (refl, refl, refl)
 past_one read_failed more h = (refl, refl, refl)
-past_one (opened name) more h = absurd cc
-past_one (not_opened name) more h = absurd cc
-past_one (created name) more h = absurd cc
-past_one (not_created name) more h = absurd cc
-past_one (took bytes) more h = absurd cc
-past_one write_failed more h = absurd cc
+past_one e more h = absurd cc
 
 -- what comes after them is as it was
 past_all : (events rest : List Event) → AreReads events
@@ -94,13 +89,7 @@ past_writes : (writes : List Event) → AreWrites writes
     → ReadsNone writes × (input_bytes writes ≡ []) × (before_next is_creation writes ≡ writes) × (output_bytes writes ≡ [])
 past_writes [] h = (refl, refl, refl, refl)
 past_writes (took bytes ∷ writes) h = let r = past_writes writes h.1 in (r.0, r.1, ap (λ (x : List Event). took bytes ∷ x) r.2, r.3)
-past_writes (opened name ∷ writes) h = absurd h
-past_writes (not_opened name ∷ writes) h = absurd h
-past_writes (gave room bytes ∷ writes) h = absurd h
-past_writes (read_failed ∷ writes) h = absurd h
-past_writes (created name ∷ writes) h = absurd h
-past_writes (not_created name ∷ writes) h = absurd h
-past_writes (write_failed ∷ writes) h = absurd h
+past_writes (e ∷ writes) h = absurd h
 
 -- what an output was handed is all that was
 pub handed_out : (out bytes : List ℕ) (writing : List Event) → HandsOut out bytes writing

@@ -24,6 +24,7 @@ use Rattle.jls_salvage_run.specs.Statuses as statuses
 use Rattle.jls_salvage_run.specs.Statuses.{AreMisused, AskForTooMuch, EndsAtUnfit, InputsCauseStatus3, IsUnfit, WordsCauseStatus2}
 use Rattle.jls_salvage_run.specs.Statuses.{inputs_of, source_of}
 use Rattle.jls_salvage_run.proofs.Finished.{output_is_4, status_of_unsettled}
+use Rattle.jls_salvage_run.proofs.InTurn.{ends_at_first, ends_at_stop}
 
 -- ---- neither is done
 
@@ -60,34 +61,14 @@ unfit_input source before _ events (no_memory _ _ _ g _ h other) e = absurd (ome
 ends_at_one : (name : List ℕ) (r : Refusal) (events : List Event) → r.name.now ≡ name → StopsAt None [] r events → status_of_cause r.cause
     ≡ 3
     → EndsAtUnfit None (name ∷ []) events
-ends_at_one name r events named h e = record {
-  before = [];
-  name = name;
-  after = [];
-  among = refl;
-  givens = [];
-  reading = [];
-  taken = record { in_turn = refl; one_shape = tt };
-  last = events;
-  unfit = subst (λ (n : List ℕ). IsUnfit None [] n events) named (unfit_input None [] r events h e);
-  events_are = refl;
-}
+ends_at_one name r events named h e =
+    ends_at_first (IsUnfit None) name events (subst (λ (n : List ℕ). IsUnfit None [] n events) named (unfit_input None [] r events h e))
 
 join_unfit : (source : Option ℕ) (out : List ℕ) (names : List (List ℕ)) (outcome : Outcome) (events : List Event)
     → Joins source out names outcome events → exit_status outcome ≡ 3 → EndsAtUnfit source names events
 join_unfit source out names _ events (joining.done _ _ _ p settled whole _ h) e = absurd (done_not_3 settled whole e)
-join_unfit source out names _ events (joining.at_input _ _ _ r _ h) e = record {
-  before = h.before;
-  name = r.name.now;
-  after = h.after;
-  among = h.among;
-  givens = h.givens;
-  reading = h.reading;
-  taken = h.taken;
-  last = h.last;
-  unfit = unfit_input source h.givens r h.last h.stops e;
-  events_are = h.events_are;
-}
+join_unfit source out names _ events (joining.at_input _ _ _ r _ h) e =
+    ends_at_stop (IsUnfit source) source names r events h (unfit_input source h.givens r h.last h.stops e)
 join_unfit source out names _ events (joining.no_memory _ _ _ n p whole _ named h) e =
     absurd (omega (arith, e))
 join_unfit source out names _ _ (joining.at_output _ _ _ r p whole reading written h stops) e =

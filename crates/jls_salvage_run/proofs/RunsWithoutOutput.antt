@@ -5,7 +5,7 @@ use Rattle.std.specs.Prelude.{◌||◌}
 use Rattle.std.specs.List.{list_any}
 use Rattle.std.proofs.lemmas.List.{append-nil}
 use Rattle.std.proofs.lemmas.List.Folds.{list_any-append}
-use Rattle.jls_io.specs.Event.{Event, opened, not_opened, gave, read_failed, created, not_created, took, write_failed, is_creation}
+use Rattle.jls_io.specs.Event.{Event, opened, gave, read_failed, is_creation}
 use Rattle.jls_station.specs.Given.{Given}
 use Rattle.jls_station.specs.Reading.{GoesOn, StopsWith, IsRead}
 use Rattle.jls_station.specs.Inputs.{IsEnough, between_reads, after_the_last}
@@ -41,27 +41,13 @@ module _ (E : List ℕ → Type 0) where
   none_on : (fed : List ℕ) (reads : List Event) → GoesOn E fed reads → list_any is_creation reads ≡ false
   none_on fed [] h = refl
   none_on fed (gave room bytes ∷ more) h = none_on (fed ++ bytes) more h.3
-  none_on fed (opened name ∷ more) h = absurd h
-  none_on fed (not_opened name ∷ more) h = absurd h
-  none_on fed (read_failed ∷ more) h = absurd h
-  none_on fed (created name ∷ more) h = absurd h
-  none_on fed (not_created name ∷ more) h = absurd h
-  none_on fed (took bytes ∷ more) h = absurd h
-  none_on fed (write_failed ∷ more) h = absurd h
+  none_on fed (e ∷ more) h = absurd h
 
   none_last : (bytes : List ℕ) (last : List Event) (stop : ReadStop) → StopsWith E bytes last stop → list_any is_creation last ≡ false
   none_last bytes [] stop h = refl
   none_last bytes (gave room [] ∷ []) stop h = refl
-  none_last bytes (gave room [] ∷ e ∷ more) stop h = absurd h
-  none_last bytes (gave room (b ∷ bs) ∷ more) stop h = absurd h
   none_last bytes (read_failed ∷ []) stop h = refl
-  none_last bytes (read_failed ∷ e ∷ more) stop h = absurd h
-  none_last bytes (opened name ∷ more) stop h = absurd h
-  none_last bytes (not_opened name ∷ more) stop h = absurd h
-  none_last bytes (created name ∷ more) stop h = absurd h
-  none_last bytes (not_created name ∷ more) stop h = absurd h
-  none_last bytes (took b ∷ more) stop h = absurd h
-  none_last bytes (write_failed ∷ more) stop h = absurd h
+  none_last bytes last stop h = absurd h
 
   none_read : (reads : List Event) (bytes : List ℕ) (stop : ReadStop) → IsRead E reads bytes stop → list_any is_creation reads ≡ false
   none_read reads bytes stop h =

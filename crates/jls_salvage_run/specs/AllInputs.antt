@@ -96,6 +96,20 @@ pub record StopsAtInput (source : Option ℕ) (names : List (List ℕ)) (r : Ref
   pub stops : StopsAt source givens r last
   pub events_are : events ≡ reading ++ last
 
+-- the inputs before one of these names were taken, what they gave and the events of that one are so, and nothing else was done
+pub record EndsAt (IsLast : List Given → List ℕ → List Event → Type 0) (source : Option ℕ) (names : List (List ℕ)) (events : List Event)
+    : Type 0 where
+  pub before : List (List ℕ)
+  pub name : List ℕ
+  pub after : List (List ℕ)
+  pub among : names ≡ before ++ name ∷ after
+  pub givens : List Given
+  pub reading : List Event
+  pub taken : TakesAll source before givens reading
+  pub last : List Event
+  pub is_last : IsLast givens name last
+  pub events_are : events ≡ reading ++ last
+
 -- what is held where this was joined to what was: to nothing at first
 abbrev pub joined_with : Option PartialPicture → PartialPicture → PartialPicture
 joined_with None p = p

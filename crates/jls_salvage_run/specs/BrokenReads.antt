@@ -9,7 +9,7 @@ use Rattle.jls_io.specs.Event.{Event, History, opened, is_failed_opening, is_fai
 use Rattle.jls_io.specs.Writing.{Wrote}
 use Rattle.jls_station.specs.Given.{Given}
 use Rattle.jls_station.specs.Inputs.{IsEnough, IsRefused}
-use Rattle.jls_salvage_run.specs.AllInputs.{IsTaken, TakesAll}
+use Rattle.jls_salvage_run.specs.AllInputs.{EndsAt, IsTaken}
 use Rattle.jls_salvage_run.specs.Joining.{JoinIsDone}
 use Rattle.jls_io.specs.Outputs.{HandsOut}
 use Rattle.jls_station.specs.Reading.{IsRead}
@@ -83,17 +83,8 @@ pub record IsUnread (name : Text) (events : List Event) : Type 0 where
   pub refused : IsRefused bytes stop f
 
 -- the inputs before an input like `IsUnread` were taken, and nothing else was done
-pub record EndsAtUnread (source : Option ℕ) (names : List Text) (events : List Event) : Type 0 where
-  pub before : List Text
-  pub name : Text
-  pub after : List Text
-  pub among : names ≡ before ++ name ∷ after
-  pub givens : List Given
-  pub reading : List Event
-  pub taken : TakesAll source before givens reading
-  pub last : List Event
-  pub unread : IsUnread name last
-  pub events_are : events ≡ reading ++ last
+abbrev pub EndsAtUnread : Option ℕ → List Text → List Event → Type 0
+EndsAtUnread = EndsAt (λ _. IsUnread)
 
 -- let a run end with status 4, let all be opened and created, and let no write fail. Then its words ask for something, and that was done
 -- with all that was read, though not all was. Or an input was not read whole that is refused for it, and nothing was reported

@@ -44,23 +44,22 @@ pub record TellRan (traced : Bool) (name : Text) (g : Given) (status : ℕ) (des
   pub printed : GrewBy (Wrote (lines traced g)) report report'
   pub status_is : (status ≡ 0) ↔ IsSettled g.partial
 
--- if the words ask for a trace and a report and the status is 0 or 1, they are printed. The status is 0 if and only if each line is
--- settled. No fault is printed
-abbrev pub DoneChecksRan : Type 0
-DoneChecksRan =
+-- if the words ask for this of an input and the status is 0 or 1, it is printed. The status is 0 if and only if each line is settled. No
+-- fault is printed
+abbrev pub DoneTellsRan : Bool → (Text → Asked) → Type 0
+DoneTellsRan traced asked =
     (words : List Text) (status : ℕ) (desk desk' report report' faults faults' : History)
     → Ran words status desk desk' report report' faults faults'
-    → (name : Text) → AskFor words (check name) → status ≤ 1
-    → (g : Given) × TellRan true name g status desk desk' report report' × (faults' ≡ faults)
+    → (name : Text) → AskFor words (asked name) → status ≤ 1
+    → (g : Given) × TellRan traced name g status desk desk' report report' × (faults' ≡ faults)
 
--- if the words ask for a report and the status is 0 or 1, it is printed. The status is 0 if and only if each line is settled. No fault is
--- printed
+-- that of words that ask for a trace and a report
+abbrev pub DoneChecksRan : Type 0
+DoneChecksRan = DoneTellsRan true check
+
+-- and of words that ask for a report
 abbrev pub DoneShowsRan : Type 0
-DoneShowsRan =
-    (words : List Text) (status : ℕ) (desk desk' report report' faults faults' : History)
-    → Ran words status desk desk' report report' faults faults'
-    → (name : Text) → AskFor words (show name) → status ≤ 1
-    → (g : Given) × TellRan false name g status desk desk' report report' × (faults' ≡ faults)
+DoneShowsRan = DoneTellsRan false show
 
 -- words that ask for a file in this format
 abbrev pub written_as : Format → Text → Text → Asked

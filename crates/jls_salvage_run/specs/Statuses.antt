@@ -1,5 +1,5 @@
 -- What the exit statuses 2 to 5 of a run mean.
-use Rattle.std.specs.Prelude.{◌≡◌, ◌≤◌, ◌||◌, ◌⊎◌, ℕ, Bool, true, false, List, [], ◌∷◌, ◌++◌, length, filter, Option, None}
+use Rattle.std.specs.Prelude.{◌≡◌, ◌≤◌, ◌||◌, ◌⊎◌, ℕ, Bool, true, false, List, [], ◌∷◌, length, filter, Option, None}
 use Rattle.std.specs.List.{list_any}
 use Rattle.clap.specs.Words.{Text}
 use Rattle.clap.specs.declared.error.kind.ErrorKind.{ErrorKind}
@@ -9,7 +9,7 @@ use Rattle.jls_io.specs.Event.{Event, History, GrewBy, opened, is_creation, is_r
 use Rattle.jls_io.specs.Writing.{Printed}
 use Rattle.jls_station.specs.Given.{Given}
 use Rattle.jls_station.specs.Inputs.{IsEnough, IsRefused}
-use Rattle.jls_salvage_run.specs.AllInputs.{IsOfOtherShape, IsTaken, TakesAll, partials}
+use Rattle.jls_salvage_run.specs.AllInputs.{EndsAt, IsOfOtherShape, IsTaken, partials}
 use Rattle.jls_station.specs.Reading.{IsRead}
 use Rattle.jls_station.specs.declared.input.InputFault.{InputFault}
 use Rattle.jls_station.specs.declared.input.ReadStop.TheVariants.{Whole}
@@ -99,17 +99,8 @@ pub data IsUnfit : Option ℕ → List Given → Text → List Event → Type 0 
       → IsTaken source name g events → IsOfOtherShape (partials before) g.partial → IsUnfit source before name events
 
 -- the inputs before one of these were taken, that one is unfit, and nothing else was done
-pub record EndsAtUnfit (source : Option ℕ) (names : List Text) (events : List Event) : Type 0 where
-  pub before : List Text
-  pub name : Text
-  pub after : List Text
-  pub among : names ≡ before ++ name ∷ after
-  pub givens : List Given
-  pub reading : List Event
-  pub taken : TakesAll source before givens reading
-  pub last : List Event
-  pub unfit : IsUnfit source givens name last
-  pub events_are : events ≡ reading ++ last
+abbrev pub EndsAtUnfit : Option ℕ → List Text → List Event → Type 0
+EndsAtUnfit source = EndsAt (IsUnfit source) source
 
 -- if a run ends with status 3, it is for what an input is that its words name
 abbrev pub InputsCauseStatus3 : Type 0

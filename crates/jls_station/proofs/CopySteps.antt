@@ -9,11 +9,11 @@ use Rattle.std.proofs.lemmas.List.{append-nil, append_assoc, length-append}
 use Rattle.jls_io.specs.Event.{History, GrewBy, gave}
 use Rattle.jls_station.specs.Inputs.{IsCopyDone}
 use Rattle.jls_station.specs.KnownCopies.{IsPrefixOf}
-use Rattle.jls_station.specs.Reading.{AreBytes, ReadSoFar}
+use Rattle.jls_station.specs.Reading.{AreBytes, IsRead, ReadSoFar}
 use Rattle.jls_station.specs.Texts.{is_text}
 use Rattle.jls_station.specs.declared.input.ReadStop.{ReadStop}
 use Rattle.jls_station.specs.declared.input.ReadStop.TheVariants.{Whole}
-use Rattle.jls_station.proofs.OneInput.{one_read_more, consumes_on}
+use Rattle.jls_station.proofs.OneInput.{one_read_more, read_enough, consumes_on}
 
 -- What an intake, which was fed as `first` says and is fed as `held` says now, got by so many reads. `left` is what its source had left
 -- before them and has left now, where that is known
@@ -69,6 +69,32 @@ module _ (E : List ℕ → Type 0) (enough : Bool) (held : Option (List ℕ)) (b
 
   pub is_over : enough ≡ true → E bytes
   is_over over = (about (λ b. IsTrue enough ↔ E b) held bytes is h).0 over
+
+-- what is so where the reading stops
+module _ {E : List ℕ → Type 0} {first held : Option (List ℕ)} {made count : ℕ} {old new : History} {left left' : Option (List ℕ)}
+    (i : SoFar E first held made count old new left left') where
+  pub stops_longer : (fed : List ℕ) → first ≡ Some fed → IsSomeAnd held (λ bytes. (more : List ℕ) × (bytes ≡ fed ++ more))
+  stops_longer fed was = of_reader (λ bytes. (more : List ℕ) × (bytes ≡ fed ++ more)) held i.bytes i.is (i.longer fed was)
+
+  pub stops_known : (before : Option (List ℕ)) (fed : List ℕ) → first ≡ Some fed → Consumes before left fed
+      → IsSomeAnd held (λ bytes. Consumes before left' bytes)
+  stops_known before fed was h = of_reader (λ bytes. Consumes before left' bytes) held i.bytes i.is (i.known before fed was h)
+
+  -- all of it, where the bytes are enough
+  pub stops_enough : (enough : Bool) → IfSome held (λ b. IsTrue enough ↔ E b) → enough ≡ true → count ≤ 4294967295
+      → ((fed : List ℕ) → first ≡ Some fed → IsSomeAnd held (λ bytes. (more : List ℕ) × (bytes ≡ fed ++ more)))
+      × ((before : History) (fed : List ℕ) → first ≡ Some fed → GrewBy (ReadSoFar E made fed) before old
+      → IsSomeAnd held (λ bytes. GrewBy (λ reads. IsRead E reads bytes Whole) before new))
+      × ((before : Option (List ℕ)) (fed : List ℕ) → first ≡ Some fed → Consumes before left fed
+      → IsSomeAnd held (λ bytes. Consumes before left' bytes)) × IsSomeAnd held E
+  stops_enough enough tells over le =
+      let done = is_over E enough held i.bytes i.is tells over in (
+        stops_longer,
+        λ before fed was h. of_reader (λ bytes. GrewBy (λ reads. IsRead E reads bytes Whole) before new) held i.bytes i.is
+            (read_enough E count before new new i.bytes (i.so_far before fed was h) done le),
+        stops_known,
+        of_reader E held i.bytes i.is done,
+      )
 
 -- a slice that fits the count of bytes
 pub put_fits : (held : Option (List ℕ)) (bytes more : List ℕ) → held ≡ Some bytes → length bytes + length more ≤ 2 ^ 63 - 1

@@ -17,7 +17,7 @@ use Rattle.jls_copy.specs.CourseLaws.{OneCourse}
 use Rattle.jls_copy.specs.declared.end.End.TheVariants.{Header}
 use Rattle.jls_copy.specs.declared.reader.CopyFault.{CopyFault}
 use Rattle.jls_copy.specs.declared.reader.CopyFault.TheVariants as copy
-use Rattle.jls_io.specs.Event.{Event, History, GrewBy, opened, not_opened, gave, read_failed, created, not_created, took, write_failed}
+use Rattle.jls_io.specs.Event.{Event, History, GrewBy, gave, read_failed}
 use Rattle.jls_io.specs.Event.{bytes_given}
 use Rattle.jls_io.proofs.Growing.{grew_as, grew_twice}
 use Rattle.jls_station.specs.Forms.{IsForm}
@@ -59,13 +59,7 @@ module _ (E : List ℕ → Type 0) where
   goes_on_more fed (gave r b ∷ reads) room bytes h fits some not =
       let more = goes_on_more (fed ++ b) reads room bytes h.3 fits some (λ t e. not t (e ∙ append_assoc fed b (bytes_given reads))) in
       ((h.0, h.1, h.2, more.0), ap (λ (x : List ℕ). b ++ x) more.1 ∙ sym (append_assoc b (bytes_given reads) bytes))
-  goes_on_more fed (opened name ∷ reads) room bytes h fits some not = absurd h
-  goes_on_more fed (not_opened name ∷ reads) room bytes h fits some not = absurd h
-  goes_on_more fed (read_failed ∷ reads) room bytes h fits some not = absurd h
-  goes_on_more fed (created name ∷ reads) room bytes h fits some not = absurd h
-  goes_on_more fed (not_created name ∷ reads) room bytes h fits some not = absurd h
-  goes_on_more fed (took b ∷ reads) room bytes h fits some not = absurd h
-  goes_on_more fed (write_failed ∷ reads) room bytes h fits some not = absurd h
+  goes_on_more fed (e ∷ reads) room bytes h fits some not = absurd h
 
   -- all reads, the last of which gave nothing, or failed, or was not made
   read_with : (count : ℕ) (bytes : List ℕ) (on last : List Event) (stop : ReadStop) → ReadSoFar E count bytes on
@@ -168,34 +162,15 @@ same_first (b ∷ bytes) more h = refl
 goes_on_enough : (fed : List ℕ) (reads : List Event) → GoesOn IsCopyDone fed reads → GoesOn IsEnough fed reads
 goes_on_enough fed [] h = tt
 goes_on_enough fed (gave r b ∷ reads) h = (h.0, h.1, λ e. h.2 e.1, goes_on_enough (fed ++ b) reads h.3)
-goes_on_enough fed (opened name ∷ reads) h = absurd h
-goes_on_enough fed (not_opened name ∷ reads) h = absurd h
-goes_on_enough fed (read_failed ∷ reads) h = absurd h
-goes_on_enough fed (created name ∷ reads) h = absurd h
-goes_on_enough fed (not_created name ∷ reads) h = absurd h
-goes_on_enough fed (took b ∷ reads) h = absurd h
-goes_on_enough fed (write_failed ∷ reads) h = absurd h
+goes_on_enough fed (e ∷ reads) h = absurd h
 
 stops_enough : (bytes : List ℕ) (last : List Event) (stop : ReadStop) → is_text bytes ≡ false → StopsWith IsCopyDone bytes last stop
     → StopsWith IsEnough bytes last stop
 stops_enough bytes [] Whole copied h = (copied, h)
 stops_enough bytes [] Turns copied h = λ e. h e.1
-stops_enough bytes [] Failed copied h = absurd h
 stops_enough bytes (gave room [] ∷ []) Whole copied h = (h.0, h.1, λ e. h.2 e.1)
-stops_enough bytes (gave room [] ∷ []) Failed copied h = absurd h
-stops_enough bytes (gave room [] ∷ []) Turns copied h = absurd h
-stops_enough bytes (gave room [] ∷ e ∷ more) stop copied h = absurd h
-stops_enough bytes (gave room (b ∷ bs) ∷ more) stop copied h = absurd h
 stops_enough bytes (read_failed ∷ []) Failed copied h = λ e. h e.1
-stops_enough bytes (read_failed ∷ []) Whole copied h = absurd h
-stops_enough bytes (read_failed ∷ []) Turns copied h = absurd h
-stops_enough bytes (read_failed ∷ e ∷ more) stop copied h = absurd h
-stops_enough bytes (opened name ∷ more) stop copied h = absurd h
-stops_enough bytes (not_opened name ∷ more) stop copied h = absurd h
-stops_enough bytes (created name ∷ more) stop copied h = absurd h
-stops_enough bytes (not_created name ∷ more) stop copied h = absurd h
-stops_enough bytes (took b ∷ more) stop copied h = absurd h
-stops_enough bytes (write_failed ∷ more) stop copied h = absurd h
+stops_enough bytes last stop copied h = absurd h
 
 -- the reads of an input that is a copy are those of the copy
 pub read_as_input : (bytes : List ℕ) (stop : ReadStop) (old new : History) → is_text bytes ≡ false

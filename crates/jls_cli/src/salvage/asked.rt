@@ -3,8 +3,9 @@
 ghost use Rattle.std.specs.Prelude.{◌≡◌, Some, map, option_map, option_and_then};
 ghost use Rattle.clap.specs.Words.{subcommand_rows_of};
 ghost use Rattle.jls_cli.specs.SalvageAsking as spec;
-ghost use Rattle.jls_cli.specs.SalvageAsking.{asked_of, format_is_known_by, number_up_to};
+ghost use Rattle.jls_cli.specs.SalvageAsking.{asked_of, format_is_known_by};
 
+use crate::numbers::{number_from, short_number};
 use clap::ArgMatches;
 
 /// A command of the program with its words.
@@ -40,16 +41,6 @@ pub enum Asked<'m, 'a> {
     },
 }
 
-/// The number of a source.
-fn source_number(value: &str) -> Option<u32>
-    ensures { result ≡ number_up_to 4294967295 value.now }
-{
-    match value.parse::<u32>() {
-        Ok(number) => Some(number),
-        Err(_) => None,
-    }
-}
-
 fn asked_join<'m, 'a>(
     source: Option<&str>,
     out: Option<&'a str>,
@@ -63,7 +54,7 @@ fn asked_join<'m, 'a>(
         return None;
     };
     let source = match source {
-        Some(value) => Some(source_number(value)?),
+        Some(value) => Some(number_from(0, value)?),
         None => None,
     };
     Some(Asked::Join {
@@ -105,23 +96,13 @@ fn is_by_line(name: &str) -> Option<bool>
     }
 }
 
-/// The restart interval.
-fn restart_interval(value: &str) -> Option<u16>
-    ensures { result ≡ number_up_to 65535 value.now }
-{
-    match value.parse::<u16>() {
-        Ok(rows) => Some(rows),
-        Err(_) => None,
-    }
-}
-
 fn options_of(ilv: Option<&str>, ri: Option<&str>) -> Option<(bool, u16)>
     ensures { result ≡ spec.options_of (option_map (λ s. s.now) ilv.entry) (option_map (λ s. s.now) ri.entry) }
 {
     let (Some(ilv), Some(ri)) = (ilv, ri) else {
         return None;
     };
-    match (is_by_line(ilv), restart_interval(ri)) {
+    match (is_by_line(ilv), short_number(ri)) {
         (Some(line), Some(rows)) => Some((line, rows)),
         _ => None,
     }

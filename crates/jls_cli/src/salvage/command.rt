@@ -4,33 +4,16 @@ ghost use Rattle.std.specs.Prelude.{◌≡◌, ◌⊎◌, false, [], IfOk, IfErr
 ghost use Rattle.std.specs.String.{string_bytes};
 ghost use Rattle.clap.specs.Words.{app_of, fault_of, kind_of, new_app, rule_of, subcommand_of, subcommand_rows_of};
 ghost use Rattle.clap.specs.declared.builder.command.Command.TheViews.{out-Command};
-ghost use Rattle.jls_cli.specs.SalvageWords.{as_rule, AreRefused, AreTaken, check_app, files_rule, ilv_rule, join_app, ri_rule};
-ghost use Rattle.jls_cli.specs.SalvageWords.{salvage_app, show_app, source_rule, word_rule, write_app, write_options_app};
+ghost use Rattle.jls_cli.specs.SalvageWords.{as_rule, AreRefused, check_app, files_rule, ilv_rule, join_app, ri_rule};
+ghost use Rattle.jls_cli.specs.SalvageWords.{salvage_app, show_app, write_app, write_options_app};
+ghost use Rattle.jls_cli.specs.Words.{Takes};
 
+use crate::arguments::{number, option, source, word};
 use crate::salvage::texts;
 use crate::version::VERSION;
-use clap::builder::ValueParser;
 use clap::error::ErrorKind;
 use clap::{Arg, ArgAction, ArgMatches, Command, Error};
 use std::alloc::{AllocError, Global};
-
-/// One word that has to be there.
-fn word<'a>(alloc: Global, id: &'a str, help: &'a str) -> Arg<'a>
-    ensures rule { rule_of result ≡ word_rule id.entry.now }
-    ensures local { result.global ≡ false }
-{
-    Arg::new(alloc, id).required(true).help(help)
-}
-
-/// The source of the copies of `join`.
-fn source<'a>(alloc: Global) -> Arg<'a>
-    ensures rule { rule_of result ≡ source_rule }
-    ensures local { result.global ≡ false }
-{
-    let number = Arg::new(alloc, "source").long("source").value_name("N");
-    let bounded = number.value_parser(ValueParser::unsigned(0, 4_294_967_295));
-    bounded.help(texts::SOURCE_HELP)
-}
 
 /// The inputs of `join`.
 fn files<'a>(alloc: Global) -> Arg<'a>
@@ -45,7 +28,7 @@ fn format<'a>(alloc: Global) -> Arg<'a>
     ensures rule { rule_of result ≡ as_rule }
     ensures local { result.global ≡ false }
 {
-    let format = Arg::new(alloc, "as").long("as").value_name("FORMAT");
+    let format = option(alloc, "as", "FORMAT");
     format.required(true).help(texts::AS_HELP)
 }
 
@@ -54,7 +37,7 @@ fn interleave<'a>(alloc: Global) -> Arg<'a>
     ensures rule { rule_of result ≡ ilv_rule }
     ensures local { result.global ≡ false }
 {
-    let mode = Arg::new(alloc, "ilv").long("ilv").value_name("MODE");
+    let mode = option(alloc, "ilv", "MODE");
     mode.default_value("none").help(texts::ILV_HELP)
 }
 
@@ -63,9 +46,8 @@ fn restarts<'a>(alloc: Global) -> Arg<'a>
     ensures rule { rule_of result ≡ ri_rule }
     ensures local { result.global ≡ false }
 {
-    let rows = Arg::new(alloc, "ri").long("ri").value_name("N");
-    let bounded = rows.value_parser(ValueParser::unsigned(0, 65535));
-    bounded.default_value("0").help(texts::RI_HELP)
+    let rows = number(alloc, "ri", 0, 65535);
+    rows.default_value("0").help(texts::RI_HELP)
 }
 
 /// A command without arguments.
@@ -97,7 +79,7 @@ fn join_command<'a>(alloc: Global) -> Result<Command<'a>, AllocError>
     ensures local { IfOk result (λ c. (out-Command c).has_globals ≡ false) }
 {
     let bare = bare(alloc, "join", texts::JOIN_ABOUT, texts::JOIN_NOTES);
-    let sourced = bare.arg(source(alloc))?;
+    let sourced = bare.arg(source(alloc, texts::SOURCE_HELP))?;
     let join = sourced.arg(word(alloc, "OUT", texts::JOIN_OUT_HELP))?;
     join.arg(files(alloc))
 }
@@ -141,7 +123,7 @@ fn command<'a>(alloc: Global) -> Result<Command<'a>, AllocError>
 pub fn matches<'a>(alloc: Global, words: &'a [String]) -> Result<ArgMatches<'a>, Error>
     ensures rows { IfOk result (λ m. subcommand_rows_of m ≡ subcommand_of salvage_app (map string_bytes words.entry.now)) }
     ensures no_fault { IfOk result (λ m. fault_of salvage_app (map string_bytes words.entry.now) ≡ []) }
-    ensures passes { IfErr result (λ e. AreTaken (map string_bytes words.entry.now) → kind_of e ≡ ErrorKind.OutOfMemory) }
+    ensures passes { IfErr result (λ e. Takes salvage_app (map string_bytes words.entry.now) → kind_of e ≡ ErrorKind.OutOfMemory) }
     ensures refused { IfErr result (λ e. (kind_of e ≡ ErrorKind.OutOfMemory) ⊎ AreRefused (map string_bytes words.entry.now) (kind_of e)) }
 {
     command(alloc)?.try_get_matches_from(words)

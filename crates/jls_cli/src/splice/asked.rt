@@ -3,8 +3,9 @@
 ghost use Rattle.std.specs.Prelude.{◌≡◌, map, option_map};
 ghost use Rattle.clap.specs.Words.{found_of, rows_of};
 ghost use Rattle.jls_cli.specs.SpliceAsking as spec;
-ghost use Rattle.jls_cli.specs.SpliceAsking.{asked_of, number_in, options_in};
+ghost use Rattle.jls_cli.specs.SpliceAsking.{asked_of, options_in};
 
+use crate::numbers::{number_from, short_number};
 use clap::ArgMatches;
 
 /// What the options say.
@@ -32,36 +33,6 @@ pub struct Asked<'m, 'a> {
     pub first: &'a str,
     pub second: &'a str,
     pub others: &'m [&'a str],
-}
-
-/// The number of a source.
-fn source_number(value: &str) -> Option<u32>
-    ensures { result ≡ number_in 0 4294967295 value.now }
-{
-    match value.parse::<u32>() {
-        Ok(number) => Some(number),
-        Err(_) => None,
-    }
-}
-
-/// A number of tries.
-fn tries_number(value: &str) -> Option<u32>
-    ensures { result ≡ number_in 1 4294967295 value.now }
-{
-    match value.parse::<u32>() {
-        Ok(number) => { if number == 0 { None } else { Some(number) } }
-        Err(_) => None,
-    }
-}
-
-/// A ceiling of samples.
-fn ceiling_number(value: &str) -> Option<u16>
-    ensures { result ≡ number_in 0 65535 value.now }
-{
-    match value.parse::<u16>() {
-        Ok(number) => Some(number),
-        Err(_) => None,
-    }
 }
 
 /// Whether a flag has the value that it gets where it is given.
@@ -92,12 +63,12 @@ fn options_of<'a>(values: OptionValues<'_, 'a>) -> Option<Options<'a>>
         (option_map (λ s. s.now) values.entry.file) (option_map (λ s. s.now) values.entry.files) }
 {
     let source = match values.source {
-        Some(value) => Some(source_number(value)?),
+        Some(value) => Some(number_from(0, value)?),
         None => None,
     };
-    let tries = tries_number(values.tries?)?;
+    let tries = number_from(1, values.tries?)?;
     let ceiling = match values.ceiling {
-        Some(value) => Some(ceiling_number(value)?),
+        Some(value) => Some(short_number(value)?),
         None => None,
     };
     let progress = is_set(values.progress);

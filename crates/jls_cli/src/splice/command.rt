@@ -4,23 +4,16 @@ ghost use Rattle.std.specs.Prelude.{◌≡◌, ◌⊎◌, false, [], IfOk, IfErr
 ghost use Rattle.std.specs.String.{string_bytes};
 ghost use Rattle.clap.specs.Words.{app_of, fault_of, found_of, kind_of, matches_of, rows_of, rule_of};
 ghost use Rattle.clap.specs.declared.builder.command.Command.TheViews.{out-Command};
-ghost use Rattle.jls_cli.specs.SpliceWords.{AreRefused, AreTaken, bare_app, ceiling_rule, file_rule, files_rule, numbers_app, options_app};
-ghost use Rattle.jls_cli.specs.SpliceWords.{others_rule, progress_rule, source_rule, splice_app, tries_rule, word_rule};
+ghost use Rattle.jls_cli.specs.SpliceWords.{AreRefused, bare_app, ceiling_rule, file_rule, files_rule, numbers_app, options_app};
+ghost use Rattle.jls_cli.specs.SpliceWords.{others_rule, progress_rule, splice_app, tries_rule};
+ghost use Rattle.jls_cli.specs.Words.{Takes};
 
+use crate::arguments::{number, option, source, word};
 use crate::splice::texts;
 use crate::version::VERSION;
-use clap::builder::ValueParser;
 use clap::error::ErrorKind;
 use clap::{Arg, ArgAction, ArgMatches, Command, Error};
 use std::alloc::{AllocError, Global};
-
-/// One word that has to be there.
-fn word<'a>(alloc: Global, id: &'a str, help: &'a str) -> Arg<'a>
-    ensures rule { rule_of result ≡ word_rule id.entry.now }
-    ensures local { result.global ≡ false }
-{
-    Arg::new(alloc, id).required(true).help(help)
-}
 
 /// The copies after the first, one at least.
 fn others<'a>(alloc: Global) -> Arg<'a>
@@ -31,24 +24,13 @@ fn others<'a>(alloc: Global) -> Arg<'a>
     other.action(ArgAction::Append)
 }
 
-/// The source of the readings.
-fn source<'a>(alloc: Global) -> Arg<'a>
-    ensures rule { rule_of result ≡ source_rule }
-    ensures local { result.global ≡ false }
-{
-    let number = Arg::new(alloc, "source").long("source").value_name("N");
-    let bounded = number.value_parser(ValueParser::unsigned(0, 4_294_967_295));
-    bounded.help(texts::SOURCE_HELP)
-}
-
 /// How much each search tries.
 fn tries<'a>(alloc: Global) -> Arg<'a>
     ensures rule { rule_of result ≡ tries_rule }
     ensures local { result.global ≡ false }
 {
-    let number = Arg::new(alloc, "tries").long("tries").value_name("N");
-    let bounded = number.value_parser(ValueParser::unsigned(1, 4_294_967_295));
-    bounded.default_value("4096").help(texts::TRIES_HELP)
+    let number = number(alloc, "tries", 1, 4_294_967_295);
+    number.default_value("4096").help(texts::TRIES_HELP)
 }
 
 /// The ceiling of the samples.
@@ -56,9 +38,7 @@ fn ceiling<'a>(alloc: Global) -> Arg<'a>
     ensures rule { rule_of result ≡ ceiling_rule }
     ensures local { result.global ≡ false }
 {
-    let number = Arg::new(alloc, "max").long("max").value_name("N");
-    let bounded = number.value_parser(ValueParser::unsigned(0, 65_535));
-    bounded.help(texts::CEILING_HELP)
+    number(alloc, "max", 0, 65_535).help(texts::CEILING_HELP)
 }
 
 /// Whether the searches tell how far they are.
@@ -75,8 +55,7 @@ fn file<'a>(alloc: Global) -> Arg<'a>
     ensures rule { rule_of result ≡ file_rule }
     ensures local { result.global ≡ false }
 {
-    let name = Arg::new(alloc, "file").long("file").value_name("NAME");
-    name.help(texts::FILE_HELP)
+    option(alloc, "file", "NAME").help(texts::FILE_HELP)
 }
 
 /// What the names of the files without a fault begin with.
@@ -84,8 +63,7 @@ fn files<'a>(alloc: Global) -> Arg<'a>
     ensures rule { rule_of result ≡ files_rule }
     ensures local { result.global ≡ false }
 {
-    let prefix = Arg::new(alloc, "files").long("files").value_name("PREFIX");
-    prefix.help(texts::FILES_HELP)
+    option(alloc, "files", "PREFIX").help(texts::FILES_HELP)
 }
 
 /// The command without arguments.
@@ -102,7 +80,7 @@ fn with_numbers<'a>(alloc: Global) -> Result<Command<'a>, AllocError>
     ensures app { IfOk result (λ c. app_of c ≡ numbers_app) }
     ensures local { IfOk result (λ c. (out-Command c).has_globals ≡ false) }
 {
-    let sourced = bare(alloc).arg(source(alloc))?;
+    let sourced = bare(alloc).arg(source(alloc, texts::SOURCE_HELP))?;
     let bounded = sourced.arg(tries(alloc))?;
     bounded.arg(ceiling(alloc))
 }
@@ -134,7 +112,7 @@ fn command<'a>(alloc: Global) -> Result<Command<'a>, AllocError>
 pub fn matches<'a>(alloc: Global, words: &'a [String]) -> Result<ArgMatches<'a>, Error>
     ensures rows { IfOk result (λ m. rows_of (found_of m) ≡ matches_of splice_app (map string_bytes words.entry.now)) }
     ensures no_fault { IfOk result (λ m. fault_of splice_app (map string_bytes words.entry.now) ≡ []) }
-    ensures passes { IfErr result (λ e. AreTaken (map string_bytes words.entry.now) → kind_of e ≡ ErrorKind.OutOfMemory) }
+    ensures passes { IfErr result (λ e. Takes splice_app (map string_bytes words.entry.now) → kind_of e ≡ ErrorKind.OutOfMemory) }
     ensures refused { IfErr result (λ e. (kind_of e ≡ ErrorKind.OutOfMemory) ⊎ AreRefused (map string_bytes words.entry.now) (kind_of e)) }
 {
     command(alloc)?.try_get_matches_from(words)

@@ -1,6 +1,8 @@
 use Rattle.std.proofs.Common.{◌++◌, refl, arith}
+use Rattle.jls_c.specs.Written.{IsFileOf}
 use Rattle.jls_c.proofs.Known.{of_write}
 use Rattle.jls_c.proofs.Planned.{all_in_range, tested_fits, tested_file}
+use Rattle.jls_c.proofs.write.jls_write.Goals.{In-Ok}
 use Rattle.jls_c.proofs.write.jls_write.Goals as goal
 
 pub returns-in_default-clause-answers : goal.returns-in_default-clause-answers
@@ -25,41 +27,37 @@ jls_file-requires c =
     tested_fits c.args.frame.now c.in-Some.shape c.in-Some.options samples c.of_samples-picture.result c.has_large_interval.result
     c.in-Some.ensures.some in_range c.has_large_interval.ensures c.if-has_large_interval.false c.of_samples-picture.ensures
 
+-- what was made is a file of the samples
+made : (c : In-Ok) → IsFileOf c.args.frame.now c.args.samples.now (c.in-Ok.found.front.items ++ c.in-Ok.found.back.items)
+made c =
+    let found = c.in-Ok.found in
+    let in_range = all_in_range c.in-Some.shape c.args.samples.now c.precision.result c.has_large_sample.result c.precision.ensures.value
+    c.has_large_sample.ensures c.if-has_large_sample.false in
+    tested_file c.args.frame.now c.in-Some.shape c.in-Some.options c.args.samples.now found.front.items found.back.items
+    c.of_samples-picture.result c.has_large_interval.result c.in-Some.ensures.some in_range c.has_large_interval.ensures
+    c.if-has_large_interval.false c.of_samples-picture.ensures c.in-Ok.ensures
+
 pub returns-in-Ok-clause-answers : goal.returns-in-Ok-clause-answers
 returns-in-Ok-clause-answers c = of_write c.put_file.result c.put_file.ensures.answers
 
 pub returns-in-Ok-clause-done : goal.returns-in-Ok-clause-done
 returns-in-Ok-clause-done c = λ done.
-    let found = c.in-Ok.found in
-    let in_range = all_in_range c.in-Some.shape c.args.samples.now c.precision.result c.has_large_sample.result c.precision.ensures.value
-    c.has_large_sample.ensures c.if-has_large_sample.false in
-    let is_file = tested_file c.args.frame.now c.in-Some.shape c.in-Some.options c.args.samples.now found.front.items found.back.items
-    c.of_samples-picture.result c.has_large_interval.result c.in-Some.ensures.some in_range c.has_large_interval.ensures
-    c.if-has_large_interval.false c.of_samples-picture.ensures c.in-Ok.ensures in
     let put = c.put_file.ensures.done done in
     record {
-      file = found.front.items ++ found.back.items;
-      is_file = is_file;
+      file = c.in-Ok.found.front.items ++ c.in-Ok.found.back.items;
+      is_file = made (goal.at.returns-in-Ok-clause-done c).In-Ok;
       size_is = c.put_file.ensures.size;
       fits = put.0;
-      bytes_are =
-          put.1;
+      bytes_are = put.1;
     }
 
 pub returns-in-Ok-clause-size_kept : goal.returns-in-Ok-clause-size_kept
 returns-in-Ok-clause-size_kept c = λ not_done not_short. absurd (not_short (c.put_file.ensures.answers not_done))
 
 pub returns-in-Ok-clause-short_room : goal.returns-in-Ok-clause-short_room
-returns-in-Ok-clause-short_room c = λ short.
-    let found = c.in-Ok.found in
-    let in_range = all_in_range c.in-Some.shape c.args.samples.now c.precision.result c.has_large_sample.result c.precision.ensures.value
-    c.has_large_sample.ensures c.if-has_large_sample.false in
-    let is_file = tested_file c.args.frame.now c.in-Some.shape c.in-Some.options c.args.samples.now found.front.items found.back.items
-    c.of_samples-picture.result c.has_large_interval.result c.in-Some.ensures.some in_range c.has_large_interval.ensures
-    c.if-has_large_interval.false c.of_samples-picture.ensures c.in-Ok.ensures in
-    record {
-      file = found.front.items ++ found.back.items;
-      is_file = is_file;
-      size_is = c.put_file.ensures.size;
-      longer = c.put_file.ensures.short_room short;
-    }
+returns-in-Ok-clause-short_room c = λ short. record {
+  file = c.in-Ok.found.front.items ++ c.in-Ok.found.back.items;
+  is_file = made (goal.at.returns-in-Ok-clause-short_room c).In-Ok;
+  size_is = c.put_file.ensures.size;
+  longer = c.put_file.ensures.short_room short;
+}

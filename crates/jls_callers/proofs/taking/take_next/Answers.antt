@@ -1,8 +1,10 @@
-use Rattle.std.proofs.Common.{ℕ, List, Option, subst, ◌⊎◌, inl, inr}
-use Rattle.jls_io.specs.Event.{Event, GrewBy}
+use Rattle.std.proofs.Common.{List, subst, ◌⊎◌, inl, inr}
+use Rattle.std.specs.Prelude.{ℕ, Option}
+use Rattle.jls_io.specs.Event.{Event}
+use Rattle.jls_io.proofs.Growing.{grew_as}
 use Rattle.jls_partial.specs.Partial.{PartialPicture}
 use Rattle.jls_station.specs.Given.{CopyReport}
-use Rattle.jls_station.specs.TakingCopies.{CopyGives, TakesCopy, RefusesCopy, gives_none, other_shape, no_memory}
+use Rattle.jls_station.specs.TakingCopies.{CopyGives, RefusesCopy, gives_none, other_shape, no_memory}
 use Rattle.jls_station.specs.declared.take_copy.TakeFault.{TakeFault}
 use Rattle.jls_headline.specs.Collected.{Collected, copy_taken, copy_refused, copy_ran_out}
 use Rattle.jls_headline.specs.Sources.{SourcedCopy}
@@ -19,57 +21,22 @@ early source old new f reads copies over collected (no_memory _ _ _ p report _ g
 
 pub returns-clause-ran_out_early : goal.returns-clause-ran_out_early
 returns-clause-ran_out_early g c = λ copies over collected.
-    let old = c.args.station.now in
-    let new = c.take_copy.new.self in
-    let source = c.args.source in
-    fault_then c.take_copy.result
-    (λ (f : TakeFault). GrewBy (RefusesCopy source old new f) (g.S.Device.history c.args.device.now)
-    (g.S.Device.history c.take_copy.new.device)) _
-    c.take_copy.ensures.refused
-    (λ f t e. record {
-      events = t.events;
-      grew = t.grew;
-      they_are = early source old new f t.events copies over collected t.they_are;
-    })
+    fault_then c.take_copy.result _ _ c.take_copy.ensures.refused
+    (λ f t e. grew_as _ _ _ _ (λ reads h. early c.args.source c.args.station.now c.take_copy.new.self f reads copies over collected h) t)
 
 pub returns-clause-taken : goal.returns-clause-taken
 returns-clause-taken g c = λ copies over collected.
-    let old = c.args.station.now in
-    let new = c.take_copy.new.self in
-    let source = c.args.source in
-    ok_then c.take_copy.result
-    (λ (report : CopyReport). GrewBy (TakesCopy source old new report) (g.S.Device.history c.args.device.now)
-    (g.S.Device.history c.take_copy.new.device)) _
-    c.take_copy.ensures.taken
-    (λ report t. record {
-      events = t.events;
-      grew = t.grew;
-      they_are = copy_taken source old new report t.events copies over collected t.they_are;
-    })
+    ok_then c.take_copy.result _ _ c.take_copy.ensures.taken
+    (λ report. grew_as _ _ _ _
+    (λ reads h. copy_taken c.args.source c.args.station.now c.take_copy.new.self report reads copies over collected h))
 
 pub returns-clause-refused : goal.returns-clause-refused
 returns-clause-refused g c = λ copies over collected.
-    let old = c.args.station.now in
-    let new = c.take_copy.new.self in
-    let source = c.args.source in
-    fault_then c.take_copy.result
-    (λ (f : TakeFault). GrewBy (RefusesCopy source old new f) (g.S.Device.history c.args.device.now)
-    (g.S.Device.history c.take_copy.new.device)) _
-    c.take_copy.ensures.refused
-    (λ f t other. copy_refused source old new f t.events copies over collected t.they_are other)
+    fault_then c.take_copy.result _ _ c.take_copy.ensures.refused
+    (λ f t other. copy_refused c.args.source c.args.station.now c.take_copy.new.self f t.events copies over collected t.they_are other)
 
 pub returns-clause-ran_out : goal.returns-clause-ran_out
 returns-clause-ran_out g c = λ copies over collected.
-    let old = c.args.station.now in
-    let new = c.take_copy.new.self in
-    let source = c.args.source in
-    fault_then c.take_copy.result
-    (λ (f : TakeFault). GrewBy (RefusesCopy source old new f) (g.S.Device.history c.args.device.now)
-    (g.S.Device.history c.take_copy.new.device)) _
-    c.take_copy.ensures.refused
-    (λ f t e. record {
-      events = t.events;
-      grew = t.grew;
-      they_are = copy_ran_out source old new t.events copies over collected
-          (subst (λ (x : TakeFault). RefusesCopy source old new x t.events) e t.they_are);
-    })
+    fault_then c.take_copy.result _ _ c.take_copy.ensures.refused
+    (λ f t e. grew_as _ _ _ _ (λ reads h. copy_ran_out c.args.source c.args.station.now c.take_copy.new.self reads copies over collected
+    (subst (λ (x : TakeFault). RefusesCopy c.args.source c.args.station.now c.take_copy.new.self x reads) e h)) t)

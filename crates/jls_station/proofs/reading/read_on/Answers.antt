@@ -5,9 +5,10 @@ use Rattle.std.proofs.lemmas.List.{length-take}
 use Rattle.jls_io.specs.Event.{GrewBy}
 use Rattle.jls_station.specs.Reading.{AreBytes, IsRead, IsReadInPart}
 use Rattle.jls_station.specs.declared.input.ReadStop.TheVariants.{Whole, Failed, Turns}
-use Rattle.jls_station.proofs.CopySteps.{of_reader, goes_on, is_over, none_more, one_more, consumes_no_more, put_fits}
+use Rattle.jls_station.proofs.CopySteps.{of_reader, goes_on, none_more, stops_enough, stops_known, stops_longer, one_more, consumes_no_more}
+use Rattle.jls_station.proofs.CopySteps.{put_fits}
 use Rattle.jls_partial.proofs.TextPrefixes.{on_error}
-use Rattle.jls_station.proofs.OneInput.{one_read_more, read_to_end, read_to_failure, read_to_turns, read_enough, read_in_part}
+use Rattle.jls_station.proofs.OneInput.{one_read_more, read_to_end, read_to_failure, read_to_turns, read_in_part}
 use Rattle.jls_station.proofs.reading.read_on.Goals as goal
 
 pub returns-in-Err-clause-read : goal.returns-in-Err-clause-read
@@ -92,39 +93,14 @@ put-requires g c =
     (omega (arith, i.few, ap length c.prefix.ensures.prefix, length-take c.in-Ok.n c.read_some.new.into, room))
 
 -- where the bytes are enough before a read
-pub returns-then-is_enough-clause-longer : goal.returns-then-is_enough-clause-longer
-returns-then-is_enough-clause-longer g c fed was =
-    let i = c.loop.invariant in
-    of_reader (λ bytes. (more : List ℕ) × (bytes ≡ fed ++ more)) (g.I.Intake.fed c.loop.held) i.bytes i.is (i.longer fed was)
-
-pub returns-then-is_enough-clause-read : goal.returns-then-is_enough-clause-read
-returns-then-is_enough-clause-read g c before fed was h =
-    let history = g.S.Device.history in
-    let i = c.loop.invariant in
-    of_reader (λ bytes. GrewBy (λ reads. IsRead g.I.Intake.IsEnough reads bytes Whole) before (history c.loop.device))
-    (g.I.Intake.fed c.loop.held) i.bytes i.is
-    (read_enough g.I.Intake.IsEnough c.loop.counter before (history c.loop.device) (history c.loop.device) i.bytes
-    (i.so_far before fed was h)
-    (is_over g.I.Intake.IsEnough c.is_enough.result (g.I.Intake.fed c.loop.held) i.bytes i.is c.is_enough.ensures c.if-is_enough.true)
-    (omega arith))
-
-pub returns-then-is_enough-clause-known : goal.returns-then-is_enough-clause-known
-returns-then-is_enough-clause-known g c before fed was h =
-    let i = c.loop.invariant in
-    of_reader (λ bytes. Consumes before (g.S.Source.remaining c.loop.device) bytes) (g.I.Intake.fed c.loop.held) i.bytes i.is
-    (i.known before fed was h)
-
-pub returns-then-is_enough-clause-end : goal.returns-then-is_enough-clause-end
-returns-then-is_enough-clause-end g c whole =
-    let i = c.loop.invariant in
-    inl (of_reader g.I.Intake.IsEnough (g.I.Intake.fed c.loop.held) i.bytes i.is
-    (is_over g.I.Intake.IsEnough c.is_enough.result (g.I.Intake.fed c.loop.held) i.bytes i.is c.is_enough.ensures c.if-is_enough.true))
+pub returns-then-is_enough : goal.returns-then-is_enough
+returns-then-is_enough g c =
+    let s = stops_enough c.loop.invariant c.is_enough.result c.is_enough.ensures c.if-is_enough.true (omega arith) in
+    record { longer = s.0; read = s.1; refused = λ before fed was h. tt; known = s.2; end = λ whole. inl s.3 }
 
 -- where a read failed
 pub returns-in-Err-clause-longer : goal.returns-in-Err-clause-longer
-returns-in-Err-clause-longer g c fed was =
-    let i = c.loop.invariant in
-    of_reader (λ bytes. (more : List ℕ) × (bytes ≡ fed ++ more)) (g.I.Intake.fed c.loop.held) i.bytes i.is (i.longer fed was)
+returns-in-Err-clause-longer g c = stops_longer c.loop.invariant
 
 pub returns-in-Err-clause-known : goal.returns-in-Err-clause-known
 returns-in-Err-clause-known g c before fed was h =
@@ -134,44 +110,16 @@ returns-in-Err-clause-known g c before fed was h =
 
 -- where the end was met
 pub returns-then-n-eq0-clause-longer : goal.returns-then-n-eq0-clause-longer
-returns-then-n-eq0-clause-longer g c fed was =
-    let i = c.loop.invariant in
-    of_reader (λ bytes. (more : List ℕ) × (bytes ≡ fed ++ more)) (g.I.Intake.fed c.loop.held) i.bytes i.is (i.longer fed was)
+returns-then-n-eq0-clause-longer g c = stops_longer c.loop.invariant
 
 -- where the last read was made
-pub returns-then-is_enough-2-clause-longer : goal.returns-then-is_enough-2-clause-longer
-returns-then-is_enough-2-clause-longer g c fed was =
-    let i = c.loop.invariant in
-    of_reader (λ bytes. (more : List ℕ) × (bytes ≡ fed ++ more)) (g.I.Intake.fed c.loop.held) i.bytes i.is (i.longer fed was)
-
-pub returns-then-is_enough-2-clause-read : goal.returns-then-is_enough-2-clause-read
-returns-then-is_enough-2-clause-read g c before fed was h =
-    let history = g.S.Device.history in
-    let i = c.loop.invariant in
-    of_reader (λ bytes. GrewBy (λ reads. IsRead g.I.Intake.IsEnough reads bytes Whole) before (history c.loop.device))
-    (g.I.Intake.fed c.loop.held) i.bytes i.is
-    (read_enough g.I.Intake.IsEnough c.loop.counter before (history c.loop.device) (history c.loop.device) i.bytes
-    (i.so_far before fed was h)
-    (is_over g.I.Intake.IsEnough c.is_enough-2.result (g.I.Intake.fed c.loop.held) i.bytes i.is c.is_enough-2.ensures c.if-is_enough-2.true)
-    (omega arith))
-
-pub returns-then-is_enough-2-clause-known : goal.returns-then-is_enough-2-clause-known
-returns-then-is_enough-2-clause-known g c before fed was h =
-    let i = c.loop.invariant in
-    of_reader (λ bytes. Consumes before (g.S.Source.remaining c.loop.device) bytes) (g.I.Intake.fed c.loop.held) i.bytes i.is
-    (i.known before fed was h)
-
-pub returns-then-is_enough-2-clause-end : goal.returns-then-is_enough-2-clause-end
-returns-then-is_enough-2-clause-end g c whole =
-    let i = c.loop.invariant in
-    inl (of_reader g.I.Intake.IsEnough (g.I.Intake.fed c.loop.held) i.bytes i.is
-    (is_over g.I.Intake.IsEnough c.is_enough-2.result (g.I.Intake.fed c.loop.held) i.bytes i.is c.is_enough-2.ensures
-    c.if-is_enough-2.true))
+pub returns-then-is_enough-2 : goal.returns-then-is_enough-2
+returns-then-is_enough-2 g c =
+    let s = stops_enough c.loop.invariant c.is_enough-2.result c.is_enough-2.ensures c.if-is_enough-2.true (omega arith) in
+    record { longer = s.0; read = s.1; refused = λ before fed was h. tt; known = s.2; end = λ whole. inl s.3 }
 
 pub returns-else-is_enough-2-clause-longer : goal.returns-else-is_enough-2-clause-longer
-returns-else-is_enough-2-clause-longer g c fed was =
-    let i = c.loop.invariant in
-    of_reader (λ bytes. (more : List ℕ) × (bytes ≡ fed ++ more)) (g.I.Intake.fed c.loop.held) i.bytes i.is (i.longer fed was)
+returns-else-is_enough-2-clause-longer g c = stops_longer c.loop.invariant
 
 pub returns-else-is_enough-2-clause-read : goal.returns-else-is_enough-2-clause-read
 returns-else-is_enough-2-clause-read g c before fed was h =
@@ -185,7 +133,4 @@ returns-else-is_enough-2-clause-read g c before fed was h =
     c.if-is_enough-2.false) (omega arith))
 
 pub returns-else-is_enough-2-clause-known : goal.returns-else-is_enough-2-clause-known
-returns-else-is_enough-2-clause-known g c before fed was h =
-    let i = c.loop.invariant in
-    of_reader (λ bytes. Consumes before (g.S.Source.remaining c.loop.device) bytes) (g.I.Intake.fed c.loop.held) i.bytes i.is
-    (i.known before fed was h)
+returns-else-is_enough-2-clause-known g c = stops_known c.loop.invariant

@@ -6,7 +6,7 @@ use Rattle.clap.specs.Words.{Text}
 use Rattle.clap.specs.ValueTests.{is_unsigned_in}
 use Rattle.clap.specs.declared.builder.value_parser.ValueParser.TheVariants as vp
 use Rattle.clap.proofs.ValueTestLemmas.{accepts-Accepts, Accepts-accepts}
-use Rattle.jls_cli.specs.SpliceAsking.{number_in}
+use Rattle.jls_cli.specs.Words.{number_in}
 
 module _ (bits most : ℕ) (is : 2 ^ bits ≡ most + 1) (fits : most < 2 ^ 64) (least : ℕ) {E : Type 0} (text : Text) where
   pub number_read : (r : Result ℕ E) (n : ℕ) → ParsesUnsigned bits 10 text r → r ≡ Ok n → least ≤ n → Some n ≡ number_in least most text

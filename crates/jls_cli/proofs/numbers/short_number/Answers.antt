@@ -1,6 +1,6 @@
 use Rattle.std.proofs.Common.{refl, arith}
-use Rattle.jls_cli.proofs.Numbers.{number_read, number_refused}
-use Rattle.jls_cli.proofs.splice.asked.ceiling_number.Goals as goal
+use Rattle.jls_cli.proofs.NumbersRead.{number_read, number_refused}
+use Rattle.jls_cli.proofs.numbers.short_number.Goals as goal
 
 pub returns-in-Ok : goal.returns-in-Ok
 returns-in-Ok c =
