@@ -8,7 +8,7 @@
 //! - `lines`: whether each line of a picture was read
 //! - `ceiling`: whether samples are at most the greatest that a file may have that is sought
 //! - `kept`: the readers that a search keeps, and readers that go on from them
-//! - `living`: readers that are fed as long as a file without a fault may begin so
+//! - `early`: feeds a reader until what it was fed is enough; `living`: as long as a file without a fault may begin so
 //! - `looking`: what is seen of a path; `looking_in_group`: in a search of a group
 //! - `searching`: the search, as a value that goes on as far as its caller wants; `adding`: the choices that it finds
 //! - `whole_search`: the search of whole files
@@ -51,6 +51,7 @@ mod adding;
 mod ceiling;
 mod choosing;
 mod cut;
+mod early;
 mod faultless;
 mod feeding;
 mod file;
