@@ -4,8 +4,8 @@ use Rattle.std.proofs.Common.{Result, Ok, Err, Bool}
 use Rattle.std.proofs.Common.{refl, sym, ap, ◌∙◌, subst, arith, append_assoc, length-append, inl, inr}
 use Rattle.std.specs.Prelude.{get_or, IfNone, IfOk, IfSome, ◌==◌}
 use Rattle.std.specs.List.{AllByRecursion, Contains}
-use Rattle.std.proofs.lemmas.Bool.{eqb-true}
-use Rattle.std.proofs.lemmas.List.{append-nil}
+use Rattle.std.proofs.lemmas.Bool.{cases_Bool, eqb-true}
+use Rattle.std.proofs.lemmas.List.{append-nil, take_all}
 use Rattle.jls_copy.specs.Course.{Course, IsCourse}
 use Rattle.jls_copy.specs.CourseLaws.{SomeCourse}
 use Rattle.jls_copy.specs.Pieces.{FoundPiece, pieces}
@@ -17,11 +17,11 @@ use Rattle.jls_diff.specs.Parts.{Part, Same, way}
 use Rattle.jls_search.specs.Choices.{IsPath, prefix_of}
 use Rattle.jls_search.specs.Faultless.{IsDead, IsFaultless}
 use Rattle.jls_search.specs.ReadsBetween.{IsBetween, Reaches, ReadsBetween}
-use Rattle.jls_search.specs.Search.{IsFedPast, IsFedUntil}
+use Rattle.jls_search.specs.Search.{IsFedUntil}
 use Rattle.jls_copy.specs.Prefixes.{offset_of_end}
-use Rattle.jls_values.proofs.Lists.{in_rest, is_first, all_at}
+use Rattle.jls_values.proofs.Lists.{in_rest, is_first, all_at, all_prefix}
 use Rattle.jls_search.proofs.KeptReaders.{one_fed_on, prefix_and_rest}
-use Rattle.jls_search.proofs.Prefixes.{after_then, prefix_more}
+use Rattle.jls_search.proofs.Prefixes.{after_then, dead_longer, prefix_more}
 
 -- What is fed ------------------------------------------------------------------------------------------------------
 
@@ -65,29 +65,34 @@ pub fed_longer : (start reader fed : Option (List ℕ)) (begin slice : List ℕ)
     → fed ≡ after start (begin ++ slice)
 fed_longer start reader fed begin slice is more = more ∙ ap (λ o. after o slice) is ∙ after_then start begin slice
 
+-- what was fed so far, and one slice more of what is left
+pub fed_slice : (start reader fed : Option (List ℕ)) (way rest slice later : List ℕ) (n : ℕ)
+    → ((begin : List ℕ) × (way ≡ begin ++ rest) × (reader ≡ after start begin)) → slice ≡ take n rest → later ≡ drop n rest
+    → fed ≡ after reader slice → (begin : List ℕ) × (way ≡ begin ++ later) × (fed ≡ after start begin)
+fed_slice start reader fed way rest slice later n (begin, is, so_far) front back more = (
+  begin ++ slice,
+  longer_begin way begin rest slice later is (parted n rest slice later front back),
+  fed_longer start reader fed begin slice so_far more,
+)
+
 -- what one choice more takes was fed, all of it or up to where that is enough
 module _ (Enough : List ℕ → Type 0) (ps : List Part) (path : List ℕ) (i : ℕ) (is : IsPath ps path) (l : i < length path)
     (reader new : Option (List ℕ)) (bytes : List ℕ) (here : bytes ≡ way (get_or path i 0) (get_or ps i (Same [])))
     (fed : reader ≡ Some (prefix_of ps (take i path))) (past : Bool) (u : IsFedUntil Enough bytes reader new past) where
-  here_fed : new ≡ Some (prefix_of ps (take i path) ++ u.begin)
-  here_fed = u.fed ∙ ap (λ o. after o u.begin) fed
-
-  pub enough_here : past ≡ true → Enough (prefix_of ps (take i path) ++ u.begin)
-  enough_here e = subst (λ o. IfSome o Enough) here_fed (u.past_it e)
-
-  pub fed_past : past ≡ true → IsFedPast Enough (prefix_of ps path) new
-  fed_past e = record {
+  pub fed_enough : past ≡ true → IsFedUntil Enough (prefix_of ps path) (Some []) new true
+  fed_enough e = record {
     begin = prefix_of ps (take i path) ++ u.begin;
     rest = u.rest ++ prefix_of (drop (suc i) ps) (drop (suc i) path);
-    fed = here_fed;
-    file_is =
+    way_is =
         let first = prefix_of ps (take i path) in
         let others = prefix_of (drop (suc i) ps) (drop (suc i) path) in
         prefix_and_rest ps path (suc i) is ∙ ap (λ xs. xs ++ others) (prefix_more ps path i is l ∙ ap (λ xs. first ++ xs) (sym here
         ∙ u.way_is))
         ∙ append_assoc first (u.begin ++ u.rest) others ∙ ap (λ xs. first ++ xs) (append_assoc u.begin u.rest others)
         ∙ sym (append_assoc first u.begin (u.rest ++ others));
-    enough = inr (enough_here e);
+    fed = u.fed ∙ ap (λ o. after o u.begin) fed;
+    all = λ f. absurd cc;
+    past_it = λ _. u.past_it e;
   }
 
   pub fed_all : past ≡ false → new ≡ Some (prefix_of ps (take (i + 1) path))
@@ -95,22 +100,41 @@ module _ (Enough : List ℕ → Type 0) (ps : List Part) (path : List ℕ) (i : 
       let all : u.begin ≡ bytes = sym (u.way_is ∙ ap (λ xs. u.begin ++ xs) (u.all e) ∙ append-nil u.begin) in
       u.fed ∙ ap (after reader) all ∙ one_fed_on ps path i is l reader bytes here fed
 
--- no file begins with what begins with bytes with which none does
-dead_longer : (Sought : List ℕ → Type 0) (begin rest file : List ℕ) → file ≡ begin ++ rest → IsDead Sought begin → IsDead Sought file
-dead_longer Sought begin rest file is dead =
-    subst (IsDead Sought) (sym is)
-    (λ more low sought. dead (rest ++ more) (subst (AllByRecursion (λ b. b < 256)) (append_assoc begin rest more) low)
-    (subst Sought (append_assoc begin rest more) sought))
+-- all choices were fed, and nothing was enough
+pub fed_whole : (Enough : List ℕ → Type 0) (ps : List Part) (path : List ℕ) (i : ℕ) (reader : Option (List ℕ)) → length path ≤ i
+    → reader ≡ Some (prefix_of ps (take i path)) → IsFedUntil Enough (prefix_of ps path) (Some []) reader false
+fed_whole Enough ps path i reader l fed = record {
+  begin = prefix_of ps path;
+  rest = [];
+  way_is = sym (append-nil (prefix_of ps path));
+  fed = fed ∙ ap (λ p. Some (prefix_of ps p)) (take_all i path l);
+  all = λ _. refl;
+  past_it = λ e. absurd cc;
+}
 
-pub dead_past : (Sought : List ℕ → Type 0) (ps : List Part) (path : List ℕ) (i : ℕ) (is : IsPath ps path) (l : i < length path)
-    (reader new : Option (List ℕ)) (bytes : List ℕ) (here : bytes ≡ way (get_or path i 0) (get_or ps i (Same [])))
-    (fed : reader ≡ Some (prefix_of ps (take i path))) (past : Bool) (u : IsFedUntil (IsDead Sought) bytes reader new past)
-    → past ≡ true → IsDead Sought (prefix_of ps path)
-unfolding fed_past
-dead_past Sought ps path i is l reader new bytes here fed past u e =
-    let f = fed_past (IsDead Sought) ps path i is l reader new bytes here fed past u e in
-    dead_longer Sought f.begin f.rest (prefix_of ps path) f.file_is
-    (enough_here (IsDead Sought) ps path i is l reader new bytes here fed past u e)
+-- a file of which the first bytes were fed to a reader, up to some that are enough, or all of them
+module _ (Enough : List ℕ → Type 0) (file : List ℕ) (reader : Option (List ℕ)) (past : Bool)
+    (u : IsFedUntil Enough file (Some []) reader past) where
+  pub enough_here : past ≡ true → Enough u.begin
+  enough_here e = subst (λ o. IfSome o Enough) u.fed (u.past_it e)
+
+  pub all_here : past ≡ false → u.begin ≡ file
+  all_here e = sym (u.way_is ∙ ap (λ xs. u.begin ++ xs) (u.all e) ∙ append-nil u.begin)
+
+  pub fed_to_end : past ≡ false → reader ≡ Some file
+  fed_to_end e = u.fed ∙ ap Some (all_here e)
+
+-- nothing is enough
+pub fed_never : (file : List ℕ) (reader : Option (List ℕ)) (past : Bool) → IsFedUntil (λ prefix. ⊥) file (Some []) reader past
+    → reader ≡ Some file
+fed_never file reader true u = absurd (enough_here (λ prefix. ⊥) file reader true u refl)
+fed_never file reader false u = fed_to_end (λ prefix. ⊥) file reader false u refl
+
+-- they are dead
+pub dead_early : (Sought : List ℕ → Type 0) (file : List ℕ) (reader : Option (List ℕ)) (past : Bool)
+    (u : IsFedUntil (IsDead Sought) file (Some []) reader past) → past ≡ true → IsDead Sought file
+dead_early Sought file reader past u e =
+    subst (IsDead Sought) (sym u.way_is) (dead_longer Sought u.begin u.rest (enough_here (IsDead Sought) file reader past u e))
 
 -- a reader that was fed all of it, if there is one
 pub fed_some : (ps : List Part) (path : List ℕ) (fed : Option (Option (List ℕ))) (reader : Option (List ℕ)) → fed ≡ Some reader
@@ -179,31 +203,24 @@ module _ (law : PrefixesSettlePieces) (some : SomeCourse) (from to at : ℕ) (fr
         each = each_between from to at between.course past.course to_low a.first_in_second between.each;
       }
 
-  module _ (reader : Option (List ℕ)) (is : IsFedPast (IsPast at) file reader) where
-    whole : is.rest ≡ [] → is.begin ≡ file
-    whole e = sym (is.file_is ∙ ap (λ xs. is.begin ++ xs) e ∙ append-nil is.begin)
-
-    begin_bytes : AllByRecursion (λ b. b < 256) is.begin
-    begin_bytes = parts is.begin is.rest (subst (AllByRecursion (λ b. b < 256)) is.file_is low)
-      where
-        parts : (xs ys : List ℕ) → AllByRecursion (λ b. b < 256) (xs ++ ys) → AllByRecursion (λ b. b < 256) xs
-        parts [] ys h = tt
-        parts (x ∷ xs) ys h = (h.0, parts xs ys h.1)
+  module _ (reader : Option (List ℕ)) (past : Bool) (u : IsFedUntil (IsPast at) file (Some []) reader past) where
+    begin_bytes : AllByRecursion (λ b. b < 256) u.begin
+    begin_bytes = all_prefix (λ b. b < 256) u.begin u.rest (subst (AllByRecursion (λ b. b < 256)) u.way_is low)
 
     pub read_early : IfSome reader (λ begin. ReadsBetween from (Some to) begin) → ReadsBetween from (Some to) file
     read_early h =
-        let begun : ReadsBetween from (Some to) is.begin = subst (λ o. IfSome o (λ begin. ReadsBetween from (Some to) begin)) is.fed h in
-        elim is.enough [
-          | inl e ↦ subst (ReadsBetween from (Some to)) (whole e) begun
-          | inr past ↦ reads_then is.begin is.rest is.file_is past begun
+        let begun : ReadsBetween from (Some to) u.begin = subst (λ o. IfSome o (λ begin. ReadsBetween from (Some to) begin)) u.fed h in
+        elim (cases_Bool past) [
+          | inl e ↦ reads_then u.begin u.rest u.way_is (enough_here (IsPast at) file reader past u e) begun
+          | inr e ↦ subst (ReadsBetween from (Some to)) (all_here (IsPast at) file reader past u e) begun
         ]
 
     pub unread_early : IfSome reader (λ begin. AllByRecursion (λ b. b < 256) begin → ReadsBetween from (Some to) begin → ⊥)
         → ReadsBetween from (Some to) file → ⊥
     unread_early h between =
-        let not : AllByRecursion (λ b. b < 256) is.begin → ReadsBetween from (Some to) is.begin → ⊥ =
-        subst (λ o. IfSome o (λ begin. AllByRecursion (λ b. b < 256) begin → ReadsBetween from (Some to) begin → ⊥)) is.fed h in
-        not begin_bytes (elim is.enough [
-          | inl e ↦ subst (ReadsBetween from (Some to)) (sym (whole e)) between
-          | inr past ↦ reads_before is.begin is.rest is.file_is past between
+        let not : AllByRecursion (λ b. b < 256) u.begin → ReadsBetween from (Some to) u.begin → ⊥ =
+        subst (λ o. IfSome o (λ begin. AllByRecursion (λ b. b < 256) begin → ReadsBetween from (Some to) begin → ⊥)) u.fed h in
+        not begin_bytes (elim (cases_Bool past) [
+          | inl e ↦ reads_before u.begin u.rest u.way_is (enough_here (IsPast at) file reader past u e) between
+          | inr e ↦ subst (ReadsBetween from (Some to)) (sym (all_here (IsPast at) file reader past u e)) between
         ])

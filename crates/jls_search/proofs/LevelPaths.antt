@@ -1,5 +1,5 @@
 -- Paths of one level.
-use Rattle.std.proofs.Common.{◌≡◌, ℕ, zero, suc, ◌+◌, ◌<◌, ◌≤◌, List, [], ◌∷◌, ◌++◌, length, take, refl, sym, ap, ◌∙◌, subst, append_assoc}
+use Rattle.std.proofs.Common.{◌≡◌, ℕ, zero, suc, ◌+◌, ◌<◌, ◌≤◌, List, [], ◌∷◌, ◌++◌, length, take, refl, sym, ap, ◌∙◌, subst}
 use Rattle.std.proofs.Common.{arith, ◌⊎◌, inl, inr, length-append}
 use Rattle.std.specs.Prelude.{get_or}
 use Rattle.std.specs.List.{AllByRecursion, Contains}
@@ -13,6 +13,7 @@ use Rattle.jls_search.specs.Faultless.{IsDead}
 use Rattle.jls_search.specs.Levels.{AreJudged, AreSame, IsNext, IsTaken}
 use Rattle.jls_search.proofs.KeptReaders.{prefix_and_rest}
 use Rattle.jls_search.proofs.Paths.{order, path_at, path_len}
+use Rattle.jls_search.proofs.Prefixes.{dead_longer}
 
 -- Parts that all copies have alike ---------------------------------------------------------------------------------
 
@@ -90,13 +91,9 @@ first_choices [] (c ∷ cs) (suc n) h = absurd h
 first_choices (p ∷ ps) (c ∷ cs) (suc n) h = (h.0, first_choices ps cs n h.1)
 
 module _ (Sought : List ℕ → Type 0) (ps : List Part) where
-  dead_longer : (prefix rest : List ℕ) → IsDead Sought prefix → IsDead Sought (prefix ++ rest)
-  dead_longer prefix rest dead more low sought =
-      let e = append_assoc prefix rest more in dead (rest ++ more) (subst (AllByRecursion (λ b. b < 256)) e low) (subst Sought e sought)
-
   -- a path that begins with a dead one is dead
   pub dead_on : (cs : List ℕ) (n : ℕ) → IsPath ps cs → IsDead Sought (prefix_of ps (take n cs)) → IsDead Sought (prefix_of ps cs)
-  dead_on cs n is dead = subst (IsDead Sought) (sym (prefix_and_rest ps cs n is)) (dead_longer (prefix_of ps (take n cs)) _ dead)
+  dead_on cs n is dead = subst (IsDead Sought) (sym (prefix_and_rest ps cs n is)) (dead_longer Sought (prefix_of ps (take n cs)) _ dead)
 
   -- A path that was taken ------------------------------------------------------------------------------------------
 

@@ -7,6 +7,7 @@ use Rattle.std.proofs.lemmas.List.{append-nil}
 use Rattle.jls_copy.specs.ReadCopy.{after}
 use Rattle.jls_diff.specs.Parts.{Part, Same, way}
 use Rattle.jls_search.specs.Choices.{IsPath, prefix_of}
+use Rattle.jls_search.specs.Faultless.{IsDead}
 
 -- what holds anyway
 pub on_ok : {T E : Type 0} (r : Result T E) (P : Type 0) → P → OnOk r P
@@ -17,6 +18,11 @@ bytes_append : (xs ys : List ℕ) → AllByRecursion (λ b. b < 256) xs → AllB
     → AllByRecursion (λ b. b < 256) (xs ++ ys)
 bytes_append [] ys h j = j
 bytes_append (x ∷ xs) ys h j = (h.0, bytes_append xs ys h.1 j)
+
+-- what begins with a dead prefix is dead
+pub dead_longer : (Sought : List ℕ → Type 0) (prefix rest : List ℕ) → IsDead Sought prefix → IsDead Sought (prefix ++ rest)
+dead_longer Sought prefix rest dead more low sought =
+    let e = append_assoc prefix rest more in dead (rest ++ more) (subst (AllByRecursion (λ b. b < 256)) e low) (subst Sought e sought)
 
 pub prefix_more : (ps : List Part) (cs : List ℕ) (i : ℕ) → IsPath ps cs → i < length cs
     → prefix_of ps (take (suc i) cs) ≡ prefix_of ps (take i cs) ++ way (get_or cs i 0) (get_or ps i (Same []))

@@ -1,17 +1,20 @@
 -- What a search has found, and what it has still to come to.
-use Rattle.std.specs.Prelude.{◌≡◌, ℕ, ◌+◌, ◌++◌, ◌∷◌, [], ◌-◌, ◌^◌, ◌<◌, ◌≤◌, Bool, true, false, List, length, map, max, take}
+use Rattle.std.specs.Prelude.{◌≡◌, ℕ, ◌+◌, ◌++◌, [], ◌-◌, ◌^◌, ◌<◌, ◌≤◌, Bool, true, false, List, length, map, max, take}
 use Rattle.std.specs.Prelude.{Option, Some, None}
 use Rattle.std.specs.Prelude.{IfSome, ◌⊎◌}
 use Rattle.std.specs.List.{AllByRecursion, Contains}
 use Rattle.std.specs.declared.vec.Vec.{Vec}
 use Rattle.std.specs.declared.alloc.Global.{Global}
+use Rattle.jls_copy.specs.Prefixes.{IsPast}
 use Rattle.jls_copy.specs.ReadCopy.{after}
 use Rattle.jls_diff.specs.Parts.{Part, HasWays, IsSplice}
 use Rattle.jls_search.specs.Choices.{IsPath, IsWhole, prefix_of}
-use Rattle.jls_search.specs.Faultless.{IsSought}
+use Rattle.jls_search.specs.Faultless.{IsDead, IsFaultless, IsSought}
 use Rattle.jls_search.specs.Goals.{AddsFor, GoesOn, IsGoal}
 use Rattle.jls_search.specs.OfGroups.{AreOfGroups}
 use Rattle.jls_search.specs.Order.{Goes, IsLater}
+use Rattle.jls_search.specs.declared.early.Until.{Until}
+use Rattle.jls_search.specs.declared.early.Until.TheVariants.{Dead as UntilDead, Past as UntilPast, End as UntilEnd}
 use Rattle.jls_search.specs.declared.searching.Search.{Search}
 use Rattle.jls_search.specs.declared.kept.BegunReader.{BegunReader}
 use Rattle.jls_search.specs.declared.kept.Judge.{Judge}
@@ -140,13 +143,12 @@ AreEachKept parts readers = AllByRecursion (λ reader. IfSome reader (IsKept par
 abbrev pub IsBegunOn : List Part → List ℕ → BegunReader → Type 0
 IsBegunOn parts path begun = (begun.choices ≤ length path) × (begun.reader ≡ Some (prefix_of parts (take begun.choices path)))
 
--- a reader was fed the first bytes of a file, up to some that are enough, or all of them
-pub record IsFedPast (Enough : List ℕ → Type 0) (file : List ℕ) (reader : Option (List ℕ)) : Type 0 where
-  pub begin : List ℕ
-  pub rest : List ℕ
-  pub fed : reader ≡ Some begin
-  pub file_is : file ≡ begin ++ rest
-  pub enough : (rest ≡ []) ⊎ Enough begin
+-- what a reader was fed is enough: no file without a fault begins so, or the piece in hand begins at the offset or after it. Where it is
+-- fed to the end, nothing is enough
+abbrev pub IsEnough : Until → List ℕ → Type 0
+IsEnough UntilDead = IsDead IsFaultless
+IsEnough (UntilPast offset) = IsPast offset
+IsEnough UntilEnd = λ prefix. ⊥
 
 -- of more bytes so many were fed to a reader: all, or those up to some with which what it was fed is enough
 pub record IsFedUntil (Enough : List ℕ → Type 0) (way : List ℕ) (before after_it : Option (List ℕ)) (past : Bool) : Type 0 where

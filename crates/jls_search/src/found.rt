@@ -107,30 +107,14 @@ pub fn complete_by_groups<'a>(
 {
     let Searched {
         ceiling,
-        mut splices,
+        splices,
         reader,
         tries,
         is_used_up,
     } = searched;
     let whole = splices.len();
     let wants = wants_groups(is_used_up, whole);
-    if !wants {
-        return Ok(FoundSplices {
-            parts,
-            splices,
-            reader,
-            whole,
-            ceiling,
-            tries,
-            is_used_up,
-            by_groups: None,
-        });
-    }
-    let by = search_groups(alloc, copies, &parts, limit)?;
-    let reported = reported_of(&by);
-    let mut given = splices_given(by);
-    splices.append(&mut given)?;
-    Ok(FoundSplices {
+    let mut found = FoundSplices {
         parts,
         splices,
         reader,
@@ -138,6 +122,15 @@ pub fn complete_by_groups<'a>(
         ceiling,
         tries,
         is_used_up,
-        by_groups: Some(reported),
-    })
+        by_groups: None,
+    };
+    if !wants {
+        return Ok(found);
+    }
+    let by = search_groups(alloc, copies, &found.parts, limit)?;
+    let reported = reported_of(&by);
+    let mut given = splices_given(by);
+    found.splices.append(&mut given)?;
+    found.by_groups = Some(reported);
+    Ok(found)
 }

@@ -6,7 +6,7 @@ ghost use Rattle.jls_diff.specs.PartsOf.{parts_of};
 ghost use Rattle.jls_search.specs.Choices.{IsPath, prefix_of};
 ghost use Rattle.jls_search.specs.Search.{AreKept, IsBegunOn, IsKept, Keeps};
 
-use crate::feeding::feed_way;
+use crate::early::{Until, feed_path_until};
 use crate::setting::Goal;
 use jls_copy::CopyReader;
 use jls_diff::Parts;
@@ -79,9 +79,7 @@ pub(crate) fn fed_on(
         mut reader,
         choices,
     } = begun;
-    for place in choices..path.len() {
-        feed_way(&mut reader, parts.way(place, path[place]))?;
-    }
+    feed_path_until(&mut reader, parts, path, choices, Until::End)?;
     Ok(reader)
 }
 

@@ -9,8 +9,8 @@
 //! - `lines`: whether each line of a picture was read
 //! - `ceiling`: whether samples are at most the greatest that a file may have that is sought
 //! - `kept`: the readers that a search keeps, and readers that go on from them
-//! - `living`: readers that are fed as long as a file without a fault may begin so
-//! - `looking`: what is seen of a path; `looking_in_group`: in a search of a group
+//! - `early`: feeds a reader until what it was fed is enough; `living`: as long as a file without a fault may begin so
+//! - `looking`: what is seen of a path
 //! - `searching`: the search, as a value that goes on as far as its caller wants; `adding`: the choices that it finds
 //! - `whole_search`: the search of whole files
 //! - `levels`: the search level by level, for the last level at which exactly one path lives
@@ -53,6 +53,7 @@ mod adding;
 mod ceiling;
 mod choosing;
 mod cut;
+mod early;
 mod faultless;
 mod feeding;
 mod file;
@@ -65,7 +66,6 @@ mod levels;
 mod lines;
 mod living;
 mod looking;
-mod looking_in_group;
 mod offsets;
 mod order;
 mod path;

@@ -92,57 +92,13 @@ fn with_copy(
     Ok(notes)
 }
 
-/// Of each group, whether some copy reads in it.
-fn groups_that_read(
-    alloc: Global,
-    parts: &Parts<'_>,
-    copies: usize,
-    groups: &[Group],
-) -> Result<Vec<bool>, AllocError>
-    requires ways { AllByRecursion (HasWays copies) parts.now }
-    requires short { IsShort parts.now }
-    requires groups { AllByRecursion (IsGroup parts.now) groups.now }
-{
-    let mut notes = Vec::new(alloc);
-    for copy in 0..copies {
-        notes = with_copy(alloc, parts, copy, groups, notes)?;
-    }
-    Ok(notes)
-}
-
-/// All groups, each as often as it is given: first those in which no copy reads, and of these and of the others each in their order.
-fn in_order_of_reading(
-    alloc: Global,
-    parts: &Parts<'_>,
-    copies: usize,
-    groups: &[Group],
-) -> Result<Vec<Group>, AllocError>
-    requires ways { AllByRecursion (HasWays copies) parts.now }
-    requires short { IsShort parts.now }
-    requires groups { AllByRecursion (IsGroup parts.now) groups.now }
-    ensures groups { IfOk result (λ ordered. AllByRecursion (IsGroup parts.now) ordered.items) }
-    ensures same { IfOk result (λ ordered. IsPermutation groups.now ordered.items) }
-{
-    let notes = groups_that_read(alloc, parts, copies, groups)?;
-    let mut ordered = Vec::new(alloc);
-    let mut others = Vec::new(alloc);
-    for number in 0..groups.len() {
-        if is_noted(&notes, number) {
-            others.push(groups[number])?;
-        } else {
-            ordered.push(groups[number])?;
-        }
-    }
-    ordered.append(&mut others)?;
-    Ok(ordered)
-}
-
 /// Whether so many groups can't give more splices than a search by groups finds at most. Then their order makes no difference.
 fn give_few(groups: usize, copies: usize) -> bool {
     groups.saturating_mul(copies) <= MOST_BY_GROUPS / MOST_FOUND
 }
 
-/// All groups, each as often as it is given. Those in which no copy reads come first, if the order can make a difference.
+/// All groups, each as often as it is given. Those in which no copy reads come first, if the order can make a difference. Of these and of
+/// the others each are in their order.
 pub(crate) fn groups_in_order(
     alloc: Global,
     parts: &Parts<'_>,
@@ -159,5 +115,19 @@ pub(crate) fn groups_in_order(
         let ordered: Vec<Group> = groups.iter().copied().collect(alloc)?;
         return Ok(ordered);
     }
-    in_order_of_reading(alloc, parts, copies, groups)
+    let mut notes = Vec::new(alloc);
+    for copy in 0..copies {
+        notes = with_copy(alloc, parts, copy, groups, notes)?;
+    }
+    let mut ordered = Vec::new(alloc);
+    let mut others = Vec::new(alloc);
+    for number in 0..groups.len() {
+        if is_noted(&notes, number) {
+            others.push(groups[number])?;
+        } else {
+            ordered.push(groups[number])?;
+        }
+    }
+    ordered.append(&mut others)?;
+    Ok(ordered)
 }

@@ -1,64 +1,21 @@
 //! Whether files read in a group. They are fed until that is told, if it is told early.
 
-ghost use Rattle.std.specs.Prelude.{◌≡◌, ◌+◌, ◌-◌, ◌^◌, ◌<◌, ◌≤◌, ℕ, true, false, length, take, Some, IfOk, IfSome, OnOk};
+ghost use Rattle.std.specs.Prelude.{◌≡◌, ◌-◌, ◌^◌, ◌<◌, ◌≤◌, true, false, length, Some, IfOk, IfSome};
 ghost use Rattle.std.specs.List.{AllByRecursion};
-ghost use Rattle.jls_copy.specs.Prefixes.{IsPast};
 ghost use Rattle.jls_diff.specs.Groups.{IsGroup};
 ghost use Rattle.jls_diff.specs.PartsOf.{parts_of};
 ghost use Rattle.jls_search.specs.Choices.{IsPath, prefix_of};
 ghost use Rattle.jls_search.specs.OfGroups.{HasManyFaults, ReadsInGroup};
 ghost use Rattle.jls_search.specs.ReadsBetween.{ReadsBetween};
-ghost use Rattle.jls_search.specs.Search.{IsBegunOn, IsFedPast, IsFedUntil, IsKept};
+ghost use Rattle.jls_search.specs.Search.{IsBegunOn, IsKept};
 
+use crate::early::{Until, feed_path_until};
 use crate::kept::{BegunReader, KeptReader, begun_on, reader_on};
 use crate::offsets::{border_offset, end_offset};
 use crate::reading_between::{is_read_between, told_by};
-use jls_copy::{CopyReader, every_copy_has_a_course, prefixes_settle_pieces};
+use jls_copy::{every_copy_has_a_course, prefixes_settle_pieces};
 use jls_diff::{Group, Parts};
 use std::alloc::{AllocError, Global};
-
-/// How many bytes are fed before it is asked whether they tell it.
-pub(crate) const STEP: usize = 4096;
-
-/// Feeds what a choice takes of a part, until the piece in hand begins at the offset or after it. Then the answer is `true`.
-fn feed_until(reader: &mut CopyReader, way: &[u8], offset: u64) -> Result<bool, AllocError>
-    requires { IfSome reader.old (λ before. length before + length way.now ≤ 2 ^ 63 - 1) }
-    ensures { IfOk result (λ past. IsFedUntil (IsPast offset) way.now reader.old reader.new past) }
-{
-    let mut rest = way;
-    while !rest.is_empty() {
-        let (slice, later) = rest.split_at(rest.len().min(STEP));
-        reader.feed(slice)?;
-        rest = later;
-        if reader.is_past(offset) {
-            return Ok(true);
-        }
-    }
-    Ok(false)
-}
-
-/// Feeds what the choices of the path take from this place on, until the piece in hand begins at the offset or after it.
-fn feed_past(
-    reader: &mut CopyReader,
-    parts: &Parts<'_>,
-    path: &[usize],
-    place: usize,
-    offset: u64,
-) -> Result<(), AllocError>
-    requires within { place ≤ length path.now }
-    requires fed { reader.old ≡ Some (prefix_of parts.now (take place path.now)) }
-    requires path { IsPath parts.now path.now }
-    requires few { length (prefix_of parts.now path.now) ≤ 2 ^ 63 - 1 }
-    ensures { OnOk result (IsFedPast (IsPast offset) (prefix_of parts.now path.now) reader.new) }
-{
-    for at in place..path.len() {
-        let past = feed_until(reader, parts.way(at, path[at]), offset)?;
-        if past {
-            return Ok(());
-        }
-    }
-    Ok(())
-}
 
 /// What a choice takes of a part is bytes.
 fn are_bytes(way: &[u8])
@@ -99,7 +56,7 @@ fn told_early(
         mut reader,
         choices,
     } = begun;
-    feed_past(&mut reader, parts, path, choices, from.max(to))?;
+    feed_path_until(&mut reader, parts, path, choices, Until::Past(from.max(to)))?;
     told_by(reader, from, Some(to))
 }
 

@@ -1,5 +1,5 @@
 -- What comes of what was asked, put together.
-use Rattle.std.proofs.Common.{◌≡◌, ℕ, Bool, suc, List, [], ◌∷◌, ◌++◌, Err, length, refl, sym, ap, subst}
+use Rattle.std.proofs.Common.{◌≡◌, ℕ, Bool, suc, List, [], ◌∷◌, ◌++◌, Err, length, refl, sym, ap, ◌∙◌, subst}
 use Rattle.std.specs.Prelude.{◌↔◌, IsTrue}
 use Rattle.std.proofs.lemmas.List.{append-nil}
 use Rattle.jls_io.specs.Event.{Event, History, GrewBy}
@@ -8,7 +8,7 @@ use Rattle.jls_io.proofs.Growing.{grew_twice}
 use Rattle.jls_partial.specs.Status.{IsSettled}
 use Rattle.jls_station.specs.CopyFiles.{AreCopiesRead, CopyBytes}
 use Rattle.jls_cli.specs.SpliceAsking.{Asked}
-use Rattle.jls_cli.specs.Outcomes.{finished}
+use Rattle.jls_cli.specs.Outcomes.{Outcome, finished}
 use Rattle.jls_cli.specs.declared.outcome.Refusal.{Refusal}
 use Rattle.jls_splice_run.specs.Copies.{AreWhole, bytes_read, StopsAtCopies}
 use Rattle.jls_splice_run.specs.Handing.{HandsAll, StopsInHanding, Texts}
@@ -38,7 +38,7 @@ texts_are a copies m v h = λ i. record {
   files = h.files_are i;
 }
 
-module _ (a : Asked) (desk mid new report report' faults faults' last : History) where
+module _ (a : Asked) (desk mid report faults : History) where
   pub stops_at_copies : (r : Refusal) → GrewBy (StopsAtCopies a.copies r) desk mid
       → GrewAll (Splices a (Err r)) desk mid report report faults faults
   stops_at_copies r h = record {
@@ -51,52 +51,56 @@ module _ (a : Asked) (desk mid new report report' faults faults' last : History)
     they_are = at_copies r h.events h.they_are;
   }
 
-  module _ (copies : List CopyBytes) (read : GrewBy (AreCopiesRead a.copies copies) desk mid) where
-    pub stops_unmade : (r : Refusal) → GrewBy (CantMake a copies r) faults faults'
+  module _ (faults' : History) (copies : List CopyBytes) (read : GrewBy (AreCopiesRead a.copies copies) desk mid) where
+    pub stops_unmade : {held : List CopyBytes} (r : Refusal) → held ≡ copies → GrewBy (CantMake a held r) faults faults'
         → GrewAll (Splices a (Err r)) desk mid report report faults faults'
-    stops_unmade r cant = record {
+    stops_unmade r held_are cant = record {
       desk_events = read.events;
       report_events = [];
       fault_events = cant.events;
       desk_is = read.grew;
       report_is = sym (append-nil report);
       faults_are = cant.grew;
-      they_are = not_made r copies read.events cant.events read.they_are cant.they_are;
+      they_are = not_made r copies read.events cant.events read.they_are (subst (λ z. CantMake a z r cant.events) held_are cant.they_are);
     }
 
-    module _ (v : MadeValue) (holds : GrewBy (HoldsMade a copies v) faults faults') where
+    module _ (new report' last : History) (v : MadeValue) {held : List CopyBytes} (held_are : held ≡ copies)
+        (holds : GrewBy (HoldsMade a held v) faults faults') {text : List ℕ} (text_is : text ≡ v.notes.items)
+        (noted : GrewBy (Printed text) faults' last) where
       abbrev made : HoldsMade a copies v holds.events
-      made = holds.they_are
+      made = subst (λ z. HoldsMade a z v holds.events) held_are holds.they_are
 
-      module _ (noted : GrewBy (Printed v.notes.items) faults' last) where
-        its_notes : Printed (notes a (bytes_read copies) made.0) noted.events
-        its_notes = subst (λ (t : List ℕ). Printed t noted.events) made.2.notes_are noted.they_are
+      its_notes : Printed (notes a (bytes_read copies) made.0) noted.events
+      its_notes = subst (λ (t : List ℕ). Printed t noted.events) (text_is ∙ made.2.notes_are) noted.they_are
 
-        pub stops_in_handing : (r : Refusal) → GrewBoth (StopsInHanding (texts_held a v) r) mid new report report'
-            → GrewAll (Splices a (Err r)) desk new report report' faults last
-        stops_in_handing r h = record {
-          desk_events = read.events ++ h.desk_events;
-          report_events = h.report_events;
-          fault_events = holds.events ++ noted.events;
-          desk_is = grew_twice desk mid new read.events h.desk_events read.grew h.desk_is;
-          report_is = h.report_is;
-          faults_are = grew_twice faults faults' last holds.events noted.events holds.grew noted.grew;
-          they_are = not_handed r copies made.0 read.events h.desk_events h.report_events holds.events noted.events read.they_are made.1
-              made.3 its_notes
-              (subst (λ (t : Texts). StopsInHanding t r h.desk_events h.report_events) (texts_are a copies made.0 v made.2) h.they_are);
-        }
+      -- what comes of it, by what is done with the desk and the report output then
+      handed : (Are : List Event → List Event → Type 0) (outcome : Outcome)
+          → ((events reported : List Event) → Are events reported
+          → Splices a outcome (read.events ++ events) reported (holds.events ++ noted.events))
+          → GrewBoth Are mid new report report' → GrewAll (Splices a outcome) desk new report report' faults last
+      handed Are outcome come h = record {
+        desk_events = read.events ++ h.desk_events;
+        report_events = h.report_events;
+        fault_events = holds.events ++ noted.events;
+        desk_is = grew_twice desk mid new read.events h.desk_events read.grew h.desk_is;
+        report_is = h.report_is;
+        faults_are = grew_twice faults faults' last holds.events noted.events holds.grew noted.grew;
+        they_are = come h.desk_events h.report_events h.they_are;
+      }
 
-        pub is_done : (whole : Bool) → (IsTrue whole ↔ AreWhole copies) → GrewBoth (HandsAll (texts_held a v)) mid new report report'
-            → GrewAll (Splices a (finished v.settled whole)) desk new report report' faults last
-        is_done whole whole_is h = record {
-          desk_events = read.events ++ h.desk_events;
-          report_events = h.report_events;
-          fault_events = holds.events ++ noted.events;
-          desk_is = grew_twice desk mid new read.events h.desk_events read.grew h.desk_is;
-          report_is = h.report_is;
-          faults_are = grew_twice faults faults' last holds.events noted.events holds.grew noted.grew;
-          they_are = done copies made.0 v.settled whole read.events h.desk_events h.report_events holds.events noted.events read.they_are
-              made.1 made.3 its_notes
-              (subst (λ (t : Texts). HandsAll t h.desk_events h.report_events) (texts_are a copies made.0 v made.2) h.they_are)
-              (subst (λ (b : Bool). IsTrue b ↔ IsSettled made.0.picture) (sym made.2.settled_is) made.1.settled) whole_is;
-        }
+      pub stops_in_handing : (r : Refusal) → GrewBoth (StopsInHanding (texts_held a v) r) mid new report report'
+          → GrewAll (Splices a (Err r)) desk new report report' faults last
+      stops_in_handing r =
+          handed (StopsInHanding (texts_held a v) r) (Err r)
+          (λ events reported stops. not_handed r copies made.0 read.events events reported holds.events noted.events read.they_are made.1
+          made.3 its_notes
+          (subst (λ (t : Texts). StopsInHanding t r events reported) (texts_are a copies made.0 v made.2) stops))
+
+      pub is_done : (whole : Bool) → (IsTrue whole ↔ AreWhole copies) → GrewBoth (HandsAll (texts_held a v)) mid new report report'
+          → GrewAll (Splices a (finished v.settled whole)) desk new report report' faults last
+      is_done whole whole_is =
+          handed (HandsAll (texts_held a v)) (finished v.settled whole)
+          (λ events reported all. done copies made.0 v.settled whole read.events events reported holds.events noted.events read.they_are
+          made.1 made.3 its_notes
+          (subst (λ (t : Texts). HandsAll t events reported) (texts_are a copies made.0 v made.2) all)
+          (subst (λ (b : Bool). IsTrue b ↔ IsSettled made.0.picture) (sym made.2.settled_is) made.1.settled) whole_is)

@@ -3,8 +3,9 @@ use Rattle.std.proofs.Common.{◌≡◌, ℕ, ◌+◌, ◌*◌, ◌<◌, ◌≤�
 use Rattle.std.proofs.Common.{None, refl, sym, ap, ◌∙◌, subst, arith, inl, inr}
 use Rattle.std.specs.Prelude.{◌⊎◌, IsSome, is_some, min, max, if◌then◌else◌}
 use Rattle.std.specs.List.{AllByRecursion}
-use Rattle.std.proofs.lemmas.List.{append-nil, append_assoc, drop_more, take-append-drop}
-use Rattle.jls_io.specs.Event.{Event}
+use Rattle.std.proofs.lemmas.List.{append-nil, append_assoc, drop_more, take-append-drop, take_more}
+use Rattle.jls_io.specs.Event.{Event, GrewBy, History}
+use Rattle.jls_io.proofs.Growing.{grew_as, grew_on}
 use Rattle.jls_diff.specs.Parts.{Part}
 use Rattle.jls_splice_run.specs.Limits.{AreInTurn, IsSearchMade, SearchMade, WentThrough, counting, counting_of, cut_limit, has_some}
 use Rattle.jls_splice_run.specs.Limits.{last_or, limit_or, limits, none, one_more, through_all, tries_after, next_tries, up_to}
@@ -300,3 +301,42 @@ none_given (Some limit) e = absurd cc
 -- a place of a list, with what is before and after it
 pub split_at : (xs : List ℕ) (i d : ℕ) → i < length xs → take i xs ++ get_or xs i d ∷ drop (i + 1) xs ≡ xs
 split_at xs i d l = ap (λ (t : List ℕ). take i xs ++ t) (sym (drop_more xs i d l)) ∙ take-append-drop i xs
+
+-- ---- the same, by how the history of the fault output grew
+
+pub grew_up_to : {before now : History} (parts : List Part) (options : SearchOptions) (s : SearchMade) (cut : Option ℕ)
+    → GrewBy (HasSearched options parts s cut) before now → GrewBy (ReportedUpTo options.tries options.tells) before now
+grew_up_to {before} {now} parts options s cut =
+    grew_as (HasSearched options parts s cut) (ReportedUpTo options.tries options.tells) before now
+    (λ events h. searched_before options parts s cut events h)
+
+module _ (parts : List Part) (options : SearchOptions) {before mid now : History} where
+  -- memory runs out in a search in turn
+  pub grew_before : (limits : List ℕ) (turned : Turned) → GrewBy (HasTurned parts options limits turned) before mid
+      → GrewBy (ReportedSome turned.tries options.tells) mid now → GrewBy (ReportedUpTo options.tries options.tells) before now
+  grew_before limits turned =
+      grew_on (HasTurned parts options limits turned) (ReportedSome turned.tries options.tells) (ReportedUpTo options.tries options.tells)
+      before mid now (λ a b t some. some_before parts options limits turned a b t some)
+
+  -- one search more, under the limit at a place
+  module _ (all : List ℕ) (i : ℕ) (within : i < length all) (old : Turned) (s : SearchMade)
+      (told : GrewBy (HasTurned parts options (take i all) old) before mid)
+      (reported : GrewBy (IsReported options.tells s.tries (length s.choices)) mid now) (ceiling : s.ceiling ≡ Some (get_or all i 0))
+      (made : IsSearchMade parts old.tries s) where
+    pub grew_cut : s.is_used_up ≡ true → GrewBy (TookTurns parts options all old) before now
+    grew_cut cut =
+        subst (λ (ls : List ℕ). GrewBy (TookTurns parts options ls old) before now) (split_at all i 0 within)
+        (grew_on (HasTurned parts options (take i all) old) (IsReported options.tells s.tries (length s.choices))
+        (TookTurns parts options (take i all ++ get_or all i 0 ∷ drop (i + 1) all) old) before mid now
+        (λ a b t r. turned_up_to parts options (take i all) (drop (i + 1) all) old (get_or all i 0) s a b t r ceiling made cut)
+        told reported)
+
+    pub grew_one_more : (new : Turned) → s.is_used_up ≡ false → new.tries ≡ next_tries options.tries old.tries s → new.whole ≡ s.ceiling
+        → ((first : SearchMade) → last_or first new.found ≡ counting_of (last_or first old.found) s)
+        → GrewBy (HasTurned parts options (take (i + 1) all) new) before now
+    grew_one_more new whole tries limit_is found =
+        subst (λ (ls : List ℕ). GrewBy (HasTurned parts options ls new) before now) (sym (take_more all i 0 within))
+        (grew_on (HasTurned parts options (take i all) old) (IsReported options.tells s.tries (length s.choices))
+        (HasTurned parts options (take i all ++ get_or all i 0 ∷ []) new) before mid now
+        (λ a b t r. turned_on parts options (take i all) old new (get_or all i 0) s a b t r ceiling made whole tries (limit_is ∙ ceiling)
+        found) told reported)

@@ -24,20 +24,21 @@ pub record NamedFile : Type 0 where
 abbrev pub is_named : List NamedFile → List ℕ → Bool
 is_named named file = list_any (λ n. bytes_eq n.bytes file) named
 
--- of some files these have a name: each file without a fault, once, in the order of the files, until 64 have one. Their numbers begin at 1
-pub data AreNamed (prefix : List ℕ) : List (List ℕ) → List NamedFile → Type 0 where
-  none_named : AreNamed prefix [] []
-  one_named : (files : List (List ℕ)) (named : List NamedFile) (file : List ℕ) → AreNamed prefix files named
-      → IsFaultless file → is_named named file ≡ false → length named < 64
-      → AreNamed prefix (files ++ file ∷ []) (named ++ record { name = numbered prefix (length named + 1); bytes = file } ∷ [])
-  left_out : (files : List (List ℕ)) (named : List NamedFile) (file : List ℕ) → AreNamed prefix files named
-      → (IsFaultless file → (is_named named file ≡ true) ⊎ (64 ≤ length named))
-      → AreNamed prefix (files ++ file ∷ []) named
+-- of some files these have a name: each file without a fault, once, in the order of the files, until so many have one. Their numbers begin
+-- at 1
+pub data AreNamed (most : ℕ) (prefix : List ℕ) : List (List ℕ) → List NamedFile → Type 0 where
+  none_named : AreNamed most prefix [] []
+  one_named : (files : List (List ℕ)) (named : List NamedFile) (file : List ℕ) → AreNamed most prefix files named
+      → IsFaultless file → is_named named file ≡ false → length named < most
+      → AreNamed most prefix (files ++ file ∷ []) (named ++ record { name = numbered prefix (length named + 1); bytes = file } ∷ [])
+  left_out : (files : List (List ℕ)) (named : List NamedFile) (file : List ℕ) → AreNamed most prefix files named
+      → (IsFaultless file → (is_named named file ≡ true) ⊎ (most ≤ length named))
+      → AreNamed most prefix (files ++ file ∷ []) named
 
--- these have a name if that is asked for, and else none
+-- these have a name if that is asked for, 64 at most, and else none
 abbrev pub AreNamedAsked : Option (List ℕ) → List (List ℕ) → List NamedFile → Type 0
 AreNamedAsked None files named = named ≡ []
-AreNamedAsked (Some prefix) files named = AreNamed prefix files named
+AreNamedAsked (Some prefix) files named = AreNamed 64 prefix files named
 
 -- what the names begin with, if they are asked for
 abbrev pub prefix_in : Option (List ℕ) → List ℕ

@@ -15,7 +15,14 @@ use jls_search::Files;
 use std::alloc::{AllocError, Global};
 
 /// How many files get a name at most.
-const MOST_NAMED: usize = 64;
+pub(crate) const MOST_NAMED: usize = 64;
+
+/// What names begin with, and how many files get one at most.
+#[derive(Clone, Copy)]
+pub(crate) struct Naming<'a> {
+    pub(crate) prefix: &'a str,
+    pub(crate) most: usize,
+}
 
 /// A file without a fault, and the name that it gets.
 #[derive(Drop)]
@@ -56,23 +63,23 @@ fn has_name(named: &[NumberedFile], file: &[u8]) -> bool
     false
 }
 
-/// One file more, with the verdict on it. It gets a name if it has no fault, and has none yet, and fewer than 64 have one.
+/// One file more, with the verdict on it. It gets a name if it has no fault, and has none yet, and fewer than may have one do.
 fn name_file(
     alloc: Global,
-    prefix: &str,
+    naming: Naming<'_>,
     named: &mut Vec<NumberedFile>,
     file: &[u8],
     faultless: bool,
 ) -> Result<(), AllocError>
     requires { IsTrue faultless ↔ IsFaultless file.now }
-    ensures { OnOk result ((files : List (List ℕ)) → AreNamed prefix.now files (named_files named.old.items)
-        → AreNamed prefix.now (files ++ file.now ∷ []) (named_files named.new.items)) }
+    ensures { OnOk result ((files : List (List ℕ)) → AreNamed naming.entry.most naming.entry.prefix.now files (named_files named.old.items)
+        → AreNamed naming.entry.most naming.entry.prefix.now (files ++ file.now ∷ []) (named_files named.new.items)) }
 {
-    if named.len() >= MOST_NAMED || has_name(named, file) {
+    if named.len() >= naming.most || has_name(named, file) {
         return Ok(());
     }
     if faultless {
-        let name = numbered_name(alloc, prefix, named.len() as u64 + 1)?;
+        let name = numbered_name(alloc, naming.prefix, named.len() as u64 + 1)?;
         let bytes = Vec::from_slice(alloc, file)?;
         named.push(NumberedFile { name, bytes })?;
     }
@@ -82,16 +89,16 @@ fn name_file(
 /// The copies without a fault, by the verdict on each.
 fn name_copies(
     alloc: Global,
-    prefix: &str,
+    naming: Naming<'_>,
     copies: &[&[u8]],
     verdicts: &[bool],
 ) -> Result<Vec<NumberedFile>, AllocError>
     requires { AreVerdicts (bytes_of copies.now) verdicts.now }
-    ensures { IfOk result (λ named. AreNamed prefix.now (bytes_of copies.now) (named_files named.items)) }
+    ensures { IfOk result (λ named. AreNamed naming.entry.most naming.entry.prefix.now (bytes_of copies.now) (named_files named.items)) }
 {
     let mut named = Vec::new(alloc);
     for place in 0..copies.len() {
-        name_file(alloc, prefix, &mut named, copies[place], verdicts[place])?;
+        name_file(alloc, naming, &mut named, copies[place], verdicts[place])?;
     }
     Ok(named)
 }
@@ -99,36 +106,37 @@ fn name_copies(
 /// The splices without a fault, after those that have a name. Each splice is made in memory for it, one at a time.
 fn name_splices(
     alloc: Global,
-    prefix: &str,
+    naming: Naming<'_>,
     named: &mut Vec<NumberedFile>,
     files: &Files<'_, '_>,
     verdicts: &[bool],
 ) -> Result<(), AllocError>
     requires whole { AllByRecursion (IsWhole files.now.parts.now) (lists_of files.now.splices.now) }
     requires verdicts { AreVerdicts (splices_found files.now) verdicts.now }
-    ensures { OnOk result ((before : List (List ℕ)) → AreNamed prefix.now before (named_files named.old.items)
-        → AreNamed prefix.now (before ++ splices_found files.now) (named_files named.new.items)) }
+    ensures { OnOk result ((before : List (List ℕ))
+        → AreNamed naming.entry.most naming.entry.prefix.now before (named_files named.old.items)
+        → AreNamed naming.entry.most naming.entry.prefix.now (before ++ splices_found files.now) (named_files named.new.items)) }
 {
     for place in 0..files.splices.len() {
         let file = file_of(alloc, files.parts, &files.splices[place])?;
-        name_file(alloc, prefix, named, &file, verdicts[place])?;
+        name_file(alloc, naming, named, &file, verdicts[place])?;
     }
     Ok(())
 }
 
-/// Of the files taken those without a fault, by the verdict on each: each once, until 64 have a name.
+/// Of the files taken those without a fault, by the verdict on each: each once, until so many have a name.
 pub(crate) fn name_files(
     alloc: Global,
-    prefix: &str,
+    naming: Naming<'_>,
     files: &Files<'_, '_>,
     verdicts: &[bool],
 ) -> Result<Vec<NumberedFile>, AllocError>
     requires whole { AllByRecursion (IsWhole files.now.parts.now) (lists_of files.now.splices.now) }
     requires verdicts { AreVerdicts (files_taken files.now) verdicts.now }
-    ensures { IfOk result (λ named. AreNamed prefix.now (files_taken files.now) (named_files named.items)) }
+    ensures { IfOk result (λ named. AreNamed naming.entry.most naming.entry.prefix.now (files_taken files.now) (named_files named.items)) }
 {
     let (of_copies, of_splices) = verdicts.split_at(files.copies.len());
-    let mut named = name_copies(alloc, prefix, files.copies, of_copies)?;
-    name_splices(alloc, prefix, &mut named, files, of_splices)?;
+    let mut named = name_copies(alloc, naming, files.copies, of_copies)?;
+    name_splices(alloc, naming, &mut named, files, of_splices)?;
     Ok(named)
 }

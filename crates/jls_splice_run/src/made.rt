@@ -29,7 +29,7 @@ use crate::differences::offset_at;
 use crate::files::count_new;
 use crate::found::{CutEnd, GroupSearch, Promise, SearchReport};
 use crate::limits::{FoundInTurn, search_and_tell};
-use crate::listing::{NumberedFile, name_files};
+use crate::listing::{MOST_NAMED, Naming, NumberedFile, name_files};
 use crate::options::SearchOptions;
 use crate::printed_lines::{lines_of, notes_of};
 use crate::settling::settle;
@@ -123,7 +123,10 @@ fn files_asked(
         AreNamedAsked (option_map (λ s. s.now) prefix.entry) (given.files_taken files.now) (named_files named.items)) }
 {
     match prefix {
-        Some(prefix) => name_files(alloc, prefix, files, verdicts),
+        Some(prefix) => {
+            let most = MOST_NAMED;
+            name_files(alloc, Naming { prefix, most }, files, verdicts)
+        }
         None => Ok(Vec::new(alloc)),
     }
 }

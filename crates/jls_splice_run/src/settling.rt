@@ -9,7 +9,7 @@ ghost use Rattle.jls_search.specs.Choices.{IsPath, IsWhole, prefix_of};
 ghost use Rattle.jls_search.specs.Search.{IsKept, IsShort, lists_of};
 ghost use Rattle.jls_search.specs.Files.{AreVerdicts, files_taken, splices_found};
 ghost use Rattle.jls_splice_run.specs.Copies.{bytes_read};
-ghost use Rattle.jls_splice_run.specs.Making.{IsPictureOf, IsPictureOfFiles, IsUnsettled};
+ghost use Rattle.jls_splice_run.specs.Making.{IsPictureOf, IsUnsettled};
 ghost use Rattle.jls_splice_run.specs.Making as spec;
 ghost use Rattle.jls_splice_run.specs.Tasks.{task_of};
 
@@ -27,43 +27,6 @@ fn no_picture_cause(stop: ReadStop, fault: MarkerFault, offset: u64) -> Cause
     match stop {
         ReadStop::Whole => Cause::NoPicture(fault, offset),
         ReadStop::Failed | ReadStop::Turns => Cause::NotRead,
-    }
-}
-
-/// The station that takes the files of a task, without a cut file, with the verdict on each of them; or why there is none.
-fn settle_whole<'a>(
-    alloc: Global,
-    task: &Task<'_, 'a>,
-    copies: &[CopyFile],
-    files: &Files<'_, '_>,
-) -> Result<HeldFiles, Refusal<'a>>
-    requires some_copy { 0 < length copies.now }
-    requires names { length task.now.names.now ≡ length copies.now }
-    requires copies { bytes_of files.now.copies.now ≡ bytes_read (copies_of copies.now) }
-    requires whole { AllByRecursion (IsWhole files.now.parts.now) (lists_of files.now.splices.now) }
-    requires short { IsShort files.now.parts.now }
-    requires reader { IfSome files.now.reader.now (IsKept files.now.parts.now) }
-    ensures settled { IfOk result (λ taken. IsPictureOfFiles (task_of task.now).options.source
-        (bytes_read (copies_of copies.now)) (splices_found files.now) taken.station) }
-    ensures verdicts { IfOk result (λ taken. AreVerdicts (files_taken files.now) taken.faultless.items) }
-    ensures uncut { IfOk result (λ taken. taken.cut ≡ None) }
-    ensures stopped { IfErr result (λ refusal.
-        IsUnsettled (task_of task.now) (copies_of copies.now) (splices_found files.now) refusal) }
-{
-    let settled = match settle_files(alloc, task.options.source, files) {
-        Ok(settled) => settled,
-        Err(_) => return Err(want_of_memory(task)),
-    };
-    match settled {
-        Settled::Held(taken) => Ok(taken),
-        Settled::Differ(copy) => Err(Refusal {
-            name: task.names[copy],
-            cause: Cause::ShapeDiffers,
-        }),
-        Settled::NoFrame(fault, offset) => Err(Refusal {
-            name: task.names[0],
-            cause: no_picture_cause(copies[0].stop, fault, offset),
-        }),
     }
 }
 
@@ -99,5 +62,19 @@ pub(crate) fn settle<'a>(
             Err(_) => return Err(want_of_memory(task)),
         }
     }
-    settle_whole(alloc, task, copies, files)
+    let settled = match settle_files(alloc, task.options.source, files) {
+        Ok(settled) => settled,
+        Err(_) => return Err(want_of_memory(task)),
+    };
+    match settled {
+        Settled::Held(taken) => Ok(taken),
+        Settled::Differ(copy) => Err(Refusal {
+            name: task.names[copy],
+            cause: Cause::ShapeDiffers,
+        }),
+        Settled::NoFrame(fault, offset) => Err(Refusal {
+            name: task.names[0],
+            cause: no_picture_cause(copies[0].stop, fault, offset),
+        }),
+    }
 }

@@ -9,32 +9,23 @@ use Rattle.jls_search.specs.Search.{lists_of}
 use Rattle.jls_search.proofs.NextLevels.{item_of_level, judged_one_more, next_level_is, of_lists}
 use Rattle.jls_search.proofs.levels.next_level.Goals as goal
 
-pub take_ways-requires-clause-path : goal.take_ways-requires-clause-path
-take_ways-requires-clause-path c =
-    let is = item_of_level c.args.level.now.living.items c.deref-path-items.result.now c.paths.path-index c.path-item.result
-    c.deref.result.now
-    c.deref-path-items.ensures.value c.paths-test.true c.path-item.is c.deref.ensures.value c.args.parts.now c.args.level.now.count
-    c.requires.level.each in
-    is.0
-
-pub take_ways-requires-clause-more : goal.take_ways-requires-clause-more
-take_ways-requires-clause-more c =
-    let is = item_of_level c.args.level.now.living.items c.deref-path-items.result.now c.paths.path-index c.path-item.result
-    c.deref.result.now
-    c.deref-path-items.ensures.value c.paths-test.true c.path-item.is c.deref.ensures.value c.args.parts.now c.args.level.now.count
-    c.requires.level.each in
-    let count = is.2 in
-    let less = c.if-level-len.false in
-    omega (arith, count, less)
-
-pub take_ways-requires-clause-each : goal.take_ways-requires-clause-each
-take_ways-requires-clause-each c =
+pub take_ways-requires : goal.take_ways-requires
+take_ways-requires c =
     let ps : List Part = c.args.parts.now in
     let is = item_of_level c.args.level.now.living.items c.deref-path-items.result.now c.paths.path-index c.path-item.result
     c.deref.result.now
     c.deref-path-items.ensures.value c.paths-test.true c.path-item.is c.deref.ensures.value ps c.args.level.now.count
     c.requires.level.each in
-    subst (λ n. AllByRecursion (IsNext ps (n + 1)) (lists_of c.paths.begun.living.items)) (sym is.2) c.paths.invariant.each
+    let count = is.2 in
+    let less = c.if-level-len.false in
+    record {
+      some_way = c.requires.some_way;
+      short = c.requires.short;
+      kept = c.requires.kept;
+      path = is.0;
+      more = omega (arith, count, less);
+      each = subst (λ n. AllByRecursion (IsNext ps (n + 1)) (lists_of c.paths.begun.living.items)) (sym is.2) c.paths.invariant.each;
+    }
 
 pub paths-preserved : goal.paths-preserved
 paths-preserved c =

@@ -1,4 +1,4 @@
-use Rattle.std.proofs.Common.{◌≡◌, ℕ, ◌<◌, List, Option, None, length, sym, subst}
+use Rattle.std.proofs.Common.{◌≡◌, ℕ, ◌<◌, Bor, List, Option, None, length, sym, subst}
 use Rattle.std.specs.Prelude.{IfSome}
 use Rattle.jls_io.specs.Event.{GrewBy}
 use Rattle.jls_io.proofs.Growing.{grew_as, grew_not}
@@ -14,8 +14,12 @@ use Rattle.jls_splice_run.specs.Making.{search_of}
 use Rattle.jls_splice_run.specs.Telling.{HasChosenLimit, HasSearched, ReportedUpTo}
 use Rattle.jls_partial.proofs.TextPrefixes.{on_error}
 use Rattle.jls_splice_run.proofs.MakingLemmas.{first_is_short}
-use Rattle.jls_splice_run.proofs.Turns.{nothing_reported, searched_before, searched_made}
+use Rattle.jls_splice_run.proofs.Turns.{grew_up_to, nothing_reported, searched_made}
 use Rattle.jls_splice_run.proofs.limits.search_and_tell.Goals as goal
+
+-- there is a copy
+some_copy : (copies : List (Bor (List ℕ))) → 0 < length copies → 0 < length (bytes_of copies)
+some_copy copies some = subst (λ n. 0 < n) (sym (count_of_slices copies)) some
 
 pub returns-then-not-are_short-clause-reported_some : goal.returns-then-not-are_short-clause-reported_some
 returns-then-not-are_short-clause-reported_some g c =
@@ -31,43 +35,23 @@ returns-in_err-parts-clause-reported_some g c =
 
 pub search_all-requires-clause-short : goal.search_all-requires-clause-short
 search_all-requires-clause-short g c =
-    let copies : List (List ℕ) = bytes_of c.args.copies.now in
-    let some : 0 < length copies = subst (λ n. 0 < n) (sym (count_of_slices c.args.copies.now)) c.requires in
-    (c.parts_can_be_searched.ensures copies c.in_ok-parts.parts c.in_ok-parts.ensures some
-    (c.are_short.ensures.0 c.if-not-are_short.false)).1
+    (c.parts_can_be_searched.ensures (bytes_of c.args.copies.now) c.in_ok-parts.parts c.in_ok-parts.ensures
+    (some_copy c.args.copies.now c.requires) (c.are_short.ensures.0 c.if-not-are_short.false)).1
 
 pub limit_of_cut-requires-clause-short : goal.limit_of_cut-requires-clause-short
 limit_of_cut-requires-clause-short g c =
-    let copies : List (List ℕ) = bytes_of c.args.copies.now in
-    let some : 0 < length copies = subst (λ n. 0 < n) (sym (count_of_slices c.args.copies.now)) c.requires in
-    (c.parts_can_be_searched.ensures copies c.in_ok-parts.parts c.in_ok-parts.ensures some
-    (c.are_short.ensures.0 c.if-not-are_short.false)).1
+    (c.parts_can_be_searched.ensures (bytes_of c.args.copies.now) c.in_ok-parts.parts c.in_ok-parts.ensures
+    (some_copy c.args.copies.now c.requires) (c.are_short.ensures.0 c.if-not-are_short.false)).1
 
 pub returns-in_err-cut-clause-reported_some : goal.returns-in_err-cut-clause-reported_some
 returns-in_err-cut-clause-reported_some g c =
-    let options = c.args.options in
     let all = c.in_ok-all.all in
-    let parts = c.in_ok-parts.parts in
-    let s = search_made all.searched in
-    let before = g.E.Device.history c.args.faults.now in
-    let now = g.E.Device.history c.search_all.new.faults in
-    on_error _ (GrewBy (ReportedUpTo options.tries options.tells) before now)
-    (grew_as (HasSearched options parts s all.cut_limit) (ReportedUpTo options.tries options.tells) before now
-    (λ events h. searched_before options parts s all.cut_limit events h)
-    c.in_ok-all.ensures.searched)
+    on_error _ _ (grew_up_to c.in_ok-parts.parts c.args.options (search_made all.searched) all.cut_limit c.in_ok-all.ensures.searched)
 
 pub returns-in_err-splices-clause-reported_some : goal.returns-in_err-splices-clause-reported_some
 returns-in_err-splices-clause-reported_some g c =
-    let options = c.args.options in
     let all = c.in_ok-all.all in
-    let parts = c.in_ok-parts.parts in
-    let s = search_made all.searched in
-    let before = g.E.Device.history c.args.faults.now in
-    let now = g.E.Device.history c.search_all.new.faults in
-    on_error _ (GrewBy (ReportedUpTo options.tries options.tells) before now)
-    (grew_as (HasSearched options parts s all.cut_limit) (ReportedUpTo options.tries options.tells) before now
-    (λ events h. searched_before options parts s all.cut_limit events h)
-    c.in_ok-all.ensures.searched)
+    on_error _ _ (grew_up_to c.in_ok-parts.parts c.args.options (search_made all.searched) all.cut_limit c.in_ok-all.ensures.searched)
 
 pub complete_by_groups-requires-clause-searched : goal.complete_by_groups-requires-clause-searched
 complete_by_groups-requires-clause-searched g c =
@@ -77,24 +61,18 @@ complete_by_groups-requires-clause-searched g c =
 
 pub returns-clause-short : goal.returns-clause-short
 returns-clause-short g c =
-    let copies : List (List ℕ) = bytes_of c.args.copies.now in
-    let some : 0 < length copies = subst (λ n. 0 < n) (sym (count_of_slices c.args.copies.now)) c.requires in
-    (c.parts_can_be_searched.ensures copies c.in_ok-splices.splices.parts c.in_ok-splices.ensures.found.are_parts some
-    (c.are_short.ensures.0 c.if-not-are_short.false)).1
+    (c.parts_can_be_searched.ensures (bytes_of c.args.copies.now) c.in_ok-splices.splices.parts c.in_ok-splices.ensures.found.are_parts
+    (some_copy c.args.copies.now c.requires) (c.are_short.ensures.0 c.if-not-are_short.false)).1
 
 pub returns-clause-some_way : goal.returns-clause-some_way
 returns-clause-some_way g c =
-    let copies : List (List ℕ) = bytes_of c.args.copies.now in
-    let some : 0 < length copies = subst (λ n. 0 < n) (sym (count_of_slices c.args.copies.now)) c.requires in
-    (c.parts_can_be_searched.ensures copies c.in_ok-splices.splices.parts c.in_ok-splices.ensures.found.are_parts some
-    (c.are_short.ensures.0 c.if-not-are_short.false)).0
+    (c.parts_can_be_searched.ensures (bytes_of c.args.copies.now) c.in_ok-splices.splices.parts c.in_ok-splices.ensures.found.are_parts
+    (some_copy c.args.copies.now c.requires) (c.are_short.ensures.0 c.if-not-are_short.false)).0
 
 pub returns-clause-small : goal.returns-clause-small
 returns-clause-small g c =
-    let copies : List (List ℕ) = bytes_of c.args.copies.now in
-    let some : 0 < length copies = subst (λ n. 0 < n) (sym (count_of_slices c.args.copies.now)) c.requires in
-    first_is_short copies c.in_ok-splices.splices.parts c.in_ok-splices.ensures.found.are_parts some
-    (c.are_short.ensures.0 c.if-not-are_short.false)
+    first_is_short (bytes_of c.args.copies.now) c.in_ok-splices.splices.parts c.in_ok-splices.ensures.found.are_parts
+    (some_copy c.args.copies.now c.requires) (c.are_short.ensures.0 c.if-not-are_short.false)
 
 pub returns-clause-searched : goal.returns-clause-searched
 returns-clause-searched g c =

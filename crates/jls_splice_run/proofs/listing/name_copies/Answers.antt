@@ -12,5 +12,6 @@ pub name_file-requires : goal.name_file-requires
 name_file-requires c = on_copy c.args.copies.now c.args.verdicts.now c.loop-place.place _ _ c.requires c.loop-place-test.true
 
 pub loop-place-init : goal.loop-place-init
-loop-place-init c = subst (λ (xs : List NumberedFile). AreNamed c.args.prefix.now [] (named_files xs)) (sym c.new-named.ensures.items)
-    none_named
+loop-place-init c =
+    subst (λ (xs : List NumberedFile). AreNamed c.args.naming.most c.args.naming.prefix.now [] (named_files xs))
+    (sym c.new-named.ensures.items) none_named

@@ -44,7 +44,7 @@ loop-place-preserved c = λ files named.
     let before = files_of ps (lists_of (take i vs)) in
     let made : bytes ≡ prefix_of ps v.items = c.deref-in-loop-place.ensures.value ∙ c.in_ok-file.ensures
     ∙ ap (prefix_of ps) (c.deref.ensures.value ∙ ap (λ (x : Vec ℕ Global). x.items) (sym c.index-files-place.is)) in
-    subst (λ (xs : List (List ℕ)). AreNamed c.args.prefix.now xs (named_files c.name_file.new.named.items))
+    subst (λ (xs : List (List ℕ)). AreNamed c.args.naming.most c.args.naming.prefix.now xs (named_files c.name_file.new.named.items))
     (append_assoc files before (bytes ∷ []) ∙ ap (λ (z : List ℕ). files ++ (before ++ z ∷ [])) made
     ∙ ap (λ (z : List (List ℕ)). files ++ z) (sym (splices_one_more ps vs i v c.loop-place-test.true c.index-files-place.is)))
     (c.in_ok-name_file.ensures (files ++ before) (c.loop-place.invariant files named))

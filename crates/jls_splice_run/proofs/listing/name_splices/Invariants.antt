@@ -5,5 +5,6 @@ use Rattle.jls_splice_run.proofs.listing.name_splices.Given as goal
 
 abbrev pub invariant-loop-place : goal.invariant-loop-place
 invariant-loop-place l =
-    (before : List (List ℕ)) → AreNamed l.prefix before (named_files l.fn.named.items)
-    → AreNamed l.prefix (before ++ files_of l.files.parts.now (lists_of (take l.place l.files.splices.now))) (named_files l.named.items)
+    (before : List (List ℕ)) → AreNamed l.naming.most l.naming.prefix.now before (named_files l.fn.named.items)
+    → AreNamed l.naming.most l.naming.prefix.now (before ++ files_of l.files.parts.now (lists_of (take l.place l.files.splices.now)))
+    (named_files l.named.items)

@@ -71,26 +71,26 @@ returns-in-Err-search_and_tell-clause-stopped g c =
     (g.E.Device.history c.search_and_tell.new.faults))
     c.search_options.ensures c.in-Err-search_and_tell.ensures.reported_some)
 
--- what the searches reported until memory ran out after them
-searched_in : (a : Asked) (found : FoundInTurn) (copies : List CopyBytes) (r : Refusal) → IsWantOfMemory a r → (events : List Event)
-    → Searched a found events → CantMake a copies r events
-searched_in a found copies r want events h =
-    inl (
+-- memory ran out after the searches
+stops_after : {before now : History} {o : SearchOptions} (a : Asked) (found : FoundInTurn) (copies : List CopyBytes) (r : Refusal)
+    → IsWantOfMemory a r → o ≡ options_of a
+    → GrewBy (HasChosenLimit o found.splices.parts (search_of found.splices.ceiling (found_of found.splices) found.splices.tries)
+    found.cut_limit) before now
+    → GrewBy (CantMake a copies r) before now
+stops_after {before} {now} {o} a found copies r want same h =
+    grew_as (Searched a found) (CantMake a copies r) before now
+    (λ events searched. inl (
       want,
       searched_before (options_of a) found.splices.parts
-          (search_of found.splices.ceiling (found_of found.splices) found.splices.tries) h.0 events h.1,
-    )
+          (search_of found.splices.ceiling (found_of found.splices) found.splices.tries) searched.0 events searched.1,
+    ))
+    (told a found o same before now h)
 
 pub returns-in-Err-find_cut-clause-stopped : goal.returns-in-Err-find_cut-clause-stopped
 returns-in-Err-find_cut-clause-stopped g c =
-    let a = task_of c.args.task.now in
-    let found = c.in-Ok-search_and_tell.found in
     let want = c.want_of_memory-in-Err-find_cut.ensures in
-    let copies = copies_of c.args.copies.now in
-    grew_as (Searched a found) (CantMake a copies c.want_of_memory-in-Err-find_cut.result)
-    (g.E.Device.history c.args.faults.now) (g.E.Device.history c.search_and_tell.new.faults)
-    (searched_in a found copies c.want_of_memory-in-Err-find_cut.result (want.name, want.cause))
-    (told a found c.search_options.result c.search_options.ensures _ _ c.in-Ok-search_and_tell.ensures.searched)
+    stops_after (task_of c.args.task.now) c.in-Ok-search_and_tell.found (copies_of c.args.copies.now)
+    c.want_of_memory-in-Err-find_cut.result (want.name, want.cause) c.search_options.ensures c.in-Ok-search_and_tell.ensures.searched
 
 pub settle-requires-clause-cut : goal.settle-requires-clause-cut
 settle-requires-clause-cut g c =
@@ -136,14 +136,9 @@ returns-in_err-held-clause-stopped g c =
 
 pub returns-clause-stopped : goal.returns-clause-stopped
 returns-clause-stopped g c =
-    let a = task_of c.args.task.now in
-    let found = c.in-Ok-search_and_tell.found in
     let want = c.want_of_memory-in-Err-texts_of.ensures in
-    let copies = copies_of c.args.copies.now in
-    grew_as (Searched a found) (CantMake a copies c.want_of_memory-in-Err-texts_of.result)
-    (g.E.Device.history c.args.faults.now) (g.E.Device.history c.search_and_tell.new.faults)
-    (searched_in a found copies c.want_of_memory-in-Err-texts_of.result (want.name, want.cause))
-    (told a found c.search_options.result c.search_options.ensures _ _ c.in-Ok-search_and_tell.ensures.searched)
+    stops_after (task_of c.args.task.now) c.in-Ok-search_and_tell.found (copies_of c.args.copies.now)
+    c.want_of_memory-in-Err-texts_of.result (want.name, want.cause) c.search_options.ensures c.in-Ok-search_and_tell.ensures.searched
 
 pub returns-in-Ok-texts_of-clause-made : goal.returns-in-Ok-texts_of-clause-made
 returns-in-Ok-texts_of-clause-made g c =

@@ -1,17 +1,17 @@
 use Rattle.std.proofs.Common.{ℕ, List, ap, ◌∙◌, subst}
+use Rattle.jls_io.specs.FaultLines.{out_of_memory_line}
+use Rattle.jls_io.specs.Writing.{Printed}
 use Rattle.jls_cli.specs.SpliceAsking.{Asked, asked_of, options_in}
-use Rattle.jls_splice_run.specs.Runs.{GrewAll, Splices}
+use Rattle.jls_splice_run.specs.FaultLines.{program}
+use Rattle.jls_splice_run.specs.Runs.{GrewAll, Performs, Splices, no_names}
 use Rattle.jls_splice_run.specs.Tasks.{texts_of}
-use Rattle.jls_splice_run.proofs.Running.{performs, performs_nothing}
+use Rattle.jls_splice_run.proofs.Running.{faults_alone, performs}
 use Rattle.jls_splice_run.proofs.program.perform.Goals as goal
 
 pub returns-in-Err : goal.returns-in-Err
 returns-in-Err g c =
-    let desk = g.D.Device.history c.args.desk.now in
-    let report = g.W.Device.history c.args.report.now in
-    let faults = g.E.Device.history in
-    performs_nothing (asked_of c.args.asked.now) desk desk report report (faults c.args.faults.now) (faults c.args.faults.now)
-    (faults c.print_out_of_memory.new.faults) c.print_out_of_memory.ensures
+    faults_alone (Performs (asked_of c.args.asked.now) 5) (Printed (out_of_memory_line program)) (λ events line. no_names events line)
+    c.print_out_of_memory.ensures
 
 pub returns : goal.returns
 returns g c =
@@ -21,10 +21,7 @@ returns g c =
     let asked = c.args.asked.now in
     let same = ap (λ (copies : List (List ℕ)). record { options = options_in asked.options; out = asked.out.now; copies = copies })
     (ap texts_of c.deref.ensures.value ∙ c.in-Ok.ensures) in
-    performs (asked_of asked) (desk c.args.desk.now) (desk c.splice-outcome.new.desk) (report c.args.report.now)
-    (report c.splice-outcome.new.report)
-    (faults c.args.faults.now) (faults c.splice-outcome.new.faults) (faults c.print_outcome.new.faults) c.exit_status.result
-    c.splice-outcome.result c.exit_status.ensures
+    performs (asked_of asked) c.exit_status.result c.splice-outcome.result c.exit_status.ensures
     (subst (λ (a : Asked). GrewAll (Splices a c.splice-outcome.result) (desk c.args.desk.now) (desk c.splice-outcome.new.desk)
     (report c.args.report.now) (report c.splice-outcome.new.report)
     (faults c.args.faults.now) (faults c.splice-outcome.new.faults)) same c.splice-outcome.ensures)

@@ -1,26 +1,18 @@
-use Rattle.std.proofs.Common.{sym, subst}
-use Rattle.jls_diff.specs.PartsOf.{bytes_of}
-use Rattle.jls_search.specs.Files.{AreVerdicts, files_taken, splices_found}
-use Rattle.jls_search.proofs.Verdicts.{after_copies, enough, of_copies}
+use Rattle.std.proofs.Common.{◌≡◌, [], arith, rules}
+use Rattle.jls_search.specs.Files.{files_taken}
+use Rattle.jls_splice_run.proofs.Seen.{none_is_single, only_one, several}
 use Rattle.jls_splice_run.proofs.single.single_file.Goals as goal
 
-pub split_at-requires : goal.split_at-requires
-split_at-requires c =
-    let files = c.args.files.now in enough (splices_found files) files.copies.now c.args.verdicts.now c.requires.verdicts
+pub returns-then-len-gt1 : goal.returns-then-len-gt1
+returns-then-len-gt1 c =
+    several (files_taken c.args.files.now) c.in_ok-listed.listed.items (omega arith) c.in_ok-listed.ensures
 
-pub among_copies-requires : goal.among_copies-requires
-among_copies-requires c =
-    let files = c.args.files.now in
-    subst (AreVerdicts (bytes_of files.copies.now)) (sym c.split_at.ensures.front)
-    (of_copies (splices_found files) files.copies.now c.args.verdicts.now c.requires.verdicts)
-
-pub with_splices-requires-clause-verdicts : goal.with_splices-requires-clause-verdicts
-with_splices-requires-clause-verdicts c =
-    let files = c.args.files.now in
-    subst (AreVerdicts (splices_found files)) (sym c.split_at.ensures.back)
-    (after_copies (splices_found files) files.copies.now c.args.verdicts.now c.requires.verdicts)
+pub returns-in-Some : goal.returns-in-Some
+returns-in-Some c =
+    only_one (files_taken c.args.files.now) c.in_ok-listed.listed.items _ c.pop.new.self.items c.in-Some.ensures.items (omega arith)
+    c.in_ok-listed.ensures
 
 pub returns : goal.returns
 returns c =
-    let files = c.args.files.now in
-    c.single_of.ensures (files_taken files) (c.in_ok-faultless.ensures (bytes_of files.copies.now) c.in_ok-copies.ensures)
+    let is : c.in_ok-listed.listed.items ≡ [] = search rules in
+    none_is_single (files_taken c.args.files.now) c.in_ok-listed.listed.items is c.in_ok-listed.ensures

@@ -1,10 +1,8 @@
-use Rattle.std.proofs.Common.{◌≡◌, ◌<◌, ℕ, List, length, Bor, subst, sym, arith}
-use Rattle.jls_io.specs.Event.{Event, GrewBy}
-use Rattle.jls_io.specs.Writing.{Printed}
+use Rattle.std.proofs.Common.{◌≡◌, ◌<◌, ℕ, List, length, ap, Bor, subst, sym, arith}
+use Rattle.jls_io.specs.Event.{Event}
 use Rattle.jls_station.specs.CopyFiles.{AreCopiesRead, copies_of, copy_of}
 use Rattle.jls_station.specs.declared.copy.CopyFile.{CopyFile}
 use Rattle.jls_splice_run.specs.Copies.{AreWhole}
-use Rattle.jls_splice_run.specs.Making.{CantMake, HoldsMade}
 use Rattle.jls_splice_run.specs.Tasks.{task_of, texts_of}
 use Rattle.jls_splice_run.proofs.Done.{is_done, read_count, stops_at_copies, stops_in_handing, stops_unmade}
 use Rattle.std.proofs.lemmas.List.{length-map}
@@ -22,13 +20,7 @@ counts names copies events read =
     omega (arith, count, n, m)
 
 pub returns-in-Err : goal.returns-in-Err
-returns-in-Err g c =
-    let desk = g.D.Device.history in
-    let report = g.W.Device.history c.args.report.now in
-    let faults = g.E.Device.history c.args.faults.now in
-    stops_at_copies (task_of c.args.task.now) (desk c.args.desk.now) (desk c.read_all.new.desk) (desk c.read_all.new.desk) report report
-    faults faults faults
-    c.in-Err.refusal c.in-Err.ensures.stopped
+returns-in-Err g c = stops_at_copies (task_of c.args.task.now) _ _ _ _ c.in-Err.refusal c.in-Err.ensures.stopped
 
 pub make-requires-clause-some_copy : goal.make-requires-clause-some_copy
 make-requires-clause-some_copy g c =
@@ -46,49 +38,19 @@ make-requires-clause-names g c =
 
 pub returns-in-Err-make : goal.returns-in-Err-make
 returns-in-Err-make g c =
-    let desk = g.D.Device.history in
-    let report = g.W.Device.history c.args.report.now in
-    let faults = g.E.Device.history in
-    let a = task_of c.args.task.now in
-    let r = c.in-Err-make.refusal in
-    stops_unmade a (desk c.args.desk.now) (desk c.read_all.new.desk) (desk c.read_all.new.desk) report report (faults c.args.faults.now)
-    (faults c.make.new.faults) (faults c.make.new.faults)
-    (copies_of c.in-Ok.copies.items) c.in-Ok.ensures.read r
-    (subst (λ (xs : List CopyFile). GrewBy (CantMake a (copies_of xs) r) (faults c.args.faults.now) (faults c.make.new.faults))
-    c.deref.ensures.value c.in-Err-make.ensures.stopped)
+    stops_unmade (task_of c.args.task.now) _ _ _ _ _ (copies_of c.in-Ok.copies.items) c.in-Ok.ensures.read c.in-Err-make.refusal
+    (ap copies_of c.deref.ensures.value) c.in-Err-make.ensures.stopped
 
 pub returns : goal.returns
 returns g c =
-    let desk = g.D.Device.history in
-    let report = g.W.Device.history in
-    let faults = g.E.Device.history in
-    let a = task_of c.args.task.now in
-    let v = c.in-Ok-make.made in
-    stops_in_handing a (desk c.args.desk.now) (desk c.read_all.new.desk) (desk c.hand_out.new.desk) (report c.args.report.now)
-    (report c.hand_out.new.report)
-    (faults c.args.faults.now) (faults c.make.new.faults) (faults c.print_notes.new.faults) (copies_of c.in-Ok.copies.items)
-    c.in-Ok.ensures.read v
-    (subst (λ (xs : List CopyFile). GrewBy (HoldsMade a (copies_of xs) v) (faults c.args.faults.now) (faults c.make.new.faults))
-    c.deref.ensures.value c.in-Ok-make.ensures.made)
-    (subst (λ (text : List ℕ). GrewBy (Printed text) (faults c.make.new.faults) (faults c.print_notes.new.faults)) c.deref-2.ensures.value
-    c.print_notes.ensures)
+    stops_in_handing (task_of c.args.task.now) _ _ _ _ _ (copies_of c.in-Ok.copies.items) c.in-Ok.ensures.read _ _ _ c.in-Ok-make.made
+    (ap copies_of c.deref.ensures.value) c.in-Ok-make.ensures.made c.deref-2.ensures.value c.print_notes.ensures
     c.in-Err-hand_out.refusal c.in-Err-hand_out.ensures.stopped
 
 pub returns-in-Ok-hand_out : goal.returns-in-Ok-hand_out
 returns-in-Ok-hand_out g c =
-    let desk = g.D.Device.history in
-    let report = g.W.Device.history in
-    let faults = g.E.Device.history in
-    let a = task_of c.args.task.now in
-    let v = c.in-Ok-make.made in
     let whole = c.are_whole.result in
-    is_done a (desk c.args.desk.now) (desk c.read_all.new.desk) (desk c.hand_out.new.desk) (report c.args.report.now)
-    (report c.hand_out.new.report)
-    (faults c.args.faults.now) (faults c.make.new.faults) (faults c.print_notes.new.faults) (copies_of c.in-Ok.copies.items)
-    c.in-Ok.ensures.read v
-    (subst (λ (xs : List CopyFile). GrewBy (HoldsMade a (copies_of xs) v) (faults c.args.faults.now) (faults c.make.new.faults))
-    c.deref.ensures.value c.in-Ok-make.ensures.made)
-    (subst (λ (text : List ℕ). GrewBy (Printed text) (faults c.make.new.faults) (faults c.print_notes.new.faults)) c.deref-2.ensures.value
-    c.print_notes.ensures)
-    whole (subst (λ (xs : List CopyFile). IsTrue whole ↔ AreWhole (copies_of xs)) c.deref-in-Ok-hand_out.ensures.value c.are_whole.ensures)
+    is_done (task_of c.args.task.now) _ _ _ _ _ (copies_of c.in-Ok.copies.items) c.in-Ok.ensures.read _ _ _ c.in-Ok-make.made
+    (ap copies_of c.deref.ensures.value) c.in-Ok-make.ensures.made c.deref-2.ensures.value c.print_notes.ensures whole
+    (subst (λ (xs : List CopyFile). IsTrue whole ↔ AreWhole (copies_of xs)) c.deref-in-Ok-hand_out.ensures.value c.are_whole.ensures)
     c.in-Ok-hand_out.ensures.done

@@ -1,6 +1,6 @@
 use Rattle.std.proofs.Common.{◌≡◌, ℕ, List, ◌++◌, length}
 use Rattle.jls_copy.specs.ReadCopy.{after}
-use Rattle.jls_search.proofs.reading_group.feed_until.Given as goal
+use Rattle.jls_search.proofs.early.feed_until.Given as goal
 
 abbrev pub invariant-loop-rest : goal.invariant-loop-rest
 invariant-loop-rest l = (begin : List ℕ) × (l.way ≡ begin ++ l.rest) × (l.reader ≡ after l.fn.reader begin)

@@ -2,7 +2,7 @@ use Rattle.std.proofs.Common.{◌++◌, take}
 use Rattle.std.specs.List.{AllByRecursion}
 use Rattle.std.specs.List.Sorted.{IsPermutation}
 use Rattle.jls_diff.specs.Groups.{IsGroup}
-use Rattle.jls_search.proofs.order.in_order_of_reading.Given as goal
+use Rattle.jls_search.proofs.order.groups_in_order.Given as goal
 
 abbrev pub invariant-loop-number : goal.invariant-loop-number
 invariant-loop-number l = record {
