@@ -158,7 +158,7 @@ impl Chunk {
         match self.take_short(g - qbpp - 1, k) {
             None => None,
             Some((zeros, number)) => {
-                // With its one the number is 2^k too large, which is one zero less.
+                // The number still has the one, which is 2^k: so one zero less counts.
                 let above = (zeros as u32).wrapping_sub(1) << k;
                 Some(number.wrapping_add(above))
             }

@@ -35,7 +35,7 @@ impl CodeState {
     /// No bit yet.
     pub const START: CodeState = CodeState::Zeros(0);
 
-    /// Takes the next bit.
+    /// Takes the next bit of a code LG(k, g), whose escapes have qbpp bits of a number (T.87 A.5.3).
     pub fn push(self, k: u8, g: u8, qbpp: u8, bit: bool) -> CodeStep
         requires k { k ≤ 16 }
         requires qbpp { (1 ≤ qbpp) × (qbpp ≤ 16) }

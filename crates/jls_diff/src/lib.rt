@@ -16,6 +16,7 @@
 //!
 //! - That parts are small or few, since one part over everything is allowed. Nor that no copies have no parts. Tests show which parts are
 //!   found (`crates/jls_splice_tests/src/parts.rt`).
+//! - That each border is found.
 #![tactic(auto)]
 
 mod border;

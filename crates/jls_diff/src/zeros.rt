@@ -8,7 +8,7 @@ const RUN: usize = 8;
 /// How many copies are looked at.
 const MOST: usize = 64;
 
-/// A stretch of one copy, of zeros or of one other byte.
+/// A run of zeros in one copy, or one byte that is not zero.
 #[derive(Clone, Copy)]
 struct Run {
     end: usize,

@@ -8,7 +8,7 @@ use crate::name::{Name, name_beside};
 use std::io;
 use std::io::Write;
 
-/// The most files beside one output that are tried.
+/// Files beside one output are tried under the numbers below this.
 const TRIES: u32 = 10_000;
 
 /// A file beside an output: the output's name, its own name, and the mode of the regular file that stands at the output's name.
@@ -37,7 +37,8 @@ fn is_of_folder(error: &io::Error) -> bool {
     )
 }
 
-/// Makes a file beside the name, under the first number that is free. `None` where the name is too long for the buffer.
+/// Makes a file beside the name, under the first number that is free. `None` where the name is too long for the buffer, or each number is
+/// taken. Every other error is answered.
 fn create_beside<M: Machine>(
     machine: &mut M,
     name: &str,

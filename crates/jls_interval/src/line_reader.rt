@@ -30,7 +30,7 @@ pub(crate) enum OpenEvent {
     Interruption(Interruption),
 }
 
-/// What more bits make of an event.
+/// What more bits make of the current event: the answer of `push_event`. `EventStepIs` of `OpenEvents` says what each means.
 #[derive(Clone, Copy)]
 pub(crate) enum EventStep {
     /// The bits are no whole event.

@@ -21,7 +21,7 @@ pub enum LinePart<'a> {
     Number(u64),
 }
 
-/// Puts a part.
+/// Appends the bytes of a part to the line that waits.
 fn put_part<E: Sink>(faults: &mut E, pending: &mut Pending, part: LinePart<'_>)
     ensures { GoesOnBy (part_bytes part.entry) pending.old pending.new (E.history faults.old) (E.history faults.new) }
 {

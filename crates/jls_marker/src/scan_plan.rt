@@ -43,7 +43,8 @@ impl ScanPlan {
     ghost use Rattle.jls_values.specs.Params.{AreCodingParameters};
     ghost use Rattle.jls_marker.specs.Scan.{IsScan, first_row, row_count, intervals, scan_with};
 
-    /// The scan of these components of a frame, none of whose intervals has more than 2^28 samples.
+    /// The scan of these components of a frame, none of whose intervals has more than 2^28 samples. The restart interval is in rows; with 0
+    /// the scan is one interval (T.87 C.2.5).
     pub(crate) fn new(
         frame: &Shape,
         components: ArrayVec<u8, 4>,

@@ -68,7 +68,7 @@ pub(crate) fn interval_code(
         ≡ spec.interval_code part.now.picture.now
         (scan_from part.now.picture.now part.now.options part.now.first part.now.count) interval) }
 {
-    let (first, end) = part.rows(interval);
+    let (first, end) = part.row_range(interval);
     let lines = lines_of_rows(alloc, part, first, end)?;
     let width = part.picture.shape().width();
     encode_interval(alloc, &part.options.params(), width, part.count, &lines)

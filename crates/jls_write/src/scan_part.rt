@@ -51,10 +51,10 @@ impl<'a, 'b> ScanPart<'a, 'b> {
     }
 
     /// The first row of an interval, and the row after its last.
-    pub(crate) fn rows(&self, interval: u32) -> (u16, u16)
+    pub(crate) fn row_range(&self, interval: u32) -> (u16, u16)
         requires { interval < intervals (scan_from self.now.picture.now self.now.options self.now.first self.now.count) }
         ensures first { result.0 ≡ first_row (scan_from self.now.picture.now self.now.options self.now.first self.now.count) interval }
-        ensures count { result.1
+        ensures end { result.1
             ≡ result.0 + row_count (scan_from self.now.picture.now self.now.options self.now.first self.now.count) interval }
         ensures within { result.1 ≤ self.now.picture.now.shape.height }
     {

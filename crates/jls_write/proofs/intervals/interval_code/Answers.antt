@@ -35,7 +35,7 @@ encode_interval-requires c =
     let deref_is : map (λ line. line.now) c.deref.result.now ≡ map (λ line. line.now) c.in_ok-lines.lines.items =
     ap (map (λ line. line.now)) c.deref.ensures.value in
     let lines_are = rows_are pic (scan_from pic part.options part.first part.count) c.args.interval _ _ _
-    c.rows-first.ensures.first c.rows-first.ensures.count c.in_ok-lines.ensures.lines in
+    c.row_range-first.ensures.first c.row_range-first.ensures.end c.in_ok-lines.ensures.lines in
     rw (width_is, c.params.ensures, deref_is) (lines_fit pic part.options part.first part.count c.args.interval _ c.requires.part
     c.requires.interval lines_are c.in_ok-lines.ensures.each)
 
@@ -45,7 +45,7 @@ returns c =
     let s = scan_from part.picture.now part.options part.first part.count in
     let lines_are : map (λ line. line.now) c.deref.result.now ≡ spec.interval_lines part.picture.now s c.args.interval =
     ap (map (λ line. line.now)) c.deref.ensures.value
-    ∙ rows_are part.picture.now s c.args.interval _ _ _ c.rows-first.ensures.first c.rows-first.ensures.count
+    ∙ rows_are part.picture.now s c.args.interval _ _ _ c.row_range-first.ensures.first c.row_range-first.ensures.end
     c.in_ok-lines.ensures.lines in
     IfOk-weaker c.encode_interval.result
     (λ bytes. bytes.items ≡ packed c.params.result c.width-width.result part.count (map (λ line. line.now) c.deref.result.now))
