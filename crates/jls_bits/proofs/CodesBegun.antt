@@ -6,7 +6,7 @@ use Rattle.std.proofs.lemmas.Nat.{pow_pos, shr_high, mod_low, shr-shr, div-add-m
 use Rattle.std.proofs.Math.Nat.{mod-eq_of_lt}
 use Rattle.std.proofs.lemmas.Bool.{cases_Bool, cases_lt, ltb-true, ltb-false, lt-ltb, le-ltb, leb-true, le-leb, eqb-true, eq-eqb}
 use Rattle.jls_bits.specs.Bits.{bits}
-use Rattle.jls_bits.specs.Golomb.{is_short, golomb, has_golomb, IsCodeOf, BeginsCodeOf, BeginsNoCode}
+use Rattle.jls_bits.specs.Golomb.{is_short, golomb, has_golomb, IsCodeOf, BeginsCodeOf, BeginsNoGolombCode}
 use Rattle.jls_bits.specs.CodeState.{BeginsCode, RefusesCode}
 use Rattle.jls_bits.specs.declared.golomb_reader.GolombStep.{GolombStep}
 use Rattle.jls_bits.specs.declared.golomb_reader.GolombStep.TheVariants.{More, Done, Refused}
@@ -174,16 +174,16 @@ module _ (k g q : ℕ) (room : q + 2 ≤ g) where
 
   -- bits begin a code, are one or begin none, and not two of these
   module _ (given : List Bool) where
-    pub refused_begins_none : RefusesCode k g q given → BeginsNoCode k g q given
+    pub refused_begins_none : RefusesCode k g q given → BeginsNoGolombCode k g q given
     refused_begins_none h m has b = h m b.rest [] has (sym b.code ∙ sym (append-nil (golomb k g q m)))
 
     pub begun_not_whole : BeginsCode k g q given → (m : ℕ) → IsCodeOf k g q given m → ⊥
     begun_not_whole b m c = none_whole k g q room given b m [] c.has (sym c.code ∙ sym (append-nil (golomb k g q m)))
 
-    pub begun_not_none : BeginsCode k g q given → BeginsNoCode k g q given → ⊥
+    pub begun_not_none : BeginsCode k g q given → BeginsNoGolombCode k g q given → ⊥
     begun_not_none b n = n b.number b.has (record { rest = b.next ∷ b.more; code = b.code })
 
-    whole_not_none : (m : ℕ) → IsCodeOf k g q given m → BeginsNoCode k g q given → ⊥
+    whole_not_none : (m : ℕ) → IsCodeOf k g q given m → BeginsNoGolombCode k g q given → ⊥
     whole_not_none m c n = n m c.has (record { rest = []; code = c.code ∙ sym (append-nil given) })
 
     one_code : (m n : ℕ) → IsCodeOf k g q given m → IsCodeOf k g q given n → m ≡ n
@@ -193,7 +193,7 @@ module _ (k g q : ℕ) (room : q + 2 ≤ g) where
     abbrev pub IsAnswer : GolombStep → Type 0
     IsAnswer More = BeginsCode k g q given
     IsAnswer (Done m) = IsCodeOf k g q given m
-    IsAnswer Refused = BeginsNoCode k g q given
+    IsAnswer Refused = BeginsNoGolombCode k g q given
 
     pub more_exactly : (step : GolombStep) → IsAnswer step → (step ≡ More) ↔ BeginsCode k g q given
     more_exactly More a = (λ _. a, λ _. refl)
@@ -205,7 +205,7 @@ module _ (k g q : ℕ) (room : q + 2 ≤ g) where
     done_exactly (Done n) a m = (λ (e : Done n ≡ Done m). (let s : n ≡ m = cc in rw (sym s) a), λ b. ap Done (one_code n m a b))
     done_exactly Refused a m = (λ (e : Refused ≡ Done m). cc, λ b. absurd (whole_not_none m b a))
 
-    pub refused_exactly : (step : GolombStep) → IsAnswer step → (step ≡ Refused) ↔ BeginsNoCode k g q given
+    pub refused_exactly : (step : GolombStep) → IsAnswer step → (step ≡ Refused) ↔ BeginsNoGolombCode k g q given
     refused_exactly More a = (λ (e : More ≡ Refused). cc, λ b. absurd (begun_not_none a b))
     refused_exactly (Done m) a = (λ (e : Done m ≡ Refused). cc, λ b. absurd (whole_not_none m a b))
     refused_exactly Refused a = (λ _. a, λ _. refl)

@@ -42,5 +42,5 @@ pub record IsCodeOf (k g qbpp : ℕ) (given : List Bool) (m : ℕ) : Type 0 wher
   pub code : golomb k g qbpp m ≡ given
 
 -- the bits are a prefix of no number's code (T.87 A.5.3)
-abbrev pub BeginsNoCode : ℕ → ℕ → ℕ → List Bool → Type 0
-BeginsNoCode k g qbpp given = (m : ℕ) → has_golomb k g qbpp m ≡ true → BeginsCodeOf k g qbpp given m → ⊥
+abbrev pub BeginsNoGolombCode : ℕ → ℕ → ℕ → List Bool → Type 0
+BeginsNoGolombCode k g qbpp given = (m : ℕ) → has_golomb k g qbpp m ≡ true → BeginsCodeOf k g qbpp given m → ⊥

@@ -18,7 +18,7 @@ IsProgress k g qbpp (Done number) = has_golomb k g qbpp number ≡ true
 IsProgress k g qbpp (Refused state bit) = RefusesCode k g qbpp (bits_fed g qbpp state ++ bit ∷ [])
 
 -- what the fields of a `GolombReader` keep: k, qbpp and g in their ranges, and what the bits pushed have come to
-pub record IsReading (k g qbpp : ℕ) (progress : Progress) : Type 0 where
+pub record IsReadingCode (k g qbpp : ℕ) (progress : Progress) : Type 0 where
   pub k_fits : k ≤ 16
   pub qbpp_fits : (1 ≤ qbpp) × (qbpp ≤ 16)
   pub g_fits : (qbpp + 2 ≤ g) × (g ≤ 64)

@@ -1,7 +1,7 @@
 //! A Golomb code whose bits come one after another.
 
 ghost use Rattle.std.specs.Prelude.{◌≡◌, ◌↔◌, ℕ, ◌+◌, ◌^◌, ◌≤◌, [], ◌∷◌, ◌++◌, IsTrue};
-ghost use Rattle.jls_bits.specs.Golomb.{IsCodeOf, BeginsCodeOf, BeginsNoCode};
+ghost use Rattle.jls_bits.specs.Golomb.{IsCodeOf, BeginsCodeOf, BeginsNoGolombCode};
 ghost use Rattle.jls_bits.specs.CodeState.{BeginsCode};
 
 use crate::code_state::{CodeState, CodeStep};
@@ -42,11 +42,11 @@ impl Model for GolombReader {
 
     ghost Value = { GolombBits };
 
-    ghost use Rattle.jls_bits.specs.GolombReading.{bits_of, IsReading};
+    ghost use Rattle.jls_bits.specs.GolombReading.{bits_of, IsReadingCode};
 
     ghost view = { λ r. record { k = r.k; g = r.g; qbpp = r.qbpp; pushed = bits_of r.k r.g r.qbpp r.progress } };
 
-    ghost invariant = { λ r. IsReading r.k r.g r.qbpp r.progress };
+    ghost invariant = { λ r. IsReadingCode r.k r.g r.qbpp r.progress };
 }
 
 impl GolombReader {
@@ -72,7 +72,7 @@ impl GolombReader {
         ensures value { self.new ≡ record self.old { pushed = self.old.pushed ++ bit ∷ [] } }
         ensures more { (result ≡ GolombStep.More) ↔ BeginsCode self.new.k self.new.g self.new.qbpp self.new.pushed }
         ensures done { (m : ℕ) → (result ≡ GolombStep.Done m) ↔ IsCodeOf self.new.k self.new.g self.new.qbpp self.new.pushed m }
-        ensures refused { (result ≡ GolombStep.Refused) ↔ BeginsNoCode self.new.k self.new.g self.new.qbpp self.new.pushed }
+        ensures refused { (result ≡ GolombStep.Refused) ↔ BeginsNoGolombCode self.new.k self.new.g self.new.qbpp self.new.pushed }
     {
         let Progress::Open(state) = self.progress else {
             unreachable!()

@@ -5,10 +5,10 @@ use Rattle.std.proofs.lemmas.Int.{ints}
 use Rattle.jls_values.specs.Params.{CodingParameters}
 use Rattle.jls_context.specs.declared.mode.Neighbours.{Neighbours}
 use Rattle.jls_context.specs.Mode.{with_sign, quantized_gradient, quantized_gradients, is_negative, weighed, context, signed_gradients}
-use Rattle.jls_context.specs.Mode.{ContextsAreApart, IsStep}
+use Rattle.jls_context.specs.Mode.{ContextsAreApart, IsQuantizedGradient}
 use Rattle.jls_context.proofs.Gradients.{gradient_range, sign_is, size_is}
 
-signed_step : (negative : Bool) (q : ℤ) → IsStep q → IsStep (with_sign negative q)
+signed_step : (negative : Bool) (q : ℤ) → IsQuantizedGradient q → IsQuantizedGradient (with_sign negative q)
 signed_step true q s = let low = s.at_least in let high = s.at_most in
     record { at_least = omega (arith, ints); at_most = omega (arith, ints) }
 signed_step false q s = s
@@ -24,7 +24,8 @@ number_is p near =
     ap (λ (z : ℤ). pos (unsigned_abs z)) (sym size) ∙ size
 
 -- three steps weigh what no other three do, since 2 * (9 * 4 + 4) is less than 81
-steps_apart : (q1 q2 q3 r1 r2 r3 : ℤ) → IsStep q1 → IsStep q2 → IsStep q3 → IsStep r1 → IsStep r2 → IsStep r3
+steps_apart : (q1 q2 q3 r1 r2 r3 : ℤ) → IsQuantizedGradient q1 → IsQuantizedGradient q2 → IsQuantizedGradient q3 → IsQuantizedGradient r1
+    → IsQuantizedGradient r2 → IsQuantizedGradient r3
     → weighed q1 q2 q3 ≡ weighed r1 r2 r3
     → (q1 ≡ r1) × (q2 ≡ r2) × (q3 ≡ r3)
 steps_apart q1 q2 q3 r1 r2 r3 a b c d e f same = (omega (arith, ints), omega (arith, ints), omega (arith, ints))

@@ -8,7 +8,7 @@ use Rattle.std.proofs.lemmas.Bool.{cases_Bool, cases_lt, eq-eqb, eqb-true, ne_eq
 use Rattle.jls_values.specs.Params.{CodingParameters, AreCodingParameters}
 use Rattle.jls_context.specs.declared.mode.Neighbours.{Neighbours}
 use Rattle.jls_context.specs.Mode.{with_sign, is_run_mode, quantized_size, quantized_gradient, quantized_gradients, is_first_negative}
-use Rattle.jls_context.specs.Mode.{is_negative, weighed, context, IsRegularMode, IsStep, AreGradients}
+use Rattle.jls_context.specs.Mode.{is_negative, weighed, context, IsRegularMode, IsQuantizedGradient, AreGradients}
 
 pub gradient_below : (p : CodingParameters) (to from : ℕ) → to < from
     → quantized_gradient p (pos to -ℤ pos from) ≡ neg_ℤ (pos (quantized_size p (from - to)))
@@ -76,7 +76,7 @@ size_zero p n some =
     ]
 
 -- nine steps
-pub gradient_range : (p : CodingParameters) (z : ℤ) → IsStep (quantized_gradient p z)
+pub gradient_range : (p : CodingParameters) (z : ℤ) → IsQuantizedGradient (quantized_gradient p z)
 unfolding quantized_gradient
 gradient_range p z =
     let small = size_range p (unsigned_abs z) in
@@ -96,7 +96,8 @@ gradient_zero p z h =
     elim (cases_lt 0 (unsigned_abs z)) [ inl some ↦ absurd (size_zero p (unsigned_abs z) some size) | inr none ↦ omega (arith, ints) ]
 
 -- the first other than 0 decides the sum's sign, since 9 * 4 + 4 is less than 81
-pub sign_is : (q1 q2 q3 : ℤ) → IsStep q1 → IsStep q2 → IsStep q3 → is_first_negative (q1 ∷ q2 ∷ q3 ∷ []) ≡ int_lt (weighed q1 q2 q3) (pos 0)
+pub sign_is : (q1 q2 q3 : ℤ) → IsQuantizedGradient q1 → IsQuantizedGradient q2 → IsQuantizedGradient q3
+    → is_first_negative (q1 ∷ q2 ∷ q3 ∷ []) ≡ int_lt (weighed q1 q2 q3) (pos 0)
 sign_is (negsuc n) q2 q3 a b c = let e : int_lt (weighed (negsuc n) q2 q3) (pos 0) ≡ true = grind (arith, ints) in sym e
 sign_is (pos (suc n)) q2 q3 a b c = let e : int_lt (weighed (pos (suc n)) q2 q3) (pos 0) ≡ false = grind (arith, ints) in sym e
 sign_is (pos zero) (negsuc n) q3 a b c = let e : int_lt (weighed (pos 0) (negsuc n) q3) (pos 0) ≡ true = grind (arith, ints) in sym e
@@ -120,7 +121,8 @@ size_is true q1 q2 q3 e = let h = below_zero (weighed q1 q2 q3) e in omega (arit
 size_is false q1 q2 q3 e = let h = not_below_zero (weighed q1 q2 q3) e in omega (arith, ints)
 
 -- only three of 0 weigh 0
-none : (q1 q2 q3 : ℤ) → IsStep q1 → IsStep q2 → IsStep q3 → unsigned_abs (weighed q1 q2 q3) ≡ 0 → (q1 ≡ pos 0) × (q2 ≡ pos 0) × (q3 ≡ pos 0)
+none : (q1 q2 q3 : ℤ) → IsQuantizedGradient q1 → IsQuantizedGradient q2 → IsQuantizedGradient q3 → unsigned_abs (weighed q1 q2 q3) ≡ 0
+    → (q1 ≡ pos 0) × (q2 ≡ pos 0) × (q3 ≡ pos 0)
 none q1 q2 q3 a b c e = (omega (arith, ints), omega (arith, ints), omega (arith, ints))
 
 same : (x y : ℕ) → (pos x -ℤ pos y) ≡ pos 0 → eqb x y ≡ true

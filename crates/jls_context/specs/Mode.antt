@@ -43,7 +43,7 @@ quantized_gradients p near = record {
 }
 
 -- a quantized gradient is from -4 to 4 (T.87 A.3.1, A.3.3)
-pub record IsStep (q : ℤ) : Type 0 where
+pub record IsQuantizedGradient (q : ℤ) : Type 0 where
   pub at_least : negsuc 3 ≤ℤ q
   pub at_most : q ≤ℤ pos 4
 

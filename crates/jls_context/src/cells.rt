@@ -3,7 +3,7 @@
 ghost use Rattle.std.specs.Prelude.{◌≡◌, ◌≢◌, ℕ, ◌*◌, ◌^◌, ◌<◌, ◌≤◌, Bool, not, true, ℤ, pos, neg_ℤ, ◌-ℤ◌, ◌<ℤ◌, IfSome, IfNone};
 ghost use Rattle.jls_values.specs.Params.{range, qbpp};
 ghost use Rattle.jls_context.specs.declared.mode.Neighbours.{Neighbours};
-ghost use Rattle.jls_context.specs.Mode.{IsMode, IsStep, AreGradients};
+ghost use Rattle.jls_context.specs.Mode.{IsMode, IsQuantizedGradient, AreGradients};
 ghost use Rattle.jls_context.specs.Prediction.{edge_detecting_predictor, corrected_prediction};
 ghost use Rattle.jls_context.specs.Errors.{IsError, IsModuloReduced, modulo_reduced, prediction_error};
 ghost use Rattle.jls_context.specs.Regular.{initial_cell, regular_k, regular_mapped, code_of, updated, IsGolombK};
@@ -96,7 +96,7 @@ impl Cells {
     #[inline(always)]
     pub fn gradient(&self, to: u16, from: u16) -> i32
         ensures value { result ≡ Rattle.jls_context.specs.Mode.quantized_gradient self.now.parameters (pos to -ℤ pos from) }
-        ensures step { IsStep result }
+        ensures step { IsQuantizedGradient result }
     {
         quantized_gradient(&self.params, to, from)
     }
@@ -105,9 +105,9 @@ impl Cells {
     /// and Ra.
     #[inline(always)]
     pub fn mode_of(&self, first: i32, second: i32, third: i32) -> Mode
-        requires first { IsStep first }
-        requires second { IsStep second }
-        requires third { IsStep third }
+        requires first { IsQuantizedGradient first }
+        requires second { IsQuantizedGradient second }
+        requires third { IsQuantizedGradient third }
         ensures { (near : Neighbours) → AreGradients self.now.parameters near first second third → IsMode self.now.parameters near result }
     {
         Mode::of(first, second, third)

@@ -2,7 +2,7 @@
 
 ghost use Rattle.std.specs.Prelude.{◌≡◌, ◌^◌, pos, negsuc, ◌-ℤ◌, ◌≤ℤ◌, unsigned_abs};
 ghost use Rattle.jls_values.specs.Params.{CodingParameters};
-ghost use Rattle.jls_context.specs.Mode.{IsMode, IsStep, AreGradients};
+ghost use Rattle.jls_context.specs.Mode.{IsMode, IsQuantizedGradient, AreGradients};
 
 use jls_values::Params;
 
@@ -59,7 +59,7 @@ fn quantized_size(params: &Params, size: u16) -> i32
 #[inline(always)]
 pub(crate) fn quantized_gradient(params: &Params, to: u16, from: u16) -> i32
     ensures value { result ≡ Rattle.jls_context.specs.Mode.quantized_gradient params.now (pos to -ℤ pos from) }
-    ensures step { IsStep result }
+    ensures step { IsQuantizedGradient result }
 {
     let steps = quantized_size(params, to.abs_diff(from));
     if to < from { -steps } else { steps }
@@ -67,9 +67,9 @@ pub(crate) fn quantized_gradient(params: &Params, to: u16, from: u16) -> i32
 
 /// Three quantized gradients, weighed. The sum is 0 in run mode; else its size is the context's number, and its sign is SIGN.
 fn weighed(q1: i32, q2: i32, q3: i32) -> i32
-    requires q1 { IsStep q1 }
-    requires q2 { IsStep q2 }
-    requires q3 { IsStep q3 }
+    requires q1 { IsQuantizedGradient q1 }
+    requires q2 { IsQuantizedGradient q2 }
+    requires q3 { IsQuantizedGradient q3 }
     ensures value { result ≡ Rattle.jls_context.specs.Mode.weighed q1 q2 q3 }
     ensures at_least { negsuc 363 ≤ℤ result }
     ensures at_most { result ≤ℤ pos 364 }
@@ -81,9 +81,9 @@ impl Mode {
     /// The mode of a sample with these quantized gradients.
     #[inline(always)]
     pub(crate) fn of(q1: i32, q2: i32, q3: i32) -> Mode
-        requires q1 { IsStep q1 }
-        requires q2 { IsStep q2 }
-        requires q3 { IsStep q3 }
+        requires q1 { IsQuantizedGradient q1 }
+        requires q2 { IsQuantizedGradient q2 }
+        requires q3 { IsQuantizedGradient q3 }
         ensures { (p : CodingParameters) (near : Neighbours) → AreGradients p near q1 q2 q3 → IsMode p near result }
     {
         let number = weighed(q1, q2, q3);

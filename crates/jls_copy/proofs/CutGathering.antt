@@ -12,7 +12,7 @@ use Rattle.jls_copy.specs.Findings.{AddsCut, with_readings, picture_of, kept_wit
 use Rattle.jls_copy.specs.Gathers.{Gathers}
 use Rattle.jls_copy.specs.Conclusion.{Concludes}
 use Rattle.jls_copy.specs.ReadCopy.{ReadCopy}
-use Rattle.jls_copy.specs.Reader.{IsReading}
+use Rattle.jls_copy.specs.Reader.{IsReadingCopy}
 use Rattle.jls_copy.specs.ReaderState.{reading, end_at, closed_at_end}
 use Rattle.jls_copy.specs.declared.end.End.{End}
 use Rattle.jls_copy.specs.declared.findings.Findings.{Findings}
@@ -78,7 +78,7 @@ cut_gathers frame ps (p ∷ []) old new g (shape, framed, adds) =
     some_is x y e = cc
 
 -- the input ends
-pub concluding : (m n : Machine) (bytes : List ℕ) (e : End) (read : ReadCopy) → IsReading m bytes → e ≡ end_at m.place m.count
+pub concluding : (m n : Machine) (bytes : List ℕ) (e : End) (read : ReadCopy) → IsReadingCopy m bytes → e ≡ end_at m.place m.count
     → AddsCut m.headers.frame (closed_at_end m.place) m.findings n.findings → n.headers ≡ m.headers
     → ((shape : PictureShape) × (n.headers.frame ≡ Some shape) × (read.partial ≡ picture_of shape n.findings.partial)
     × (read.pieces ≡ n.findings.records.items) × (read.piece_count ≡ n.findings.record_count) × (read.ended ≡ e))

@@ -6,7 +6,7 @@ use Rattle.jls_values.proofs.Lists.{is_first, in_rest}
 use Rattle.jls_copy.specs.Prefixes.{StaysFaulty}
 use Rattle.jls_copy.specs.Pieces.{AreOutcomes, Fault, FoundPiece, IsOutcome, Lines, PieceOutcome, pieces, records}
 use Rattle.jls_copy.specs.Reader.{all_pieces}
-use Rattle.jls_copy.specs.ReaderState.{Reading, closed_at, reading, reading_from, reading_with}
+use Rattle.jls_copy.specs.ReaderState.{StateWithPieces, closed_at, reading, reading_from, reading_with}
 use Rattle.jls_copy.specs.declared.piece.PieceKind.{PieceKind}
 use Rattle.jls_copy.proofs.CopyFed.{outcome_alike}
 use Rattle.jls_copy.proofs.CourseFed.{course_fed}
@@ -27,7 +27,7 @@ some_fault (p ∷ ps) (Lines lines ∷ os) are some =
     let later = some_fault ps os are.1 some in (later.0, in_rest later.0 p ps later.1, later.2, later.3)
 
 -- what was closed stays
-pub closed_stay : (r : Reading) (bytes : List ℕ) (p : FoundPiece) → Contains r.pieces p → Contains (reading_from r bytes).pieces p
+pub closed_stay : (r : StateWithPieces) (bytes : List ℕ) (p : FoundPiece) → Contains r.pieces p → Contains (reading_from r bytes).pieces p
 closed_stay r [] p h = h
 closed_stay r (b ∷ bytes) p h = closed_stay (reading_with r b) bytes p (Contains-append_left r.pieces (closed_at r.state.place b) p h)
 

@@ -25,9 +25,10 @@ use Rattle.jls_copy.specs.Pieces.{FoundPiece, PieceOutcome, Lines, Fault, IsOutc
 use Rattle.jls_copy.specs.Findings.{Adds, HoldsShape, with_readings, picture_of, kept_with}
 use Rattle.jls_copy.specs.Gathers.{Gathers}
 use Rattle.jls_copy.specs.Pieces.{AreOutcomes, readings, records}
-use Rattle.jls_copy.specs.ReaderState.{ReaderState, Step, Reading, reading, reading_with, reading_from, step_from, closed_at, segment_taken}
+use Rattle.jls_copy.specs.ReaderState.{ReaderState, Step, StateWithPieces, reading, reading_with, reading_from, step_from, closed_at}
+use Rattle.jls_copy.specs.ReaderState.{segment_taken}
 use Rattle.jls_copy.specs.Machine.{IsMachine, state_of, Takes}
-use Rattle.jls_copy.specs.Reader.{IsReading}
+use Rattle.jls_copy.specs.Reader.{IsReadingCopy}
 use Rattle.jls_copy.specs.declared.machine.Machine.{Machine}
 use Rattle.jls_copy.specs.declared.findings.Findings.{Findings}
 use Rattle.jls_copy.specs.declared.piece.PieceRecord.{PieceRecord}
@@ -202,7 +203,7 @@ pub if_err : {A B : Type 0} {P Q : B → Type 0} (r : Result A B) → ((x : B) �
 if_err (Ok x) f p = tt
 if_err (Err e) f p = f e p
 
-pub saying_none : (m n : Machine) (bytes : List ℕ) (e : End) (f : CopyFault) → IsReading m bytes → e ≡ end_at m.place m.count
+pub saying_none : (m n : Machine) (bytes : List ℕ) (e : End) (f : CopyFault) → IsReadingCopy m bytes → e ≡ end_at m.place m.count
     → n.headers ≡ m.headers
     → (n.headers.frame ≡ None) × (f ≡ no_picture e) → SaysNone (reading bytes) f
 saying_none m n bytes e OutOfMemory h end_is same k = tt
@@ -223,7 +224,7 @@ pub held_shape : (frame : Option PictureShape) (ps : List FoundPiece) (f : Findi
 held_shape frame ps f g shape framed p e = ap (λ q. q.shape) (ap (picture_of shape) (sym e) ∙ g.picture_is shape framed)
 
 -- bytes that close no piece
-from_append : (r : Reading) (xs ys : List ℕ) → reading_from r (xs ++ ys) ≡ reading_from (reading_from r xs) ys
+from_append : (r : StateWithPieces) (xs ys : List ℕ) → reading_from r (xs ++ ys) ≡ reading_from (reading_from r xs) ys
 from_append r [] ys = refl
 from_append r (x ∷ xs) ys = from_append (reading_with r x) xs ys
 
@@ -232,19 +233,19 @@ low_all [] ys h l = l
 low_all (x ∷ xs) ys h l = (h.0, low_all xs ys h.1 l)
 
 -- a state with another count, and pieces
-abbrev counted : ReaderState → List FoundPiece → ℕ → Reading
+abbrev counted : ReaderState → List FoundPiece → ℕ → StateWithPieces
 counted s ps k = record { state = record s { count = k }; pieces = ps }
 
-frame_stays_on : (more : List ℕ) (r : Reading) (s : PictureShape) → r.state.headers.frame ≡ Some s
+frame_stays_on : (more : List ℕ) (r : StateWithPieces) (s : PictureShape) → r.state.headers.frame ≡ Some s
     → (reading_from r more).state.headers.frame ≡ Some s
 frame_stays_on [] r s f = f
 frame_stays_on (b ∷ more) r s f =
     frame_stays_on more (reading_with r b) s (frame_stays r.state.place r.state.count r.state.headers r.state.payload b s f)
 
 -- some bytes more, which a machine took, and which were counted then
-pub reading_on : (m n : Machine) (bytes xs : List ℕ) (count : ℕ) → IsReading m bytes → Takes m xs n count
+pub reading_on : (m n : Machine) (bytes xs : List ℕ) (count : ℕ) → IsReadingCopy m bytes → Takes m xs n count
     → length bytes + length xs ≤ 2 ^ 63 - 1 → AllByRecursion (λ x. x < 256) (take count xs)
-    → IsReading (record n { count = n.count + count }) (bytes ++ take count xs)
+    → IsReadingCopy (record n { count = n.count + count }) (bytes ++ take count xs)
 reading_on m n bytes xs count h t small low =
     let closed : List FoundPiece = closed_at m.place (get_or xs 0 0) in
     let size : length (take count xs) ≡ count = length-take-le count xs t.within in
@@ -297,7 +298,7 @@ bytes_between n m at xs each =
     all (x ∷ xs) each = (each 0, all xs (λ k. each (suc k)))
 
 -- the machine of a reader can take a step
-pub is_machine : (m : Machine) (bytes : List ℕ) → IsReading m bytes → IsMachine m
+pub is_machine : (m : Machine) (bytes : List ℕ) → IsReadingCopy m bytes → IsMachine m
 is_machine m bytes h = record {
   count_below = omega (arith, h.count_is, h.few);
   records_below = omega (arith, h.records_counted, h.count_is, h.few);

@@ -3,14 +3,14 @@ use Rattle.std.proofs.Common.{◌≡◌, ℕ, zero, suc, ◌+◌, ◌<◌, ◌�
 use Rattle.std.proofs.lemmas.List.{append-nil}
 use Rattle.jls_marker.specs.HeaderState.{HeaderState}
 use Rattle.jls_copy.specs.Pieces.{FoundPiece}
-use Rattle.jls_copy.specs.ReaderState.{Reading, reading_from, reading_with}
+use Rattle.jls_copy.specs.ReaderState.{StateWithPieces, reading_from, reading_with}
 use Rattle.jls_copy.specs.Stretch.{LeadsTo}
 use Rattle.jls_copy.specs.declared.end.End.{End}
 use Rattle.jls_copy.specs.declared.place.CopyPosition.{CopyPosition}
 use Rattle.jls_copy.specs.declared.place.CopyPosition.TheVariants.{Start, AtMarker, Done}
 
 module _ (h : HeaderState) (payload : List ℕ) (ps : List FoundPiece) where
-  abbrev at : CopyPosition → ℕ → Reading
+  abbrev at : CopyPosition → ℕ → StateWithPieces
   at place count = record { state = record { count = count; place = place; headers = h; payload = payload }; pieces = ps }
 
   -- bytes at the start, each of which leaves the place as it is

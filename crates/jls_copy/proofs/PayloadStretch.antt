@@ -6,7 +6,7 @@ use Rattle.std.proofs.lemmas.Bool.Decides.{nat_tests}
 use Rattle.std.specs.Prelude.{◌==◌}
 use Rattle.jls_marker.specs.HeaderState.{HeaderState}
 use Rattle.jls_copy.specs.Pieces.{FoundPiece}
-use Rattle.jls_copy.specs.ReaderState.{Reading, ReaderState, Step, reading_from, reading_with, with_segment}
+use Rattle.jls_copy.specs.ReaderState.{StateWithPieces, ReaderState, Step, reading_from, reading_with, with_segment}
 use Rattle.jls_copy.specs.declared.place.CopyPosition.TheVariants.{InPayload}
 
 -- a state after so many bytes
@@ -14,7 +14,7 @@ abbrev pub segment_state : ℕ → Step → ReaderState
 segment_state count s = record { count = count; place = s.place; headers = s.headers; payload = s.payload }
 
 module _ (h : HeaderState) (marker code size : ℕ) (ps : List FoundPiece) where
-  abbrev pub at : ℕ → List ℕ → Reading
+  abbrev pub at : ℕ → List ℕ → StateWithPieces
   at count payload =
       record { state = record { count = count; place = InPayload marker code size; headers = h; payload = payload }; pieces = ps }
 

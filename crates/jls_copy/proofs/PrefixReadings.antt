@@ -21,7 +21,7 @@ use Rattle.jls_marker.specs.Scan.{Scan, IsScan, row_count, first_row}
 use Rattle.jls_partial.specs.Reading.{Reading, reading_of}
 use Rattle.jls_copy.specs.Course.{Course, IsCourse}
 use Rattle.jls_copy.specs.CutPieces.{cut_pieces, IsHeadAt}
-use Rattle.jls_copy.specs.Prefixes.{HasLines, Gives, PrefixesKeepReadings}
+use Rattle.jls_copy.specs.Prefixes.{HasLines, CourseHasReading, PrefixesKeepReadings}
 use Rattle.jls_copy.specs.Numbers.{PieceNumber, Interval, BeyondLast}
 use Rattle.jls_copy.specs.Pieces.{FoundPiece, Lines, IsOutcomeAt, outcome_readings, readings_of, placed, pieces}
 use Rattle.jls_copy.specs.Reader.{all_pieces}
@@ -166,7 +166,7 @@ module _ (prefix more : List ℕ) (low : AllByRecursion (λ b. b < 256) (prefix 
       -- what the piece that goes on reads as
       lines_of : (p : FoundPiece) (g : GoesOn d p)
           → (lines : List (List ℕ)) × IsScan p.plan × IsOutcomeAt p.plan p.number (p.bytes ++ g.tail) (Lines lines)
-          × ((r : Reading) → Contains (readings_of p (Lines lines)) r → Gives d r)
+          × ((r : Reading) → Contains (readings_of p (Lines lines)) r → CourseHasReading d r)
       lines_of p g =
           let h = all_in HasLines (pieces d) g.piece each g.among in
           let scan = all_in HasScan (pieces d) g.piece (course_has (prefix ++ more) d low is_d) g.among in
@@ -186,7 +186,7 @@ module _ (prefix more : List ℕ) (low : AllByRecursion (λ b. b < 256) (prefix 
             ),
           )
 
-      keeps : (c : Course) → IsCourse prefix c → (r : Reading) → Gives c r → Gives d r
+      keeps : (c : Course) → IsCourse prefix c → (r : Reading) → CourseHasReading c r → CourseHasReading d r
       keeps c is_c r given =
           let t = course_fed prefix (byte_parts prefix more low).0 in
           let same : t.0 ≡ c = one_course prefix t.0 c t.1 is_c in

@@ -19,7 +19,7 @@ use Rattle.jls_copy.specs.Numbers.{PieceNumber, Interval, BeyondLast}
 use Rattle.jls_copy.specs.Pieces.{FoundPiece, Lines, IsOutcomeAt, pieces}
 use Rattle.jls_copy.specs.CutPieces.{cut_pieces}
 use Rattle.jls_copy.specs.Prefixes.{NeverReads, IsPieceBroken, PrefixesStayBroken, OpenReadsNoMore, PlaceReadsNoMore}
-use Rattle.jls_copy.specs.ReaderState.{reading, Reading, reading_with, reading_from, number_of, bytes_of, fed, found, piece_with}
+use Rattle.jls_copy.specs.ReaderState.{reading, StateWithPieces, reading_with, reading_from, number_of, bytes_of, fed, found, piece_with}
 use Rattle.jls_copy.specs.ReaderState.{held_bytes, class_of, closed_by, closed_at, closed_at_end, step_from, from_scan}
 use Rattle.jls_copy.specs.Reader.{all_pieces}
 use Rattle.jls_copy.specs.Sound.{IsOpenPiece, IsPlace}
@@ -195,10 +195,10 @@ next_is (InScan scan) count h payload b q m =
       | inr later ↦ absurd (none_in q later)
     ]
 
-abbrev pub Stands : Reading → FoundPiece → Type 0
+abbrev pub Stands : StateWithPieces → FoundPiece → Type 0
 Stands r p = NextIs r.pieces (closed_at_end r.state.place) p
 
-stands_with : (r : Reading) (b : ℕ) (p : FoundPiece) → Stands r p → Stands (reading_with r b) p
+stands_with : (r : StateWithPieces) (b : ℕ) (p : FoundPiece) → Stands r p → Stands (reading_with r b) p
 stands_with r b p (q, inl m, on) = (q, inl (Contains-append_left r.pieces (closed_at r.state.place b) q m), on)
 stands_with r b p (q, inr m, on) = by (next_is r.state.place r.state.count r.state.headers r.state.payload b q m)
   where
@@ -208,15 +208,16 @@ stands_with r b p (q, inr m, on) = by (next_is r.state.place r.state.count r.sta
     by (x, inl c, more) = (x, inl (Contains-append_right r.pieces (closed_at r.state.place b) x c), on_and_on p q x on more)
     by (x, inr c, more) = (x, inr c, on_and_on p q x on more)
 
-pub stands_from : (r : Reading) (bytes : List ℕ) (p : FoundPiece) → Stands r p → Stands (reading_from r bytes) p
+pub stands_from : (r : StateWithPieces) (bytes : List ℕ) (p : FoundPiece) → Stands r p → Stands (reading_from r bytes) p
 stands_from r [] p h = h
 stands_from r (b ∷ bytes) p h = stands_from (reading_with r b) bytes p (stands_with r b p h)
 
-pub from_append : (r : Reading) (xs ys : List ℕ) → reading_from r (xs ++ ys) ≡ reading_from (reading_from r xs) ys
+pub from_append : (r : StateWithPieces) (xs ys : List ℕ) → reading_from r (xs ++ ys) ≡ reading_from (reading_from r xs) ys
 from_append r [] ys = refl
 from_append r (x ∷ xs) ys = from_append (reading_with r x) xs ys
 
-pub among_all : (r : Reading) (q : FoundPiece) → Contains r.pieces q ⊎ Contains (closed_at_end r.state.place) q → Contains (all_pieces r) q
+pub among_all : (r : StateWithPieces) (q : FoundPiece) → Contains r.pieces q ⊎ Contains (closed_at_end r.state.place) q
+    → Contains (all_pieces r) q
 among_all r q (inl m) = Contains-append_left r.pieces (closed_at_end r.state.place) q m
 among_all r q (inr m) = Contains-append_right r.pieces (closed_at_end r.state.place) q m
 

@@ -18,7 +18,7 @@ use Rattle.jls_copy.specs.ReadCopy.{ReadCopy}
 use Rattle.jls_copy.proofs.BytesDecide.{one_outcome, one_head_of_cut, cut_has}
 use Rattle.jls_copy.proofs.ScansOfCourse.{HasScan, course_has}
 use Rattle.jls_values.proofs.Lists.{is_first, in_rest, none_in, first_or_rest}
-use Rattle.jls_copy.specs.Prefixes.{Gives}
+use Rattle.jls_copy.specs.Prefixes.{CourseHasReading}
 use Rattle.jls_copy.proofs.CutPieces.{cut_short, lines_give}
 
 made_tells : (rs : List Reading) (r : Reading) → set.contains (set.insert_all {R = reading_cmp} set.empty rs) r
@@ -90,7 +90,7 @@ module _ (file : List ℕ) (read : ReadCopy) (h : CopyReads file read) where
   tells : (r : Reading) → set.contains read.partial.readings r ≡ list_any (eq_by_cmp reading_cmp r) all
   tells r = ap (λ (p : PartialPicture). set.contains p.readings r) h.partial_is ∙ made_tells all r
 
-  pub held_is_given : (r : Reading) → set.contains read.partial.readings r ≡ true → Gives h.course r
+  pub held_is_given : (r : Reading) → set.contains read.partial.readings r ≡ true → CourseHasReading h.course r
   held_is_given r held =
       elim (Contains-append_cases (readings (pieces h.course) h.outcomes) (head_readings (cut_pieces h.course) h.head) r
       (member_of_any all r (sym (tells r) ∙ held))) [
@@ -98,7 +98,8 @@ module _ (file : List ℕ) (read : ReadCopy) (h : CopyReads file read) where
         | inr m ↦ (let g = head_listed (cut_pieces h.course) h.head r h.head_is m in inr (g.0, g.1, g.2.0, g.2.1, g.2.2))
       ]
 
-  pub given_is_held : AllByRecursion (λ b. b < 256) file → (r : Reading) → Gives h.course r → set.contains read.partial.readings r ≡ true
+  pub given_is_held : AllByRecursion (λ b. b < 256) file → (r : Reading) → CourseHasReading h.course r
+      → set.contains read.partial.readings r ≡ true
   given_is_held low r g =
       let scans = course_has file h.course low h.is_course in
       let rs = readings (pieces h.course) h.outcomes in

@@ -9,7 +9,7 @@ use Rattle.jls_marker.specs.HeaderState.{HeaderState}
 use Rattle.jls_marker.specs.MarkerCodes.{has_segment}
 use Rattle.jls_copy.specs.Pieces.{FoundPiece}
 use Rattle.jls_copy.specs.ScanData.{fill_bytes}
-use Rattle.jls_copy.specs.ReaderState.{Reading, reading, reading_from, reading_with, first_state, Step, step_from, closed_at}
+use Rattle.jls_copy.specs.ReaderState.{StateWithPieces, reading, reading_from, reading_with, first_state, Step, step_from, closed_at}
 use Rattle.jls_copy.specs.Tells.{Tells}
 use Rattle.jls_copy.specs.ReaderLaws.{ReadingTells}
 use Rattle.jls_copy.specs.declared.place.CopyPosition.{CopyPosition}
@@ -54,7 +54,7 @@ tells_more (InPayload marker code size) h payload ps x b count low c (within, sm
 tells_more (InScan o) h payload ps x b count low c d = scan_more o h ps x d b payload count c
 tells_more (Done e) h payload ps x b count low c d = rw append-nil (ended_more e h ps x b d)
 
-from_tells : (before bytes : List ℕ) (r : Reading) → AllByRecursion (λ b. b < 256) bytes → r.state.count ≡ length before
+from_tells : (before bytes : List ℕ) (r : StateWithPieces) → AllByRecursion (λ b. b < 256) bytes → r.state.count ≡ length before
     → Tells r.state.place r.state.headers r.state.payload r.pieces before
     → Tells (reading_from r bytes).state.place (reading_from r bytes).state.headers (reading_from r bytes).state.payload
     (reading_from r bytes).pieces (before ++ bytes)
@@ -66,7 +66,7 @@ from_tells before (b ∷ bytes) r low c t =
 pub readings_tell : ReadingTells
 readings_tell bytes low = from_tells [] bytes _ low refl (refl, refl, refl)
 
-from_counts : (bytes : List ℕ) (r : Reading) → (reading_from r bytes).state.count ≡ r.state.count + length bytes
+from_counts : (bytes : List ℕ) (r : StateWithPieces) → (reading_from r bytes).state.count ≡ r.state.count + length bytes
 from_counts [] r = sym (add-zero r.state.count)
 from_counts (b ∷ bytes) r = from_counts bytes (reading_with r b) ∙ omega arith
 

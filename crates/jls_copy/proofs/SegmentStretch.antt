@@ -7,8 +7,8 @@ use Rattle.std.proofs.lemmas.Bool.Decides.{nat_tests}
 use Rattle.jls_marker.specs.HeaderState.{HeaderState}
 use Rattle.jls_marker.specs.MarkerCodes.{has_segment}
 use Rattle.jls_copy.specs.Pieces.{FoundPiece}
-use Rattle.jls_copy.specs.ReaderState.{Reading, ReaderState, reading_from, reading_with, with_segment}
-use Rattle.jls_copy.specs.Stretch.{Leads}
+use Rattle.jls_copy.specs.ReaderState.{StateWithPieces, ReaderState, reading_from, reading_with, with_segment}
+use Rattle.jls_copy.specs.Stretch.{BytesLead}
 use Rattle.jls_copy.specs.Machine.{IsWholeSegment}
 use Rattle.jls_copy.specs.declared.place.CopyPosition.{CopyPosition}
 use Rattle.jls_copy.specs.declared.place.CopyPosition.TheVariants.{AtMarker, AtLength, InLength, InPayload}
@@ -23,7 +23,7 @@ unfolding has_segment
 no_eoi code known e = let now : has_segment 0xD9 ≡ true = subst (λ c. has_segment c ≡ true) e known in absurd cc
 
 module _ (h : HeaderState) (ps : List FoundPiece) where
-  abbrev at : ℕ → CopyPosition → List ℕ → Reading
+  abbrev at : ℕ → CopyPosition → List ℕ → StateWithPieces
   at count place payload = record { state = record { count = count; place = place; headers = h; payload = payload }; pieces = ps }
 
   fill_step : (fill : Bool) (count : ℕ) (old : List ℕ) → reading_with (at count (AtMarker fill) old) 0xFF
@@ -85,13 +85,13 @@ module _ (h : HeaderState) (ps : List FoundPiece) where
       (omega (arith, size)) (omega arith)
       ∙ rw total refl
 
-abbrev made : ReaderState → List FoundPiece → Reading
+abbrev made : ReaderState → List FoundPiece → StateWithPieces
 made s ps = record { state = s; pieces = ps }
 
 pub segment_leads : (fill : Bool) (bytes : List ℕ) (size : ℕ) → IsWholeSegment bytes size
     → (count : ℕ) (h : HeaderState) (old payload : List ℕ)
     → payload ≡ take (size - 2) (drop 4 bytes)
-    → Leads (record { count = count; place = AtMarker fill; headers = h; payload = old }) (take (size + 2) bytes)
+    → BytesLead (record { count = count; place = AtMarker fill; headers = h; payload = old }) (take (size + 2) bytes)
     (segment_state count (with_segment (count + size + 1) h payload count (get_or bytes 1 0))) []
 segment_leads fill [] size w count h old payload is = absurd (omega (arith, w.within, w.some))
 segment_leads fill (a ∷ []) size w count h old payload is = absurd (omega (arith, w.within, w.some))

@@ -18,7 +18,7 @@ use Rattle.jls_copy.specs.Reader.{all_pieces}
 use Rattle.jls_copy.specs.ReaderState.{class_of, closed_at, closed_at_end, closed_by, found, from_marker, from_scan, from_start}
 use Rattle.jls_copy.specs.ReaderState.{length_known, one_more, payload_grown, place_after, scan_after, scan_opened, scan_with}
 use Rattle.jls_copy.specs.ReaderState.{segment_taken, with_segment}
-use Rattle.jls_copy.specs.ReaderState.{Reading, reading, reading_from, reading_with, step_from}
+use Rattle.jls_copy.specs.ReaderState.{StateWithPieces, reading, reading_from, reading_with, step_from}
 use Rattle.jls_copy.specs.Tells.{AlikePiece, AlikePieces, FedAs}
 use Rattle.jls_copy.specs.declared.scan.ByteClass.{ByteClass}
 use Rattle.jls_copy.specs.declared.scan.ByteClass.TheVariants.{Fill, Mark, Stop, Data}
@@ -140,12 +140,12 @@ closes_in_hand (InScan scan) b q m = closes_open (class_of scan.held b) scan q m
 closes_in_hand (Done e) b q m = m
 
 -- each piece that was closed is one of those, or begins no earlier than that; nor does one that is open
-record From (at : ℕ) (old : List FoundPiece) (r : Reading) : Type 0 where
+record From (at : ℕ) (old : List FoundPiece) (r : StateWithPieces) : Type 0 where
   closed : (q : FoundPiece) → Contains r.pieces q → Contains old q ⊎ (at ≤ q.offset)
   opens : OpensFrom at r.state.place
   counted : at ≤ r.state.count
 
-from_with : (at : ℕ) (old : List FoundPiece) (r : Reading) (b : ℕ) → From at old r → From at old (reading_with r b)
+from_with : (at : ℕ) (old : List FoundPiece) (r : StateWithPieces) (b : ℕ) → From at old r → From at old (reading_with r b)
 from_with at old r b f = record {
   closed = λ q m. either (Contains old q ⊎ (at ≤ q.offset)) r.pieces (closed_at r.state.place b) q m (f.closed q)
       (λ n. inr (f.opens q (closes_in_hand r.state.place b q n)));
@@ -153,7 +153,7 @@ from_with at old r b f = record {
   counted = let l = f.counted in omega (arith, l);
 }
 
-from_on : (at : ℕ) (old : List FoundPiece) (r : Reading) (bytes : List ℕ) → From at old r → From at old (reading_from r bytes)
+from_on : (at : ℕ) (old : List FoundPiece) (r : StateWithPieces) (bytes : List ℕ) → From at old r → From at old (reading_from r bytes)
 from_on at old r [] f = f
 from_on at old r (b ∷ bytes) f = from_on at old (reading_with r b) bytes (from_with at old r b f)
 
@@ -217,10 +217,10 @@ read_alike x p q a b = record {
 
 module _ (at : ℕ) (prefix more : List ℕ) (low : AllByRecursion (λ b. b < 256) (prefix ++ more)) (past : IsPast at prefix) (c d : Course)
     (is_c : IsCourse prefix c) (is_d : IsCourse (prefix ++ more) d) where
-  abbrev first : Reading
+  abbrev first : StateWithPieces
   first = reading prefix
 
-  abbrev all : Reading
+  abbrev all : StateWithPieces
   all = reading (prefix ++ more)
 
   alike_first : AlikePieces (all_pieces first) (pieces c)

@@ -9,7 +9,7 @@ use Rattle.std.specs.Option.{option_map}
 use Rattle.jls_marker.specs.HeaderState.{HeaderState}
 use Rattle.jls_copy.specs.Pieces.{FoundPiece}
 use Rattle.jls_copy.specs.ScanData.{is_restart_code, ends_scan_data}
-use Rattle.jls_copy.specs.ReaderState.{Reading, reading_from, reading_with, piece_with, scan_with, class_of}
+use Rattle.jls_copy.specs.ReaderState.{StateWithPieces, reading_from, reading_with, piece_with, scan_with, class_of}
 use Rattle.jls_copy.specs.Sound.{IsPlace}
 use Rattle.jls_copy.specs.Stretch.{IsStretch, LeadsTo}
 use Rattle.jls_copy.proofs.Outcomes.{fed_sound}
@@ -56,7 +56,7 @@ abbrev holding : OpenScan → Held → OpenPiece → OpenScan
 holding scan held piece = record scan { held = held; piece = piece }
 
 module _ (scan : OpenScan) (h : HeaderState) (payload : List ℕ) where
-  abbrev at : ℕ → Held → OpenPiece → List FoundPiece → Reading
+  abbrev at : ℕ → Held → OpenPiece → List FoundPiece → StateWithPieces
   at count held piece ps =
       record { state = record { count = count; place = InScan (holding scan held piece); headers = h; payload = payload }; pieces = ps }
 

@@ -6,7 +6,7 @@ use Rattle.jls_copy.specs.Pieces.{PieceOutcome}
 use Rattle.jls_copy.specs.Pieces.{AreOutcomes, readings, records}
 use Rattle.jls_copy.specs.CutPieces.{IsHeadOfCut, head_readings}
 use Rattle.jls_copy.specs.Reader.{all_pieces}
-use Rattle.jls_copy.specs.ReaderState.{Reading, end_at, closed_at_end}
+use Rattle.jls_copy.specs.ReaderState.{StateWithPieces, end_at, closed_at_end}
 use Rattle.jls_copy.specs.ReadCopy.{ReadCopy}
 use Rattle.jls_copy.specs.CopyReads.{no_picture}
 use Rattle.jls_copy.specs.declared.reader.CopyFault.{CopyFault}
@@ -26,7 +26,7 @@ is_final (InScan scan) = false
 is_final (Done e) = true
 
 -- the frame's shape, the readings and the records of all pieces, and the end
-pub record Concludes (r : Reading) (read : ReadCopy) : Type 0 where
+pub record Concludes (r : StateWithPieces) (read : ReadCopy) : Type 0 where
   pub shape : PictureShape
   pub framed : r.state.headers.frame ≡ Some shape
   pub outcomes : List PieceOutcome
@@ -41,6 +41,6 @@ pub record Concludes (r : Reading) (read : ReadCopy) : Type 0 where
   pub ended_is : read.ended ≡ end_at r.state.place r.state.count
 
 -- a reader that took no frame answers this fault
-abbrev pub SaysNone : Reading → CopyFault → Type 0
+abbrev pub SaysNone : StateWithPieces → CopyFault → Type 0
 SaysNone r OutOfMemory = Unit {0}
 SaysNone r (NoPicture f offset) = (r.state.headers.frame ≡ None) × (NoPicture f offset ≡ no_picture (end_at r.state.place r.state.count))

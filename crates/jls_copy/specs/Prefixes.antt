@@ -51,8 +51,8 @@ abbrev pub HasLines : FoundPiece → Type 0
 HasLines p = (lines : List (List ℕ)) × IsOutcome p (Lines lines)
 
 -- a piece of a course decodes to lines, one of which is the reading, or the piece that the input's end cuts off has it in its head
-abbrev pub Gives : Course → Reading → Type 0
-Gives c r =
+abbrev pub CourseHasReading : Course → Reading → Type 0
+CourseHasReading c r =
     ((p : FoundPiece) × Contains (pieces c) p × (lines : List (List ℕ)) × IsOutcome p (Lines lines)
     × Contains (readings_of p (Lines lines)) r)
     ⊎ ((p : FoundPiece) × Contains (cut_pieces c) p × (head : List (List ℕ)) × IsHeadAt p.plan p.number p.bytes head
@@ -63,7 +63,7 @@ abbrev pub PrefixesKeepReadings : Type 0
 PrefixesKeepReadings =
     (prefix more : List ℕ) → AllByRecursion (λ b. b < 256) (prefix ++ more)
     → (c d : Course) → IsCourse prefix c → IsCourse (prefix ++ more) d → AllByRecursion HasLines (pieces d)
-    → (r : Reading) → Gives c r → Gives d r
+    → (r : Reading) → CourseHasReading c r → CourseHasReading d r
 
 -- Pieces that are settled -----------------------------------------------------------------------------------------
 

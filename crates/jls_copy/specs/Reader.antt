@@ -2,7 +2,7 @@
 use Rattle.std.specs.Prelude.{◌≡◌, ℕ, ◌^◌, ◌<◌, ◌≤◌, Bool, false, List, ◌++◌, length}
 use Rattle.std.specs.List.{AllByRecursion}
 use Rattle.jls_copy.specs.Pieces.{FoundPiece}
-use Rattle.jls_copy.specs.ReaderState.{reading, Reading, closed_at_end}
+use Rattle.jls_copy.specs.ReaderState.{reading, StateWithPieces, closed_at_end}
 use Rattle.jls_copy.specs.Sound.{IsPlace}
 use Rattle.jls_copy.specs.Machine.{state_of, IsAfterStart}
 use Rattle.jls_copy.specs.Gathers.{Gathers}
@@ -10,7 +10,7 @@ use Rattle.jls_copy.specs.declared.machine.Machine.{Machine}
 
 -- the machine stands where these bytes lead, and holds what they give; and what it holds is bounded, beside its partial picture and
 -- the decoder of one piece
-pub record IsReading (m : Machine) (bytes : List ℕ) : Type 0 where
+pub record IsReadingCopy (m : Machine) (bytes : List ℕ) : Type 0 where
   pub state_is : state_of m ≡ (reading bytes).state
   pub gathers : Gathers m.headers.frame (reading bytes).pieces m.findings
   pub count_is : m.count ≡ length bytes
@@ -24,8 +24,8 @@ pub record IsReading (m : Machine) (bytes : List ℕ) : Type 0 where
 
 -- a reader to which no `feed` was refused stands where these bytes lead
 abbrev pub IsReader : Bool → Machine → List ℕ → Type 0
-IsReader failed m bytes = failed ≡ false → IsReading m bytes
+IsReader failed m bytes = failed ≡ false → IsReadingCopy m bytes
 
 -- all pieces, if the input ends here
-abbrev pub all_pieces : Reading → List FoundPiece
+abbrev pub all_pieces : StateWithPieces → List FoundPiece
 all_pieces r = r.pieces ++ closed_at_end r.state.place

@@ -226,19 +226,19 @@ closed_at_end (InScan scan) = found scan ∷ []
 closed_at_end (Done e) = []
 
 -- the state after these bytes, with the pieces that they closed
-pub record Reading : Type 0 where
+pub record StateWithPieces : Type 0 where
   pub state : ReaderState
   pub pieces : List FoundPiece
 
 -- a reading after one byte more
-abbrev pub reading_with : Reading → ℕ → Reading
+abbrev pub reading_with : StateWithPieces → ℕ → StateWithPieces
 reading_with r b = record { state = after_byte r.state b; pieces = r.pieces ++ closed_at r.state.place b }
 
 -- a reading after more bytes
-abbrev pub reading_from : Reading → List ℕ → Reading
+abbrev pub reading_from : StateWithPieces → List ℕ → StateWithPieces
 reading_from r [] = r
 reading_from r (b ∷ bytes) = reading_from (reading_with r b) bytes
 
 -- the state after these bytes, from the first one on, with the pieces that they closed
-abbrev pub reading : List ℕ → Reading
+abbrev pub reading : List ℕ → StateWithPieces
 reading bytes = reading_from (record { state = first_state; pieces = [] }) bytes

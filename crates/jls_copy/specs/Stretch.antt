@@ -27,8 +27,8 @@ LeadsTo from bytes to =
     ≡ record { state = record { count = count + length bytes; place = to; headers = h; payload = payload }; pieces = ps }
 
 -- byte after byte these bytes lead from one state to another, but for its count, and close these pieces, whatever pieces there were before
-abbrev pub Leads : ReaderState → List ℕ → ReaderState → List FoundPiece → Type 0
-Leads from bytes to closed =
+abbrev pub BytesLead : ReaderState → List ℕ → ReaderState → List FoundPiece → Type 0
+BytesLead from bytes to closed =
     (ps : List FoundPiece) → reading_from (record { state = from; pieces = ps }) bytes
     ≡ record { state = record to { count = from.count + length bytes }; pieces = ps ++ closed }
 

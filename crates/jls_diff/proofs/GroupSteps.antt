@@ -7,7 +7,7 @@ use Rattle.std.proofs.lemmas.List.Elements.{Contains-append_left, Contains-appen
 use Rattle.jls_diff.specs.Parts.{Part, Same, Differ}
 use Rattle.jls_diff.specs.Borders.{IsBorder, IsBorderOf}
 use Rattle.jls_diff.specs.Parts.{Differs}
-use Rattle.jls_diff.specs.Groups.{IsGroup, IsInSome, CoverParts, closed_groups, IsClosed, IsFound}
+use Rattle.jls_diff.specs.Groups.{IsGroup, IsInSome, CoverParts, closed_groups, IsClosed, AreGroupsFound}
 use Rattle.jls_diff.specs.declared.border.Border.{Border}
 use Rattle.jls_diff.specs.declared.group.Group.{Group}
 use Rattle.jls_diff.specs.declared.grouping.Found.{Found}
@@ -43,7 +43,8 @@ place_is_before : (ps : List Part) (count place : ℕ) (end : Option Border) →
 place_is_before ps count place None l h = tt
 place_is_before ps count place (Some border) l h = let e = h.1 in omega (arith, l, e)
 
-module _ (ps : List Part) (count : ℕ) (found : Found) (end : Option Border) (is : IsFound ps count found) (is_end : IsEnd ps count end)
+module _ (ps : List Part) (count : ℕ) (found : Found) (end : Option Border) (is : AreGroupsFound ps count found)
+    (is_end : IsEnd ps count end)
   where
     abbrev The : Group
     The = record { head = found.head; begin = found.begin; end = end }
@@ -86,10 +87,10 @@ module _ (ps : List Part) (count : ℕ) (found : Found) (end : Option Border) (i
 
 -- Steps ------------------------------------------------------------------------------------------------------------
 
-module _ (ps : List Part) (count : ℕ) (found : Found) (is : IsFound ps count found) where
+module _ (ps : List Part) (count : ℕ) (found : Found) (is : AreGroupsFound ps count found) where
   -- a part in which copies differ
-  pub pass_differ : (after : Found) → after ≡ record found { is_open = true } → IsFound ps (count + 1) after
-  pass_differ after e = subst (IsFound ps (count + 1)) (sym e) (record {
+  pub pass_differ : (after : Found) → after ≡ record found { is_open = true } → AreGroupsFound ps (count + 1) after
+  pass_differ after e = subst (AreGroupsFound ps (count + 1)) (sym e) (record {
     begin = is.begin;
     following = (let l = is.following in let g : found.begin.part < count + 1 = omega (arith, l) in g);
     head = is.head;
@@ -112,7 +113,7 @@ module _ (ps : List Part) (count : ℕ) (found : Found) (is : IsFound ps count f
       ]
 
   -- a part that all have alike, without a border
-  pub pass_same : (Differs (get_or ps count (Same [])) → ⊥) → IsFound ps (count + 1) found
+  pub pass_same : (Differs (get_or ps count (Same [])) → ⊥) → AreGroupsFound ps (count + 1) found
   pass_same same = record {
     begin = is.begin;
     following = (let l = is.following in let g : found.begin.part < count + 1 = omega (arith, l) in g);
@@ -125,10 +126,10 @@ module _ (ps : List Part) (count : ℕ) (found : Found) (is : IsFound ps count f
   pub pass_border : (Differs (get_or ps count (Same [])) → ⊥) → (closed after : Found) (end next : Border) → IsBorder ps end
       → IsBorder ps next
       → end.part ≡ count → next.part ≡ count → IsClosed found (Some end) closed → after ≡ record closed { begin = next }
-      → IsFound ps (count + 1) after
+      → AreGroupsFound ps (count + 1) after
   pass_border same closed after end next is_end is_next at_end at_next c e =
       let heads : closed.head ≡ found.head = c.head in
-      subst (IsFound ps (count + 1)) (sym e) (record {
+      subst (AreGroupsFound ps (count + 1)) (sym e) (record {
         begin = is_next;
         following = (let g : next.part < count + 1 = omega (arith, at_next) in g);
         head = (let h = is.head in let b = is.following in let g : closed.head ≤ next.part = omega (arith, h, b, at_next, heads) in g);
@@ -147,7 +148,7 @@ module _ (ps : List Part) (count : ℕ) (found : Found) (is : IsFound ps count f
 -- before the first part after the first border
 pub found_first : (ps : List Part) (first : Border) (found : Found) → IsBorder ps first → found.head ≡ first.part → found.begin ≡ first
     → found.groups.items ≡ [] → ((place : ℕ) → place < first.part + 1 → Differs (get_or ps place (Same [])) → place < first.part)
-    → IsFound ps (first.part + 1) found
+    → AreGroupsFound ps (first.part + 1) found
 found_first ps first found is head_is begin_is none before = record {
   begin = subst (IsBorder ps) (sym begin_is) is;
   following = (let e : found.begin.part ≡ first.part = ap (λ (b : Border). b.part) begin_is in omega (arith, e));
@@ -157,7 +158,8 @@ found_first ps first found is head_is begin_is none before = record {
 }
 
 -- what is found of all parts, however many were gone over
-pub found_all : (ps : List Part) (count : ℕ) (found : Found) → length ps ≤ count → IsFound ps count found → IsFound ps (length ps) found
+pub found_all : (ps : List Part) (count : ℕ) (found : Found) → length ps ≤ count → AreGroupsFound ps count found
+    → AreGroupsFound ps (length ps) found
 found_all ps count found l is = record {
   begin = is.begin;
   following = is.begin.0;
@@ -191,7 +193,7 @@ in_head : (ps : List Part) (head place : ℕ) (groups : List Group)
 in_head ps head place [] h some l = absurd (omega (arith, some))
 in_head ps head place (group ∷ groups) h some l = (group, (0, omega arith, refl), inl (subst (λ n. place < n) (sym h.0.1) l))
 
-module _ (ps : List Part) (found after : Found) (is : IsFound ps (length ps) found) (closed : IsClosed found None after) where
+module _ (ps : List Part) (found after : Found) (is : AreGroupsFound ps (length ps) found) (closed : IsClosed found None after) where
   all_groups : AllByRecursion (λ (group : Group). IsGroup ps group × (group.head ≡ found.head)) after.groups.items
   all_groups = subst (λ gs. AllByRecursion (λ (group : Group). IsGroup ps group × (group.head ≡ found.head)) gs) (sym closed.groups)
       (closed_groups_are ps (length ps) found None is tt)

@@ -47,7 +47,7 @@ pub record IsClosed (before : Found) (end : Option Border) (after : Found) : Typ
   pub groups : after.groups.items ≡ closed_groups before end
 
 -- what is found of so many parts
-pub record IsFound (parts : List Part) (count : ℕ) (found : Found) : Type 0 where
+pub record AreGroupsFound (parts : List Part) (count : ℕ) (found : Found) : Type 0 where
   pub begin : IsBorder parts found.begin
   pub following : found.begin.part < count
   pub head : found.head ≤ found.begin.part

@@ -5,7 +5,7 @@ ghost use Rattle.std.specs.List.{AllByRecursion};
 ghost use Rattle.jls_diff.specs.Parts.{Differs, Same};
 ghost use Rattle.jls_diff.specs.PartsOf.{parts_of};
 ghost use Rattle.jls_diff.specs.Borders.{IsBorder};
-ghost use Rattle.jls_diff.specs.Groups.{IsGroup, CoverParts, IsClosed, IsFound};
+ghost use Rattle.jls_diff.specs.Groups.{IsGroup, CoverParts, IsClosed, AreGroupsFound};
 
 use crate::border::{Border, borders_at, scan_in};
 use crate::group::Group;
@@ -69,8 +69,8 @@ fn close(found: &mut Found, end: Option<Border>) -> Result<(), AllocError>
 #[tactic(auto, using(crate::proofs::GroupSteps::pass_differ, crate::proofs::GroupSteps::pass_same, crate::proofs::GroupSteps::pass_border))]
 fn pass(found: &mut Found, parts: &[Part<'_>], part: usize) -> Result<(), AllocError>
     requires within { part < length parts.now }
-    requires found { IsFound (parts_of parts.now) part found.old }
-    ensures { OnOk result (IsFound (parts_of parts.now) (part + 1) found.new) }
+    requires found { AreGroupsFound (parts_of parts.now) part found.old }
+    ensures { OnOk result (AreGroupsFound (parts_of parts.now) (part + 1) found.new) }
 {
     if differs_at(parts, part) {
         found.is_open = true;
@@ -88,7 +88,7 @@ fn pass(found: &mut Found, parts: &[Part<'_>], part: usize) -> Result<(), AllocE
 #[tactic(auto, using(crate::proofs::GroupSteps::found_first, crate::proofs::GroupSteps::is_before, crate::proofs::GroupSteps::found_all))]
 fn found_in(alloc: Global, parts: &[Part<'_>], first: Border) -> Result<Found, AllocError>
     requires { IsBorder (parts_of parts.now) first }
-    ensures { IfOk result (λ found. IsFound (parts_of parts.now) (length parts.now) found) }
+    ensures { IfOk result (λ found. AreGroupsFound (parts_of parts.now) (length parts.now) found) }
 {
     let mut found = Found {
         head: first.part,

@@ -9,8 +9,8 @@ use Rattle.jls_write.specs.Options.{OptionsFit, WriteOptions}
 use Rattle.jls_write.specs.Picture.{WholePicture}
 
 -- the options don't fit and the sink is as before, or the file stopped within its bytes
-abbrev pub StopsAt : WholePicture → WriteOptions → History → History → Option (List ℕ) → Option (List ℕ) → WriteFault → Type 0
-StopsAt picture options old new held holds DoesNotFit =
+abbrev pub StopsAtFault : WholePicture → WriteOptions → History → History → Option (List ℕ) → Option (List ℕ) → WriteFault → Type 0
+StopsAtFault picture options old new held holds DoesNotFit =
     (OptionsFit picture options → ⊥) × (new ≡ old) × (holds ≡ held)
-StopsAt picture options old new held holds (Output fault) =
+StopsAtFault picture options old new held holds (Output fault) =
     OptionsFit picture options × StopsIn fault 0 old new held holds (written_file picture options)

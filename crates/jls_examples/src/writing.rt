@@ -1,6 +1,6 @@
 //! Pictures that are written to a sink.
 
-ghost use Rattle.jls_examples.specs.Written.{StopsAt};
+ghost use Rattle.jls_examples.specs.Written.{StopsAtFault};
 ghost use Rattle.jls_write.specs.WrittenFile.{written_file};
 ghost use Rattle.jls_write.specs.Options.{OptionsFit};
 ghost use Rattle.jls_write.specs.Outcomes.{HandedOut, HandedPrefix, StoppedBy};
@@ -41,7 +41,7 @@ pub fn hand_out_jls<W: Sink>(
     ensures fit { OnOk result (OptionsFit picture.now options.now) }
     ensures all { OnOk result (HandedOut (W.history sink.old) (W.history sink.new)
         (W.contents sink.old) (W.contents sink.new) (written_file picture.now options.now)) }
-    ensures stops { IfErr result (λ fault. StopsAt picture.now options.now
+    ensures stops { IfErr result (λ fault. StopsAtFault picture.now options.now
         (W.history sink.old) (W.history sink.new) (W.contents sink.old) (W.contents sink.new) fault) }
 {
     if !options.fits(picture) {

@@ -23,7 +23,7 @@ use Rattle.jls_copy.specs.ReadCopy.{ReadCopy}
 use Rattle.jls_io.specs.Event.{Event, bytes_given}
 use Rattle.jls_station.specs.Given.{CopyReport, Given, Gives, by_text, by_copy, marked}
 use Rattle.jls_station.specs.Inputs.{IsCopyDone, IsEnough}
-use Rattle.jls_station.specs.Reading.{AreBytes}
+use Rattle.jls_marker.specs.SegmentLaws.{AreBytes}
 use Rattle.jls_station.specs.Texts.{is_text}
 use Rattle.jls_station.specs.TakingCopies.{CopyGives, RefusesCopy, gives_none, other_shape, no_memory}
 use Rattle.jls_station.specs.declared.take_copy.TakeFault.{TakeFault}

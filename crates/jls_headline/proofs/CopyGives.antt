@@ -16,7 +16,7 @@ use Rattle.jls_copy_laws.proofs.CopyScans.{course_has_scans}
 use Rattle.jls_copy_laws.proofs.Gives.{readings_are_of_the_course}
 use Rattle.jls_headline.specs.Stations.{HasShape}
 use Rattle.jls_copy.specs.Course.{Course}
-use Rattle.jls_copy.specs.Prefixes.{Gives}
+use Rattle.jls_copy.specs.Prefixes.{CourseHasReading}
 use Rattle.jls_copy.proofs.ReadGives.{piece_listed, held_is_given, given_is_held}
 
 abbrev some_shape : PictureShape → Option PictureShape
@@ -30,11 +30,11 @@ listed ps os r are c = let g = piece_listed ps os r are c in
 
 -- What a course gives ---------------------------------------------------------------------------------------------
 
-course_gives_it : (c : Course) (r : Reading) → Gives c r → CourseGives c r
+course_gives_it : (c : Course) (r : Reading) → CourseHasReading c r → CourseGives c r
 course_gives_it c r (inl (p, m, lines, reads, has)) = inl (p, m, record { lines = lines; reads = reads; among = has })
 course_gives_it c r (inr (p, m, head, is, has)) = inr (p, m, record { head = head; is_head = is; among = has })
 
-gives_it : (c : Course) (r : Reading) → CourseGives c r → Gives c r
+gives_it : (c : Course) (r : Reading) → CourseGives c r → CourseHasReading c r
 gives_it c r (inl (p, m, g)) = inl (p, m, g.lines, g.reads, g.among)
 gives_it c r (inr (p, m, g)) = inr (p, m, g.head, g.is_head, g.among)
 

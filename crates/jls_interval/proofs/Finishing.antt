@@ -12,7 +12,7 @@ use Rattle.jls_bits.proofs.Appending.{whole_prefix}
 use Rattle.jls_interval.specs.Lines.{interval_shape}
 use Rattle.jls_interval.specs.Reads.{Reads, IsLong, IsBroken}
 use Rattle.jls_interval.specs.PieceFaults.{NoLines, OutcomeIs}
-use Rattle.jls_interval.specs.Decoding.{IsComplete, BeginsNoCode, HaveWidth, IsReading, TakesFirst, GivesBack, HasShape}
+use Rattle.jls_interval.specs.Decoding.{IsComplete, BeginsNoCode, HaveWidth, IsReading, TakesFirst, GivesBack, KeepsShape}
 use Rattle.jls_interval.specs.IntervalBytes.{IsReadingBefore, HasLengths}
 use Rattle.jls_interval.specs.declared.interval_reader.IntervalReader.{IntervalReader}
 use Rattle.jls_interval.specs.declared.decode_piece.PieceFault.{PieceFault}
@@ -183,7 +183,7 @@ pub before_back : (p : CodingParameters) (bytes : List ℕ) (d d' : IntervalRead
 before_back p bytes d d' chunk h b = let g = b p (bits_read bytes) h in
     record { given = g.before; bits_are = g.given_is; reading = g.reading }
 
-pub lengths_same : (bytes : List ℕ) (d d' : IntervalReader) → HasShape d d' → (d'.lines ≡ d.lines) × (d'.reader.line ≡ d.reader.line)
+pub lengths_same : (bytes : List ℕ) (d d' : IntervalReader) → KeepsShape d d' → (d'.lines ≡ d.lines) × (d'.reader.line ≡ d.reader.line)
     → HasLengths bytes d
     → HasLengths bytes d'
 lengths_same bytes d d' s e h = record {

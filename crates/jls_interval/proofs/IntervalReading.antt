@@ -8,8 +8,8 @@ use Rattle.jls_context.specs.Variables.{Variables}
 use Rattle.jls_interval.specs.Events.{Event, Above, above}
 use Rattle.jls_interval.specs.After.{IsAfter}
 use Rattle.jls_interval.specs.OpenEvents.{NoEvent, OpenEventAt, Holds, EventDone, EventPushed}
-use Rattle.jls_interval.specs.Decoding.{IsWorking, BeginsNoCode, StateIs, HaveWidth, IsReading, TakesAll, Taken, TakesFirst, TakesEvent}
-use Rattle.jls_interval.specs.Decoding.{HasShape}
+use Rattle.jls_interval.specs.Decoding.{IsWorking, BeginsNoCode, StateIs, HaveWidth, IsReading, TakesAllBits, Taken, TakesFirst, TakesEvent}
+use Rattle.jls_interval.specs.Decoding.{KeepsShape}
 use Rattle.jls_interval.specs.LineSamples.{Works, TakesInLine}
 use Rattle.jls_interval.specs.declared.line_reader.OpenEvent.{OpenEvent}
 use Rattle.jls_interval.specs.declared.line_reader.OpenEvent.TheVariants.{NotBegun}
@@ -22,10 +22,10 @@ use Rattle.jls_interval.proofs.GrownLines.{added_fits}
 use Rattle.jls_interval.proofs.Decoding.{working_more, working_refused, no_code_more}
 use Rattle.jls_interval.specs.declared.interval_reader.IntervalReader.{IntervalReader}
 
-pub shape_none : (d : IntervalReader) → HasShape d d
+pub shape_none : (d : IntervalReader) → KeepsShape d d
 shape_none d = record { width = refl; components = refl; count = refl }
 
-pub shape_then : (a b c : IntervalReader) → HasShape a b → HasShape b c → HasShape a c
+pub shape_then : (a b c : IntervalReader) → KeepsShape a b → KeepsShape b c → KeepsShape a c
 shape_then a b c f g = record { width = g.width ∙ f.width; components = g.components ∙ f.components; count = g.count ∙ f.count }
 
 pub taking_none : (old : IntervalReader) (chunk : List Bool) → TakesFirst old chunk old chunk
@@ -46,7 +46,7 @@ module _ (old now next : IntervalReader) (chunk unread : List Bool) (t : TakesFi
   taking_more unread' s =
       taking_then unread' (λ p given h. (let b = s p given h in record { taken = b.taken; chunk_is = b.chunk_is; reading = b.reading }))
 
-  pub taking_all : (none : List Bool) → none ≡ [] → TakesAll now next unread → TakesFirst old chunk next none
+  pub taking_all : (none : List Bool) → none ≡ [] → TakesAllBits now next unread → TakesFirst old chunk next none
   taking_all none e s = λ p given h.
       let a = t p given h in
       record {

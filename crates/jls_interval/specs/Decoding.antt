@@ -66,8 +66,8 @@ pub record IsReading (p : CodingParameters) (given : List Bool) (d : IntervalRea
       (λ v. v.items) d.lines.items) d.reader.line.items d.reader.coder.cells d.reader.coder.run_indices d.reader.open_event d.state
 
 -- all bits of a chunk were taken
-abbrev pub TakesAll : IntervalReader → IntervalReader → List Bool → Type 0
-TakesAll old new chunk =
+abbrev pub TakesAllBits : IntervalReader → IntervalReader → List Bool → Type 0
+TakesAllBits old new chunk =
     (p : CodingParameters) (given : List Bool) → IsReading p given old → IsReading p (given ++ chunk) new
 
 -- the first bits of a chunk were taken
@@ -92,7 +92,7 @@ abbrev pub GivesBack : IntervalReader → IntervalReader → List Bool → Type 
 GivesBack old new chunk = (p : CodingParameters) (given : List Bool) → IsReading p given old → GivenBack p given new chunk
 
 -- the first bits of a chunk were taken, some of them
-pub record Takes (p : CodingParameters) (given : List Bool) (new : IntervalReader) (chunk unread : List Bool) : Type 0 where
+pub record TakesSomeBits (p : CodingParameters) (given : List Bool) (new : IntervalReader) (chunk unread : List Bool) : Type 0 where
   pub taken : List Bool
   pub chunk_is : chunk ≡ taken ++ unread
   pub some : 0 < length taken
@@ -101,11 +101,11 @@ pub record Takes (p : CodingParameters) (given : List Bool) (new : IntervalReade
 -- a whole event was taken, or all that the bits say
 abbrev pub TakesEvent : IntervalReader → IntervalReader → List Bool → List Bool → Bool → Type 0
 TakesEvent old new chunk unread true =
-    (p : CodingParameters) (given : List Bool) → IsReading p given old → Takes p given new chunk unread
-TakesEvent old new chunk unread false = TakesAll old new chunk
+    (p : CodingParameters) (given : List Bool) → IsReading p given old → TakesSomeBits p given new chunk unread
+TakesEvent old new chunk unread false = TakesAllBits old new chunk
 
 -- the shape of an interval stays
-pub record HasShape (old new : IntervalReader) : Type 0 where
+pub record KeepsShape (old new : IntervalReader) : Type 0 where
   pub width : new.reader.width ≡ old.reader.width
   pub components : new.components ≡ old.components
   pub count : new.count ≡ old.count

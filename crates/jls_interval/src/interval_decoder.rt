@@ -9,7 +9,7 @@ ghost use Rattle.jls_values.specs.Params.{AreCodingParameters, CodingParameters}
 ghost use Rattle.jls_interval.specs.Reads.{Reads, ReadsNoMore};
 ghost use Rattle.jls_interval.specs.PieceFaults.{OutcomeIs};
 ghost use Rattle.jls_interval.specs.CutEnds.{CutEndIs};
-ghost use Rattle.jls_interval.specs.Decoding.{GivesBack, HasShape, IsReading};
+ghost use Rattle.jls_interval.specs.Decoding.{GivesBack, KeepsShape, IsReading};
 ghost use Rattle.jls_interval.specs.IntervalBytes.{IsReadingOf, ReadsBefore, HasLengths, interval_asked};
 
 use crate::coder::Coder;
@@ -65,7 +65,7 @@ const WAITING: u8 = 32;
 /// Gives back the bits of the sample in hand, where no byte so far ends the data: else none.
 fn take_back(ended: bool, reader: &mut IntervalReader) -> Chunk
     requires { ended ≡ false → (p : CodingParameters) × (given : List Bool) × IsReading p given reader.old }
-    ensures shape { HasShape reader.old reader.new }
+    ensures shape { KeepsShape reader.old reader.new }
     ensures kept { (reader.new.lines ≡ reader.old.lines) × (reader.new.reader.line ≡ reader.old.reader.line) }
     ensures bits { ended ≡ false → GivesBack reader.old reader.new result }
     ensures few { length result ≤ 56 }
@@ -88,7 +88,7 @@ fn push_bytes(
     requires room { length given_back ≤ 56 }
     requires reading { (p : CodingParameters) × ReadsBefore p unstuffer.old given_back reader.old }
     requires lengths { HasLengths unstuffer.old reader.old }
-    ensures shape { HasShape reader.old reader.new }
+    ensures shape { KeepsShape reader.old reader.new }
     ensures are_bytes { AllByRecursion (λ x. x < 256) unstuffer.old → AllByRecursion (λ x. x < 256) unstuffer.new }
     ensures pushed { OnOk result (unstuffer.new ≡ unstuffer.old ++ bytes.now) }
     ensures whole { IfOk result (λ whole. whole ≡ is_whole unstuffer.new) }

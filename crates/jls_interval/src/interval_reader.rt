@@ -52,12 +52,12 @@ fn cloned_lines(alloc: Global, lines: &[Vec<u16>]) -> Result<Vec<Vec<u16>>, Allo
 }
 
 impl IntervalReader {
-    ghost use Rattle.jls_interval.specs.Decoding.{IsReading, TakesAll, TakesFirst, TakesEvent, GivesBack, HasShape};
+    ghost use Rattle.jls_interval.specs.Decoding.{IsReading, TakesAllBits, TakesFirst, TakesEvent, GivesBack, KeepsShape};
     ghost use Rattle.jls_interval.specs.IntervalBytes.{HasLengths};
 
     /// A second reader that was given the same bits.
     pub(crate) fn try_clone(&self) -> Result<IntervalReader, AllocError>
-        ensures shape { IfOk result (HasShape self.now) }
+        ensures shape { IfOk result (KeepsShape self.now) }
         ensures lengths { IfOk result (λ clone. (bytes : List ℕ) → HasLengths bytes self.now → HasLengths bytes clone) }
         ensures bits { IfOk result
             (λ clone. (p : CodingParameters) (given : List Bool) → IsReading p given self.now → IsReading p given clone) }
@@ -79,7 +79,7 @@ impl IntervalReader {
     fn push_event(&mut self, chunk: &mut Chunk) -> Result<bool, AllocError>
         requires state { self.old.state ≡ State.Working }
         requires reading { (p : CodingParameters) × (given : List Bool) × IsReading p given self.old }
-        ensures shape { HasShape self.old self.new }
+        ensures shape { KeepsShape self.old self.new }
         ensures bits { IfOk result (TakesEvent self.old self.new chunk.old chunk.new) }
     {
         let place = Place::after(&self.lines, self.components);
@@ -106,7 +106,7 @@ impl IntervalReader {
     /// Gives back the bits of the sample in hand, to be taken once more with those that follow them: none, where no short code has begun.
     pub(crate) fn take_back(&mut self) -> Chunk
         requires { (p : CodingParameters) × (given : List Bool) × IsReading p given self.old }
-        ensures shape { HasShape self.old self.new }
+        ensures shape { KeepsShape self.old self.new }
         ensures kept { (self.new.lines ≡ self.old.lines) × (self.new.reader.line ≡ self.old.reader.line) }
         ensures bits { GivesBack self.old self.new result }
         ensures few { length result ≤ 56 }
@@ -129,8 +129,8 @@ impl IntervalReader {
 
     /// Counts the bits that come after the lines' code.
     fn count_bits(&mut self, chunk: &Chunk)
-        ensures shape { HasShape self.old self.new }
-        ensures bits { (self.old.state ≡ State.Working → ⊥) → TakesAll self.old self.new chunk.now }
+        ensures shape { KeepsShape self.old self.new }
+        ensures bits { (self.old.state ≡ State.Working → ⊥) → TakesAllBits self.old self.new chunk.now }
     {
         if let State::Complete(extra) = self.state {
             self.state = State::Complete(extra.saturating_add(chunk.len()).min(8));
@@ -149,7 +149,7 @@ impl IntervalReader {
     #[inline(always)]
     pub(crate) fn push_chunk(&mut self, waiting: u8, chunk: &mut Chunk) -> Result<(), AllocError>
         requires { (p : CodingParameters) × (given : List Bool) × IsReading p given self.old }
-        ensures shape { HasShape self.old self.new }
+        ensures shape { KeepsShape self.old self.new }
         ensures bits { OnOk result (TakesFirst self.old chunk.old self.new chunk.new) }
         ensures few { OnOk result (length chunk.new ≤ waiting - 1) }
     {

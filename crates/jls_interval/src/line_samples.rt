@@ -2,7 +2,7 @@
 
 ghost use Rattle.std.specs.Prelude.{◌≡◌, ◌<◌, ◌≤◌, ◌++◌, length, pos, ◌-ℤ◌, IfSome, OnOk};
 ghost use Rattle.jls_values.specs.Params.{limit, qbpp};
-ghost use Rattle.jls_context.specs.Mode.{IsRegularMode, IsStep, quantized_gradient};
+ghost use Rattle.jls_context.specs.Mode.{IsRegularMode, IsQuantizedGradient, quantized_gradient};
 ghost use Rattle.jls_context.specs.Errors.{IsError};
 ghost use Rattle.jls_context.specs.Regular.{regular_k};
 ghost use Rattle.jls_context.specs.Variables.{cell_at};
@@ -53,7 +53,7 @@ fn take_sample(
     requires lengths { AreLengths coder.old.cells.parameters lengths }
     requires first { gradients.first ≡ quantized_gradient coder.old.cells.parameters (pos neighbours.rd -ℤ pos neighbours.rb) }
     requires second { gradients.second ≡ quantized_gradient coder.old.cells.parameters (pos neighbours.rb -ℤ pos neighbours.rc) }
-    requires steps { IsStep gradients.first × IsStep gradients.second }
+    requires steps { IsQuantizedGradient gradients.first × IsQuantizedGradient gradients.second }
     ensures prefix { PrefixIs coder.old.cells.parameters neighbours coder.old coder.new chunk.old chunk.new result }
     ensures parameters { coder.new.cells.parameters ≡ coder.old.cells.parameters }
 {

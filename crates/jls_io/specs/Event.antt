@@ -89,3 +89,11 @@ pub record GrewBy (Are : List Event → Type 0) (old new : History) : Type 0 whe
   pub events : List Event
   pub grew : new ≡ old ++ events
   pub they_are : Are events
+
+-- the histories of two devices grew by events, and they are such: nothing else was done
+pub record GrewBoth (Are : List Event → List Event → Type 0) (desk desk' report report' : History) : Type 0 where
+  pub desk_events : List Event
+  pub report_events : List Event
+  pub desk_is : desk' ≡ desk ++ desk_events
+  pub report_is : report' ≡ report ++ report_events
+  pub they_are : Are desk_events report_events

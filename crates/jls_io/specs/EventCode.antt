@@ -5,11 +5,11 @@ use Rattle.std.proofs.Common.{inl, inr, Bool, true, false}
 use Rattle.jls_io.specs.Event.{Event, History, opened, not_opened, gave, read_failed, created, not_created, took, write_failed}
 
 -- a name or bytes; then room and bytes; then one of two failures
-abbrev Texts : Type 0
-Texts = (List ℕ ⊎ List ℕ) ⊎ ((List ℕ ⊎ List ℕ) ⊎ List ℕ)
+abbrev StoredTexts : Type 0
+StoredTexts = (List ℕ ⊎ List ℕ) ⊎ ((List ℕ ⊎ List ℕ) ⊎ List ℕ)
 
 abbrev Stored : Type 0
-Stored = Texts ⊎ ((ℕ × List ℕ) ⊎ Bool)
+Stored = StoredTexts ⊎ ((ℕ × List ℕ) ⊎ Bool)
 
 abbrev stored : Event → Stored
 stored (opened name) = inl (inl (inl name))
@@ -45,7 +45,7 @@ restored_again write_failed = refl
 abbrev coded_text : Coded (List ℕ)
 coded_text = coded_list coded_ℕ
 
-abbrev coded_texts : Coded Texts
+abbrev coded_texts : Coded StoredTexts
 coded_texts = coded⊎ (coded⊎ coded_text coded_text) (coded⊎ (coded⊎ coded_text coded_text) coded_text)
 
 -- how an event is stored

@@ -15,13 +15,13 @@ pub record IsPartOf (picture part : PartialPicture) : Type 0 where
       → holds part component line samples ≡ true → holds picture component line samples ≡ true
 
 -- one of these partial pictures has a reading of the line
-abbrev pub IsHeld : List PartialPicture → ℕ → ℕ → Type 0
-IsHeld parts component line = (part : PartialPicture) × Contains parts part × (readings_at part component line ≡ [] → ⊥)
+abbrev pub IsLineHeld : List PartialPicture → ℕ → ℕ → Type 0
+IsLineHeld parts component line = (part : PartialPicture) × Contains parts part × (readings_at part component line ≡ [] → ⊥)
 
 -- of each line of a shape one of these partial pictures has a reading
 abbrev pub EachLineIsHeld : PictureShape → List PartialPicture → Type 0
 EachLineIsHeld shape parts =
-    (component : ℕ) → component < length shape.ids → (line : ℕ) → line < shape.height → IsHeld parts component line
+    (component : ℕ) → component < length shape.ids → (line : ℕ) → line < shape.height → IsLineHeld parts component line
 
 -- a join holds the readings that any of its members holds, and no others
 abbrev pub JoinsHoldExactly : Type 0

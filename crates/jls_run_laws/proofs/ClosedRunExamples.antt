@@ -20,7 +20,7 @@ use Rattle.jls_partial.specs.Reading.{Reading, reading_of, reading_cmp}
 use Rattle.jls_partial.specs.Text.{text, text_of}
 use Rattle.jls_copy.specs.declared.piece.PieceKind.TheVariants as kind
 use Rattle.jls_copy_laws.proofs.Members.{bytes_of_test}
-use Rattle.jls_station.specs.Reading.{AreBytes}
+use Rattle.jls_marker.specs.SegmentLaws.{AreBytes}
 use Rattle.jls_cli.specs.Outcomes.{finished}
 use Rattle.jls_salvage_run.specs.declared.writing.Format.TheVariants.{Pnm}
 use Rattle.jls_run_laws.specs.JoinThenWrite.{JoinsDamagedCopies, JoinsForDamagedCopies, WritesWhatWasJoined}

@@ -9,7 +9,7 @@ use Rattle.jls_partial.specs.Partial.{PartialPicture, union, has_same_shape}
 use Rattle.jls_partial.specs.PartialLaws.{one_shape, shape_itself}
 use Rattle.jls_partial.specs.Text.{IsTextOf}
 use Rattle.jls_station.specs.Given.{Given, Gives, by_text, by_copy, GivesPartial}
-use Rattle.jls_station.specs.Reading.{AreBytes}
+use Rattle.jls_marker.specs.SegmentLaws.{AreBytes}
 use Rattle.jls_station.specs.Texts.{is_text}
 use Rattle.jls_salvage_run.specs.AllInputs.{partials, AreOfOneShape, IsUnionOf}
 use Rattle.jls_salvage_run.specs.CommandLaws.{input_bytes}

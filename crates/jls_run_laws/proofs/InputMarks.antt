@@ -10,7 +10,7 @@ use Rattle.jls_partial.specs.ReadingOrder.{reading_total, marks_total}
 use Rattle.jls_partial.specs.Partial.{PartialPicture, union}
 use Rattle.jls_partial.proofs.Unions.{either}
 use Rattle.jls_station.specs.Given.{Given, Gives, by_text, by_copy, GivesPartial}
-use Rattle.jls_station.specs.Reading.{AreBytes}
+use Rattle.jls_marker.specs.SegmentLaws.{AreBytes}
 use Rattle.jls_salvage_run.specs.AllInputs.{IsUnionOf}
 use Rattle.jls_salvage_run.proofs.InputBytes.{AreGiven}
 use Rattle.jls_copy_laws.specs.Gives.{GivesReading}

@@ -28,7 +28,7 @@ use Rattle.jls_station.specs.Inputs.{IsEnough}
 use Rattle.jls_salvage_run.specs.AllInputs.{IsTaken}
 use Rattle.jls_salvage_run.specs.Joining.{JoinIsDone}
 use Rattle.jls_salvage_run.specs.CommandLaws.{AreInputsOf, input_bytes}
-use Rattle.jls_station.specs.Reading.{IsRead, AreBytes}
+use Rattle.jls_station.specs.Reading.{IsRead}
 use Rattle.jls_station.specs.declared.input.ReadStop.TheVariants.{Whole}
 use Rattle.jls_cli.specs.Outcomes.{finished}
 use Rattle.jls_station.proofs.OneInput.{empty_goes_on}
@@ -54,6 +54,7 @@ use Rattle.jls_headline.proofs.Stations.{copy_holds}
 use Rattle.jls_headline.proofs.TwoLineCopies.{shape, pic, is_picture, first, second, first_course, second_course, course_with, lost_first}
 use Rattle.jls_headline.proofs.TwoLineCopies.{first_data, second_data, first_scans, second_scans}
 use Rattle.jls_headline.proofs.TwoLineExamples.{shape_read, both_are_damaged, line_0, line_1, each_line_survives}
+use Rattle.jls_marker.specs.SegmentLaws.{AreBytes}
 
 -- One input that is a copy ---------------------------------------------------------------------------------------
 

@@ -17,7 +17,7 @@ use Rattle.jls_write.specs.Picture.{WholePicture, line_of}
 use Rattle.jls_write.specs.WholePictures.{IsPicture}
 use Rattle.jls_station.specs.Given.{Given, Gives, by_text, by_copy, GivesPartial}
 use Rattle.jls_station.specs.Texts.{is_text, IsTextOf}
-use Rattle.jls_station.specs.Reading.{AreBytes}
+use Rattle.jls_marker.specs.SegmentLaws.{AreBytes}
 use Rattle.jls_salvage_run.specs.AllInputs.{partials, AreOfOneShape, IsUnionOf}
 use Rattle.jls_salvage_run.specs.CommandLaws.{input_bytes}
 use Rattle.jls_salvage_run.proofs.InputBytes.{AreGiven}

@@ -8,7 +8,7 @@ use Rattle.jls_io.specs.Event.{Event, gave, read_failed, took, is_read, is_openi
 use Rattle.jls_io.specs.Event.{is_creation, bytes_given, bytes_given_by, bytes_taken}
 use Rattle.jls_io.specs.Writing.{AreWrites}
 use Rattle.jls_station.specs.Given.{Given, GivesPartial}
-use Rattle.jls_station.specs.Reading.{AreBytes}
+use Rattle.jls_marker.specs.SegmentLaws.{AreBytes}
 use Rattle.jls_station.specs.Inputs.{IsEnough}
 use Rattle.jls_station.proofs.ReadBytes.{AreReads, all_reads}
 use Rattle.jls_salvage_run.specs.AllInputs.{partials, IsTaken, TakesInTurn}

@@ -3,14 +3,13 @@ use Rattle.std.proofs.Common.{◌≡◌, ℕ, Bool, List, [], None, Err, sym, su
 use Rattle.std.proofs.lemmas.List.{append-nil}
 use Rattle.std.specs.Borrow.{Bor}
 use Rattle.std.specs.Prelude.{codes}
-use Rattle.jls_io.specs.Event.{History, GrewBy}
+use Rattle.jls_io.specs.Event.{History, GrewBy, GrewBoth}
 use Rattle.jls_io.specs.Writing.{Wrote, WrotePrefix}
 use Rattle.jls_station.specs.Given.{Given}
 use Rattle.jls_salvage_run.specs.AllInputs.{IsTaken, StopsAt}
 use Rattle.jls_cli.specs.Outcomes.{finished, refusal_at}
 use Rattle.jls_cli.specs.declared.outcome.Refusal.{Refusal}
 use Rattle.jls_cli.specs.declared.outcome.Cause.TheVariants as cause
-use Rattle.jls_salvage_run.specs.Histories.{GrewBoth}
 use Rattle.jls_salvage_run.specs.Reporting.{Says, PrintsReport, done, at_input, no_memory, not_printed}
 
 module _ (lines : Given → List ℕ) (name : List ℕ) (desk desk' report report' : History) where

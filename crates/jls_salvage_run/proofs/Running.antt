@@ -5,10 +5,9 @@ use Rattle.std.proofs.lemmas.List.{append-nil}
 use Rattle.clap.specs.Words.{Text}
 use Rattle.clap.specs.declared.error.kind.ErrorKind.{ErrorKind}
 use Rattle.clap.specs.declared.error.kind.ErrorKind.TheVariants as kind
-use Rattle.jls_io.specs.Event.{Event, History, GrewBy}
+use Rattle.jls_io.specs.Event.{Event, History, GrewBy, GrewBoth}
 use Rattle.jls_io.specs.Writing.{Printed}
 use Rattle.jls_cli.specs.Outcomes.{Outcome, exit_status}
-use Rattle.jls_salvage_run.specs.Histories.{GrewBoth}
 use Rattle.jls_cli.specs.SalvageWords.{AreRefused}
 use Rattle.jls_cli.specs.SalvageAsking.{Asked, AskFor, AskForNothing, format_is_known}
 use Rattle.jls_cli.specs.Answers.{Answered}

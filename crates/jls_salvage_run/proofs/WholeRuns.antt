@@ -10,7 +10,7 @@ use Rattle.jls_copy.specs.CopyLaws.{BytesDecide}
 use Rattle.jls_copy.specs.ReadCopy.{ReadCopy}
 use Rattle.jls_station.specs.Given.{Given, Gives, by_text, by_copy, GivesPartial, marked}
 use Rattle.jls_station.specs.Texts.{is_text, IsTextOf}
-use Rattle.jls_station.specs.Reading.{AreBytes}
+use Rattle.jls_marker.specs.SegmentLaws.{AreBytes}
 use Rattle.jls_salvage_run.specs.AllInputs.{partials, IsUnionOf, AreOfOneShape}
 use Rattle.jls_salvage_run.specs.CommandLaws.{input_bytes, AreInputsOf, SameInputsSameOutput, SurvivingLinesGiveThePicture}
 use Rattle.jls_salvage_run.proofs.InputBytes.{AreGiven, bytes_of_join}

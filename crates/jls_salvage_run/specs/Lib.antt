@@ -1,6 +1,5 @@
 -- What the contracts of this crate cite.
 pub mod AllInputs
-pub mod Histories
 pub mod Joining
 pub mod CommandLaws
 pub mod Reporting

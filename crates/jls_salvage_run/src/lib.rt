@@ -12,7 +12,7 @@
 //! - `run_laws`: what a run of each command did that is done
 //!
 //! Each command answers `Done` or a `Refusal`, and prints nothing on the fault output. `check`, `show` and `write` take one input by
-//! `open_and_read`. Definitions: `AllInputs` (all inputs, and how one stops a command), `Histories` (two devices), `Tracing` (the lines on
+//! `open_and_read`. Definitions: `AllInputs` (all inputs, and how one stops a command), `Tracing` (the lines on
 //! a copy), `Reporting` (what comes of `check` and `show`), `Joining` (of `join`), `WritingFiles` (of `write`), `CommandLaws`. In jls_cli:
 //! `Outcomes` and `Outputs`.
 //!

@@ -1,6 +1,6 @@
 //! What is asked for, done.
 
-ghost use Rattle.jls_salvage_run.specs.Histories.{GrewBoth};
+ghost use Rattle.jls_io.specs.Event.{GrewBoth};
 ghost use Rattle.jls_cli.specs.SalvageAsking.{asked_of};
 ghost use Rattle.jls_salvage_run.specs.Runs.{CameOf};
 

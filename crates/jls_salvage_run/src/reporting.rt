@@ -1,7 +1,7 @@
 //! The commands `check` and `show`.
 
 ghost use Rattle.std.specs.Prelude.{◌≡◌, ◌++◌, [], IfOk, OnOk, if◌then◌else◌};
-ghost use Rattle.jls_salvage_run.specs.Histories.{GrewBoth};
+ghost use Rattle.jls_io.specs.Event.{GrewBoth};
 ghost use Rattle.jls_salvage_run.specs.Reporting.{lines, report_lines, PrintsReport};
 ghost use Rattle.jls_salvage_run.specs.Tracing.{trace_lines};
 

@@ -12,7 +12,7 @@ use Rattle.jls_partial.proofs.BareEntries.{line_of_fit}
 use Rattle.jls_partial.proofs.Marked.{got_held}
 use Rattle.jls_partial.proofs.Unions.{either, in_its_line}
 use Rattle.jls_copy.specs.CopyReads.{CopyReads}
-use Rattle.jls_copy.specs.Prefixes.{Gives, PrefixesKeepReadings}
+use Rattle.jls_copy.specs.Prefixes.{CourseHasReading, PrefixesKeepReadings}
 use Rattle.jls_copy.specs.ReadCopy.{ReadCopy}
 use Rattle.jls_copy.proofs.OneCourse.{one_course}
 use Rattle.jls_search.specs.Faultless.{IsWithin, IsSought, IsPictureWithin, IsReadWithin}
@@ -58,7 +58,7 @@ module _ (file : List ℕ) (read : ReadCopy) (h : CopyReads file read) where
   read_within None fits within = tt
   read_within (Some ceiling) fits within = λ low course is r given.
       let same = one_course file course h.course is h.is_course in
-      held_within read.partial ceiling fits within r (given_is_held file read h low r (subst (λ c. Gives c r) same given))
+      held_within read.partial ceiling fits within r (given_is_held file read h low r (subst (λ c. CourseHasReading c r) same given))
 
   pub within_read : (ceiling : Option ℕ) → AllByRecursion (λ b. b < 256) file → IsWithin ceiling file → IsReadWithin ceiling read.partial
   within_read None low within = tt

@@ -7,7 +7,7 @@ use Rattle.jls_copy.specs.CopyReads.{CopyReads}
 use Rattle.jls_copy.specs.ReadCopy.{ReadCopy}
 use Rattle.jls_search.specs.Cuts.{TakesNoCut}
 use Rattle.jls_search.specs.Seen.{AreSeen}
-use Rattle.jls_search.specs.Shapes.{HasShape}
+use Rattle.jls_search.specs.Shapes.{HasFrameOfShape}
 use Rattle.jls_search.specs.Stations.{TakesFiles}
 use Rattle.jls_search.specs.declared.seen.Seen.{Seen}
 use Rattle.jls_search.specs.declared.seen.Seen.TheVariants.{Faultless}
@@ -20,11 +20,11 @@ pub cut_taken : (source : Option ℕ) (files : List (List ℕ)) (cut : List ℕ)
     (before after : PartialPicture)
     → CopyReads cut read → shape ≡ read.partial.shape → TakesFiles source files (nothing_known shape) before
     → TakesFiles source (cut ∷ []) before after
-    → HasShape after.shape cut × TakesFiles source (files ++ cut ∷ []) (nothing_known after.shape) after
+    → HasFrameOfShape after.shape cut × TakesFiles source (files ++ cut ∷ []) (nothing_known after.shape) after
 cut_taken source files cut read shape before after reads is taken takes =
     let all = takes_more source files (cut ∷ []) (nothing_known shape) before after taken takes in
     let kept : after.shape ≡ shape = shape_kept source (files ++ cut ∷ []) (nothing_known shape) after all in (
-      subst (λ (s : PictureShape). HasShape s cut) (sym (kept ∙ is)) (shape_read cut read reads),
+      subst (λ (s : PictureShape). HasFrameOfShape s cut) (sym (kept ∙ is)) (shape_read cut read reads),
       subst (λ (s : PictureShape). TakesFiles source (files ++ cut ∷ []) (nothing_known s) after) (sym kept) all,
     )
 

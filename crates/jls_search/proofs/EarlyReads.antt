@@ -16,7 +16,7 @@ use Rattle.jls_copy.specs.declared.end.End.TheVariants.{Eoi, Input, Header}
 use Rattle.jls_diff.specs.Parts.{Part, Same, way}
 use Rattle.jls_search.specs.Choices.{IsPath, prefix_of}
 use Rattle.jls_search.specs.Faultless.{IsDead, IsFaultless}
-use Rattle.jls_search.specs.ReadsBetween.{IsBetween, Reaches, ReadsBetween}
+use Rattle.jls_search.specs.ReadsBetween.{IsOffsetBetween, Reaches, ReadsBetween}
 use Rattle.jls_search.specs.Search.{IsFedUntil}
 use Rattle.jls_copy.specs.Prefixes.{offset_of_end}
 use Rattle.jls_values.proofs.Lists.{in_rest, is_first, all_at, all_prefix}
@@ -159,12 +159,12 @@ each_of P (p ∷ ps) h = (h p (is_first p ps), each_of P ps (λ q m. h q (in_res
 
 -- the pieces between are those of the other course, and read as they do
 each_between : (from to at : ℕ) (c d : Course) → to ≤ at → AreAlsoIn at d c
-    → AllByRecursion (λ p. IsBetween from (Some to) p.offset → HasLines p) (pieces c)
-    → AllByRecursion (λ p. IsBetween from (Some to) p.offset → HasLines p) (pieces d)
+    → AllByRecursion (λ p. IsOffsetBetween from (Some to) p.offset → HasLines p) (pieces c)
+    → AllByRecursion (λ p. IsOffsetBetween from (Some to) p.offset → HasLines p) (pieces d)
 each_between from to at c d low also each =
-    each_of (λ p. IsBetween from (Some to) p.offset → HasLines p) (pieces d) (λ q m here.
+    each_of (λ p. IsOffsetBetween from (Some to) p.offset → HasLines p) (pieces d) (λ q m here.
     let p = also q m (let l = here.1 in omega (arith, l, low)) in
-    p.2.reads.1 (all_at (λ x. IsBetween from (Some to) x.offset → HasLines x) (pieces c) p.0 each p.1 (subst (IsBetween from
+    p.2.reads.1 (all_at (λ x. IsOffsetBetween from (Some to) x.offset → HasLines x) (pieces c) p.0 each p.1 (subst (IsOffsetBetween from
     (Some to)) p.2.offset here)))
 
 module _ (law : PrefixesSettlePieces) (some : SomeCourse) (from to at : ℕ) (from_low : from ≤ at) (to_low : to ≤ at) (file : List ℕ)

@@ -5,7 +5,7 @@ use Rattle.std.proofs.Common.{[], ◌∷◌, Vec, Global}
 use Rattle.std.specs.List.{AllByRecursion}
 use Rattle.jls_diff.specs.Parts.{Part, Same, Differ}
 use Rattle.jls_search.specs.Choices.{HasSomeWay}
-use Rattle.jls_search.specs.Goals.{GoesOn, IsSettledFor, IsSoughtFor}
+use Rattle.jls_search.specs.Goals.{StandsOrIsSettled, IsSettledFor, IsSoughtFor}
 use Rattle.jls_search.specs.GroupTries.{GoesThrough, IsGroupBegun}
 use Rattle.jls_search.specs.OfGroups.{AreOfGroups, HasCopy}
 use Rattle.jls_search.specs.Search.{AreFilesFor, CanGoOn, GoesFrom, IsAlike, IsAt, lists_of}
@@ -75,7 +75,7 @@ module _ (limit : ℕ) (ps : List Part) (s : Setting) (before : Searched) (begun
         → IsSettledFor ps (Group s) (lists_of last.splices.items) choices
     settled over =
         when_over last.judge.ceiling ps (Group s) last.path.items (lists_of last.splices.items) last.goes_on over
-        (subst (λ g. GoesOn last.judge.ceiling ps g last.path.items (lists_of last.splices.items) last.goes_on) goal_is at.goes)
+        (subst (λ g. StandsOrIsSettled last.judge.ceiling ps g last.path.items (lists_of last.splices.items) last.goes_on) goal_is at.goes)
 
     pub went_through : GoesThrough limit ps s before (searched_of last before.is_used_up)
     went_through =

@@ -5,7 +5,7 @@ use Rattle.std.specs.Prelude.{IfSome}
 use Rattle.jls_copy.specs.ReadCopy.{after}
 use Rattle.jls_diff.specs.Parts.{Part, Same, way}
 use Rattle.jls_search.specs.Choices.{IsPath, prefix_of}
-use Rattle.jls_search.specs.Search.{IsKept, Keeps}
+use Rattle.jls_search.specs.Search.{IsKeptReader, Keeps}
 use Rattle.jls_search.specs.declared.kept.KeptReader.{KeptReader}
 use Rattle.jls_search.proofs.Prefixes.{prefix_more, prefix_at_most}
 
@@ -40,8 +40,9 @@ module _ (ps : List Part) (path : List ℕ) (i : ℕ) (is : IsPath ps path) (l :
         ∙ ap Some (sym (prefix_more ps path i is l)))
 
 -- what is kept then
-pub still_kept : (ps : List Part) (old new : Option KeptReader) (reader : Option (Option (List ℕ))) (path : List ℕ) → IfSome old (IsKept ps)
-    → IfSome reader (λ fed. fed ≡ Some (prefix_of ps path)) → Keeps old reader path new → IfSome new (IsKept ps)
-still_kept ps old new None path h fed keeps = subst (λ o. IfSome o (IsKept ps)) (sym keeps) h
+pub still_kept : (ps : List Part) (old new : Option KeptReader) (reader : Option (Option (List ℕ))) (path : List ℕ)
+    → IfSome old (IsKeptReader ps)
+    → IfSome reader (λ fed. fed ≡ Some (prefix_of ps path)) → Keeps old reader path new → IfSome new (IsKeptReader ps)
+still_kept ps old new None path h fed keeps = subst (λ o. IfSome o (IsKeptReader ps)) (sym keeps) h
 still_kept ps old new (Some reader) path h fed (k, e, r, choices) =
-    subst (λ o. IfSome o (IsKept ps)) (sym e) (r ∙ fed ∙ ap (λ p. Some (prefix_of ps p)) (sym choices))
+    subst (λ o. IfSome o (IsKeptReader ps)) (sym e) (r ∙ fed ∙ ap (λ p. Some (prefix_of ps p)) (sym choices))

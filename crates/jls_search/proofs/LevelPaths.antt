@@ -10,7 +10,7 @@ use Rattle.jls_diff.specs.Parts.{Part, Same, Differ}
 use Rattle.jls_search.specs.Choices.{IsFirstWay, IsPrefix, IsPath, prefix_of}
 use Rattle.jls_diff.specs.Parts.{Differs}
 use Rattle.jls_search.specs.Faultless.{IsDead}
-use Rattle.jls_search.specs.Levels.{AreJudged, AreSame, IsNext, IsTaken}
+use Rattle.jls_search.specs.Levels.{AreJudged, NoPartDiffers, IsNextPath, IsPathTaken}
 use Rattle.jls_search.proofs.KeptReaders.{prefix_and_rest}
 use Rattle.jls_search.proofs.Paths.{order, path_at, path_len}
 use Rattle.jls_search.proofs.Prefixes.{dead_longer}
@@ -23,7 +23,7 @@ only_way (Differ ways) choice same first = absurd (same tt)
 
 -- paths of one length that begin alike, and differ in no part after that, are one
 one_path : (ps : List Part) (cs ds : List ℕ) (from : ℕ) → IsPath ps cs → IsPath ps ds → length cs ≡ length ds → take from cs ≡ take from ds
-    → AreSame ps from (length cs) → cs ≡ ds
+    → NoPartDiffers ps from (length cs) → cs ≡ ds
 one_path ps [] [] from pa pb l e same = refl
 one_path ps [] (d ∷ ds) from pa pb l e same = absurd (omega (arith, l))
 one_path ps (c ∷ cs) [] from pa pb l e same = absurd (omega (arith, l))
@@ -44,7 +44,7 @@ one_path (p ∷ ps) (c ∷ cs) (d ∷ ds) (suc from) pa pb l e same =
 -- Paths that go on from so many choices ----------------------------------------------------------------------------
 
 module _ (ps : List Part) (from : ℕ) where
-  not_shorter : (cs ds : List ℕ) → IsNext ps from cs → IsNext ps from ds → length cs < length ds → ⊥
+  not_shorter : (cs ds : List ℕ) → IsNextPath ps from cs → IsNextPath ps from ds → length cs < length ds → ⊥
   not_shorter cs ds a b less =
       elim a.prefix [
         | inl differ ↦ b.same (length cs) a.from_on less differ
@@ -52,7 +52,7 @@ module _ (ps : List Part) (from : ℕ) where
       ]
 
   -- they have one length
-  pub one_length : (cs ds : List ℕ) → IsNext ps from cs → IsNext ps from ds → length cs ≡ length ds
+  pub one_length : (cs ds : List ℕ) → IsNextPath ps from cs → IsNextPath ps from ds → length cs ≡ length ds
   one_length cs ds a b =
       elim (order (length cs) (length ds)) [
         | inl less ↦ absurd (not_shorter cs ds a b less)
@@ -60,21 +60,21 @@ module _ (ps : List Part) (from : ℕ) where
       ]
 
   -- and are one if they begin alike
-  pub one_next : (cs ds : List ℕ) → IsNext ps from cs → IsNext ps from ds → take from cs ≡ take from ds → cs ≡ ds
+  pub one_next : (cs ds : List ℕ) → IsNextPath ps from cs → IsNextPath ps from ds → take from cs ≡ take from ds → cs ≡ ds
   one_next cs ds a b e = one_path ps cs ds from a.is_path b.is_path (one_length cs ds a b) e a.same
 
   -- another path of that length does so too
-  pub also_next : (cs ds : List ℕ) → IsNext ps from cs → IsPath ps ds → length ds ≡ length cs → IsNext ps from ds
+  pub also_next : (cs ds : List ℕ) → IsNextPath ps from cs → IsPath ps ds → length ds ≡ length cs → IsNextPath ps from ds
   also_next cs ds a is e = record {
     is_path = is;
     prefix = subst (λ n. Differs (get_or ps n (Same [])) ⊎ (n ≡ length ps)) (sym e) a.prefix;
     from_on = subst (λ n. from ≤ n) (sym e) a.from_on;
-    same = subst (AreSame ps from) (sym e) a.same;
+    same = subst (NoPartDiffers ps from) (sym e) a.same;
   }
 
 -- what was gone on from the first choices of a path
 pub followed : (ps : List Part) (begin path : List ℕ) → IsPath ps path → IsPrefix ps path → (more : List ℕ) × (path ≡ begin ++ more)
-    → AreSame ps (length begin) (length path) → IsNext ps (length begin) path
+    → NoPartDiffers ps (length begin) (length path) → IsNextPath ps (length begin) path
 followed ps begin path is prefix (more, e) same =
     let l = ap length e ∙ length-append begin more in record { is_path = is; prefix = prefix; from_on = omega (arith, l); same = same }
 
@@ -97,7 +97,7 @@ module _ (Sought : List ℕ → Type 0) (ps : List Part) where
 
   -- A path that was taken ------------------------------------------------------------------------------------------
 
-  module _ (begin : List ℕ) (old new : List (List ℕ)) (t : IsTaken Sought ps begin old new) where
+  module _ (begin : List ℕ) (old new : List (List ℕ)) (t : IsPathTaken Sought ps begin old new) where
     pub still_lives : (other : List ℕ) → Contains old other → Contains new other
     still_lives other lives =
         elim t.added [
@@ -112,12 +112,12 @@ module _ (Sought : List ℕ → Type 0) (ps : List Part) where
           | inr r ↦ (let a = ap length r.0 in omega (arith, a))
         ]
 
-    pub each_taken : AllByRecursion (IsNext ps (length begin)) old → AllByRecursion (IsNext ps (length begin)) new
+    pub each_taken : AllByRecursion (IsNextPath ps (length begin)) old → AllByRecursion (IsNextPath ps (length begin)) new
     each_taken each =
         elim t.added [
-          | inl e ↦ subst (AllByRecursion (IsNext ps (length begin))) (sym e)
-              (all_more (IsNext ps (length begin)) old t.path each t.is_next)
-          | inr r ↦ subst (AllByRecursion (IsNext ps (length begin))) (sym r.0) each
+          | inl e ↦ subst (AllByRecursion (IsNextPath ps (length begin))) (sym e)
+              (all_more (IsNextPath ps (length begin)) old t.path each t.is_next)
+          | inr r ↦ subst (AllByRecursion (IsNextPath ps (length begin))) (sym r.0) each
         ]
 
     pub judged_taken : AreJudged Sought ps (length begin) new begin

@@ -6,7 +6,7 @@ use Rattle.std.specs.List.{AllByRecursion, Contains}
 use Rattle.std.proofs.lemmas.List.{length-take-le}
 use Rattle.jls_diff.specs.Parts.{Part, Same}
 use Rattle.jls_search.specs.Choices.{IsFirstWay}
-use Rattle.jls_search.specs.Levels.{AreJudged, IsFirstDead, IsLevel, IsLone, IsNext, IsOfLevel, IsTaken, LivesOrIsDead}
+use Rattle.jls_search.specs.Levels.{AreJudged, IsFirstDead, IsLevel, IsLone, IsNextPath, IsOfLevel, IsPathTaken, LivesOrIsDead}
 use Rattle.jls_search.specs.Search.{lists_of}
 use Rattle.jls_search.proofs.LevelPaths.{also_next, dead_on, each_taken, first_choices, judged_more, judged_taken, one_length, still_lives}
 use Rattle.jls_search.proofs.Lists.{all_at as all_from}
@@ -68,14 +68,14 @@ module _ (vs xs : List (Vec ℕ Global)) (i : ℕ) (v : Vec ℕ Global) (path : 
 
 -- a path was taken that begins with these choices and one more
 module _ (Sought : List ℕ → Type 0) (ps : List Part) (path : List ℕ) (choice : ℕ) (begin : List ℕ) (is : begin ≡ path ++ choice ∷ [])
-    (old new : List (List ℕ)) (taken : IsTaken Sought ps begin old new) where
+    (old new : List (List ℕ)) (taken : IsPathTaken Sought ps begin old new) where
   longer : length begin ≡ length path + 1
   longer = ap length is ∙ length-append path (choice ∷ [])
 
-  pub each_way : AllByRecursion (IsNext ps (length path + 1)) old → AllByRecursion (IsNext ps (length path + 1)) new
+  pub each_way : AllByRecursion (IsNextPath ps (length path + 1)) old → AllByRecursion (IsNextPath ps (length path + 1)) new
   each_way each =
-      subst (λ n. AllByRecursion (IsNext ps n) new) longer
-      (each_taken Sought ps begin old new taken (subst (λ n. AllByRecursion (IsNext ps n) old) (sym longer) each))
+      subst (λ n. AllByRecursion (IsNextPath ps n) new) longer
+      (each_taken Sought ps begin old new taken (subst (λ n. AllByRecursion (IsNextPath ps n) old) (sym longer) each))
 
   here : AreJudged Sought ps (length path + 1) new (path ++ choice ∷ [])
   here =
@@ -101,29 +101,29 @@ module _ (Sought : List ℕ → Type 0) (ps : List Part) (path : List ℕ) (choi
 
 module _ (Sought : List ℕ → Type 0) (ps : List Part) where
   -- paths that go on from so many choices, where each other such path is dead
-  level_is : (from count : ℕ) (living : List (List ℕ)) → AllByRecursion (IsNext ps from) living → 0 < length living
-      → count ≡ length (get_or living 0 []) → ((path : List ℕ) → IsNext ps from path → LivesOrIsDead Sought ps living path)
+  level_is : (from count : ℕ) (living : List (List ℕ)) → AllByRecursion (IsNextPath ps from) living → 0 < length living
+      → count ≡ length (get_or living 0 []) → ((path : List ℕ) → IsNextPath ps from path → LivesOrIsDead Sought ps living path)
       → IsLevel Sought ps count living
   level_is from count living each some count_is all =
-      let first = all_from (IsNext ps from) living [] 0 some each in record {
-        each = all_weaker (IsNext ps from) (IsOfLevel ps count) living
+      let first = all_from (IsNextPath ps from) living [] 0 some each in record {
+        each = all_weaker (IsNextPath ps from) (IsOfLevel ps count) living
             (λ path next. (next.is_path, next.prefix, one_length ps from path (get_or living 0 []) next first ∙ sym count_is)) each;
         others = λ path is len. all path (also_next ps from (get_or living 0 []) path first is (len ∙ count_is));
       }
 
   -- the first level
-  pub first_level_is : (count : ℕ) (living : List (List ℕ)) → IsTaken Sought ps [] [] living → 0 < length living
+  pub first_level_is : (count : ℕ) (living : List (List ℕ)) → IsPathTaken Sought ps [] [] living → 0 < length living
       → count ≡ length (get_or living 0 []) → IsLevel Sought ps count living
   first_level_is count living taken some count_is =
       level_is 0 count living (each_taken Sought ps [] [] living taken tt) some count_is
       (λ path next. judged_taken Sought ps [] [] living taken path next refl)
 
   -- it has one path, or that is dead
-  pub first_is_one : (living : List (List ℕ)) → IsTaken Sought ps [] [] living → 0 < length living → length living ≡ 1
+  pub first_is_one : (living : List (List ℕ)) → IsPathTaken Sought ps [] [] living → 0 < length living → length living ≡ 1
   first_is_one living taken some =
       elim taken.added [ inl e ↦ ap length e | inr r ↦ absurd (let none = ap length r.0 in omega (arith, none, some)) ]
 
-  pub first_is_dead : (living : List (List ℕ)) → IsTaken Sought ps [] [] living → length living ≡ 0 → IsFirstDead Sought ps
+  pub first_is_dead : (living : List (List ℕ)) → IsPathTaken Sought ps [] [] living → length living ≡ 0 → IsFirstDead Sought ps
   first_is_dead living taken none =
       elim taken.added [
         | inl e ↦ absurd (let one = ap length e in omega (arith, none, one))
@@ -132,12 +132,12 @@ module _ (Sought : List ℕ → Type 0) (ps : List Part) where
 
   -- the level after one, each of whose paths was gone on from
   pub next_level_is : (count : ℕ) (old : List (List ℕ)) (next_count : ℕ) (living : List (List ℕ)) → IsLevel Sought ps count old
-      → AllByRecursion (AreJudged Sought ps (count + 1) living) old → AllByRecursion (IsNext ps (count + 1)) living → 0 < length living
+      → AllByRecursion (AreJudged Sought ps (count + 1) living) old → AllByRecursion (IsNextPath ps (count + 1)) living → 0 < length living
       → next_count ≡ length (get_or living 0 []) → IsLevel Sought ps next_count living
   next_level_is count old next_count living level judged each some count_is =
       level_is (count + 1) next_count living each some count_is by
     where
-      by : (path : List ℕ) → IsNext ps (count + 1) path → LivesOrIsDead Sought ps living path
+      by : (path : List ℕ) → IsNextPath ps (count + 1) path → LivesOrIsDead Sought ps living path
       by path next =
           let least = next.from_on in
           let l : length (take count path) ≡ count = length-take-le count path (omega (arith, least)) in

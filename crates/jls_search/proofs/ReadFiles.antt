@@ -4,7 +4,7 @@ use Rattle.std.specs.List.{AllByRecursion}
 use Rattle.jls_values.specs.Shape.{PictureShape}
 use Rattle.jls_values.proofs.Lists.{all_more}
 use Rattle.jls_partial.specs.Partial.{PartialPicture, nothing_known}
-use Rattle.jls_search.specs.Reading.{HasTaken, ReadsMore}
+use Rattle.jls_search.specs.Reading.{HasTakenFiles, ReadsMore}
 use Rattle.jls_search.specs.Seen.{AreSeen, IsSeen}
 use Rattle.jls_search.specs.Shapes.{HasNoFrame}
 use Rattle.jls_search.specs.Stations.{Give, no_file, gives_nothing, TakesFiles}
@@ -25,22 +25,22 @@ module _ (source : Option ℕ) where
 
   -- so a station may begin after them
   pub begins_late : (files : List (List ℕ)) (shape : PictureShape) (station : PartialPicture) → station ≡ nothing_known shape
-      → AllByRecursion HasNoFrame files → HasTaken source files (Some station)
+      → AllByRecursion HasNoFrame files → HasTakenFiles source files (Some station)
   begins_late files shape station is none =
       subst (λ (p : PartialPicture). TakesFiles source files (nothing_known p.shape) p) (sym is)
       (record { given = []; give = nothing_given shape files none; union_is = refl })
 
   -- a file without a frame changes nothing
   passes_over : (files : List (List ℕ)) (file : List ℕ) (station : Option PartialPicture) → HasNoFrame file
-      → HasTaken source files station → HasTaken source (files ++ file ∷ []) station
+      → HasTakenFiles source files station → HasTakenFiles source (files ++ file ∷ []) station
   passes_over files file None none taken = all_more HasNoFrame files file taken none
   passes_over files file (Some station) none taken =
       takes_more source files (file ∷ []) (nothing_known station.shape) station station taken
       (passed_over source station file (no_shape station.shape file none))
 
   -- a station takes one file more
-  takes_one_more : (files : List (List ℕ)) (file : List ℕ) (old new : PartialPicture) → HasTaken source files (Some old)
-      → TakesFiles source (file ∷ []) old new → HasTaken source (files ++ file ∷ []) (Some new)
+  takes_one_more : (files : List (List ℕ)) (file : List ℕ) (old new : PartialPicture) → HasTakenFiles source files (Some old)
+      → TakesFiles source (file ∷ []) old new → HasTakenFiles source (files ++ file ∷ []) (Some new)
   takes_one_more files file old new taken takes =
       subst (λ (shape : PictureShape). TakesFiles source (files ++ file ∷ []) (nothing_known shape) new)
       (sym (shape_kept source (file ∷ []) old new takes))
@@ -54,11 +54,11 @@ module _ (source : Option ℕ) where
 
     -- it has a frame, and a station takes it
     pub with_frame : (before after : PartialPicture)
-        → ((files : List (List ℕ)) → HasTaken source files old.station → HasTaken source files (Some before))
+        → ((files : List (List ℕ)) → HasTakenFiles source files old.station → HasTakenFiles source files (Some before))
         → TakesFiles source (file ∷ []) before after → new.station ≡ Some after → ReadsMore source (file ∷ []) old new
     with_frame before after begun takes is_after files read = record {
       seen = one_seen files read.seen;
-      taken = subst (HasTaken source (files ++ file ∷ [])) (sym is_after)
+      taken = subst (HasTakenFiles source (files ++ file ∷ [])) (sym is_after)
           (takes_one_more files file before after (begun files read.taken) takes);
     }
 
@@ -66,5 +66,5 @@ module _ (source : Option ℕ) where
     pub without_frame : HasNoFrame file → new.station ≡ old.station → ReadsMore source (file ∷ []) old new
     without_frame none stays files read = record {
       seen = one_seen files read.seen;
-      taken = subst (HasTaken source (files ++ file ∷ [])) (sym stays) (passes_over files file old.station none read.taken);
+      taken = subst (HasTakenFiles source (files ++ file ∷ [])) (sym stays) (passes_over files file old.station none read.taken);
     }

@@ -17,21 +17,21 @@ use Rattle.jls_copy.specs.TellingLaws.{AreRecordsOf, IsRecordOf, of_none, reads,
 use Rattle.jls_copy.specs.declared.piece.PieceRecord.{PieceRecord}
 use Rattle.jls_copy.specs.Prefixes.{HasLines}
 use Rattle.jls_search.specs.OfGroups.{HasManyFaults}
-use Rattle.jls_search.specs.ReadsBetween.{IsBetween, Reaches, ReadsBetween}
+use Rattle.jls_search.specs.ReadsBetween.{IsOffsetBetween, Reaches, ReadsBetween}
 use Rattle.jls_search.proofs.FaultlessFiles.{lines_or_fault}
 use Rattle.jls_values.proofs.Lists.{in_rest, is_first, all_at}
 use Rattle.jls_search.proofs.Paths.{order}
 
 -- none of the records is of a piece that begins there
 abbrev pub NoneBetween : ℕ → Option ℕ → List PieceRecord → Type 0
-NoneBetween from to rs = AllByRecursion (λ r. IsBetween from to r.offset → ⊥) rs
+NoneBetween from to rs = AllByRecursion (λ r. IsOffsetBetween from to r.offset → ⊥) rs
 
 lines_between : (from : ℕ) (to : Option ℕ) (ps : List FoundPiece) (rs : List PieceRecord) → AreRecordsOf ps rs → NoneBetween from to rs
-    → AllByRecursion (λ p. IsBetween from to p.offset → HasLines p) ps
+    → AllByRecursion (λ p. IsOffsetBetween from to p.offset → HasLines p) ps
 lines_between from to _ _ of_none h = tt
 lines_between from to _ _ (reads p ps rs lines is rest) h = ((λ _. (lines, is)), lines_between from to ps rs rest h)
 lines_between from to _ _ (faulty p ps r rs is rest) h =
-    ((λ b. absurd (h.0 (subst (IsBetween from to) (sym is.offset) b))), lines_between from to ps rs rest h.1)
+    ((λ b. absurd (h.0 (subst (IsOffsetBetween from to) (sym is.offset) b))), lines_between from to ps rs rest h.1)
 
 take_at_most : (n : ℕ) (rs : List PieceRecord) → length (take n rs) ≤ n
 take_at_most zero rs = omega arith
@@ -92,14 +92,14 @@ module _ (law : RecordsAreOfFaultyPieces) (from : ℕ) (to : Option ℕ) (file :
   one : between.course ≡ h.course
   one = one_course file between.course h.course between.is_course h.is_course
 
-  pub no_record : (reported : PieceRecord) → Contains read.pieces reported → IsBetween from to reported.offset → ⊥
+  pub no_record : (reported : PieceRecord) → Contains read.pieces reported → IsOffsetBetween from to reported.offset → ⊥
   no_record reported among here =
       let r = law file read h in
       let p = piece_of (pieces h.course) r.0 reported r.1 (in_more 4096 r.0 reported (subst (λ rs. Contains rs reported) r.2 among)) in
-      let each : AllByRecursion (λ q. IsBetween from to q.offset → HasLines q) (pieces h.course) =
-      subst (λ (c : Course). AllByRecursion (λ q. IsBetween from to q.offset → HasLines q) (pieces c)) one between.each in
-      let lines = all_at (λ q. IsBetween from to q.offset → HasLines q) (pieces h.course) p.0 each p.1
-      (subst (IsBetween from to) p.2.offset here) in
+      let each : AllByRecursion (λ q. IsOffsetBetween from to q.offset → HasLines q) (pieces h.course) =
+      subst (λ (c : Course). AllByRecursion (λ q. IsOffsetBetween from to q.offset → HasLines q) (pieces c)) one between.each in
+      let lines = all_at (λ q. IsOffsetBetween from to q.offset → HasLines q) (pieces h.course) p.0 each p.1
+      (subst (IsOffsetBetween from to) p.2.offset here) in
       let scan = all_at HasScan (pieces h.course) p.0 (course_has file h.course low h.is_course) p.1 in
       lines_or_fault p.0 lines.0 reported.kind scan lines.1 p.2.kind
 

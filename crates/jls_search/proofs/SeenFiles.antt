@@ -7,7 +7,8 @@ use Rattle.jls_values.specs.Shape.{PictureShape}
 use Rattle.jls_diff.specs.PartsOf.{bytes_of}
 use Rattle.jls_diff.proofs.Slices.{count_of_slices}
 use Rattle.jls_search.specs.Faultless.{IsFaultless}
-use Rattle.jls_search.specs.Shapes.{HasShape, HasOtherShape, HasNoFrame, IsFirstShape, NoneIsFaultless, IsShapeTaken, IsCopyNamed}
+use Rattle.jls_search.specs.Shapes.{HasFrameOfShape, HasFrameOfOtherShape, HasNoFrame, IsFirstShape, NoneIsFaultless, IsShapeTaken}
+use Rattle.jls_search.specs.Shapes.{IsCopyNamed}
 use Rattle.jls_search.specs.Shapes.{IsShapeFound}
 use Rattle.jls_search.specs.Seen.{IsSeen, AreSeen, IsNotFaultless, HasItIfFaultless, HasFrame, IsWithoutFrame, HasOtherFrame, IsFirstFrame}
 use Rattle.jls_search.specs.Seen.{IsFirstOtherFrame, SomeFaultlessHasOther, IsNamed, IsOfCopies}
@@ -21,12 +22,12 @@ use Rattle.jls_search.proofs.OneFile.{one_shape_of, no_shape, faultless_shape}
 -- One file ---------------------------------------------------------------------------------------------------------
 
 module _ (file : List ℕ) where
-  pub shape_seen : (shape : PictureShape) (s : Seen) → IsSeen file s → HasFrame shape s → HasShape shape file
-  shape_seen shape (Faultless own) is e = subst (λ t. HasShape t file) e is.0
-  shape_seen shape (Faulty own) is e = subst (λ t. HasShape t file) e is.0
+  pub shape_seen : (shape : PictureShape) (s : Seen) → IsSeen file s → HasFrame shape s → HasFrameOfShape shape file
+  shape_seen shape (Faultless own) is e = subst (λ t. HasFrameOfShape t file) e is.0
+  shape_seen shape (Faulty own) is e = subst (λ t. HasFrameOfShape t file) e is.0
   shape_seen shape (NoFrame f n) is e = absurd e
 
-  frame_seen : (shape : PictureShape) (s : Seen) → IsSeen file s → HasShape shape file → HasFrame shape s
+  frame_seen : (shape : PictureShape) (s : Seen) → IsSeen file s → HasFrameOfShape shape file → HasFrame shape s
   frame_seen shape (Faultless own) is h = one_shape_of own shape file is.0 h
   frame_seen shape (Faulty own) is h = one_shape_of own shape file is.0 h
   frame_seen shape (NoFrame f n) is h = absurd (no_shape shape file (is.0, is.1, is.2) h)
@@ -41,12 +42,12 @@ module _ (file : List ℕ) where
   without_seen (Faulty own) is none = absurd (no_shape own file none is.0)
   without_seen (NoFrame f n) is none = tt
 
-  other_seen : (shape : PictureShape) (s : Seen) → IsSeen file s → HasOtherFrame shape s → HasOtherShape shape file
+  other_seen : (shape : PictureShape) (s : Seen) → IsSeen file s → HasOtherFrame shape s → HasFrameOfOtherShape shape file
   other_seen shape (Faultless own) is not = (own, is.0, not)
   other_seen shape (Faulty own) is not = (own, is.0, not)
   other_seen shape (NoFrame f n) is not = absurd not
 
-  other_frame : (shape : PictureShape) (s : Seen) → IsSeen file s → HasOtherShape shape file → HasOtherFrame shape s
+  other_frame : (shape : PictureShape) (s : Seen) → IsSeen file s → HasFrameOfOtherShape shape file → HasOtherFrame shape s
   other_frame shape (Faultless own) is (other, has, not) = λ e. not (one_shape_of other own file has is.0 ∙ e)
   other_frame shape (Faulty own) is (other, has, not) = λ e. not (one_shape_of other own file has is.0 ∙ e)
   other_frame shape (NoFrame f n) is (other, has, not) = no_shape other file (is.0, is.1, is.2) has
@@ -56,8 +57,8 @@ module _ (file : List ℕ) where
   faulty_seen (Faulty own) is not f = is.1 f
   faulty_seen (NoFrame g n) is not f = no_shape f.shape file (is.0, is.1, is.2) (faultless_shape file f)
 
-  agreed_seen : (shape : PictureShape) (s : Seen) → IsSeen file s → HasItIfFaultless shape s → IsFaultless file → HasShape shape file
-  agreed_seen shape (Faultless own) is e f = subst (λ t. HasShape t file) e is.0
+  agreed_seen : (shape : PictureShape) (s : Seen) → IsSeen file s → HasItIfFaultless shape s → IsFaultless file → HasFrameOfShape shape file
+  agreed_seen shape (Faultless own) is e f = subst (λ t. HasFrameOfShape t file) e is.0
   agreed_seen shape (Faulty own) is e f = absurd (is.1 f)
   agreed_seen shape (NoFrame g n) is e f = absurd (faulty_seen (NoFrame g n) is tt f)
 
@@ -179,7 +180,7 @@ no_frames (f ∷ files) (s ∷ seen) are none = (none_seen f s are.0 none.0, no_
 
 module _ (shape : PictureShape) where
   other_at : (files : List (List ℕ)) (seen : List Seen) (copy : ℕ) → AreSeen files seen
-      → IsSomeAnd (slice_get seen copy) (HasOtherFrame shape) → (copy < length files) × HasOtherShape shape (get_or files copy [])
+      → IsSomeAnd (slice_get seen copy) (HasOtherFrame shape) → (copy < length files) × HasFrameOfOtherShape shape (get_or files copy [])
   other_at files [] copy are at = absurd at
   other_at [] (s ∷ seen) copy are at = absurd are
   other_at (f ∷ files) (s ∷ seen) zero are at = (omega arith, other_seen f shape s are.0 at)
@@ -187,7 +188,7 @@ module _ (shape : PictureShape) where
 
   none_before : (files : List (List ℕ)) (seen : List Seen) (copy before : ℕ) → AreSeen files seen
       → AllByRecursion (λ s. HasOtherFrame shape s → ⊥) (take copy seen) → before < copy → before < length files
-      → HasOtherShape shape (get_or files before []) → ⊥
+      → HasFrameOfOtherShape shape (get_or files before []) → ⊥
   none_before [] seen copy before are all l within has = omega (arith, within)
   none_before (f ∷ files) [] copy before are all l within has = are
   none_before (f ∷ files) (s ∷ seen) zero before are all l within has = omega (arith, l)
@@ -196,7 +197,7 @@ module _ (shape : PictureShape) where
       none_before files seen copy before are.1 all.1 (omega (arith, l)) (omega (arith, within)) has
 
   none_other : (files : List (List ℕ)) (seen : List Seen) → AreSeen files seen → AllByRecursion (λ s. HasOtherFrame shape s → ⊥) seen
-      → AllByRecursion (λ file. HasOtherShape shape file → ⊥) files
+      → AllByRecursion (λ file. HasFrameOfOtherShape shape file → ⊥) files
   none_other [] seen are all = tt
   none_other (f ∷ files) [] are all = absurd are
   none_other (f ∷ files) (s ∷ seen) are all = (λ has. all.0 (other_frame f shape s are.0 has), none_other files seen are.1 all.1)

@@ -8,7 +8,7 @@ use Rattle.jls_search.specs.Choices.{IsFirstWay, IsPath, IsPrefix, IsWhole}
 use Rattle.jls_diff.specs.Parts.{Differs}
 use Rattle.jls_search.specs.Order.{IsToCome, IsLater}
 use Rattle.jls_search.proofs.Paths.{order, path_at, path_back, path_more}
-use Rattle.jls_search.specs.Levels.{AreSame}
+use Rattle.jls_search.specs.Levels.{NoPartDiffers}
 use Rattle.jls_search.specs.Tried.{AreFixed, IsCopyElsewhere, IsFree, IsSetFor, IsSetWholeFor, IsStop, IsTried, copy_of}
 use Rattle.jls_search.specs.declared.setting.Goal.{Goal}
 use Rattle.jls_search.specs.declared.setting.Goal.TheVariants.{Whole}
@@ -73,7 +73,7 @@ pub prefix_of_stop : (ps : List Part) (path : List ℕ) → IsStop ps Whole path
 prefix_of_stop ps path (inl free) = inl free.1
 prefix_of_stop ps path (inr all) = inr all
 
-pub same_of_fixed : (ps : List Part) (from to : ℕ) → AreFixed ps Whole from to → AreSame ps from to
+pub same_of_fixed : (ps : List Part) (from to : ℕ) → AreFixed ps Whole from to → NoPartDiffers ps from to
 same_of_fixed ps from to fixed place least less differ = fixed place least less (tt, differ)
 
 -- Choices to come --------------------------------------------------------------------------------------------------

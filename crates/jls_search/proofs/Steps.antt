@@ -9,7 +9,7 @@ use Rattle.jls_values.proofs.Lists.{all_more}
 use Rattle.jls_diff.specs.Parts.{Part}
 use Rattle.jls_search.specs.Choices.{HasSomeWay, IsWhole, prefix_of}
 use Rattle.jls_search.specs.Faultless.{IsSought}
-use Rattle.jls_search.specs.Goals.{AddsFor, GoesOn, IsFileFor, IsGoal, IsSeenFor, IsSettledFor, IsSoughtFor, MakesFor, Stands}
+use Rattle.jls_search.specs.Goals.{AddsFor, StandsOrIsSettled, IsFileFor, IsGoal, IsSeenFor, IsSettledFor, IsSoughtFor, MakesFor, Stands}
 use Rattle.jls_search.specs.OfGroups.{IsAddedOnce}
 use Rattle.jls_search.specs.Order.{IsLater, IsToCome}
 use Rattle.jls_search.specs.Search.{AreFilesFor, IsStep}
@@ -34,12 +34,12 @@ module _ (ceiling : Option ℕ) (ps : List Part) (g : Goal) where
   }
 
   -- where it goes on, or is over
-  pub when_on : (path : List ℕ) (found : List (List ℕ)) (more : Bool) → more ≡ true → GoesOn ceiling ps g path found more
+  pub when_on : (path : List ℕ) (found : List (List ℕ)) (more : Bool) → more ≡ true → StandsOrIsSettled ceiling ps g path found more
       → Stands ceiling ps g path found
   when_on path found true e h = h
   when_on path found false e h = absurd cc
 
-  pub when_over : (path : List ℕ) (found : List (List ℕ)) (more : Bool) → more ≡ false → GoesOn ceiling ps g path found more
+  pub when_over : (path : List ℕ) (found : List (List ℕ)) (more : Bool) → more ≡ false → StandsOrIsSettled ceiling ps g path found more
       → (choices : List ℕ) → IsSoughtFor ceiling ps g choices → IsSettledFor ps g found choices
   when_over path found true e h = absurd cc
   when_over path found false e h = h
@@ -90,7 +90,7 @@ module _ (ceiling : Option ℕ) (ps : List Part) (g : Goal) where
           → IfOk r (λ more. more ≡ true → IsStop ps g next)
           → IfOk r (λ more. more ≡ true → (choices : List ℕ) → IsSetWholeFor ps g choices → IsLater path choices → IsToCome next choices)
           → IfOk r (λ more. more ≡ false → (choices : List ℕ) → IsSetWholeFor ps g choices → IsLater path choices → ⊥)
-          → IfOk r (λ more. GoesOn ceiling ps g next found' more)
+          → IfOk r (λ more. StandsOrIsSettled ceiling ps g next found' more)
       turned_on (Err e) a f b c = tt
       turned_on (Ok true) a f b c = record {
         is_set = a refl;

@@ -12,9 +12,9 @@ use Rattle.jls_copy.specs.ReadCopy.{ReadCopy}
 use Rattle.jls_copy.specs.declared.reader.CopyFault.TheVariants.{NoPicture}
 use Rattle.jls_marker.specs.declared.fault.MarkerFault.{MarkerFault}
 use Rattle.jls_station.specs.Given.{marked}
-use Rattle.jls_station.specs.Reading.{AreBytes}
+use Rattle.jls_marker.specs.SegmentLaws.{AreBytes}
 use Rattle.jls_station.proofs.Marked.{marked_shape}
-use Rattle.jls_search.specs.Shapes.{HasShape}
+use Rattle.jls_search.specs.Shapes.{HasFrameOfShape}
 use Rattle.jls_search.specs.Stations.{Give, no_file, gives, gives_nothing, TakesFiles}
 use Rattle.jls_diff.specs.Parts.{Part}
 use Rattle.jls_diff.specs.PartsOf.{bytes_of}
@@ -75,7 +75,7 @@ module _ (source : Option ℕ) (old between new : PartialPicture) where
 
 module _ (source : Option ℕ) (old : PartialPicture) where
   -- a file that gives nothing
-  pub passed_over : (file : List ℕ) → (HasShape old.shape file → ⊥) → TakesFiles source (file ∷ []) old old
+  pub passed_over : (file : List ℕ) → (HasFrameOfShape old.shape file → ⊥) → TakesFiles source (file ∷ []) old old
   passed_over file not = record { given = []; give = gives_nothing file [] [] not no_file; union_is = refl }
 
   pub without_frame : (reader : Option (List ℕ)) (f : MarkerFault) (n : ℕ) → IfSome reader (λ file. CopyGivesNone file (NoPicture f n))
@@ -100,7 +100,7 @@ module _ (source : Option ℕ) (old : PartialPicture) where
     other_shape differs stays file low reads =
         subst (λ (p : PartialPicture). TakesFiles source (file ∷ []) old p) (sym stays) (passed_over file not)
       where
-        not : HasShape old.shape file → ⊥
+        not : HasFrameOfShape old.shape file → ⊥
         not h =
             let same : partial.shape ≡ old.shape = shape_is
             ∙ one_shape_of read.partial.shape old.shape file (shape_read file read reads) h in

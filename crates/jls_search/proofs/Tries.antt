@@ -3,7 +3,7 @@ use Rattle.std.proofs.Common.{◌≡◌, ℕ, ◌+◌, ◌<◌, ◌≤◌, Bool,
 use Rattle.std.specs.Prelude.{OnOk}
 use Rattle.std.specs.declared.alloc.AllocError.{AllocError}
 use Rattle.jls_diff.specs.Parts.{Part}
-use Rattle.jls_search.specs.Goals.{GoesOn, IsGoal}
+use Rattle.jls_search.specs.Goals.{StandsOrIsSettled, IsGoal}
 use Rattle.jls_search.specs.Search.{AreFilesFor, AreKept, IsAlike, IsAt, IsSearch, IsStep, IsTry, lists_of}
 use Rattle.jls_search.specs.declared.searching.Search.{Search}
 use Rattle.jls_search.specs.declared.setting.Goal.{Goal}
@@ -11,7 +11,7 @@ use Rattle.jls_search.proofs.FoundChoices.{files_more}
 use Rattle.jls_search.proofs.Steps.{one_at_most}
 
 module _ (ps : List Part) (old new : Search) (at : IsAt ps old) (alike : IsAlike old new) where
-  module _ (next : GoesOn old.judge.ceiling ps old.goal new.path.items (lists_of new.splices.items) new.goes_on)
+  module _ (next : StandsOrIsSettled old.judge.ceiling ps old.goal new.path.items (lists_of new.splices.items) new.goes_on)
       (step : IsStep old.judge.ceiling ps old.goal old.path.items (lists_of old.splices.items) new.path.items (lists_of new.splices.items)
       new.goes_on)
       (kept : AreKept ps new.judge) (room : length (lists_of old.splices.items) < old.most) where
@@ -19,8 +19,9 @@ module _ (ps : List Part) (old new : Search) (at : IsAt ps old) (alike : IsAlike
     at_next = record {
       goal = subst (IsGoal ps) (sym alike.0) at.goal;
       goes =
-          subst (λ c. GoesOn c ps new.goal new.path.items (lists_of new.splices.items) new.goes_on) (sym alike.1)
-          (subst (λ g. GoesOn old.judge.ceiling ps g new.path.items (lists_of new.splices.items) new.goes_on) (sym alike.0) next);
+          subst (λ c. StandsOrIsSettled c ps new.goal new.path.items (lists_of new.splices.items) new.goes_on) (sym alike.1)
+          (subst (λ g. StandsOrIsSettled old.judge.ceiling ps g new.path.items (lists_of new.splices.items) new.goes_on)
+          (sym alike.0) next);
       files =
           subst (λ c. AreFilesFor c ps new.goal (lists_of new.splices.items)) (sym alike.1)
           (subst (λ g. AreFilesFor old.judge.ceiling ps g (lists_of new.splices.items)) (sym alike.0)

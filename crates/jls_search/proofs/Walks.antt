@@ -3,14 +3,15 @@ use Rattle.std.proofs.Common.{◌≡◌, ℕ, ◌≤◌, Bool, true, false, List
 use Rattle.std.proofs.lemmas.Bool.{cases_lt}
 use Rattle.jls_diff.specs.Parts.{Part}
 use Rattle.jls_search.specs.Faultless.{IsSought}
-use Rattle.jls_search.specs.Goals.{GoesOn}
+use Rattle.jls_search.specs.Goals.{StandsOrIsSettled}
 use Rattle.jls_search.specs.Search.{AreFilesFor, CameTo, CanGoOn, IsSearch, MakeFiles, lists_of}
 use Rattle.jls_search.specs.declared.searching.Search.{Search}
 use Rattle.jls_search.specs.declared.setting.Goal.TheVariants.{Whole}
 use Rattle.jls_search.proofs.WholeSplices.{has_each_splice}
 
 came : (ceiling : Option ℕ) (parts : List Part) (path : List ℕ) (found : List (List ℕ)) (more : Bool)
-    → MakeFiles (IsSought ceiling) parts found → GoesOn ceiling parts Whole path found more → CameTo (IsSought ceiling) parts found more
+    → MakeFiles (IsSought ceiling) parts found → StandsOrIsSettled ceiling parts Whole path found more
+    → CameTo (IsSought ceiling) parts found more
 came ceiling parts path found true files h = record { files = files; all = λ e. absurd cc }
 came ceiling parts path found false files h = record { files = files; all = λ e. has_each_splice ceiling parts found h }
 
@@ -20,7 +21,7 @@ came_to parts s h =
     let found = lists_of s.splices.items in
     came s.judge.ceiling parts s.path.items found s.goes_on
     (subst (λ g. AreFilesFor s.judge.ceiling parts g found) h.goal_is h.is_at.files)
-    (subst (λ g. GoesOn s.judge.ceiling parts g s.path.items found s.goes_on) h.goal_is h.is_at.goes)
+    (subst (λ g. StandsOrIsSettled s.judge.ceiling parts g s.path.items found s.goes_on) h.goal_is h.is_at.goes)
 
 -- one that stopped while there was more to try has made all its tries, or found as many files as it finds at most
 pub stopped : (s : Search) (limit : ℕ) → (CanGoOn s limit → ⊥) → s.tries ≤ limit → length (lists_of s.splices.items) ≤ s.most → s.goes_on

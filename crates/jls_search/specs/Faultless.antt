@@ -5,7 +5,7 @@ use Rattle.jls_values.specs.Shape.{PictureShape}
 use Rattle.jls_partial.specs.Partial.{PartialPicture, readings_at}
 use Rattle.jls_partial.specs.Reading.{Reading, reading_of}
 use Rattle.jls_copy.specs.Course.{Course, IsCourse}
-use Rattle.jls_copy.specs.Prefixes.{HasLines, Gives}
+use Rattle.jls_copy.specs.Prefixes.{HasLines, CourseHasReading}
 use Rattle.jls_copy.specs.Pieces.{pieces}
 use Rattle.jls_copy.specs.declared.reader.CopyFault.{CopyFault}
 use Rattle.jls_copy.specs.declared.reader.CopyFault.TheVariants.{NoPicture, OutOfMemory}
@@ -21,7 +21,7 @@ EndsWell (Header f offset) = ⊥
 -- a course gives a reading of each line of a shape
 abbrev pub GivesEachLine : PictureShape → Course → Type 0
 GivesEachLine shape c = (component line : ℕ) → component < length shape.ids → line < shape.height
-    → (samples : List ℕ) × Gives c (reading_of component line samples)
+    → (samples : List ℕ) × CourseHasReading c (reading_of component line samples)
 
 -- a file has a frame, no fault of its headers ended it, each piece can be decoded, and each line of its frame has a reading
 pub record IsFaultless (file : List ℕ) : Type 0 where
@@ -37,7 +37,7 @@ pub record IsFaultless (file : List ℕ) : Type 0 where
 abbrev pub IsWithin : Option ℕ → List ℕ → Type 0
 IsWithin None file = Unit {0}
 IsWithin (Some ceiling) file =
-    AllByRecursion (λ b. b < 256) file → (c : Course) → IsCourse file c → (r : Reading) → Gives c r
+    AllByRecursion (λ b. b < 256) file → (c : Course) → IsCourse file c → (r : Reading) → CourseHasReading c r
     → AllByRecursion (λ sample. sample ≤ ceiling) r.samples
 
 -- a file without a fault, whose samples are at most the ceiling, if there is one: such files are sought

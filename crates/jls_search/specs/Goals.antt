@@ -46,9 +46,9 @@ pub record Stands (ceiling : Option ℕ) (parts : List Part) (goal : Goal) (path
   pub all : (choices : List ℕ) → IsSoughtFor ceiling parts goal choices → IsSettledFor parts goal found choices ⊎ IsToCome path choices
 
 -- it is at its path if it goes on. If not, all that it is after is settled
-abbrev pub GoesOn : Option ℕ → List Part → Goal → List ℕ → List (List ℕ) → Bool → Type 0
-GoesOn ceiling parts goal path found true = Stands ceiling parts goal path found
-GoesOn ceiling parts goal path found false =
+abbrev pub StandsOrIsSettled : Option ℕ → List Part → Goal → List ℕ → List (List ℕ) → Bool → Type 0
+StandsOrIsSettled ceiling parts goal path found true = Stands ceiling parts goal path found
+StandsOrIsSettled ceiling parts goal path found false =
     (choices : List ℕ) → IsSoughtFor ceiling parts goal choices → IsSettledFor parts goal found choices
 
 -- nothing is found; or the path is, which makes a file that is sought and was not found before

@@ -15,19 +15,19 @@ pub record IsLone (Sought : List ℕ → Type 0) (parts : List Part) (path : Lis
       → IsDead Sought (prefix_of parts other)
 
 -- copies differ in no part from this place on, up to that one
-abbrev pub AreSame : List Part → ℕ → ℕ → Type 0
-AreSame parts from to = (place : ℕ) → from ≤ place → place < to → Differs (get_or parts place (Same [])) → ⊥
+abbrev pub NoPartDiffers : List Part → ℕ → ℕ → Type 0
+NoPartDiffers parts from to = (place : ℕ) → from ≤ place → place < to → Differs (get_or parts place (Same [])) → ⊥
 
 -- a path goes from so many choices on to the next part in which copies differ, or to the end
-pub record IsNext (parts : List Part) (from : ℕ) (path : List ℕ) : Type 0 where
+pub record IsNextPath (parts : List Part) (from : ℕ) (path : List ℕ) : Type 0 where
   pub is_path : IsPath parts path
   pub prefix : IsPrefix parts path
   pub from_on : from ≤ length path
-  pub same : AreSame parts from (length path)
+  pub same : NoPartDiffers parts from (length path)
 
 -- no file of the kind that is sought begins with what all copies have alike, up to the first part in which they differ, or to the end
 abbrev pub IsFirstDead : (List ℕ → Type 0) → List Part → Type 0
-IsFirstDead Sought parts = (path : List ℕ) × IsNext parts 0 path × IsDead Sought (prefix_of parts path)
+IsFirstDead Sought parts = (path : List ℕ) × IsNextPath parts 0 path × IsDead Sought (prefix_of parts path)
 
 -- Inside the crate -------------------------------------------------------------------------------------------------
 
@@ -38,12 +38,12 @@ LivesOrIsDead Sought parts living path = Contains living path ⊎ IsDead Sought 
 -- each path does that begins so, and goes from so many choices on to the next part in which copies differ
 abbrev pub AreJudged : (List ℕ → Type 0) → List Part → ℕ → List (List ℕ) → List ℕ → Type 0
 AreJudged Sought parts from living begin =
-    (path : List ℕ) → IsNext parts from path → take (length begin) path ≡ begin → LivesOrIsDead Sought parts living path
+    (path : List ℕ) → IsNextPath parts from path → take (length begin) path ≡ begin → LivesOrIsDead Sought parts living path
 
 -- a path that begins so, and goes on to the next part in which copies differ, was added to those that live, or is dead
-pub record IsTaken (Sought : List ℕ → Type 0) (parts : List Part) (begin : List ℕ) (old new : List (List ℕ)) : Type 0 where
+pub record IsPathTaken (Sought : List ℕ → Type 0) (parts : List Part) (begin : List ℕ) (old new : List (List ℕ)) : Type 0 where
   pub path : List ℕ
-  pub is_next : IsNext parts (length begin) path
+  pub is_next : IsNextPath parts (length begin) path
   pub begins : take (length begin) path ≡ begin
   pub added : (new ≡ old ++ path ∷ []) ⊎ ((new ≡ old) × IsDead Sought (prefix_of parts path))
 

@@ -9,9 +9,9 @@ use Rattle.jls_copy.specs.declared.end.End.TheVariants.{Eoi, Input, Header}
 use Rattle.jls_copy.specs.Prefixes.{HasLines}
 
 -- the offset is the first of these or later, and before the second, if there is one
-abbrev pub IsBetween : ℕ → Option ℕ → ℕ → Type 0
-IsBetween from None offset = from ≤ offset
-IsBetween from (Some to) offset = (from ≤ offset) × (offset < to)
+abbrev pub IsOffsetBetween : ℕ → Option ℕ → ℕ → Type 0
+IsOffsetBetween from None offset = from ≤ offset
+IsOffsetBetween from (Some to) offset = (from ≤ offset) × (offset < to)
 
 -- the file doesn't end before the first of these, nor by a fault of its headers before the second or, if there is none, at all
 abbrev pub Reaches : ℕ → Option ℕ → End → Type 0
@@ -27,4 +27,4 @@ pub record ReadsBetween (from : ℕ) (to : Option ℕ) (file : List ℕ) : Type 
   pub shape : PictureShape
   pub framed : course.headers.frame ≡ Some shape
   pub reaches : Reaches from to course.end
-  pub each : AllByRecursion (λ p. IsBetween from to p.offset → HasLines p) (pieces course)
+  pub each : AllByRecursion (λ p. IsOffsetBetween from to p.offset → HasLines p) (pieces course)

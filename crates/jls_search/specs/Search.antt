@@ -10,7 +10,7 @@ use Rattle.jls_copy.specs.ReadCopy.{after}
 use Rattle.jls_diff.specs.Parts.{Part, HasWays, IsSplice}
 use Rattle.jls_search.specs.Choices.{IsPath, IsWhole, prefix_of}
 use Rattle.jls_search.specs.Faultless.{IsDead, IsFaultless, IsSought}
-use Rattle.jls_search.specs.Goals.{AddsFor, GoesOn, IsGoal}
+use Rattle.jls_search.specs.Goals.{AddsFor, StandsOrIsSettled, IsGoal}
 use Rattle.jls_search.specs.OfGroups.{AreOfGroups}
 use Rattle.jls_search.specs.Order.{Goes, IsLater}
 use Rattle.jls_search.specs.declared.early.Until.{Until}
@@ -64,18 +64,18 @@ IsStep ceiling parts goal path found next found' more =
     AddsFor ceiling parts goal path found found' × (more ≡ true → Goes path next ⊎ IsLater path next)
 
 -- a reader that is kept was fed what its choices make
-abbrev pub IsKept : List Part → KeptReader → Type 0
-IsKept parts k = k.reader ≡ Some (prefix_of parts k.choices.items)
+abbrev pub IsKeptReader : List Part → KeptReader → Type 0
+IsKeptReader parts k = k.reader ≡ Some (prefix_of parts k.choices.items)
 
 -- so were those that a search goes on from
 abbrev pub AreKept : List Part → Judge → Type 0
-AreKept parts judge = IfSome judge.begin (IsKept parts) × IfSome judge.kept (IsKept parts)
+AreKept parts judge = IfSome judge.begin (IsKeptReader parts) × IfSome judge.kept (IsKeptReader parts)
 
 -- a search over parts has come so far: what it is after is settled, or still to come. The readers that it keeps were fed what their
 -- choices make
 pub record IsAt (parts : List Part) (s : Search) : Type 0 where
   pub goal : IsGoal parts s.goal
-  pub goes : GoesOn s.judge.ceiling parts s.goal s.path.items (lists_of s.splices.items) s.goes_on
+  pub goes : StandsOrIsSettled s.judge.ceiling parts s.goal s.path.items (lists_of s.splices.items) s.goes_on
   pub files : AreFilesFor s.judge.ceiling parts s.goal (lists_of s.splices.items)
   pub few : length (lists_of s.splices.items) ≤ s.most
   pub kept : AreKept parts s.judge
@@ -137,7 +137,7 @@ pub record GoesFrom (parts : List Part) (old new : Search) (limit : ℕ) : Type 
 
 -- each of these readers, where there is one, was fed what its choices make
 abbrev pub AreEachKept : List Part → List (Option KeptReader) → Type 0
-AreEachKept parts readers = AllByRecursion (λ reader. IfSome reader (IsKept parts)) readers
+AreEachKept parts readers = AllByRecursion (λ reader. IfSome reader (IsKeptReader parts)) readers
 
 -- a reader was fed what so many first choices of a path make
 abbrev pub IsBegunOn : List Part → List ℕ → BegunReader → Type 0

@@ -5,7 +5,7 @@ use Rattle.jls_values.specs.Shape.{PictureShape}
 use Rattle.jls_copy.specs.CopyReads.{CopyGivesNone}
 use Rattle.jls_copy.specs.declared.reader.CopyFault.TheVariants.{NoPicture}
 use Rattle.jls_search.specs.Faultless.{IsFaultless}
-use Rattle.jls_search.specs.Shapes.{HasShape}
+use Rattle.jls_search.specs.Shapes.{HasFrameOfShape}
 use Rattle.jls_search.specs.declared.shape_found.ShapeFound.{ShapeFound}
 use Rattle.jls_search.specs.declared.shape_found.ShapeFound.TheVariants as answer
 use Rattle.jls_search.specs.declared.seen.Seen.{Seen}
@@ -13,8 +13,8 @@ use Rattle.jls_search.specs.declared.seen.Seen.TheVariants.{Faultless, Faulty, N
 
 -- this is seen of the file
 abbrev pub IsSeen : List ℕ → Seen → Type 0
-IsSeen file (Faultless shape) = HasShape shape file × IsFaultless file
-IsSeen file (Faulty shape) = HasShape shape file × (IsFaultless file → ⊥)
+IsSeen file (Faultless shape) = HasFrameOfShape shape file × IsFaultless file
+IsSeen file (Faulty shape) = HasFrameOfShape shape file × (IsFaultless file → ⊥)
 IsSeen file (NoFrame fault offset) = CopyGivesNone file (NoPicture fault offset)
 
 -- and these are, of each file in turn

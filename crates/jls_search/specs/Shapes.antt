@@ -12,12 +12,12 @@ use Rattle.jls_search.specs.declared.shape_found.ShapeFound.TheVariants.{Taken, 
 -- One file ---------------------------------------------------------------------------------------------------------
 
 -- the file has a frame of this shape
-abbrev pub HasShape : PictureShape → List ℕ → Type 0
-HasShape shape file = (c : Course) × IsCourse file c × (c.headers.frame ≡ Some shape)
+abbrev pub HasFrameOfShape : PictureShape → List ℕ → Type 0
+HasFrameOfShape shape file = (c : Course) × IsCourse file c × (c.headers.frame ≡ Some shape)
 
 -- the file has a frame of another shape
-abbrev pub HasOtherShape : PictureShape → List ℕ → Type 0
-HasOtherShape shape file = (other : PictureShape) × HasShape other file × (other ≡ shape → ⊥)
+abbrev pub HasFrameOfOtherShape : PictureShape → List ℕ → Type 0
+HasFrameOfOtherShape shape file = (other : PictureShape) × HasFrameOfShape other file × (other ≡ shape → ⊥)
 
 -- the file has no frame
 abbrev pub HasNoFrame : List ℕ → Type 0
@@ -28,7 +28,7 @@ HasNoFrame file = (c : Course) × IsCourse file c × (c.headers.frame ≡ None)
 -- the shape of the first of these files that has a frame
 abbrev pub IsFirstShape : List (List ℕ) → PictureShape → Type 0
 IsFirstShape [] shape = ⊥
-IsFirstShape (file ∷ files) shape = HasShape shape file ⊎ (HasNoFrame file × IsFirstShape files shape)
+IsFirstShape (file ∷ files) shape = HasFrameOfShape shape file ⊎ (HasNoFrame file × IsFirstShape files shape)
 
 -- each of these files has a fault
 abbrev pub NoneIsFaultless : List (List ℕ) → Type 0
@@ -37,7 +37,7 @@ NoneIsFaultless files = (file : List ℕ) → Contains files file → IsFaultles
 -- the shape that is taken: each file without a fault, among the copies and what was found, has it. If there is none, it is that of the
 -- first copy with a frame
 pub record IsShapeTaken (copies found : List (List ℕ)) (shape : PictureShape) : Type 0 where
-  pub of_faultless : (file : List ℕ) → Contains (copies ++ found) file → IsFaultless file → HasShape shape file
+  pub of_faultless : (file : List ℕ) → Contains (copies ++ found) file → IsFaultless file → HasFrameOfShape shape file
   pub of_first : NoneIsFaultless (copies ++ found) → IsFirstShape copies shape
 
 -- two of the files have no fault, and their shapes differ
@@ -46,11 +46,11 @@ pub record ShapesDiffer (files : List (List ℕ)) : Type 0 where
   pub among : Contains files file
   pub faultless : IsFaultless file
   pub shape : PictureShape
-  pub has_shape : HasShape shape file
+  pub has_shape : HasFrameOfShape shape file
   pub other : List ℕ
   pub other_among : Contains files other
   pub other_faultless : IsFaultless other
-  pub has_other_shape : HasOtherShape shape other
+  pub has_other_shape : HasFrameOfOtherShape shape other
 
 -- Copies -----------------------------------------------------------------------------------------------------------
 
@@ -59,12 +59,13 @@ pub record IsFirstOther (copies : List (List ℕ)) (copy : ℕ) : Type 0 where
   pub shape : PictureShape
   pub is_first_shape : IsFirstShape copies shape
   pub within : copy < length copies
-  pub has_other_shape : HasOtherShape shape (get_or copies copy [])
-  pub none_before : (before : ℕ) → before < copy → HasOtherShape shape (get_or copies before []) → ⊥
+  pub has_other_shape : HasFrameOfOtherShape shape (get_or copies copy [])
+  pub none_before : (before : ℕ) → before < copy → HasFrameOfOtherShape shape (get_or copies before []) → ⊥
 
 -- no copy has a frame of another shape than the first frame among the copies
 abbrev pub NoneIsOther : List (List ℕ) → Type 0
-NoneIsOther copies = (shape : PictureShape) → IsFirstShape copies shape → AllByRecursion (λ copy. HasOtherShape shape copy → ⊥) copies
+NoneIsOther copies =
+    (shape : PictureShape) → IsFirstShape copies shape → AllByRecursion (λ copy. HasFrameOfOtherShape shape copy → ⊥) copies
 
 -- the copy that is named if shapes differ: that one, or the first copy if there is none
 abbrev pub IsCopyNamed : List (List ℕ) → ℕ → Type 0

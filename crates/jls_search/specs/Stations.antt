@@ -5,8 +5,8 @@ use Rattle.jls_partial.specs.Partial.{PartialPicture, union}
 use Rattle.jls_copy.specs.CopyReads.{CopyReads}
 use Rattle.jls_copy.specs.ReadCopy.{ReadCopy}
 use Rattle.jls_station.specs.Given.{marked}
-use Rattle.jls_station.specs.Reading.{AreBytes}
-use Rattle.jls_search.specs.Shapes.{HasShape}
+use Rattle.jls_marker.specs.SegmentLaws.{AreBytes}
+use Rattle.jls_search.specs.Shapes.{HasFrameOfShape}
 
 -- what files give a station of this shape, one after the other. A file of the shape gives its readings, under the source if there is one.
 -- Any other file gives nothing
@@ -15,7 +15,7 @@ pub data Give (source : Option ℕ) (shape : PictureShape) : List (List ℕ) →
   gives : (file : List ℕ) (read : ReadCopy) (files : List (List ℕ)) (given : List PartialPicture) → AreBytes file → CopyReads file read
       → read.partial.shape ≡ shape → Give source shape files given
       → Give source shape (file ∷ files) (marked source read.partial ∷ given)
-  gives_nothing : (file : List ℕ) (files : List (List ℕ)) (given : List PartialPicture) → (HasShape shape file → ⊥)
+  gives_nothing : (file : List ℕ) (files : List (List ℕ)) (given : List PartialPicture) → (HasFrameOfShape shape file → ⊥)
       → Give source shape files given → Give source shape (file ∷ files) given
 
 -- a station that held the first of these took the files, each under the source if there is one, and holds the second: the union of what it

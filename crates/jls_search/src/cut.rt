@@ -6,13 +6,13 @@ ghost use Rattle.jls_partial.specs.Partial.{nothing_known};
 ghost use Rattle.jls_copy.specs.CopyReads.{CopyReads};
 ghost use Rattle.jls_diff.specs.PartsOf.{bytes_of, parts_of};
 ghost use Rattle.jls_search.specs.Choices.{IsPath, IsWhole, prefix_of};
-ghost use Rattle.jls_search.specs.Search.{IsKept, IsShort, lists_of};
+ghost use Rattle.jls_search.specs.Search.{IsKeptReader, IsShort, lists_of};
 ghost use Rattle.jls_search.specs.Files.{AreVerdicts, files_taken, splices_found};
-ghost use Rattle.jls_search.specs.Reading.{HasTaken};
-ghost use Rattle.jls_search.specs.Shapes.{HasNoFrame, HasShape};
+ghost use Rattle.jls_search.specs.Reading.{HasTakenFiles};
+ghost use Rattle.jls_search.specs.Shapes.{HasNoFrame, HasFrameOfShape};
 ghost use Rattle.jls_search.specs.Stations.{TakesFiles};
 ghost use Rattle.jls_search.specs.Cuts.{TakesCut, TakesNoCut};
-ghost use Rattle.jls_station.specs.Reading.{AreBytes};
+ghost use Rattle.jls_marker.specs.SegmentLaws.{AreBytes};
 
 use crate::feeding::feed_prefix;
 use crate::file::take_read;
@@ -54,9 +54,9 @@ fn take_cut(
 ) -> Result<Option<Station>, AllocError>
     requires whole { AllByRecursion (IsWhole files.now.parts.now) (lists_of files.now.splices.now) }
     requires short { IsShort files.now.parts.now }
-    requires taken { HasTaken source (files_taken files.now) before }
+    requires taken { HasTakenFiles source (files_taken files.now) before }
     requires cut { IsPath files.now.parts.now cut.now }
-    ensures some { IfOk result (λ found. IfSome found (λ station. HasShape station.shape (prefix_of files.now.parts.now cut.now)
+    ensures some { IfOk result (λ found. IfSome found (λ station. HasFrameOfShape station.shape (prefix_of files.now.parts.now cut.now)
         × TakesFiles source (files_taken files.now ++ prefix_of files.now.parts.now cut.now ∷ [])
         (nothing_known station.shape) station)) }
     ensures none { IfOk result (λ found. IfNone found (HasNoFrame (prefix_of files.now.parts.now cut.now))) }
@@ -85,7 +85,7 @@ pub fn settle_with_cut(
     requires some_copy { 0 < length files.now.copies.now }
     requires whole { AllByRecursion (IsWhole files.now.parts.now) (lists_of files.now.splices.now) }
     requires short { IsShort files.now.parts.now }
-    requires reader { IfSome files.now.reader.now (IsKept files.now.parts.now) }
+    requires reader { IfSome files.now.reader.now (IsKeptReader files.now.parts.now) }
     requires cut { IsPath files.now.parts.now cut.items }
     ensures taken { IfOk result (λ found. IfSome found (λ taken. TakesCut source (bytes_of files.now.copies.now)
         (splices_found files.now) (prefix_of files.now.parts.now cut.items) taken.station)) }

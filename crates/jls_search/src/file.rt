@@ -5,7 +5,7 @@ ghost use Rattle.jls_copy.specs.CopyReads.{CopyReads};
 ghost use Rattle.jls_diff.specs.PartsOf.{parts_of};
 ghost use Rattle.jls_search.specs.Choices.{IsPath, prefix_of};
 ghost use Rattle.jls_station.specs.Given.{marked};
-ghost use Rattle.jls_station.specs.Reading.{AreBytes};
+ghost use Rattle.jls_marker.specs.SegmentLaws.{AreBytes};
 ghost use Rattle.jls_search.specs.Stations.{TakesFiles};
 
 use crate::feeding::feed_prefix;

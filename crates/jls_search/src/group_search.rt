@@ -5,7 +5,7 @@ ghost use Rattle.std.specs.List.{AllByRecursion};
 ghost use Rattle.jls_diff.specs.Parts.{AreParts, HasWays, Part};
 ghost use Rattle.jls_diff.specs.PartsOf.{bytes_of, parts_of};
 ghost use Rattle.jls_search.specs.SearchLaws.{AreShort};
-ghost use Rattle.jls_search.specs.Search.{AreEachKept, IsAt, IsKept, IsShort, lists_of};
+ghost use Rattle.jls_search.specs.Search.{AreEachKept, IsAt, IsKeptReader, IsShort, lists_of};
 ghost use Rattle.jls_diff.specs.Groups.{CoverParts, IsGroup};
 ghost use Rattle.jls_search.specs.OfGroups.{AreOfGroups, IsOfGroup, IsOnce, IsSetting};
 ghost use Rattle.jls_search.specs.GroupTries.{AreGroupsSearched, GoesThrough, GoesThroughCopies, IsGroupBegun};
@@ -73,10 +73,10 @@ fn search_setting(
     requires short { IsShort parts.now }
     requires splices { AreOfGroups parts.now (lists_of gone.searched.splices.items) }
     requires few { (gone.searched.tries ≤ limit) × (length gone.searched.splices.items ≤ 4096) }
-    requires kept { IfSome gone.kept (IsKept parts.now) }
+    requires kept { IfSome gone.kept (IsKeptReader parts.now) }
     ensures splices { IfOk result (λ more. AreOfGroups parts.now (lists_of more.searched.splices.items)) }
     ensures goes { IfOk result (λ more. GoesThrough limit parts.now setting gone.searched more.searched) }
-    ensures kept { IfOk result (λ more. IfSome more.kept (IsKept parts.now)) }
+    ensures kept { IfOk result (λ more. IfSome more.kept (IsKeptReader parts.now)) }
 {
     let Gone { searched, kept } = gone;
     let is_cut = searched.is_used_up;
@@ -96,7 +96,7 @@ fn begin(
     requires setting { IsSetting parts.now setting }
     requires splices { AreOfGroups parts.now (lists_of searched.splices.items) }
     requires few { length searched.splices.items ≤ 4096 }
-    requires kept { IfSome kept (IsKept parts.now) }
+    requires kept { IfSome kept (IsKeptReader parts.now) }
     ensures stands { IfOk result (λ begun. IsAt parts.now begun) }
     ensures untried { IfOk result (λ begun. IsGroupBegun setting searched begun) }
 {
@@ -154,7 +154,7 @@ fn went(search: Search, was_cut: bool) -> Gone
 /// The first of these readers, which is taken out.
 fn take_first(readers: &mut Vec<Option<KeptReader>>) -> Option<KeptReader>
     ensures { (parts : List Part) → AreEachKept parts readers.old.items
-        → IfSome result (IsKept parts) × AreEachKept parts readers.new.items }
+        → IfSome result (IsKeptReader parts) × AreEachKept parts readers.new.items }
 {
     if readers.is_empty() {
         return None;

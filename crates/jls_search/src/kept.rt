@@ -4,7 +4,7 @@ ghost use Rattle.std.specs.Prelude.{◌≡◌, List, ◌-◌, ◌^◌, ◌≤◌
 ghost use Rattle.jls_diff.specs.Parts.{Part};
 ghost use Rattle.jls_diff.specs.PartsOf.{parts_of};
 ghost use Rattle.jls_search.specs.Choices.{IsPath, prefix_of};
-ghost use Rattle.jls_search.specs.Search.{AreKept, IsBegunOn, IsKept, Keeps};
+ghost use Rattle.jls_search.specs.Search.{AreKept, IsBegunOn, IsKeptReader, Keeps};
 
 use crate::early::{Until, feed_path_until};
 use crate::setting::Goal;
@@ -49,7 +49,7 @@ pub(crate) fn begun_on(
     kept: &Option<KeptReader>,
     path: &[usize],
 ) -> Result<BegunReader, AllocError>
-    ensures { (parts : List Part) → IfSome kept.now (IsKept parts) → IfOk result (IsBegunOn parts path.now) }
+    ensures { (parts : List Part) → IfSome kept.now (IsKeptReader parts) → IfOk result (IsBegunOn parts path.now) }
 {
     if let Some(last) = kept {
         if path.starts_with(&last.choices) {
@@ -90,7 +90,7 @@ pub(crate) fn reader_on(
     kept: &Option<KeptReader>,
     path: &[usize],
 ) -> Result<CopyReader, AllocError>
-    requires kept { IfSome kept.now (IsKept parts.now) }
+    requires kept { IfSome kept.now (IsKeptReader parts.now) }
     requires path { IsPath parts.now path.now }
     requires few { length (prefix_of parts.now path.now) ≤ 2 ^ 63 - 1 }
     ensures { IfOk result (λ reader. reader ≡ Some (prefix_of parts.now path.now)) }
@@ -128,7 +128,7 @@ pub(crate) fn keep(
 
 /// The reader from which to go on along the path.
 pub(crate) fn nearest<'a>(judge: &'a Judge, path: &[usize]) -> &'a Option<KeptReader>
-    ensures { (parts : List Part) → AreKept parts judge.now → IfSome result.now (IsKept parts) }
+    ensures { (parts : List Part) → AreKept parts judge.now → IfSome result.now (IsKeptReader parts) }
 {
     if let Some(kept) = &judge.kept {
         if path.starts_with(&kept.choices) {

@@ -6,8 +6,8 @@ ghost use Rattle.std.specs.List.{AllByRecursion, Contains};
 ghost use Rattle.jls_diff.specs.PartsOf.{parts_of};
 ghost use Rattle.jls_search.specs.Choices.{HasSomeWay, IsPath, prefix_of};
 ghost use Rattle.jls_search.specs.Faultless.{IsDead, IsSought};
-ghost use Rattle.jls_search.specs.Search.{IsKept, IsShort, lists_of};
-ghost use Rattle.jls_search.specs.Levels.{AreJudged, IsFirstDead, IsLevel, IsLone, IsNext, IsTaken};
+ghost use Rattle.jls_search.specs.Search.{IsKeptReader, IsShort, lists_of};
+ghost use Rattle.jls_search.specs.Levels.{AreJudged, IsFirstDead, IsLevel, IsLone, IsNextPath, IsPathTaken};
 
 use crate::ceiling::is_above;
 use crate::choosing::next_way_at;
@@ -47,7 +47,7 @@ fn is_found_dead(
     judge: &Judge,
     path: &[usize],
 ) -> Result<bool, AllocError>
-    requires kept { IfSome judge.now.kept (IsKept parts.now) }
+    requires kept { IfSome judge.now.kept (IsKeptReader parts.now) }
     requires path { IsPath parts.now path.now }
     requires few { length (prefix_of parts.now path.now) ≤ 2 ^ 63 - 1 }
     ensures { IfOk result
@@ -72,9 +72,9 @@ fn take_path(
     living: &mut Vec<Vec<usize>>,
 ) -> Result<(), AllocError>
     requires short { IsShort parts.now }
-    requires kept { IfSome judge.now.kept (IsKept parts.now) }
+    requires kept { IfSome judge.now.kept (IsKeptReader parts.now) }
     requires path { IsPath parts.now begin.items }
-    ensures { OnOk result (IsTaken (IsSought judge.now.ceiling) parts.now begin.items
+    ensures { OnOk result (IsPathTaken (IsSought judge.now.ceiling) parts.now begin.items
         (lists_of living.old.items) (lists_of living.new.items)) }
 {
     let mut path = begin;
@@ -106,11 +106,11 @@ fn take_ways(
 ) -> Result<bool, AllocError>
     requires some_way { AllByRecursion HasSomeWay parts.now }
     requires short { IsShort parts.now }
-    requires kept { IfSome judge.now.kept (IsKept parts.now) }
+    requires kept { IfSome judge.now.kept (IsKeptReader parts.now) }
     requires path { IsPath parts.now path.now }
     requires more { length path.now < length parts.now }
-    requires each { AllByRecursion (IsNext parts.now (length path.now + 1)) (lists_of begun.old.living.items) }
-    ensures each { OnOk result (AllByRecursion (IsNext parts.now (length path.now + 1)) (lists_of begun.new.living.items)) }
+    requires each { AllByRecursion (IsNextPath parts.now (length path.now + 1)) (lists_of begun.old.living.items) }
+    ensures each { OnOk result (AllByRecursion (IsNextPath parts.now (length path.now + 1)) (lists_of begun.new.living.items)) }
     ensures still { OnOk result ((other : List ℕ) → Contains (lists_of begun.old.living.items) other
         → Contains (lists_of begun.new.living.items) other) }
     ensures judged { IfOk result (λ all. all ≡ true → AreJudged (IsSought judge.now.ceiling) parts.now (length path.now + 1)
@@ -148,7 +148,7 @@ fn level_of(living: Vec<Vec<usize>>) -> Option<Level>
 /// The first level, if its one path lives: it was not found dead.
 fn first_level(alloc: Global, parts: &Parts<'_>, judge: &Judge) -> Result<Option<Level>, AllocError>
     requires short { IsShort parts.now }
-    requires kept { IfSome judge.now.kept (IsKept parts.now) }
+    requires kept { IfSome judge.now.kept (IsKeptReader parts.now) }
     ensures level { IfOk result (λ first. IfSome first (λ level.
         IsLevel (IsSought judge.now.ceiling) parts.now level.count (lists_of level.living.items))) }
     ensures one { IfOk result (λ first. IfSome first (λ level. length (lists_of level.living.items) ≡ 1)) }
@@ -170,7 +170,7 @@ fn next_level(
 ) -> Result<Option<Level>, AllocError>
     requires some_way { AllByRecursion HasSomeWay parts.now }
     requires short { IsShort parts.now }
-    requires kept { IfSome judge.now.kept (IsKept parts.now) }
+    requires kept { IfSome judge.now.kept (IsKeptReader parts.now) }
     requires level { IsLevel (IsSought judge.now.ceiling) parts.now level.now.count (lists_of level.now.living.items) }
     ensures level { IfOk result (λ after. IfSome after (λ next.
         IsLevel (IsSought judge.now.ceiling) parts.now next.count (lists_of next.living.items))) }
@@ -203,10 +203,10 @@ fn note_lone(
     lone: &mut Option<Vec<usize>>,
 ) -> Result<(), AllocError>
     requires short { IsShort parts.now }
-    requires kept { IfSome judge.old.kept (IsKept parts.now) }
+    requires kept { IfSome judge.old.kept (IsKeptReader parts.now) }
     requires level { IsLevel (IsSought judge.old.ceiling) parts.now level.now.count (lists_of level.now.living.items) }
     requires lone { IfSome lone.old (λ path. IsLone (IsSought judge.old.ceiling) parts.now path.items) }
-    ensures kept { OnOk result (IfSome judge.new.kept (IsKept parts.now)) }
+    ensures kept { OnOk result (IfSome judge.new.kept (IsKeptReader parts.now)) }
     ensures ceiling { judge.new.ceiling ≡ judge.old.ceiling }
     ensures lone { OnOk result (IfSome lone.new (λ path. IsLone (IsSought judge.old.ceiling) parts.now path.items)) }
     ensures noted { OnOk result (length (lists_of level.now.living.items) ≡ 1 → IsSome lone.new) }

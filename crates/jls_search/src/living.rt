@@ -4,7 +4,7 @@ ghost use Rattle.std.specs.Prelude.{◌≡◌, ◌-◌, ◌^◌, ◌≤◌, Some
 ghost use Rattle.jls_diff.specs.PartsOf.{parts_of};
 ghost use Rattle.jls_search.specs.Choices.{IsPath, prefix_of};
 ghost use Rattle.jls_search.specs.Faultless.{IsDead, IsFaultless};
-ghost use Rattle.jls_search.specs.Search.{IsKept};
+ghost use Rattle.jls_search.specs.Search.{IsKeptReader};
 
 use crate::early::{Until, feed_path_until};
 use crate::kept::{BegunReader, KeptReader, begun_on};
@@ -20,7 +20,7 @@ pub(crate) fn living_on(
     kept: &Option<KeptReader>,
     path: &[usize],
 ) -> Result<Option<CopyReader>, AllocError>
-    requires kept { IfSome kept.now (IsKept parts.now) }
+    requires kept { IfSome kept.now (IsKeptReader parts.now) }
     requires path { IsPath parts.now path.now }
     requires few { length (prefix_of parts.now path.now) ≤ 2 ^ 63 - 1 }
     ensures living { IfOk result (λ fed. IfSome fed (λ reader. reader ≡ Some (prefix_of parts.now path.now))) }

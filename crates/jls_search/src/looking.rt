@@ -5,7 +5,7 @@ ghost use Rattle.jls_diff.specs.Parts.{Part as SpecPart};
 ghost use Rattle.jls_diff.specs.PartsOf.{parts_of};
 ghost use Rattle.jls_search.specs.Choices.{IsPath, prefix_of};
 ghost use Rattle.jls_search.specs.Goals.{IsGoal, IsSeenFor};
-ghost use Rattle.jls_search.specs.Search.{AreKept, IsKept};
+ghost use Rattle.jls_search.specs.Search.{AreKept, IsKeptReader};
 ghost use Rattle.jls_search.specs.OfGroups.{IsSetting};
 ghost use Rattle.jls_search.specs.declared.setting.Goal.TheVariants.{Whole, Group as ForGroup};
 
@@ -83,7 +83,7 @@ fn look_for_whole(
     judge: &Judge,
     path: &[usize],
 ) -> Result<PathVerdict, AllocError>
-    requires kept { IfSome judge.now.kept (IsKept parts.now) }
+    requires kept { IfSome judge.now.kept (IsKeptReader parts.now) }
     requires path { IsPath parts.now path.now }
     requires few { length (prefix_of parts.now path.now) ≤ 2 ^ 63 - 1 }
     ensures { IfOk result (λ sight. IsSeenFor judge.now.ceiling parts.now Whole path.now sight) }

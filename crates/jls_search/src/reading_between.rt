@@ -5,14 +5,14 @@ ghost use Rattle.std.specs.List.{AllByRecursion, Contains};
 ghost use Rattle.jls_copy.specs.CopyReads.{CopyReads};
 ghost use Rattle.jls_copy.specs.declared.piece.PieceRecord.{PieceRecord as Record};
 ghost use Rattle.jls_search.specs.OfGroups.{HasManyFaults};
-ghost use Rattle.jls_search.specs.ReadsBetween.{IsBetween, Reaches, ReadsBetween};
+ghost use Rattle.jls_search.specs.ReadsBetween.{IsOffsetBetween, Reaches, ReadsBetween};
 
 use jls_copy::{CopyFault, CopyRead, CopyReader, End, PieceRecord, records_are_of_faulty_pieces};
 use std::alloc::AllocError;
 
 /// Whether an offset is the first of these or after it, and before the second, if there is one.
 fn is_between(from: u64, to: Option<u64>, offset: u64) -> bool
-    ensures { IsTrue result ↔ IsBetween from to offset }
+    ensures { IsTrue result ↔ IsOffsetBetween from to offset }
 {
     match to {
         Some(to) => from <= offset && offset < to,
@@ -22,8 +22,8 @@ fn is_between(from: u64, to: Option<u64>, offset: u64) -> bool
 
 /// Whether one of the records is of a piece that begins there.
 fn has_record_between(records: &[PieceRecord], from: u64, to: Option<u64>) -> bool
-    ensures none { result ≡ false → AllByRecursion (λ reported. IsBetween from to reported.offset → ⊥) records.now }
-    ensures some { result ≡ true → (reported : Record) × Contains records.now reported × IsBetween from to reported.offset }
+    ensures none { result ≡ false → AllByRecursion (λ reported. IsOffsetBetween from to reported.offset → ⊥) records.now }
+    ensures some { result ≡ true → (reported : Record) × Contains records.now reported × IsOffsetBetween from to reported.offset }
 {
     for reported in records {
         if is_between(from, to, reported.offset) {

@@ -4,10 +4,10 @@ ghost use Rattle.std.specs.Prelude.{◌-◌, ◌^◌, ◌≤◌, ◌∷◌, [], 
 ghost use Rattle.std.specs.List.{AllByRecursion};
 ghost use Rattle.jls_diff.specs.PartsOf.{bytes_of, parts_of};
 ghost use Rattle.jls_search.specs.Choices.{IsPath, IsWhole, prefix_of};
-ghost use Rattle.jls_search.specs.Search.{IsKept, IsShort, files_of, lists_of};
-ghost use Rattle.jls_station.specs.Reading.{AreBytes};
+ghost use Rattle.jls_search.specs.Search.{IsKeptReader, IsShort, files_of, lists_of};
+ghost use Rattle.jls_marker.specs.SegmentLaws.{AreBytes};
 ghost use Rattle.jls_search.specs.Files.{files_taken};
-ghost use Rattle.jls_search.specs.Reading.{AreRead, HasTaken, ReadsMore};
+ghost use Rattle.jls_search.specs.Reading.{AreRead, HasTakenFiles, ReadsMore};
 
 use crate::file::take_read;
 use crate::files::Files;
@@ -28,7 +28,7 @@ pub(crate) struct FilesRead {
 
 /// The station that takes what was read of a file: the one that there is, or one of the file's shape.
 fn station_for(alloc: Global, station: Option<Station>, read: &CopyRead) -> Station
-    ensures { (source : Option ℕ) (files : List (List ℕ)) → HasTaken source files station → HasTaken source files (Some result) }
+    ensures { (source : Option ℕ) (files : List (List ℕ)) → HasTakenFiles source files station → HasTakenFiles source files (Some result) }
 {
     match station {
         Some(station) => station,
@@ -104,7 +104,7 @@ pub(crate) fn read_files(
 ) -> Result<FilesRead, AllocError>
     requires whole { AllByRecursion (IsWhole files.now.parts.now) (lists_of files.now.splices.now) }
     requires short { IsShort files.now.parts.now }
-    requires reader { IfSome files.now.reader.now (IsKept files.now.parts.now) }
+    requires reader { IfSome files.now.reader.now (IsKeptReader files.now.parts.now) }
     ensures { IfOk result (λ read. AreRead source (files_taken files.now) read) }
 {
     let copies = read_copies(alloc, source, files.copies)?;

@@ -7,7 +7,7 @@ ghost use Rattle.jls_diff.specs.PartsOf.{parts_of};
 ghost use Rattle.jls_search.specs.Choices.{IsPath, prefix_of};
 ghost use Rattle.jls_search.specs.OfGroups.{HasManyFaults, ReadsInGroup};
 ghost use Rattle.jls_search.specs.ReadsBetween.{ReadsBetween};
-ghost use Rattle.jls_search.specs.Search.{IsBegunOn, IsKept};
+ghost use Rattle.jls_search.specs.Search.{IsBegunOn, IsKeptReader};
 
 use crate::early::{Until, feed_path_until};
 use crate::kept::{BegunReader, KeptReader, begun_on, reader_on};
@@ -69,7 +69,7 @@ pub(crate) fn reads_in_group(
     path: &[usize],
 ) -> Result<bool, AllocError>
     requires group { IsGroup parts.now group }
-    requires kept { IfSome kept.now (IsKept parts.now) }
+    requires kept { IfSome kept.now (IsKeptReader parts.now) }
     requires path { IsPath parts.now path.now }
     requires few { length (prefix_of parts.now path.now) ≤ 2 ^ 63 - 1 }
     requires whole { length path.now ≡ length parts.now }

@@ -6,7 +6,7 @@ ghost use Rattle.jls_diff.specs.Parts.{Part};
 ghost use Rattle.jls_diff.specs.PartsOf.{parts_of};
 ghost use Rattle.jls_search.specs.Choices.{IsPath, IsWhole, prefix_of};
 ghost use Rattle.jls_search.specs.Files.{splices_found};
-ghost use Rattle.jls_search.specs.Search.{IsBegunOn, IsKept, IsShort, lists_of};
+ghost use Rattle.jls_search.specs.Search.{IsBegunOn, IsKeptReader, IsShort, lists_of};
 ghost use Rattle.jls_search.specs.Reading.{ReadsMore};
 
 use crate::files::Files;
@@ -52,8 +52,8 @@ fn most_shared(path: &[usize], later: &[Vec<usize>]) -> usize
 
 /// The first of these readers, which is taken out.
 fn take_first(kept: &mut Vec<KeptReader>) -> Option<KeptReader>
-    ensures { (parts : List Part) → AllByRecursion (IsKept parts) kept.old.items
-        → IfSome result (IsKept parts) × AllByRecursion (IsKept parts) kept.new.items }
+    ensures { (parts : List Part) → AllByRecursion (IsKeptReader parts) kept.old.items
+        → IfSome result (IsKeptReader parts) × AllByRecursion (IsKeptReader parts) kept.new.items }
 {
     if kept.is_empty() {
         return None;
@@ -67,9 +67,9 @@ fn take_begun(
     kept: &mut Vec<KeptReader>,
     path: &[usize],
 ) -> Result<BegunReader, AllocError>
-    ensures begun { (parts : List Part) → AllByRecursion (IsKept parts) kept.old.items → IfOk result (IsBegunOn parts path.now) }
-    ensures kept { (parts : List Part) → AllByRecursion (IsKept parts) kept.old.items
-        → OnOk result (AllByRecursion (IsKept parts) kept.new.items) }
+    ensures begun { (parts : List Part) → AllByRecursion (IsKeptReader parts) kept.old.items → IfOk result (IsBegunOn parts path.now) }
+    ensures kept { (parts : List Part) → AllByRecursion (IsKeptReader parts) kept.old.items
+        → OnOk result (AllByRecursion (IsKeptReader parts) kept.new.items) }
 {
     for _ in 0..kept.len() {
         let Some(first) = take_first(kept) else {
@@ -90,7 +90,8 @@ fn take_begun(
 
 /// Lets the first of these readers go, if there are as many as may be kept.
 fn make_room(kept: &mut Vec<KeptReader>)
-    ensures { (parts : List Part) → AllByRecursion (IsKept parts) kept.old.items → AllByRecursion (IsKept parts) kept.new.items }
+    ensures { (parts : List Part) → AllByRecursion (IsKeptReader parts) kept.old.items
+        → AllByRecursion (IsKeptReader parts) kept.new.items }
 {
     if kept.len() < MOST_KEPT {
         return;
@@ -105,8 +106,8 @@ fn keep_more(
     reader: CopyReader,
     path: &[usize],
 ) -> Result<(), AllocError>
-    ensures { (parts : List Part) → AllByRecursion (IsKept parts) kept.old.items → reader ≡ Some (prefix_of parts path.now)
-        → OnOk result (AllByRecursion (IsKept parts) kept.new.items) }
+    ensures { (parts : List Part) → AllByRecursion (IsKeptReader parts) kept.old.items → reader ≡ Some (prefix_of parts path.now)
+        → OnOk result (AllByRecursion (IsKeptReader parts) kept.new.items) }
 {
     make_room(kept);
     let one = kept_reader(alloc, reader, path)?;
@@ -126,9 +127,9 @@ fn read_on(
     requires path { IsPath parts.now path.now }
     requires few { length (prefix_of parts.now path.now) ≤ 2 ^ 63 - 1 }
     requires shared { shared ≤ length path.now }
-    requires kept { AllByRecursion (IsKept parts.now) kept.old.items }
+    requires kept { AllByRecursion (IsKeptReader parts.now) kept.old.items }
     ensures reader { IfOk result (λ reader. reader ≡ Some (prefix_of parts.now path.now)) }
-    ensures kept { OnOk result (AllByRecursion (IsKept parts.now) kept.new.items) }
+    ensures kept { OnOk result (AllByRecursion (IsKeptReader parts.now) kept.new.items) }
 {
     let begun = take_begun(alloc, kept, path)?;
     if begun.choices >= shared {
@@ -148,8 +149,8 @@ fn read_on(
 
 /// The readers that are kept at first: a clone of this one, if there is one.
 fn begin_kept(alloc: Global, reader: &Option<KeptReader>) -> Result<Vec<KeptReader>, AllocError>
-    ensures { (parts : List Part) → IfSome reader.now (IsKept parts)
-        → IfOk result (λ kept. AllByRecursion (IsKept parts) kept.items) }
+    ensures { (parts : List Part) → IfSome reader.now (IsKeptReader parts)
+        → IfOk result (λ kept. AllByRecursion (IsKeptReader parts) kept.items) }
 {
     let mut kept = Vec::new(alloc);
     let Some(first) = reader else {
@@ -170,7 +171,7 @@ pub(crate) fn read_splices(
 ) -> Result<FilesRead, AllocError>
     requires whole { AllByRecursion (IsWhole files.now.parts.now) (lists_of files.now.splices.now) }
     requires short { IsShort files.now.parts.now }
-    requires reader { IfSome files.now.reader.now (IsKept files.now.parts.now) }
+    requires reader { IfSome files.now.reader.now (IsKeptReader files.now.parts.now) }
     ensures { IfOk result (λ read. ReadsMore source (splices_found files.now) before read) }
 {
     let mut read = before;

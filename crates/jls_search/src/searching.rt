@@ -6,8 +6,9 @@ ghost use Rattle.jls_diff.specs.Parts.{Part as SpecPart};
 ghost use Rattle.jls_diff.specs.PartsOf.{parts_of};
 ghost use Rattle.jls_search.specs.Choices.{HasSomeWay};
 ghost use Rattle.jls_search.specs.Faultless.{IsSought};
-ghost use Rattle.jls_search.specs.Goals.{GoesOn, IsGoal, Stands};
-ghost use Rattle.jls_search.specs.Search.{AreKept, CameTo, CanGoOn, GoesFrom, IsAlike, IsAt, IsBegun, IsKept, IsSearch, IsShort, IsStep};
+ghost use Rattle.jls_search.specs.Goals.{StandsOrIsSettled, IsGoal, Stands};
+ghost use Rattle.jls_search.specs.Search.{AreKept, CameTo, CanGoOn, GoesFrom, IsAlike, IsAt, IsBegun, IsKeptReader, IsSearch, IsShort};
+ghost use Rattle.jls_search.specs.Search.{IsStep};
 ghost use Rattle.jls_search.specs.Search.{IsTry, lists_of};
 ghost use Rattle.jls_search.specs.OfGroups.{AreOfGroups, IsSetting};
 ghost use Rattle.jls_search.specs.declared.setting.Goal.TheVariants.{Group as ForGroup};
@@ -90,7 +91,8 @@ impl Search {
         ensures stands { OnOk result (IsSearch parts.now self.new) }
         ensures stops { OnOk result (CanGoOn self.new limit → ⊥) }
         ensures went { OnOk result (GoesFrom parts.now self.old self.new limit) }
-        ensures found { IfSome self.old.judge.found (IsKept parts.now) → OnOk result (IfSome self.new.judge.found (IsKept parts.now)) }
+        ensures found { IfSome self.old.judge.found (IsKeptReader parts.now)
+            → OnOk result (IfSome self.new.judge.found (IsKeptReader parts.now)) }
     {
         self.run(alloc, parts, limit)
     }
@@ -109,7 +111,8 @@ impl Search {
         ensures alike { OnOk result (IsAlike self.old self.new) }
         ensures stops { OnOk result (CanGoOn self.new limit → ⊥) }
         ensures went { OnOk result (GoesFrom parts.now self.old self.new limit) }
-        ensures found { IfSome self.old.judge.found (IsKept parts.now) → OnOk result (IfSome self.new.judge.found (IsKept parts.now)) }
+        ensures found { IfSome self.old.judge.found (IsKeptReader parts.now)
+            → OnOk result (IfSome self.new.judge.found (IsKeptReader parts.now)) }
     {
         while self.can_go_on(limit) {
             self.tries += 1;
@@ -126,11 +129,13 @@ impl Search {
         requires stands { Stands self.old.judge.ceiling parts.now self.old.goal self.old.path.items (lists_of self.old.splices.items) }
         requires kept { AreKept parts.now self.old.judge }
         ensures next { IfOk result
-            (λ more. GoesOn self.old.judge.ceiling parts.now self.old.goal self.new.path.items (lists_of self.new.splices.items) more) }
+            (λ more. StandsOrIsSettled self.old.judge.ceiling parts.now self.old.goal self.new.path.items
+            (lists_of self.new.splices.items) more) }
         ensures step { IfOk result (λ more. IsStep self.old.judge.ceiling parts.now self.old.goal self.old.path.items
             (lists_of self.old.splices.items) self.new.path.items (lists_of self.new.splices.items) more) }
         ensures kept { OnOk result (AreKept parts.now self.new.judge) }
-        ensures found { IfSome self.old.judge.found (IsKept parts.now) → OnOk result (IfSome self.new.judge.found (IsKept parts.now)) }
+        ensures found { IfSome self.old.judge.found (IsKeptReader parts.now)
+            → OnOk result (IfSome self.new.judge.found (IsKeptReader parts.now)) }
         ensures alike { IsAlike self.old self.new }
         ensures tries { self.new.tries ≡ self.old.tries }
     {

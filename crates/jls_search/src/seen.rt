@@ -2,7 +2,7 @@
 
 ghost use Rattle.std.specs.Prelude.{◌≡◌, List, ℕ, map, IfOk};
 ghost use Rattle.jls_copy.specs.CopyReads.{CopyReads};
-ghost use Rattle.jls_station.specs.Reading.{AreBytes};
+ghost use Rattle.jls_marker.specs.SegmentLaws.{AreBytes};
 ghost use Rattle.jls_search.specs.Seen.{IsSeen, verdict_of};
 
 use crate::faultless::is_read_faultless;

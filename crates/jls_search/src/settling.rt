@@ -5,9 +5,9 @@ ghost use Rattle.std.specs.List.{AllByRecursion};
 ghost use Rattle.jls_partial.specs.Partial.{nothing_known};
 ghost use Rattle.jls_diff.specs.PartsOf.{bytes_of, parts_of};
 ghost use Rattle.jls_search.specs.Choices.{IsWhole};
-ghost use Rattle.jls_search.specs.Search.{IsKept, IsShort, lists_of};
+ghost use Rattle.jls_search.specs.Search.{IsKeptReader, IsShort, lists_of};
 ghost use Rattle.jls_search.specs.Files.{files_taken, splices_found};
-ghost use Rattle.jls_search.specs.Reading.{HasTaken};
+ghost use Rattle.jls_search.specs.Reading.{HasTakenFiles};
 ghost use Rattle.jls_search.specs.Settling.{HasNoCut, HasVerdicts, SettlesFiles};
 ghost use Rattle.jls_search.specs.Stations.{TakesFiles};
 
@@ -55,7 +55,7 @@ pub(crate) fn station_of(
 ) -> Result<Station, AllocError>
     requires whole { AllByRecursion (IsWhole files.now.parts.now) (lists_of files.now.splices.now) }
     requires short { IsShort files.now.parts.now }
-    requires taken { HasTaken source (files_taken files.now) first }
+    requires taken { HasTakenFiles source (files_taken files.now) first }
     ensures shape { IfOk result (λ station. station.shape ≡ shape) }
     ensures readings { IfOk result (λ station. TakesFiles source (files_taken files.now) (nothing_known shape) station) }
 {
@@ -79,7 +79,7 @@ pub fn settle_files(
     requires some_copy { 0 < length files.now.copies.now }
     requires whole { AllByRecursion (IsWhole files.now.parts.now) (lists_of files.now.splices.now) }
     requires short { IsShort files.now.parts.now }
-    requires reader { IfSome files.now.reader.now (IsKept files.now.parts.now) }
+    requires reader { IfSome files.now.reader.now (IsKeptReader files.now.parts.now) }
     ensures settled { IfOk result (λ settled.
         SettlesFiles source (bytes_of files.now.copies.now) (splices_found files.now) settled) }
     ensures verdicts { IfOk result (λ settled. HasVerdicts (files_taken files.now) settled) }

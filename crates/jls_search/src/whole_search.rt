@@ -5,7 +5,7 @@ ghost use Rattle.std.specs.List.{AllByRecursion};
 ghost use Rattle.jls_diff.specs.PartsOf.{parts_of};
 ghost use Rattle.jls_search.specs.Choices.{HasSomeWay};
 ghost use Rattle.jls_search.specs.Faultless.{IsSought};
-ghost use Rattle.jls_search.specs.Search.{HasEachSplice, IsKept, IsShort, MakeFiles, WereTried, files_of, lists_of};
+ghost use Rattle.jls_search.specs.Search.{HasEachSplice, IsKeptReader, IsShort, MakeFiles, WereTried, files_of, lists_of};
 
 use crate::kept::KeptReader;
 use crate::searching::Search;
@@ -51,7 +51,7 @@ pub fn search(
         (λ searched. searched.is_used_up ≡ true → (searched.tries ≡ limit) ⊎ (length searched.splices.items ≡ 64)) }
     ensures few { IfOk result (λ searched. (searched.tries ≤ limit) × (length searched.splices.items ≤ 64)) }
     ensures tried { IfOk result (λ searched. WereTried ceiling parts.now searched.tries (lists_of searched.splices.items)) }
-    ensures reader { IfOk result (λ searched. IfSome searched.reader (IsKept parts.now)) }
+    ensures reader { IfOk result (λ searched. IfSome searched.reader (IsKeptReader parts.now)) }
 {
     let mut begun = Search::begin(alloc, parts, ceiling)?;
     begun.go_on(alloc, parts, limit)?;

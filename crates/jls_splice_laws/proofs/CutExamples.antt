@@ -17,7 +17,7 @@ use Rattle.jls_copy.specs.Numbers.{Interval}
 use Rattle.jls_copy.specs.Pieces.{FoundPiece, Lines, IsOutcome, placed, readings_of}
 use Rattle.jls_copy.specs.ReadCopy.{ReadCopy}
 use Rattle.jls_copy.specs.declared.end.End.TheVariants.{Header}
-use Rattle.jls_copy.specs.Prefixes.{Gives}
+use Rattle.jls_copy.specs.Prefixes.{CourseHasReading}
 use Rattle.jls_copy.proofs.OneCourse.{one_course}
 use Rattle.jls_copy_laws.specs.Gives.{GivesReading}
 use Rattle.jls_copy_laws.proofs.Gives.{readings_are_of_the_course}
@@ -29,7 +29,7 @@ use Rattle.jls_diff.specs.Parts.{Part, Same, Differ, made, AreParts, IsSplice}
 use Rattle.jls_search.specs.Choices.{IsPath, prefix_of}
 use Rattle.jls_search.specs.Faultless.{IsDead, IsFaultless, IsSought}
 use Rattle.jls_search.specs.Levels.{IsLone}
-use Rattle.jls_search.specs.Shapes.{HasNoFrame, HasShape}
+use Rattle.jls_search.specs.Shapes.{HasNoFrame, HasFrameOfShape}
 use Rattle.jls_search.specs.Stations.{gives, gives_nothing, no_file}
 use Rattle.jls_search.proofs.OneFile.{no_shape, one_shape_of, shape_read}
 use Rattle.jls_splice_laws.specs.CutLaws.{WereCut, CutLinesAreThePicture, CutTellsOfLine}
@@ -124,7 +124,8 @@ first_has_a_fault f =
     let s : shape ≡ f.shape = cc in
     let g = f.whole 0 1 (subst (λ (t : PictureShape). 0 < length t.ids) s (lit< tt))
     (subst (λ (t : PictureShape). 1 < t.height) s (lit< tt)) in
-    let given : Gives (course_with [] (0x80 ∷ []) 32) (reading_of 0 1 g.0) = subst (λ c. Gives c (reading_of 0 1 g.0)) e g.1 in
+    let given : CourseHasReading (course_with [] (0x80 ∷ []) 32) (reading_of 0 1 g.0) =
+    subst (λ c. CourseHasReading c (reading_of 0 1 g.0)) e g.1 in
     elim given [ inl (p, m, lines, reads, has) ↦ no_piece_has_it p g.0 lines m reads has | inr (p, m, head, is, has) ↦ none_in p m ]
 
 each_has_a_fault : AllByRecursion (λ copy. IsFaultless copy → ⊥) copies
@@ -141,10 +142,10 @@ cut_course = column_course 2 [] (0x80 ∷ []) (by_input 0) 32
 is_cut_course : IsCourse cut cut_course
 is_cut_course = is_column_course 2 two_lines_taken [] (0x80 ∷ []) (by_input 0) tt (byte_is_piece 0x80 (lit< tt))
 
-cut_has_shape : HasShape shape cut
+cut_has_shape : HasFrameOfShape shape cut
 cut_has_shape = (cut_course, is_cut_course, refl)
 
-first_has_shape : HasShape shape first
+first_has_shape : HasFrameOfShape shape first
 first_has_shape = (course_with [] (0x80 ∷ []) 32, first_course, refl)
 
 -- a new station takes what `finish` gives of the first copy and of the cut file. The second copy has no frame

@@ -11,7 +11,7 @@ use Rattle.jls_partial.specs.Reading.{Reading, reading_of, reading_cmp}
 use Rattle.jls_partial.specs.ReadingOrder.{same_reading}
 use Rattle.jls_partial.proofs.Unions.{either, in_its_line}
 use Rattle.jls_copy.specs.Course.{Course}
-use Rattle.jls_copy.specs.Prefixes.{Gives, PrefixesKeepReadings}
+use Rattle.jls_copy.specs.Prefixes.{CourseHasReading, PrefixesKeepReadings}
 use Rattle.jls_copy_laws.specs.CourseGives.{CourseGives}
 use Rattle.jls_copy_laws.specs.Gives.{GivesReading}
 use Rattle.jls_copy_laws.proofs.Gives.{readings_are_of_the_course}
@@ -96,7 +96,7 @@ sought_files_begin_with_the_cut ceiling copies parts are path lone prefix more s
 
 -- Readings ---------------------------------------------------------------------------------------------------------
 
-course_of_gives : (c : Course) (r : Reading) → Gives c r → CourseGives c r
+course_of_gives : (c : Course) (r : Reading) → CourseHasReading c r → CourseGives c r
 course_of_gives c r (inl (p, m, lines, reads, among)) = inl (p, m, record { lines = lines; reads = reads; among = among })
 course_of_gives c r (inr (p, m, head, is, among)) = inr (p, m, record { head = head; is_head = is; among = among })
 

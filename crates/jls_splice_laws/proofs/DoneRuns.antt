@@ -18,7 +18,7 @@ use Rattle.jls_cli.specs.SpliceAsking.{Asked}
 use Rattle.jls_cli.specs.Outcomes.{exit_status, finished}
 use Rattle.jls_splice_run.specs.Copies.{bytes_read}
 use Rattle.jls_splice_run.specs.Limits.{has_some}
-use Rattle.jls_splice_run.specs.Making.{IsCut, IsCutTaken, IsMade, IsPictureOf, IsPictureOfFiles, Made, cut_file, promise_of}
+use Rattle.jls_splice_run.specs.Making.{IsCutFile, IsCutTaken, IsMade, IsPictureOf, IsPictureOfFiles, Made, cut_file, promise_of}
 use Rattle.jls_splice_run.specs.declared.found.Promise.TheVariants.{Picture, Lines}
 use Rattle.jls_copy_laws.proofs.Members.{none_in}
 use Rattle.jls_splice_run.specs.Runs.{Performs, came_of, no_names, at_copies, not_made, not_handed, done}
@@ -103,9 +103,9 @@ some_copy (name ∷ names) (copy ∷ copies) events read some = omega arith
 
 -- the cut file that was taken is the one that was found
 cut_is_lone : (copies : List (List ℕ)) (f : Found) (ceiling : Option ℕ) (lone cut : Option (List ℕ)) (path : List ℕ) → cut ≡ Some path
-    → IfSome lone (IsCut ceiling f) → IsCutTaken copies f lone cut → IsCut ceiling f path
+    → IfSome lone (IsCutFile ceiling f) → IsCutTaken copies f lone cut → IsCutFile ceiling f path
 cut_is_lone copies f ceiling lone cut path is found (inl same) =
-    subst (λ (o : Option (List ℕ)). IfSome o (IsCut ceiling f)) (sym same ∙ is) found
+    subst (λ (o : Option (List ℕ)). IfSome o (IsCutFile ceiling f)) (sym same ∙ is) found
 cut_is_lone copies f ceiling lone cut path is found (inr (none, why)) = absurd cc
 
 -- a cut file is taken only where the search of all splices found nothing
@@ -116,7 +116,7 @@ module _ (a : Asked) (copies : List (List ℕ)) (m : Made) (is : IsMade a copies
       subst (λ (c : Option (List ℕ)). IsPictureOf a.options.source copies (splices_in m.found) (cut_file m.found c) m.picture)
       e is.is_picture
   files_alone (Some path) e among =
-      let cut : IsCut m.cut_ceiling m.found path = cut_is_lone copies m.found m.cut_ceiling m.lone m.cut path e is.is_lone is.is_cut in
+      let cut : IsCutFile m.cut_ceiling m.found path = cut_is_lone copies m.found m.cut_ceiling m.lone m.cut path e is.is_lone is.is_cut in
       absurd (none_in file (subst (λ (xs : List (List ℕ)). Contains (files_of m.found.parts xs) file) cut.0 among))
 
 -- what the promise stands on
@@ -180,7 +180,7 @@ spliced_runs_take_the_cut a status desk report faults performs e =
       λ path is.
           let m : Made = d.made in
           let copies : List (List ℕ) = bytes_read d.copies in
-          let cut : IsCut m.cut_ceiling m.found path =
+          let cut : IsCutFile m.cut_ceiling m.found path =
           cut_is_lone copies m.found m.cut_ceiling m.lone m.cut path is d.is_made.is_lone d.is_made.is_cut in
           record {
             are_parts = d.is_made.is_found.are_parts;

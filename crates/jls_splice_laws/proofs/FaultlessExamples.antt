@@ -20,7 +20,7 @@ use Rattle.jls_headline.proofs.FileExamples.{file_reads}
 use Rattle.jls_headline.proofs.ColumnFiles.{headers_and, column_frame, framed, is_column_course, byte_is_piece}
 use Rattle.jls_headline.proofs.TwoLineCopies.{shape, pic, plan, pieces_read, course_with, two_lines_taken}
 use Rattle.jls_diff.specs.Parts.{Part, Same, Differ, made, AreParts, IsSplice}
-use Rattle.jls_copy.specs.Prefixes.{Gives}
+use Rattle.jls_copy.specs.Prefixes.{CourseHasReading}
 use Rattle.jls_search.specs.Faultless.{GivesEachLine, EndsWell, IsFaultless}
 use Rattle.jls_splice_laws.specs.Searches.{done, Searched, along, given_up}
 use Rattle.jls_splice_laws.specs.WholeFiles.{IsWholeFile}
@@ -132,7 +132,7 @@ no_line_is_read f =
     let s : shape ≡ f.shape = cc in
     let g = f.whole 0 0 (subst (λ (t : PictureShape). 0 < length t.ids) s (lit< tt))
     (subst (λ (t : PictureShape). 0 < t.height) s (lit< tt)) in
-    let none : Gives bare (reading_of 0 0 g.0) = subst (λ c. Gives c (reading_of 0 0 g.0)) e g.1 in
+    let none : CourseHasReading bare (reading_of 0 0 g.0) = subst (λ c. CourseHasReading c (reading_of 0 0 g.0)) e g.1 in
     elim none [ inl (p, m, lines, reads, has) ↦ none_in p m | inr (p, m, head, is, has) ↦ none_in p m ]
 
 -- What doesn't begin with SOI ----------------------------------------------------------------------------------------

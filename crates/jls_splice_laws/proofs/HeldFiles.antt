@@ -12,9 +12,9 @@ use Rattle.jls_headline.specs.Collected.{Collected, new_station, reader_finished
 use Rattle.jls_headline.specs.CollectedLaws.{CollectedHoldsExactlyUnder}
 use Rattle.jls_headline.specs.Sources.{SourcedCopy, sourced_copy, copies_of}
 use Rattle.jls_copy_laws.proofs.Members.{none_in}
-use Rattle.jls_splice_laws.specs.Taken.{AreOfShape, none_left, taken, passed_over}
+use Rattle.jls_splice_laws.specs.Taken.{AreFilesOfShape, none_left, taken, passed_over}
 use Rattle.jls_search.specs.Stations.{Give, no_file, gives, gives_nothing}
-use Rattle.jls_search.specs.Shapes.{HasShape}
+use Rattle.jls_search.specs.Shapes.{HasFrameOfShape}
 use Rattle.jls_search.proofs.OneFile.{shape_read}
 use Rattle.jls_splice_laws.specs.SplicingLaws.{under, FilesAreHeld}
 
@@ -22,7 +22,7 @@ use Rattle.jls_splice_laws.specs.SplicingLaws.{under, FilesAreHeld}
 record Read (source : Option ℕ) (copies : List SourcedCopy) (shape : PictureShape) (files : List (List ℕ)) (new : PartialPicture)
     : Type 0 where
   given : List (List ℕ)
-  of_shape : AreOfShape shape files given
+  of_shape : AreFilesOfShape shape files given
   collected : Collected new (copies ++ under source given) []
 
 read_files : (source : Option ℕ) (shape : PictureShape) (copies : List SourcedCopy) (old : PartialPicture) (files : List (List ℕ))
@@ -44,7 +44,7 @@ read_files source shape copies old _ _ e h (gives file read files given low read
     let r = read_files source shape (copies ++ one) (union old p) files given e more rest in
     record {
       given = file ∷ r.given;
-      of_shape = taken file files r.given (subst (λ s. HasShape s file) is (shape_read file read reads)) r.of_shape;
+      of_shape = taken file files r.given (subst (λ s. HasFrameOfShape s file) is (shape_read file read reads)) r.of_shape;
       collected = subst (λ xs. Collected (fold union (union old p) given) xs [])
           (append_assoc copies one (under source r.given)) r.collected;
     }

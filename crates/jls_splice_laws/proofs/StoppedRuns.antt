@@ -17,7 +17,7 @@ use Rattle.jls_cli.specs.declared.outcome.Cause.{Cause}
 use Rattle.jls_cli.specs.declared.outcome.Cause.TheVariants as cause
 use Rattle.jls_cli.specs.declared.outcome.Refusal.{Refusal}
 use Rattle.jls_splice_run.specs.Copies.{StopsAtCopies, cause_of, stops_read}
-use Rattle.jls_splice_run.specs.Handing.{StopsAtFile, StopsAtNumber, StopsInHanding, Texts, at_file, at_files, at_output, at_report}
+use Rattle.jls_splice_run.specs.Handing.{StopsAtSingleFile, StopsAtNumber, StopsInHanding, Texts, at_file, at_files, at_output, at_report}
 use Rattle.jls_splice_run.specs.Handing.{number_cut, number_not_there}
 use Rattle.jls_splice_run.specs.Listing.{NamedFile}
 use Rattle.jls_splice_run.specs.Making.{CantMake, IsRefusedFor, IsWantOfMemory, no_picture_cause}
@@ -60,7 +60,7 @@ output_above : (name bytes : List ℕ) (r : Refusal) (events : List Event) → S
 output_above name bytes r _ (outputs.not_there named is) = above_1 r cause.NotCreated is (omega arith)
 output_above name bytes r _ (outputs.cut count writes named is h) = above_1 r (cause.NotWritten count) is (omega arith)
 
-file_above : (name file : Option (List ℕ)) (r : Refusal) (events : List Event) → StopsAtFile name file r events → 1
+file_above : (name file : Option (List ℕ)) (r : Refusal) (events : List Event) → StopsAtSingleFile name file r events → 1
     < status_of_cause r.cause
 file_above (Some name) (Some bytes) r events h = output_above name bytes r events h
 file_above (Some name) None r events h = absurd h

@@ -13,15 +13,15 @@ use Rattle.jls_diff.specs.Parts.{Part, HasWays, IsSplice}
 use Rattle.jls_search.specs.Faultless.{IsSought}
 use Rattle.jls_search.specs.Search.{HasEachSplice, files_of}
 use Rattle.jls_search.specs.SearchLaws.{SearchesComeToEachSplice}
-use Rattle.jls_search.specs.Shapes.{HasShape}
+use Rattle.jls_search.specs.Shapes.{HasFrameOfShape}
 use Rattle.jls_splice_laws.specs.SpliceLaws.{FaultlessSplicesAreTaken, SearchedFilesAreTaken, SearchedSplicesGiveNoOther}
 use Rattle.jls_splice_laws.specs.SpliceLaws.{SplicesGiveNoOther, WholeSplicesGiveNoOther}
-use Rattle.jls_splice_laws.specs.Taken.{FilesTaken, SearchTaken, AreOfShape, none_left, taken, passed_over}
+use Rattle.jls_splice_laws.specs.Taken.{FilesTaken, SearchTaken, AreFilesOfShape, none_left, taken, passed_over}
 use Rattle.jls_splice_laws.proofs.WholeFiles.{whole_files_are_faultless, whole_files_survive}
 
 -- a file of the shape is among those that are taken
-pub kept_of_shape : (shape : PictureShape) (files more : List (List ℕ)) (file : List ℕ) → AreOfShape shape files more
-    → Contains files file → HasShape shape file → Contains more file
+pub kept_of_shape : (shape : PictureShape) (files more : List (List ℕ)) (file : List ℕ) → AreFilesOfShape shape files more
+    → Contains files file → HasFrameOfShape shape file → Contains more file
 kept_of_shape shape _ _ file none_left c h = absurd (none_in file c)
 kept_of_shape shape _ _ file (taken f files more is rest) c h =
     elim (first_or_rest file f files c) [
@@ -30,7 +30,7 @@ kept_of_shape shape _ _ file (taken f files more is rest) c h =
     ]
 kept_of_shape shape _ _ file (passed_over f files more other rest) c h =
     elim (first_or_rest file f files c) [
-      | inl e ↦ absurd (other (subst (HasShape shape) (sym e) h))
+      | inl e ↦ absurd (other (subst (HasFrameOfShape shape) (sym e) h))
       | inr later ↦ kept_of_shape shape files more file rest later h
     ]
 

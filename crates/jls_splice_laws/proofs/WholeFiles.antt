@@ -22,7 +22,7 @@ use Rattle.jls_copy_laws.proofs.Members.{none_in, first_or_rest, all_at, all_fro
 use Rattle.jls_headline.specs.Damaged.{AreNumbers, picture_reading}
 use Rattle.jls_headline.proofs.LostIntervals.{given_by_scan}
 use Rattle.jls_headline.proofs.ScanNumbers.{numbered_pieces_give}
-use Rattle.jls_copy.specs.Prefixes.{HasLines, Gives}
+use Rattle.jls_copy.specs.Prefixes.{HasLines, CourseHasReading}
 use Rattle.jls_copy.proofs.NumbersGiven.{number_above}
 use Rattle.jls_splice_laws.specs.WholeFiles.{WholeFilesAreFaultless, WholeFilesSurvive}
 
@@ -126,7 +126,7 @@ whole_files_survive pic file low reads_as no_fault component line l k =
 -- Its frame --------------------------------------------------------------------------------------------------------
 
 -- what a course gives, as the law on prefixes has it
-pub gives_of_course : (c : Course) (r : Reading) → CourseGives c r → Gives c r
+pub gives_of_course : (c : Course) (r : Reading) → CourseGives c r → CourseHasReading c r
 gives_of_course c r (inl (p, m, g)) = inl (p, m, g.lines, g.reads, g.among)
 gives_of_course c r (inr (p, m, g)) = inr (p, m, g.head, g.is_head, g.among)
 

@@ -16,7 +16,7 @@ use Rattle.jls_search.specs.Choices.{prefix_of}
 use Rattle.jls_search.specs.Faultless.{IsSought, IsWithin}
 use Rattle.jls_search.specs.Levels.{IsLone}
 use Rattle.jls_search.specs.Cuts.{TakesCut}
-use Rattle.jls_search.specs.Shapes.{HasShape}
+use Rattle.jls_search.specs.Shapes.{HasFrameOfShape}
 use Rattle.jls_splice_laws.specs.WholeFiles.{IsWholeFile}
 
 -- A file that is sought begins with bytes that have, at each part for which the path has a choice, what some copy has there. Each other
@@ -33,7 +33,7 @@ SoughtFilesBeginWithTheCut =
 abbrev pub WholeFilesBeginWithTheirLines : Type 0
 WholeFilesBeginWithTheirLines =
     (pic : WholePicture) (prefix more : List ℕ) → IsWholeFile pic (prefix ++ more)
-    → (shape : PictureShape) → HasShape shape prefix → (r : Reading) → GivesReading prefix r → IsLineOf pic r
+    → (shape : PictureShape) → HasFrameOfShape shape prefix → (r : Reading) → GivesReading prefix r → IsLineOf pic r
 
 -- Each reading that a cut file gives is among those that a station which took it holds of that line. If the line is settled, it is the one
 abbrev pub CutsAreHeld : Type 0

@@ -10,7 +10,7 @@ use Rattle.jls_headline.specs.Sources.{SourcedCopy, sourced_copy, HoldsExactlyUn
 use Rattle.jls_diff.specs.Parts.{Part, AreParts, IsSplice}
 use Rattle.jls_search.specs.Faultless.{IsSought, IsWithin}
 use Rattle.jls_search.specs.Search.{CameTo, files_of}
-use Rattle.jls_splice_laws.specs.Taken.{AreOfShape}
+use Rattle.jls_splice_laws.specs.Taken.{AreFilesOfShape}
 use Rattle.jls_splice_laws.specs.WholeFiles.{IsWholeFile}
 use Rattle.jls_search.specs.Shapes.{IsShapeTaken}
 use Rattle.jls_search.specs.Stations.{TakesFiles}
@@ -22,7 +22,7 @@ under source files = map (sourced_copy source) files
 -- public calls read those of the files that have the shape for the station, each under the source; and it holds exactly their readings
 pub record HoldsFiles (source : Option ℕ) (shape : PictureShape) (files : List (List ℕ)) (station : PartialPicture) : Type 0 where
   pub taken : List (List ℕ)
-  pub of_shape : AreOfShape shape files taken
+  pub of_shape : AreFilesOfShape shape files taken
   pub read : CollectedUnder station (under source taken)
   pub exactly : HoldsExactlyUnder station (under source taken)
 

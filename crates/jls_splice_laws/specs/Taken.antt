@@ -5,17 +5,17 @@ use Rattle.jls_values.specs.Shape.{PictureShape}
 use Rattle.jls_diff.specs.Parts.{Part, AreParts, IsSplice}
 use Rattle.jls_search.specs.Faultless.{IsSought}
 use Rattle.jls_search.specs.Search.{HasEachSplice, CameTo, files_of}
-use Rattle.jls_search.specs.Shapes.{HasShape, IsShapeTaken}
+use Rattle.jls_search.specs.Shapes.{HasFrameOfShape, IsShapeTaken}
 
 -- Shapes -----------------------------------------------------------------------------------------------------------
 
 -- those of some files that have a shape, in order
-pub data AreOfShape (shape : PictureShape) : List (List ℕ) → List (List ℕ) → Type 0 where
-  none_left : AreOfShape shape [] []
-  taken : (file : List ℕ) (files more : List (List ℕ)) → HasShape shape file → AreOfShape shape files more
-      → AreOfShape shape (file ∷ files) (file ∷ more)
-  passed_over : (file : List ℕ) (files more : List (List ℕ)) → (HasShape shape file → ⊥) → AreOfShape shape files more
-      → AreOfShape shape (file ∷ files) more
+pub data AreFilesOfShape (shape : PictureShape) : List (List ℕ) → List (List ℕ) → Type 0 where
+  none_left : AreFilesOfShape shape [] []
+  taken : (file : List ℕ) (files more : List (List ℕ)) → HasFrameOfShape shape file → AreFilesOfShape shape files more
+      → AreFilesOfShape shape (file ∷ files) (file ∷ more)
+  passed_over : (file : List ℕ) (files more : List (List ℕ)) → (HasFrameOfShape shape file → ⊥) → AreFilesOfShape shape files more
+      → AreFilesOfShape shape (file ∷ files) more
 
 -- Files ------------------------------------------------------------------------------------------------------------
 
@@ -26,7 +26,7 @@ pub record FilesTaken (copies : List (List ℕ)) (parts : List Part) (shape : Pi
   pub found : List (List ℕ)
   pub are_splices : AllByRecursion (IsSplice (length copies) parts) found
   pub shape_is : IsShapeTaken copies found shape
-  pub of_shape : AreOfShape shape (copies ++ found) files
+  pub of_shape : AreFilesOfShape shape (copies ++ found) files
 
 -- the files taken, if the search found each splice that is sought under its ceiling: its tries were enough
 pub record AllTaken (ceiling : Option ℕ) (copies : List (List ℕ)) (parts : List Part) (shape : PictureShape) (files : List (List ℕ))
@@ -41,4 +41,4 @@ pub record SearchTaken (ceiling : Option ℕ) (copies : List (List ℕ)) (parts 
   pub are_parts : AreParts copies parts
   pub came_to : CameTo (IsSought ceiling) parts found is_used_up
   pub shape_is : IsShapeTaken copies (files_of parts found) shape
-  pub of_shape : AreOfShape shape (copies ++ files_of parts found) files
+  pub of_shape : AreFilesOfShape shape (copies ++ files_of parts found) files

@@ -2,7 +2,7 @@
 use Rattle.std.proofs.Common.{◌≡◌, ℕ, Bool, suc, List, [], ◌∷◌, ◌++◌, Err, length, refl, sym, ap, ◌∙◌, subst}
 use Rattle.std.specs.Prelude.{◌↔◌, IsTrue}
 use Rattle.std.proofs.lemmas.List.{append-nil}
-use Rattle.jls_io.specs.Event.{Event, History, GrewBy}
+use Rattle.jls_io.specs.Event.{Event, History, GrewBy, GrewBoth}
 use Rattle.jls_io.specs.Writing.{Printed}
 use Rattle.jls_io.proofs.Growing.{grew_twice}
 use Rattle.jls_partial.specs.Status.{IsSettled}
@@ -14,7 +14,7 @@ use Rattle.jls_splice_run.specs.Copies.{AreWhole, bytes_read, StopsAtCopies}
 use Rattle.jls_splice_run.specs.Handing.{HandsAll, StopsInHanding, Texts}
 use Rattle.jls_splice_run.specs.Listing.{prefix_in}
 use Rattle.jls_splice_run.specs.Making.{AreTextsOf, CantMake, HoldsMade, Made, notes}
-use Rattle.jls_splice_run.specs.Runs.{GrewAll, GrewBoth, Splices, at_copies, done, not_handed, not_made, texts, texts_held}
+use Rattle.jls_splice_run.specs.Runs.{GrewAll, Splices, at_copies, done, not_handed, not_made, texts, texts_held}
 use Rattle.jls_splice_run.specs.declared.made.Made.{Made as MadeValue}
 
 -- as many copies are read as there are names

@@ -1,15 +1,14 @@
 -- What is handed out, put together.
 use Rattle.std.proofs.Common.{◌≡◌, ℕ, List, [], ◌++◌, Option, refl, sym, subst}
 use Rattle.std.proofs.lemmas.List.{append-nil}
-use Rattle.jls_io.specs.Event.{Event, History, GrewBy}
+use Rattle.jls_io.specs.Event.{Event, History, GrewBy, GrewBoth}
 use Rattle.jls_io.specs.Writing.{Wrote}
 use Rattle.jls_io.proofs.Growing.{grew_twice}
 use Rattle.jls_io.specs.Outputs.{HandsOut}
 use Rattle.jls_cli.specs.Outputs.{StopsAtOutput}
 use Rattle.jls_cli.specs.declared.outcome.Refusal.{Refusal}
-use Rattle.jls_splice_run.specs.Handing.{HandsAll, HandsFile, HandsFiles, StopsAtFile, StopsAtFiles, StopsAtReport}
+use Rattle.jls_splice_run.specs.Handing.{HandsAll, HandsFile, HandsFiles, StopsAtSingleFile, StopsAtFiles, StopsAtReport}
 use Rattle.jls_splice_run.specs.Handing.{StopsInHanding, Texts, at_file, at_files, at_output, at_report}
-use Rattle.jls_splice_run.specs.Runs.{GrewBoth}
 
 module _ (t : Texts) (desk report report' : History) {lines : List ℕ} (lines_are : lines ≡ t.lines) where
   pub stops_at_report : (r : Refusal) → GrewBy (StopsAtReport lines r) report report'
@@ -40,7 +39,7 @@ module _ (t : Texts) (desk report report' : History) {lines : List ℕ} (lines_a
       texted : HandsOut t.out t.text handed.events
       texted = subst (λ z. HandsOut t.out z handed.events) text_is handed.they_are
 
-      pub stops_at_file : (r : Refusal) → GrewBy (StopsAtFile t.file_name file r) mid new
+      pub stops_at_file : (r : Refusal) → GrewBy (StopsAtSingleFile t.file_name file r) mid new
           → GrewBoth (StopsInHanding t r) desk new report report'
       stops_at_file r h = record {
         desk_events = handed.events ++ h.events;
@@ -48,7 +47,7 @@ module _ (t : Texts) (desk report report' : History) {lines : List ℕ} (lines_a
         desk_is = grew_twice desk mid new handed.events h.events handed.grew h.grew;
         report_is = printed.grew;
         they_are =
-            at_file handed.events h.events printed.events wrote texted (subst (λ z. StopsAtFile t.file_name z r h.events) file_is
+            at_file handed.events h.events printed.events wrote texted (subst (λ z. StopsAtSingleFile t.file_name z r h.events) file_is
             h.they_are);
       }
 

@@ -7,7 +7,7 @@ use Rattle.jls_io.specs.Event.{Event}
 use Rattle.jls_diff.specs.Parts.{Part}
 use Rattle.jls_search.specs.Search.{CanGoOn, GoesFrom, Tried, lists_of, nothing, one_more}
 use Rattle.jls_search.specs.declared.searching.Search.{Search}
-use Rattle.jls_splice_run.specs.Telling.{line, nothing_tried, GoesOn, HasReported, IsReported, TellsLine}
+use Rattle.jls_splice_run.specs.Telling.{line, nothing_tried, GoesOnToPause, HasReported, IsReported, TellsLine}
 use Rattle.jls_splice_run.specs.declared.options.SearchOptions.{SearchOptions}
 
 -- what holds where something else does
@@ -30,7 +30,7 @@ reported_more false rounds found tries files events more reported less near le n
 
 pub reported_on : (options : SearchOptions) (old new : Search) (events more : List Event) → CanGoOn old options.tries
     → HasReported options old events
-    → GoesOn options old new more → HasReported options new (events ++ more)
+    → GoesOnToPause options old new more → HasReported options new (events ++ more)
 reported_on options old new events more can h g =
     let p = h.paused can in
     let before = length (lists_of old.splices.items) in
@@ -48,7 +48,7 @@ reported_on options old new events more can h g =
 -- a search that went on to a pause
 pub went_on : (parts : List Part) (options : SearchOptions) (old new : Search) (pause : ℕ) → pause ≡ min (old.tries + 64) options.tries
     → CanGoOn old options.tries → (CanGoOn new pause → ⊥) → GoesFrom parts old new pause → (events : List Event)
-    → TellsLine options.tells new.tries (length (lists_of new.splices.items)) events → GoesOn options old new events
+    → TellsLine options.tells new.tries (length (lists_of new.splices.items)) events → GoesOnToPause options old new events
 went_on parts options old new pause at can stops went events reported =
     let below = can.1 in
     let within = went.within in

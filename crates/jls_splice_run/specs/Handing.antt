@@ -21,9 +21,9 @@ HandsFile (Some name) (Some bytes) events = HandsOut name bytes events
 HandsFile _ _ events = events ≡ []
 
 -- the output for the single file stops the run
-abbrev pub StopsAtFile : Option (List ℕ) → Option (List ℕ) → Refusal → List Event → Type 0
-StopsAtFile (Some name) (Some bytes) r events = StopsAtOutput name bytes r events
-StopsAtFile _ _ r events = ⊥
+abbrev pub StopsAtSingleFile : Option (List ℕ) → Option (List ℕ) → Refusal → List Event → Type 0
+StopsAtSingleFile (Some name) (Some bytes) r events = StopsAtOutput name bytes r events
+StopsAtSingleFile _ _ r events = ⊥
 
 -- outputs of these names are handed these files, one after the other
 pub data HandsFiles : List NamedFile → List Event → Type 0 where
@@ -76,6 +76,6 @@ pub data StopsInHanding (t : Texts) (r : Refusal) : List Event → List Event �
   at_report : (report : List Event) → StopsAtReport t.lines r report → StopsInHanding t r [] report
   at_output : (desk report : List Event) → Wrote t.lines report → StopsAtOutput t.out t.text r desk → StopsInHanding t r desk report
   at_file : (writing more report : List Event) → Wrote t.lines report → HandsOut t.out t.text writing
-      → StopsAtFile t.file_name t.file r more → StopsInHanding t r (writing ++ more) report
+      → StopsAtSingleFile t.file_name t.file r more → StopsInHanding t r (writing ++ more) report
   at_files : (writing more rest report : List Event) → Wrote t.lines report → HandsOut t.out t.text writing
       → HandsFile t.file_name t.file more → StopsAtFiles t.prefix t.files r rest → StopsInHanding t r ((writing ++ more) ++ rest) report

@@ -6,7 +6,7 @@ use Rattle.std.specs.Prelude.{if◌then◌else◌}
 use Rattle.jls_diff.specs.Parts.{Part}
 use Rattle.jls_search.specs.Faultless.{IsSought}
 use Rattle.jls_search.specs.Levels.{IsLone}
-use Rattle.jls_search.specs.Search.{CameTo, IsKept, WereTried, lists_of}
+use Rattle.jls_search.specs.Search.{CameTo, IsKeptReader, WereTried, lists_of}
 use Rattle.jls_search.specs.declared.whole_search.Searched.{Searched}
 
 -- the limits, in turn: for each k from 16 to 31 the greatest whole number that is less than the square root of 2 ^ k
@@ -112,7 +112,7 @@ last_or first (Some last) = search_made last
 
 -- the reader that it kept, if it kept one, was fed what its choices make
 abbrev pub HasReader : List Part → Searched → Type 0
-HasReader parts last = IfSome last.reader (IsKept parts)
+HasReader parts last = IfSome last.reader (IsKeptReader parts)
 
 -- the limit that counts where this is the last one, if there is one
 abbrev pub limit_or : Option ℕ → Option ℕ → Option ℕ

@@ -66,8 +66,8 @@ cut_file f cut = option_map (prefix_of f.parts) cut
 
 -- the cut file is what the first choices make, where the search of all splices found nothing: each other path of as many choices makes
 -- bytes with which no file begins that is sought
-abbrev pub IsCut : Option ℕ → Found → List ℕ → Type 0
-IsCut ceiling f path = (f.choices ≡ []) × IsLone (IsSought ceiling) f.parts path
+abbrev pub IsCutFile : Option ℕ → Found → List ℕ → Type 0
+IsCutFile ceiling f path = (f.choices ≡ []) × IsLone (IsSought ceiling) f.parts path
 
 -- why no cut file is found: a file was found, no try was allowed, or no file that is sought begins with what all copies have alike
 abbrev pub FindsNoCut : Option ℕ → ℕ → Found → Type 0
@@ -110,7 +110,7 @@ pub record IsMade (a : Asked) (copies : List (List ℕ)) (m : Made) : Type 0 whe
   pub is_counted : IsCounted a copies m.searches m.ceiling m.found m.tries
   pub is_found : IsFound m.ceiling copies m.found
   pub cut_ceiling_is : IsCutLimit m.found.parts (cut_limit m.searches.first.ceiling m.searches.more) m.found.choices m.cut_ceiling
-  pub is_lone : IfSome m.lone (IsCut m.cut_ceiling m.found)
+  pub is_lone : IfSome m.lone (IsCutFile m.cut_ceiling m.found)
   pub no_lone : IfNone m.lone (FindsNoCut m.cut_ceiling a.options.tries m.found)
   pub is_cut : IsCutTaken copies m.found m.lone m.cut
   pub is_picture : IsPictureOf a.options.source copies (splices_in m.found) (cut_file m.found m.cut) m.picture
@@ -174,8 +174,8 @@ abbrev pub notes : Asked → List (List ℕ) → Made → List ℕ
 notes a copies m = if bytes_eq a.out (codes "-") then noted_text (report_on a copies m) else []
 
 -- events of the fault output: each search reported how far it was, if that is asked for
-abbrev pub Tells : Asked → Searches → List Event → Type 0
-Tells a w events = AreReported a.options.progress (w.first ∷ w.more) events
+abbrev pub TellsOfSearches : Asked → Searches → List Event → Type 0
+TellsOfSearches a w events = AreReported a.options.progress (w.first ∷ w.more) events
 
 -- ---- why nothing is made
 
@@ -207,7 +207,7 @@ abbrev pub CantMake : Asked → List CopyBytes → Refusal → List Event → Ty
 CantMake a copies r events =
     (IsWantOfMemory a r × ReportedUpTo a.options.tries a.options.progress events)
     ⊎ ((w : Searches) × (ceiling : Option ℕ) × (f : Found) × (tries : ℕ) × IsCounted a (bytes_read copies) w ceiling f tries
-    × IsFound ceiling (bytes_read copies) f × IsUnsettled a copies (splices_in f) r × Tells a w events)
+    × IsFound ceiling (bytes_read copies) f × IsUnsettled a copies (splices_in f) r × TellsOfSearches a w events)
 
 -- ---- as the code has it
 
@@ -240,4 +240,4 @@ pub record AreTextsOf (a : Asked) (copies : List (List ℕ)) (m : Made) (v : Mad
 -- and it was made of these copies, and reported so
 abbrev pub HoldsMade : Asked → List CopyBytes → MadeValue → List Event → Type 0
 HoldsMade a copies v events =
-    (m : Made) × IsMade a (bytes_read copies) m × AreTextsOf a (bytes_read copies) m v × Tells a m.searches events
+    (m : Made) × IsMade a (bytes_read copies) m × AreTextsOf a (bytes_read copies) m v × TellsOfSearches a m.searches events

@@ -18,16 +18,8 @@ use Rattle.jls_cli.specs.declared.outcome.Refusal.{Refusal}
 use Rattle.jls_splice_run.specs.Copies.{AreWhole, bytes_read, StopsAtCopies}
 use Rattle.jls_splice_run.specs.Handing.{HandsAll, StopsInHanding, Texts}
 use Rattle.jls_splice_run.specs.Listing.{IsNumbered, named_files, prefix_in}
-use Rattle.jls_splice_run.specs.Making.{CantMake, IsMade, Made, Tells, lines, notes}
+use Rattle.jls_splice_run.specs.Making.{CantMake, IsMade, Made, TellsOfSearches, lines, notes}
 use Rattle.jls_splice_run.specs.declared.made.Made.{Made as MadeValue}
-
--- the histories of two devices grew by events, and they are such: nothing else was done
-pub record GrewBoth (Are : List Event → List Event → Type 0) (desk desk' report report' : History) : Type 0 where
-  pub desk_events : List Event
-  pub report_events : List Event
-  pub desk_is : desk' ≡ desk ++ desk_events
-  pub report_is : report' ≡ report ++ report_events
-  pub they_are : Are desk_events report_events
 
 -- the histories of the three devices grew by events, and they are such: nothing else was done
 pub record GrewAll (Are : List Event → List Event → List Event → Type 0) (desk desk' report report' faults faults' : History) : Type 0 where
@@ -72,11 +64,11 @@ pub data Splices (a : Asked) : Outcome → List Event → List Event → List Ev
   not_made : (r : Refusal) (copies : List CopyBytes) (desk faults : List Event) → AreCopiesRead a.copies copies desk
       → CantMake a copies r faults → Splices a (Err r) desk [] faults
   not_handed : (r : Refusal) (copies : List CopyBytes) (m : Made) (reading desk report faults noting : List Event)
-      → AreCopiesRead a.copies copies reading → IsMade a (bytes_read copies) m → Tells a m.searches faults
+      → AreCopiesRead a.copies copies reading → IsMade a (bytes_read copies) m → TellsOfSearches a m.searches faults
       → Printed (notes a (bytes_read copies) m) noting
       → StopsInHanding (texts a copies m) r desk report → Splices a (Err r) (reading ++ desk) report (faults ++ noting)
   done : (copies : List CopyBytes) (m : Made) (settled whole : Bool) (reading desk report faults noting : List Event)
-      → AreCopiesRead a.copies copies reading → IsMade a (bytes_read copies) m → Tells a m.searches faults
+      → AreCopiesRead a.copies copies reading → IsMade a (bytes_read copies) m → TellsOfSearches a m.searches faults
       → Printed (notes a (bytes_read copies) m) noting
       → HandsAll (texts a copies m) desk report
       → (IsTrue settled ↔ IsSettled m.picture) → (IsTrue whole ↔ AreWhole copies)

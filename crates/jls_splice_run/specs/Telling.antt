@@ -62,7 +62,7 @@ TellsLine true tries files events = Printed (progress_line tries files) events
 TellsLine false tries files events = events ≡ []
 
 -- it went on to the next pause, and reported a line there
-pub record GoesOn (options : SearchOptions) (old new : Search) (events : List Event) : Type 0 where
+pub record GoesOnToPause (options : SearchOptions) (old new : Search) (events : List Event) : Type 0 where
   pub tries : old.tries < new.tries
   pub near : new.tries ≤ old.tries + 64
   pub within : new.tries ≤ options.tries

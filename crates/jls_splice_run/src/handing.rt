@@ -5,7 +5,7 @@ ghost use Rattle.std.specs.String.{string_bytes};
 ghost use Rattle.jls_io.specs.Event.{GrewBy};
 ghost use Rattle.jls_io.specs.Writing.{Printed, Wrote};
 ghost use Rattle.jls_io.specs.Outputs.{HandsOut};
-ghost use Rattle.jls_splice_run.specs.Handing.{HandsFile, HandsFiles, StopsAtFile, StopsAtFiles, StopsAtNumber};
+ghost use Rattle.jls_splice_run.specs.Handing.{HandsFile, HandsFiles, StopsAtSingleFile, StopsAtFiles, StopsAtNumber};
 ghost use Rattle.jls_splice_run.specs.Handing.{StopsAtReport};
 ghost use Rattle.jls_splice_run.specs.Listing.{named_file, named_files};
 
@@ -43,7 +43,7 @@ pub(crate) fn write_file<'a, D: Desk>(
 ) -> Result<(), Refusal<'a>>
     ensures written { OnOk result (GrewBy (HandsFile (option_map (λ s. s.now) name.entry) (option_map (λ s. s.now) file.entry))
         (D.history desk.old) (D.history desk.new)) }
-    ensures stopped { IfErr result (λ refusal. GrewBy (StopsAtFile (option_map (λ s. s.now) name.entry)
+    ensures stopped { IfErr result (λ refusal. GrewBy (StopsAtSingleFile (option_map (λ s. s.now) name.entry)
         (option_map (λ s. s.now) file.entry) refusal) (D.history desk.old) (D.history desk.new)) }
 {
     let Some(name) = name else {

@@ -9,7 +9,7 @@ ghost use Rattle.jls_diff.specs.PartsOf.{bytes_of, parts_of};
 ghost use Rattle.jls_search.specs.Choices.{HasSomeWay, IsWhole};
 ghost use Rattle.jls_search.specs.Faultless.{IsSought};
 ghost use Rattle.jls_search.specs.Levels.{IsLone};
-ghost use Rattle.jls_search.specs.Search.{IsKept, IsShort, files_of, lists_of};
+ghost use Rattle.jls_search.specs.Search.{IsKeptReader, IsShort, files_of, lists_of};
 ghost use Rattle.jls_search.specs.Found.{IsFound, IsGroupSearch, found_of, splices_in};
 ghost use Rattle.jls_splice_run.specs.Limits.{HasReader, IsCutLimit, SearchMade, counting_of, last_or, next_tries, search_made};
 ghost use Rattle.jls_splice_run.specs.Limits as spec;
@@ -81,7 +81,7 @@ fn with_one_more(turned: Turned, searched: Searched, most: u32) -> Turned
     ensures whole { result.whole ≡ searched.ceiling }
     ensures found { (first : SearchMade)
         → last_or first result.found ≡ counting_of (last_or first turned.found) (search_made searched) }
-    ensures reader { (parts : List Part) → IfSome turned.found (HasReader parts) → IfSome searched.reader (IsKept parts)
+    ensures reader { (parts : List Part) → IfSome turned.found (HasReader parts) → IfSome searched.reader (IsKeptReader parts)
         → IfSome result.found (HasReader parts) }
 {
     if searched.splices.is_empty() {
@@ -146,8 +146,8 @@ struct CountingSearch {
 fn chosen(first: Searched, turned: Turned) -> CountingSearch
     ensures counts { search_made result.searched ≡ last_or (search_made first) turned.found }
     ensures cut { result.cut_limit ≡ turned.whole }
-    ensures reader { (parts : List Part) → IfSome turned.found (HasReader parts) → IfSome first.reader (IsKept parts)
-        → IfSome result.searched.reader (IsKept parts) }
+    ensures reader { (parts : List Part) → IfSome turned.found (HasReader parts) → IfSome first.reader (IsKeptReader parts)
+        → IfSome result.searched.reader (IsKeptReader parts) }
 {
     let Turned { whole, found, .. } = turned;
     CountingSearch {
@@ -168,7 +168,7 @@ fn search_all<E: Sink>(
     ensures searched { IfOk result (λ all. GrewBy
         (HasSearched options parts.now (search_made all.searched) all.cut_limit)
         (E.history faults.old) (E.history faults.new)) }
-    ensures reader { IfOk result (λ all. IfSome all.searched.reader (IsKept parts.now)) }
+    ensures reader { IfOk result (λ all. IfSome all.searched.reader (IsKeptReader parts.now)) }
     ensures reported_some { OnErr result (GrewBy (ReportedUpTo options.tries options.tells) (E.history faults.old) (E.history faults.new)) }
 {
     let first = search_once(alloc, parts, options, faults)?;
@@ -234,7 +234,7 @@ pub fn search_and_tell<'a, E: Sink>(
         (E.history faults.old) (E.history faults.new)) }
     ensures lone { IfOk result (λ found.
         IfSome found.unlimited (λ path. IsLone (IsSought None) found.splices.parts path.items)) }
-    ensures reader { IfOk result (λ found. IfSome found.splices.reader (IsKept found.splices.parts)) }
+    ensures reader { IfOk result (λ found. IfSome found.splices.reader (IsKeptReader found.splices.parts)) }
     ensures reported_some { OnErr result (GrewBy (ReportedUpTo options.tries options.tells) (E.history faults.old) (E.history faults.new)) }
 {
     parts_can_be_searched();

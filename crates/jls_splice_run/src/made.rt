@@ -18,7 +18,7 @@ ghost use Rattle.jls_search.specs.Found.{by_groups_of, found_of, splices_in};
 ghost use Rattle.jls_search.specs.Files.{AreVerdicts};
 ghost use Rattle.jls_search.specs.Files as given;
 ghost use Rattle.jls_splice_run.specs.Limits.{Searches};
-ghost use Rattle.jls_splice_run.specs.Making.{AreTextsOf, CantMake, FindsNoCut, HoldsMade, IsCut, files_taken, lacks_single, made_of};
+ghost use Rattle.jls_splice_run.specs.Making.{AreTextsOf, CantMake, FindsNoCut, HoldsMade, IsCutFile, files_taken, lacks_single, made_of};
 ghost use Rattle.jls_splice_run.specs.Making as spec;
 ghost use Rattle.jls_splice_run.specs.Listing.{AreNamedAsked, named_files};
 ghost use Rattle.jls_splice_run.specs.Single.{IsSingleAsked};
@@ -68,7 +68,7 @@ fn find_cut(
     requires short { IsShort found.now.splices.parts }
     requires whole { found.now.splices.whole ≤ length found.now.splices.splices.items }
     requires unlimited { IfSome found.now.unlimited (λ path. IsLone (IsSought None) found.now.splices.parts path.items) }
-    ensures lone { IfOk result (λ cut. IfSome cut (λ path. IsCut found.now.cut_limit (found_of found.now.splices) path.items)) }
+    ensures lone { IfOk result (λ cut. IfSome cut (λ path. IsCutFile found.now.cut_limit (found_of found.now.splices) path.items)) }
     ensures none { IfOk result (λ cut. IfNone cut (FindsNoCut found.now.cut_limit limit (found_of found.now.splices))) }
 {
     if found.splices.whole != 0 {

@@ -6,10 +6,10 @@ ghost use Rattle.jls_io.specs.Event.{GrewBy};
 ghost use Rattle.jls_io.specs.Writing.{Printed};
 ghost use Rattle.jls_diff.specs.PartsOf.{parts_of};
 ghost use Rattle.jls_search.specs.Choices.{HasSomeWay};
-ghost use Rattle.jls_search.specs.Search.{CanGoOn, IsKept, IsSearch, IsShort, Tried, lists_of};
+ghost use Rattle.jls_search.specs.Search.{CanGoOn, IsKeptReader, IsSearch, IsShort, Tried, lists_of};
 ghost use Rattle.jls_splice_run.specs.Limits.{IsSearchMade, search_made};
 ghost use Rattle.jls_splice_run.specs.Lines.{progress_line};
-ghost use Rattle.jls_splice_run.specs.Telling.{GoesOn, HasReported, IsReported, TellsLine, ReportedSome, WasBegun};
+ghost use Rattle.jls_splice_run.specs.Telling.{GoesOnToPause, HasReported, IsReported, TellsLine, ReportedSome, WasBegun};
 
 use crate::lines::put_progress;
 use crate::options::SearchOptions;
@@ -85,8 +85,9 @@ fn go_on<E: Sink>(
     ensures fewer { OnOk result (walk.old.tries < walk.new.tries) }
     ensures tried { OnOk result (Tried parts.now walk.old walk.new) }
     ensures ceiling { OnOk result (walk.new.judge.ceiling ≡ walk.old.judge.ceiling) }
-    ensures found { IfSome walk.old.judge.found (IsKept parts.now) → OnOk result (IfSome walk.new.judge.found (IsKept parts.now)) }
-    ensures reported { OnOk result (GrewBy (GoesOn options walk.old walk.new) (E.history faults.old) (E.history faults.new)) }
+    ensures found { IfSome walk.old.judge.found (IsKeptReader parts.now)
+        → OnOk result (IfSome walk.new.judge.found (IsKeptReader parts.now)) }
+    ensures reported { OnOk result (GrewBy (GoesOnToPause options walk.old walk.new) (E.history faults.old) (E.history faults.new)) }
     ensures unreported { OnErr result (E.history faults.new ≡ E.history faults.old) }
 {
     let pause = next_pause(walk.tries, options.tries);
@@ -105,7 +106,7 @@ fn search_parts<E: Sink>(
     requires short { IsShort parts.now }
     ensures stands { IfOk result (λ walk. IsSearch parts.now walk) }
     ensures ceiling { IfOk result (λ walk. walk.judge.ceiling ≡ options.ceiling) }
-    ensures found { IfOk result (λ walk. IfSome walk.judge.found (IsKept parts.now)) }
+    ensures found { IfOk result (λ walk. IfSome walk.judge.found (IsKeptReader parts.now)) }
     ensures stops { IfOk result (λ walk. CanGoOn walk options.tries → ⊥) }
     ensures tried { IfOk result (λ walk. WasBegun options.ceiling parts.now walk) }
     ensures reported { IfOk result (λ walk. GrewBy (HasReported options walk) (E.history faults.old) (E.history faults.new)) }
@@ -130,7 +131,7 @@ pub(crate) fn search_once<E: Sink>(
     requires short { IsShort parts.now }
     ensures is_made { IfOk result (λ s. IsSearchMade parts.now options.tries (search_made s)) }
     ensures ceiling { IfOk result (λ s. s.ceiling ≡ options.ceiling) }
-    ensures reader { IfOk result (λ s. IfSome s.reader (IsKept parts.now)) }
+    ensures reader { IfOk result (λ s. IfSome s.reader (IsKeptReader parts.now)) }
     ensures reported { IfOk result (λ s. GrewBy (IsReported options.tells s.tries (length (lists_of s.splices.items)))
         (E.history faults.old) (E.history faults.new)) }
     ensures reported_some { OnErr result (GrewBy (ReportedSome options.tries options.tells) (E.history faults.old) (E.history faults.new)) }

@@ -6,7 +6,7 @@ ghost use Rattle.jls_station.specs.CopyFiles.{copies_of};
 ghost use Rattle.jls_diff.specs.PartsOf.{bytes_of, parts_of};
 ghost use Rattle.jls_search.specs.Cuts.{TakesNoCut};
 ghost use Rattle.jls_search.specs.Choices.{IsPath, IsWhole, prefix_of};
-ghost use Rattle.jls_search.specs.Search.{IsKept, IsShort, lists_of};
+ghost use Rattle.jls_search.specs.Search.{IsKeptReader, IsShort, lists_of};
 ghost use Rattle.jls_search.specs.Files.{AreVerdicts, files_taken, splices_found};
 ghost use Rattle.jls_splice_run.specs.Copies.{bytes_read};
 ghost use Rattle.jls_splice_run.specs.Making.{IsPictureOf, IsUnsettled};
@@ -44,7 +44,7 @@ pub(crate) fn settle<'a>(
     requires copies { bytes_of files.now.copies.now ≡ bytes_read (copies_of copies.now) }
     requires whole { AllByRecursion (IsWhole files.now.parts.now) (lists_of files.now.splices.now) }
     requires short { IsShort files.now.parts.now }
-    requires reader { IfSome files.now.reader.now (IsKept files.now.parts.now) }
+    requires reader { IfSome files.now.reader.now (IsKeptReader files.now.parts.now) }
     requires cut { IfSome cut (λ path. IsPath files.now.parts.now path.items) }
     ensures settled { IfOk result (λ taken.
         IsPictureOf (task_of task.now).options.source (bytes_read (copies_of copies.now)) (splices_found files.now)

@@ -2,8 +2,9 @@
 
 ghost use Rattle.std.specs.Prelude.{◌≡◌, ◌<◌, length, IfErr, OnOk, option_map};
 ghost use Rattle.jls_splice_run.specs.Handing.{HandsAll, StopsInHanding};
-ghost use Rattle.jls_splice_run.specs.Runs.{GrewAll, GrewBoth, Splices, texts_held};
+ghost use Rattle.jls_splice_run.specs.Runs.{GrewAll, Splices, texts_held};
 ghost use Rattle.jls_splice_run.specs.Tasks.{task_of};
+ghost use Rattle.jls_io.specs.Event.{GrewBoth};
 
 use crate::copies::{are_whole, read_all};
 use crate::handing::{print_lines, print_notes, write_file, write_files};

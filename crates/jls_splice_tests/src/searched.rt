@@ -4,7 +4,7 @@ ghost use Rattle.std.specs.Prelude.{◌≡◌, ◌<◌, length, IfOk, IfSome};
 ghost use Rattle.jls_diff.specs.Parts.{AreParts};
 ghost use Rattle.jls_diff.specs.PartsOf.{bytes_of, parts_of};
 ghost use Rattle.jls_search.specs.Faultless.{IsSought};
-ghost use Rattle.jls_search.specs.Search.{CameTo, IsKept, lists_of};
+ghost use Rattle.jls_search.specs.Search.{CameTo, IsKeptReader, lists_of};
 ghost use Rattle.jls_search.specs.SearchLaws.{AreShort};
 
 use jls_diff::{Parts, find_parts};
@@ -24,7 +24,7 @@ pub(crate) fn searched<'a>(
     ensures ceiling { IfOk result (λ found. found.1.ceiling ≡ ceiling) }
     ensures searched { IfOk result (λ found.
         CameTo (IsSought found.1.ceiling) found.0 (lists_of found.1.splices.items) found.1.is_used_up) }
-    ensures reader { IfOk result (λ found. IfSome found.1.reader (IsKept found.0)) }
+    ensures reader { IfOk result (λ found. IfSome found.1.reader (IsKeptReader found.0)) }
 {
     parts_can_be_searched();
     let parts = find_parts(alloc, copies)?;

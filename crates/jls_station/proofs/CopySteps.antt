@@ -9,11 +9,12 @@ use Rattle.std.proofs.lemmas.List.{append-nil, append_assoc, length-append}
 use Rattle.jls_io.specs.Event.{History, GrewBy, gave}
 use Rattle.jls_station.specs.Inputs.{IsCopyDone}
 use Rattle.jls_station.specs.KnownCopies.{IsPrefixOf}
-use Rattle.jls_station.specs.Reading.{AreBytes, IsRead, ReadSoFar}
+use Rattle.jls_station.specs.Reading.{IsRead, ReadSoFar}
 use Rattle.jls_station.specs.Texts.{is_text}
 use Rattle.jls_station.specs.declared.input.ReadStop.{ReadStop}
 use Rattle.jls_station.specs.declared.input.ReadStop.TheVariants.{Whole}
 use Rattle.jls_station.proofs.OneInput.{one_read_more, read_enough, consumes_on}
+use Rattle.jls_marker.specs.SegmentLaws.{AreBytes}
 
 -- What an intake, which was fed as `first` says and is fed as `held` says now, got by so many reads. `left` is what its source had left
 -- before them and has left now, where that is known

@@ -24,7 +24,7 @@ use Rattle.jls_station.specs.Forms.{IsForm}
 use Rattle.jls_station.specs.Given.{Given, Gives, by_text, given_by_text}
 use Rattle.jls_station.specs.Inputs.{IsCopyDone, IsEnough, IsRefused, no_text, no_picture, copy_not_read, between_reads, after_the_last}
 use Rattle.jls_station.specs.Inputs.{ReadsGive, ReadsRefuse, for_fault, for_memory}
-use Rattle.jls_station.specs.Reading.{AreBytes, GoesOn, StopsWith, IsRead, IsReadInPart, ReadSoFar}
+use Rattle.jls_station.specs.Reading.{GoesOn, StopsWith, IsRead, IsReadInPart, ReadSoFar}
 use Rattle.jls_station.specs.Texts.{is_text, IsTextOf, IsNoText}
 use Rattle.jls_station.specs.InputFaults.{input_fault_of, input_fault_of_copy}
 use Rattle.jls_station.specs.declared.input.ReadStop.{ReadStop}
@@ -32,6 +32,7 @@ use Rattle.jls_station.specs.declared.input.ReadStop.TheVariants.{Whole, Failed,
 use Rattle.jls_station.specs.declared.input.InputFault.{InputFault}
 use Rattle.jls_station.specs.declared.input.InputForm.TheVariants.{Text}
 use Rattle.jls_station.specs.declared.input.InputFault.TheVariants as fault
+use Rattle.jls_marker.specs.SegmentLaws.{AreBytes}
 
 -- ---- bytes
 

@@ -1,9 +1,9 @@
 -- How an input is read: as long as there is reason to, and no longer.
 use Rattle.std.specs.Prelude.{◌≡◌, ℕ, ◌<◌, ◌≤◌, List, [], ◌∷◌, ◌++◌, length}
-use Rattle.std.specs.List.{AllByRecursion}
 use Rattle.jls_io.specs.Event.{Event, gave, read_failed, bytes_given}
 use Rattle.jls_station.specs.declared.input.ReadStop.{ReadStop}
 use Rattle.jls_station.specs.declared.input.ReadStop.TheVariants.{Whole, Failed, Turns}
+use Rattle.jls_marker.specs.SegmentLaws.{AreBytes}
 
 -- IsEnough says of the bytes that an input gave so far whether any more are wanted
 
@@ -22,10 +22,6 @@ StopsWith IsEnough bytes [] Turns = IsEnough bytes → ⊥
 StopsWith IsEnough bytes (gave room [] ∷ []) Whole = (0 < room) × (room ≤ 4096) × (IsEnough bytes → ⊥)
 StopsWith IsEnough bytes (read_failed ∷ []) Failed = IsEnough bytes → ⊥
 StopsWith IsEnough bytes _ _ = ⊥
-
--- these are bytes
-abbrev pub AreBytes : List ℕ → Type 0
-AreBytes bytes = AllByRecursion (λ b. b < 256) bytes
 
 -- all reads of one input, the bytes that they gave, and how they stopped
 pub record IsRead (IsEnough : List ℕ → Type 0) (reads : List Event) (bytes : List ℕ) (stop : ReadStop) : Type 0 where

@@ -4,8 +4,9 @@ ghost use Rattle.std.specs.Prelude.{◌≡◌, ◌≤◌, ◌+◌, ◌-◌, ◌*
 ghost use Rattle.std.specs.Prelude.{IfOk, OnOk, OnErr, IfSome, IsSomeAnd};
 ghost use Rattle.std.specs.Io.KnownBytes.{Consumes, IsAtEnd};
 ghost use Rattle.jls_io.specs.Event.{History, GrewBy};
-ghost use Rattle.jls_station.specs.Reading.{AreBytes, ReadSoFar, IsRead, IsReadInPart};
+ghost use Rattle.jls_station.specs.Reading.{ReadSoFar, IsRead, IsReadInPart};
 ghost use Rattle.jls_station.specs.declared.input.ReadStop.TheVariants.{Whole};
+ghost use Rattle.jls_marker.specs.SegmentLaws.{AreBytes};
 
 use crate::input::ReadStop;
 use jls_io::Source;

@@ -2,7 +2,7 @@ use Rattle.std.proofs.Common.{◌≡◌, ℕ, ◌+◌, ◌<◌, List, [], ◌∷
 use Rattle.std.specs.Prelude.{pos, ◌-ℤ◌}
 use Rattle.std.proofs.lemmas.Int.{ints}
 use Rattle.jls_values.specs.Params.{CodingParameters}
-use Rattle.jls_context.specs.Mode.{IsStep, AreGradients, quantized_gradient}
+use Rattle.jls_context.specs.Mode.{IsQuantizedGradient, AreGradients, quantized_gradient}
 use Rattle.jls_context.specs.declared.mode.Neighbours.{Neighbours}
 use Rattle.jls_interval.specs.Events.{Above, regular}
 use Rattle.jls_interval.specs.Place.{above_of}
@@ -19,7 +19,7 @@ columns-init c =
       parameters = refl;
       near = c.neighbours-near.ensures;
       second = same ∙ c.gradient-second.ensures.value;
-      step = subst IsStep (sym same) c.gradient-second.ensures.step;
+      step = subst IsQuantizedGradient (sym same) c.gradient-second.ensures.step;
       written = columns_none c.args.encoder.now.coder.cells.parameters c.args.place.now.component (above_of c.args.place.now)
           c.args.line.now c.args.x (written_by c.args.encoder.now);
     }
@@ -51,7 +51,7 @@ columns-preserved c =
           ∙ ap (λ (q : CodingParameters). quantized_gradient q (pos near.rd -ℤ pos near.rb)) (sym c.write_regular.ensures.parameters)
           ∙ ap (λ z. quantized_gradient p' (pos z -ℤ pos near.rb)) (sym rolled.0)
           ∙ ap (λ z. quantized_gradient p' (pos near'.rb -ℤ pos z)) (sym rolled.1);
-      step = subst IsStep (sym same) c.gradient-first.ensures.step;
+      step = subst IsQuantizedGradient (sym same) c.gradient-first.ensures.step;
       written = columns_sample p c.args.place.now.component up line c.args.x y old middle new near sample (omega (arith, room)) i.near
           (c.in-Regular.ensures near gradients).not_run refl i.written writes;
     }

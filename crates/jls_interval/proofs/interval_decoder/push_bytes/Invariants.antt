@@ -2,7 +2,7 @@ use Rattle.std.proofs.Common.{◌≡◌, ◌-◌, ◌<◌, ◌≤◌, true, ◌+
 use Rattle.std.specs.List.{AllByRecursion}
 use Rattle.jls_values.specs.Params.{CodingParameters}
 use Rattle.jls_bits.specs.Bits.{is_whole}
-use Rattle.jls_interval.specs.Decoding.{HasShape}
+use Rattle.jls_interval.specs.Decoding.{KeepsShape}
 use Rattle.jls_interval.specs.IntervalBytes.{ReadsBefore, IsReadingBefore, HasLengths}
 use Rattle.jls_interval.proofs.interval_decoder.push_bytes.Given as goal
 
@@ -13,7 +13,7 @@ invariant-loop-at l = record {
   pushed : l.unstuffer ≡ l.initial.unstuffer ++ take l.at l.bytes;
   are_bytes : AllByRecursion (λ x. x < 256) l.initial.unstuffer → AllByRecursion (λ x. x < 256) l.unstuffer;
   whole : 0 < l.at → l.whole ≡ is_whole l.unstuffer;
-  shape : HasShape l.initial.reader l.reader;
+  shape : KeepsShape l.initial.reader l.reader;
   few : 0 < l.at → l.at ≡ length l.bytes → is_whole l.unstuffer ≡ true → length l.chunk ≤ 0;
   lengths : HasLengths l.unstuffer l.reader;
   reading : (p : CodingParameters) → ReadsBefore p l.initial.unstuffer l.initial.chunk l.initial.reader → is_whole l.unstuffer ≡ true

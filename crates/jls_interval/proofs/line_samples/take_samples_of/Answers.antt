@@ -3,7 +3,7 @@ use Rattle.std.proofs.Common.{arith}
 use Rattle.std.proofs.lemmas.Int.{ints}
 use Rattle.std.specs.Prelude.{pos, ◌-ℤ◌}
 use Rattle.jls_values.specs.Params.{CodingParameters}
-use Rattle.jls_context.specs.Mode.{IsStep, quantized_gradient}
+use Rattle.jls_context.specs.Mode.{IsQuantizedGradient, quantized_gradient}
 use Rattle.jls_interval.specs.Events.{Above, neighbours}
 use Rattle.jls_interval.specs.CodeLengths.{AreLengths}
 use Rattle.jls_interval.specs.Place.{above_of}
@@ -70,7 +70,7 @@ columns-preserved c =
           ∙ ap (λ (q : CodingParameters). quantized_gradient q (pos near.rd -ℤ pos near.rb)) (sym c.take_sample.ensures.parameters)
           ∙ ap (λ z. quantized_gradient c.take_sample.new.coder.cells.parameters (pos z -ℤ pos near.rb)) (sym rolled.0)
           ∙ ap (λ z. quantized_gradient c.take_sample.new.coder.cells.parameters (pos near'.rb -ℤ pos z)) (sym rolled.1);
-      step = subst IsStep (sym same) c.gradient-first.ensures.step;
+      step = subst IsQuantizedGradient (sym same) c.gradient-first.ensures.step;
       taking = taken_more c.args.place.now.component up c.args.reader.now now
           (record now { coder = c.take_sample.new.coder; line = c.push.new.self }) c.args.chunk.now c.columns.chunk c.take_sample.new.chunk
           c.columns.near v c.in-Taken.ensures.prefix i.open_event i.open_event refl grown i.parameters i.near (omega arith) i.taking;

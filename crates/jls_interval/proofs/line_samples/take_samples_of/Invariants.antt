@@ -1,6 +1,6 @@
 use Rattle.std.proofs.Common.{◌≡◌, ◌+◌, ◌-◌, ◌<◌, length}
 use Rattle.std.specs.Prelude.{pos, ◌-ℤ◌}
-use Rattle.jls_context.specs.Mode.{IsStep, quantized_gradient}
+use Rattle.jls_context.specs.Mode.{IsQuantizedGradient, quantized_gradient}
 use Rattle.jls_interval.specs.CodeLengths.{AreLengths}
 use Rattle.jls_interval.specs.Place.{above_of}
 use Rattle.jls_interval.specs.OpenEvents.{now_at}
@@ -17,7 +17,7 @@ invariant-columns l = record {
   open_event : l.reader.open_event ≡ NotBegun;
   near : l.near ≡ now_at l.reader.width (above_of l.place) l.reader.line.items;
   second : l.second ≡ quantized_gradient l.reader.coder.cells.parameters (pos l.near.rb -ℤ pos l.near.rc);
-  step : IsStep l.second;
+  step : IsQuantizedGradient l.second;
   taking : TakesInLine l.place.component (above_of l.place) l.initial.reader l.reader l.initial.chunk l.chunk;
 }
 

@@ -1,6 +1,6 @@
 use Rattle.std.proofs.Common.{◌∷◌, ℕ, List, map, sym, subst}
 use Rattle.std.specs.Borrow.{Bor}
-use Rattle.jls_salvage_run.specs.Histories.{GrewBoth}
+use Rattle.jls_io.specs.Event.{GrewBoth}
 use Rattle.jls_salvage_run.specs.WritingFiles.{WritesFile}
 use Rattle.jls_salvage_run.specs.declared.writing.Format.TheVariants.{Pnm, Jls}
 use Rattle.jls_salvage_run.specs.Joining.{Joins}

@@ -5,7 +5,7 @@ use Rattle.jls_diff.specs.PartsOf.{bytes_of}
 use Rattle.jls_search.specs.Choices.{prefix_of}
 use Rattle.jls_search.specs.Files.{AreVerdicts, files_taken, splices_found}
 use Rattle.jls_search.specs.Seen.{AreSeen, verdict_of}
-use Rattle.jls_search.specs.Shapes.{HasNoFrame, HasShape}
+use Rattle.jls_search.specs.Shapes.{HasNoFrame, HasFrameOfShape}
 use Rattle.jls_search.specs.Stations.{TakesFiles}
 use Rattle.jls_search.proofs.CutFiles.{faultless_seen}
 use Rattle.jls_search.proofs.SeenFiles.{none_faultless}
@@ -24,9 +24,9 @@ returns-clause-taken c =
     let cut : List ℕ = prefix_of files.parts.now c.args.cut.items in
     let none = none_faultless (files_taken files) c.deref.result.now
     (subst (AreSeen (files_taken files)) (sym c.deref.ensures.value) c.in_ok-seen.ensures.seen) c.in-None.ensures.none in
-    let takes = subst (λ (found : Option PartialPicture). IfSome found (λ station. HasShape station.shape cut
+    let takes = subst (λ (found : Option PartialPicture). IfSome found (λ station. HasFrameOfShape station.shape cut
     × TakesFiles c.args.source (files_taken files ++ cut ∷ []) (nothing_known station.shape) station)) c.in-Some-2.is
-    (subst (λ (path : List ℕ). IfSome c.in_ok-station.field-0 (λ station. HasShape station.shape (prefix_of files.parts.now path)
+    (subst (λ (path : List ℕ). IfSome c.in_ok-station.field-0 (λ station. HasFrameOfShape station.shape (prefix_of files.parts.now path)
     × TakesFiles c.args.source (files_taken files ++ prefix_of files.parts.now path ∷ []) (nothing_known station.shape) station))
     c.deref-2.ensures.value c.in_ok-station.ensures.some) in
     record { none_faultless = none; shape_is = takes.0; takes = takes.1 }

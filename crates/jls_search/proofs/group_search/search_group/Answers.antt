@@ -1,7 +1,7 @@
 use Rattle.std.proofs.Common.{subst, sym}
 use Rattle.std.specs.Prelude.{IfSome}
 use Rattle.jls_values.proofs.Lists.{all_more}
-use Rattle.jls_search.specs.Search.{AreEachKept, IsKept}
+use Rattle.jls_search.specs.Search.{AreEachKept, IsKeptReader}
 use Rattle.jls_search.proofs.Lists.{has_copy}
 use Rattle.jls_search.proofs.GroupSearches.{goes_first, goes_more}
 use Rattle.jls_search.proofs.group_search.search_group.Goals as goal
@@ -23,7 +23,7 @@ loop-copy-preserved c = record {
   kept =
       let ps = c.args.parts.now in
       let before = c.take_first-begin.new.readers.items in
-      let all = all_more (λ reader. IfSome reader (IsKept ps)) before c.in_ok-more.more.kept
+      let all = all_more (λ reader. IfSome reader (IsKeptReader ps)) before c.in_ok-more.more.kept
       (c.take_first-begin.ensures ps c.loop-copy.invariant.kept).1
       c.in_ok-more.ensures.kept in
       subst (AreEachKept ps) (sym c.in_ok-push.ensures.items) all;

@@ -2,7 +2,7 @@ use Rattle.std.proofs.Common.{sym, subst, Option}
 use Rattle.std.specs.Prelude.{IfSome}
 use Rattle.jls_search.specs.GroupTries.{GoesThrough}
 use Rattle.jls_search.specs.OfGroups.{AreOfGroups}
-use Rattle.jls_search.specs.Search.{IsKept, lists_of}
+use Rattle.jls_search.specs.Search.{IsKeptReader, lists_of}
 use Rattle.jls_search.specs.declared.kept.KeptReader.{KeptReader}
 use Rattle.jls_search.specs.declared.whole_search.Searched.{Searched}
 use Rattle.jls_search.proofs.GroupRuns.{of_groups, some_way_of_copy, went_through}
@@ -27,4 +27,4 @@ returns-clause-goes c =
 
 pub returns-clause-kept : goal.returns-clause-kept
 returns-clause-kept c =
-    subst (λ (k : Option KeptReader). IfSome k (IsKept c.args.parts.now)) (sym c.went.ensures.kept) c.in_ok-run.ensures.stands.kept.0
+    subst (λ (k : Option KeptReader). IfSome k (IsKeptReader c.args.parts.now)) (sym c.went.ensures.kept) c.in_ok-run.ensures.stands.kept.0

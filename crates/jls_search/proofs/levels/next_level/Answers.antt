@@ -4,7 +4,7 @@ use Rattle.std.proofs.lemmas.List.{take_all}
 use Rattle.std.proofs.lemmas.Option.{IfSome_then}
 use Rattle.jls_diff.specs.Parts.{Part}
 use Rattle.jls_search.specs.Faultless.{IsSought}
-use Rattle.jls_search.specs.Levels.{AreJudged, IsLevel, IsNext}
+use Rattle.jls_search.specs.Levels.{AreJudged, IsLevel, IsNextPath}
 use Rattle.jls_search.specs.Search.{lists_of}
 use Rattle.jls_search.proofs.NextLevels.{item_of_level, judged_one_more, next_level_is, of_lists}
 use Rattle.jls_search.proofs.levels.next_level.Goals as goal
@@ -24,7 +24,7 @@ take_ways-requires c =
       kept = c.requires.kept;
       path = is.0;
       more = omega (arith, count, less);
-      each = subst (λ n. AllByRecursion (IsNext ps (n + 1)) (lists_of c.paths.begun.living.items)) (sym is.2) c.paths.invariant.each;
+      each = subst (λ n. AllByRecursion (IsNextPath ps (n + 1)) (lists_of c.paths.begun.living.items)) (sym is.2) c.paths.invariant.each;
     }
 
 pub paths-preserved : goal.paths-preserved
@@ -44,7 +44,7 @@ paths-preserved c =
     record {
       left = omega (arith, so_far.left, went.left);
       spent = omega (arith, so_far.spent, went.spent);
-      each = subst (λ n. AllByRecursion (IsNext ps (n + 1)) new) is.2 c.in_ok-all.ensures.each;
+      each = subst (λ n. AllByRecursion (IsNextPath ps (n + 1)) new) is.2 c.in_ok-all.ensures.each;
       judged = judged_one_more vs c.deref-path-items.result.now c.paths.path-index c.path-item.result path c.deref-path-items.ensures.value
           c.paths-test.true c.path-item.is c.deref.ensures.value Sought ps (count + 1) old new c.in_ok-all.ensures.still
           c.paths.invariant.judged

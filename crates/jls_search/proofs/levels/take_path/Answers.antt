@@ -3,7 +3,7 @@ use Rattle.std.proofs.lemmas.List.{map-append}
 use Rattle.jls_diff.specs.Parts.{Part}
 use Rattle.jls_search.specs.Choices.{IsPath, prefix_of}
 use Rattle.jls_search.specs.Faultless.{IsDead, IsSought}
-use Rattle.jls_search.specs.Levels.{IsTaken}
+use Rattle.jls_search.specs.Levels.{IsPathTaken}
 use Rattle.jls_search.specs.Search.{lists_of}
 use Rattle.jls_search.specs.Tried.{AreFixed, IsSetFor, IsStop}
 use Rattle.jls_search.specs.declared.setting.Goal.TheVariants.{Whole}
@@ -24,7 +24,7 @@ is_found_dead-requires-clause-few c = c.requires.short c.deref.result.now (is_fo
 -- the path goes on from the begin, and adds itself to those that live or is dead
 taken : (Sought : List ℕ → Type 0) (ps : List Part) (begin path : List ℕ) (old new : List (List ℕ)) → IsSetFor ps Whole path
     → IsStop ps Whole path → ((more : List ℕ) × (path ≡ begin ++ more)) → AreFixed ps Whole (length begin) (length path)
-    → (new ≡ old ++ path ∷ []) ⊎ ((new ≡ old) × IsDead Sought (prefix_of ps path)) → IsTaken Sought ps begin old new
+    → (new ≡ old ++ path ∷ []) ⊎ ((new ≡ old) × IsDead Sought (prefix_of ps path)) → IsPathTaken Sought ps begin old new
 taken Sought ps begin path old new set stop grew fixed added = record {
   path = path;
   is_next = followed ps begin path set.0 (prefix_of_stop ps path stop) grew (same_of_fixed ps (length begin) (length path) fixed);

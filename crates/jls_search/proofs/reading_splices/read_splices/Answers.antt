@@ -2,10 +2,10 @@ use Rattle.std.proofs.Common.{ℕ, List, [], ◌∷◌, ◌++◌, Vec, Global, t
 use Rattle.std.proofs.lemmas.List.{append-nil, take_all}
 use Rattle.std.specs.Prelude.{IfSome}
 use Rattle.std.specs.List.{AllByRecursion}
-use Rattle.jls_station.specs.Reading.{AreBytes}
+use Rattle.jls_marker.specs.SegmentLaws.{AreBytes}
 use Rattle.jls_diff.specs.Parts.{Part}
 use Rattle.jls_search.specs.Choices.{IsPath, prefix_of}
-use Rattle.jls_search.specs.Search.{IsKept, files_of, lists_of}
+use Rattle.jls_search.specs.Search.{IsKeptReader, files_of, lists_of}
 use Rattle.jls_search.specs.Reading.{AreRead, ReadsMore}
 use Rattle.jls_search.proofs.Members.{splices_one_more, whole_at}
 use Rattle.jls_search.proofs.reading_splices.read_splices.Goals as goal

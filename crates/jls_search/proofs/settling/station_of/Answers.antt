@@ -2,7 +2,7 @@ use Rattle.std.proofs.Common.{subst, rules, ◌≡◌}
 use Rattle.jls_values.specs.Shape.{PictureShape}
 use Rattle.jls_partial.specs.Partial.{nothing_known}
 use Rattle.jls_search.specs.Files.{files_taken}
-use Rattle.jls_search.specs.Reading.{HasTaken}
+use Rattle.jls_search.specs.Reading.{HasTakenFiles}
 use Rattle.jls_search.specs.Stations.{TakesFiles}
 use Rattle.jls_search.proofs.settling.station_of.Goals as goal
 
@@ -12,4 +12,4 @@ returns-then-eq-clause-readings c =
     let files = files_taken c.args.files.now in
     let same : station.shape ≡ c.args.shape = search rules in
     subst (λ (shape : PictureShape). TakesFiles c.args.source files (nothing_known shape) station) same
-    (subst (HasTaken c.args.source files) c.in-Some.is c.requires.taken)
+    (subst (HasTakenFiles c.args.source files) c.in-Some.is c.requires.taken)

@@ -1,7 +1,7 @@
 use Rattle.std.proofs.Common.{ℕ, length, Vec, Global, Option, sym, subst, ap, ◌∙◌, arith, inl, inr}
 use Rattle.std.specs.Prelude.{IfSome}
 use Rattle.jls_search.specs.Faultless.{IsSought}
-use Rattle.jls_search.specs.Search.{HasEachSplice, IsKept, MakeFiles, files_of, lists_of}
+use Rattle.jls_search.specs.Search.{HasEachSplice, IsKeptReader, MakeFiles, files_of, lists_of}
 use Rattle.jls_search.specs.declared.kept.KeptReader.{KeptReader}
 use Rattle.jls_search.proofs.Paths.{length-map}
 use Rattle.jls_search.proofs.Walks.{at_most, used_up}
@@ -66,5 +66,5 @@ returns-clause-tried c =
 pub returns-clause-reader : goal.returns-clause-reader
 returns-clause-reader c =
     let parts = c.args.parts.now in
-    subst (λ (k : Option KeptReader). IfSome k (IsKept parts)) (sym c.into_searched.ensures.reader)
-    (c.in_ok-go_on.ensures.found (subst (λ (k : Option KeptReader). IfSome k (IsKept parts)) (sym c.in_ok-begun.ensures.found) tt))
+    subst (λ (k : Option KeptReader). IfSome k (IsKeptReader parts)) (sym c.into_searched.ensures.reader)
+    (c.in_ok-go_on.ensures.found (subst (λ (k : Option KeptReader). IfSome k (IsKeptReader parts)) (sym c.in_ok-begun.ensures.found) tt))

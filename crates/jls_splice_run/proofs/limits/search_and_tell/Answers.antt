@@ -7,7 +7,7 @@ use Rattle.jls_diff.specs.PartsOf.{bytes_of}
 use Rattle.jls_search.specs.Faultless.{IsSought}
 use Rattle.jls_search.specs.Found.{found_of}
 use Rattle.jls_search.specs.Levels.{IsLone}
-use Rattle.jls_search.specs.Search.{IsKept}
+use Rattle.jls_search.specs.Search.{IsKeptReader}
 use Rattle.jls_search.specs.declared.kept.KeptReader.{KeptReader}
 use Rattle.jls_splice_run.specs.Limits.{SearchMade, search_made}
 use Rattle.jls_splice_run.specs.Making.{search_of}
@@ -105,5 +105,5 @@ returns-clause-lone g c =
 pub returns-clause-reader : goal.returns-clause-reader
 returns-clause-reader g c =
     let e = c.in_ok-splices.ensures in
-    subst (λ (k : Option KeptReader). IfSome k (IsKept c.in_ok-splices.splices.parts)) (sym e.reader)
-    (subst (λ ps. IfSome c.in_ok-all.all.searched.reader (IsKept ps)) (sym e.parts_kept) c.in_ok-all.ensures.reader)
+    subst (λ (k : Option KeptReader). IfSome k (IsKeptReader c.in_ok-splices.splices.parts)) (sym e.reader)
+    (subst (λ ps. IfSome c.in_ok-all.all.searched.reader (IsKeptReader ps)) (sym e.parts_kept) c.in_ok-all.ensures.reader)

@@ -14,7 +14,7 @@ use Rattle.jls_search.specs.Found.{IsFound, IsGroupSearch, found_of, splices_in}
 use Rattle.jls_splice_run.specs.Limits.{IsCutLimit}
 use Rattle.jls_splice_run.specs.Telling.{HasChosenLimit, ReportedUpTo}
 use Rattle.jls_splice_run.specs.Copies.{bytes_read}
-use Rattle.jls_splice_run.specs.Making.{AreTextsOf, CantMake, FindsNoCut, HoldsMade, IsCounted, IsCut, IsPictureOf, IsUnsettled}
+use Rattle.jls_splice_run.specs.Making.{AreTextsOf, CantMake, FindsNoCut, HoldsMade, IsCounted, IsCutFile, IsPictureOf, IsUnsettled}
 use Rattle.jls_splice_run.specs.Making.{IsWantOfMemory, cut_file, files_taken, made_of, search_of}
 use Rattle.jls_splice_run.specs.Listing.{AreNamedAsked, named_files}
 use Rattle.jls_splice_run.specs.Single.{IsSingleAsked}
@@ -47,7 +47,7 @@ told a found o same old new h =
 
 -- the choices of the cut file are a path
 path_of_cut : (found : FoundInTurn) (cut : Option (Vec ℕ Global))
-    → IfSome cut (λ path. IsCut found.cut_limit (found_of found.splices) path.items)
+    → IfSome cut (λ path. IsCutFile found.cut_limit (found_of found.splices) path.items)
     → IfSome cut (λ path. IsPath found.splices.parts path.items)
 path_of_cut found None h = tt
 path_of_cut found (Some path) h = h.1.is_path
@@ -170,7 +170,7 @@ returns-in-Ok-texts_of-clause-made g c =
         is_counted = counted_in a copies all events groups h;
         is_found = is_found;
         cut_ceiling_is = subst (λ (l : Option ℕ). IsCutLimit parts l (found_of found).choices all.cut_limit) (sym h.1.cut_is) h.2;
-        is_lone = found_mapped (IsCut all.cut_limit (found_of found)) c.in-Ok-find_cut.cut c.in-Ok-find_cut.ensures.lone;
+        is_lone = found_mapped (IsCutFile all.cut_limit (found_of found)) c.in-Ok-find_cut.cut c.in-Ok-find_cut.ensures.lone;
         no_lone = none_mapped (FindsNoCut all.cut_limit a.options.tries (found_of found)) c.in-Ok-find_cut.cut
             c.in-Ok-find_cut.ensures.none;
         is_cut = cut_mapped (λ path. TakesNoCut copies (splices_in (found_of found)) (prefix_of parts path)) held.cut c.in-Ok-find_cut.cut

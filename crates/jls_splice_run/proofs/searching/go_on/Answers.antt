@@ -2,8 +2,8 @@ use Rattle.std.proofs.Common.{◌≡◌, ◌<◌, length, arith}
 use Rattle.std.specs.Prelude.{IfSome}
 use Rattle.jls_io.specs.Event.{GrewBy}
 use Rattle.jls_io.proofs.Growing.{grew_as}
-use Rattle.jls_search.specs.Search.{IsKept, IsSearch, Tried, lists_of}
-use Rattle.jls_splice_run.specs.Telling.{GoesOn, TellsLine}
+use Rattle.jls_search.specs.Search.{IsKeptReader, IsSearch, Tried, lists_of}
+use Rattle.jls_splice_run.specs.Telling.{GoesOnToPause, TellsLine}
 use Rattle.jls_search.proofs.Prefixes.{on_ok as on_ok_anyway}
 use Rattle.jls_splice_run.proofs.Rounds.{on_ok, went_on}
 use Rattle.jls_splice_run.proofs.searching.go_on.Goals as goal
@@ -29,8 +29,8 @@ returns-clause-reported g c =
     let tells = TellsLine options.tells new.tries (length (lists_of new.splices.items)) in
     let h = history c.args.faults.now in
     let h' = history c.tell.new.faults in
-    on_ok c.tell.result (GrewBy tells h h') (GrewBy (GoesOn options old new) h h')
-    (grew_as tells (GoesOn options old new) h h'
+    on_ok c.tell.result (GrewBy tells h h') (GrewBy (GoesOnToPause options old new) h h')
+    (grew_as tells (GoesOnToPause options old new) h h'
     (λ events reported. went_on c.args.parts.now options old new c.next_pause-pause.result c.next_pause-pause.ensures c.requires.can
     c.in_ok-go_on.ensures.stops c.in_ok-go_on.ensures.went events reported))
     c.tell.ensures.reported
@@ -45,4 +45,4 @@ returns-clause-tried g c =
 
 pub returns-clause-found : goal.returns-clause-found
 returns-clause-found g c = λ h.
-    on_ok_anyway c.tell.result (IfSome c.go_on.new.self.judge.found (IsKept c.args.parts.now)) (c.in_ok-go_on.ensures.found h)
+    on_ok_anyway c.tell.result (IfSome c.go_on.new.self.judge.found (IsKeptReader c.args.parts.now)) (c.in_ok-go_on.ensures.found h)

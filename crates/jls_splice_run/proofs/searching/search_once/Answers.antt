@@ -2,7 +2,7 @@ use Rattle.std.proofs.Common.{ℕ, length, Vec, Global, Option, sym, ap, ◌∙�
 use Rattle.std.specs.Prelude.{IfSome}
 use Rattle.jls_io.proofs.Growing.{grew_as}
 use Rattle.jls_search.specs.Faultless.{IsSought}
-use Rattle.jls_search.specs.Search.{CameTo, IsKept, lists_of}
+use Rattle.jls_search.specs.Search.{CameTo, IsKeptReader, lists_of}
 use Rattle.jls_search.specs.declared.kept.KeptReader.{KeptReader}
 use Rattle.jls_search.proofs.Walks.{used_up}
 use Rattle.jls_splice_run.specs.Telling.{HasReported, IsReported}
@@ -55,4 +55,5 @@ returns-clause-reported g c =
 
 pub returns-clause-reader : goal.returns-clause-reader
 returns-clause-reader g c =
-    subst (λ (k : Option KeptReader). IfSome k (IsKept c.args.parts.now)) (sym c.into_searched.ensures.reader) c.in_ok-walk.ensures.found
+    subst (λ (k : Option KeptReader). IfSome k (IsKeptReader c.args.parts.now))
+    (sym c.into_searched.ensures.reader) c.in_ok-walk.ensures.found

@@ -2,10 +2,10 @@ use Rattle.std.proofs.Common.{◌≡◌, List, [], Option, length, sym, ap, ◌�
 use Rattle.std.specs.Prelude.{IfSome}
 use Rattle.jls_io.specs.Event.{Event, GrewBy}
 use Rattle.jls_io.proofs.Growing.{grew_as, grew_not, grew_on}
-use Rattle.jls_search.specs.Search.{IsKept, lists_of, nothing}
+use Rattle.jls_search.specs.Search.{IsKeptReader, lists_of, nothing}
 use Rattle.jls_search.specs.declared.kept.KeptReader.{KeptReader}
 use Rattle.jls_search.specs.declared.searching.Search.{Search}
-use Rattle.jls_splice_run.specs.Telling.{GoesOn, HasReported, IsReported, ReportedSome}
+use Rattle.jls_splice_run.specs.Telling.{GoesOnToPause, HasReported, IsReported, ReportedSome}
 use Rattle.jls_splice_run.specs.declared.options.SearchOptions.{SearchOptions}
 use Rattle.jls_partial.proofs.TextPrefixes.{on_error}
 use Rattle.jls_splice_run.proofs.Rounds.{none_reported, reported_on, tried_on}
@@ -37,7 +37,7 @@ loop-alloc-init g c =
     record {
       stands = c.in_ok-walk.ensures.stands;
       ceiling = c.in_ok-walk.ensures.ceiling;
-      found = subst (λ (k : Option KeptReader). IfSome k (IsKept c.args.parts.now)) (sym c.in_ok-walk.ensures.found) tt;
+      found = subst (λ (k : Option KeptReader). IfSome k (IsKeptReader c.args.parts.now)) (sym c.in_ok-walk.ensures.found) tt;
       tried = (walk, none, c.in_ok-walk.ensures.stands, nothing walk, c.in_ok-walk.ensures.ceiling);
       reported = grew_not (HasReported c.args.options walk) (g.E.Device.history c.args.faults.now)
           (begun_reported c.args.options walk none.0 (ap (λ xs. length (lists_of xs)) none.1));
@@ -59,7 +59,7 @@ loop-alloc-preserved g c =
         tried_on c.args.parts.now so_far.0 c.loop-alloc.walk c.go_on.new.walk so_far.3 c.in_ok-go_on.ensures.tried,
         so_far.4,
       );
-      reported = grew_on (HasReported c.args.options c.loop-alloc.walk) (GoesOn c.args.options c.loop-alloc.walk c.go_on.new.walk)
+      reported = grew_on (HasReported c.args.options c.loop-alloc.walk) (GoesOnToPause c.args.options c.loop-alloc.walk c.go_on.new.walk)
           (HasReported c.args.options c.go_on.new.walk)
           (history c.args.faults.now) (history c.loop-alloc.faults) (history c.go_on.new.faults)
           (λ a b h k. reported_on c.args.options c.loop-alloc.walk c.go_on.new.walk a b can h k) c.loop-alloc.invariant.reported

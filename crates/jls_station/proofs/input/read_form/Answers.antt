@@ -5,7 +5,7 @@ use Rattle.jls_marker.specs.declared.fault.MarkerFault.TheVariants as marker
 use Rattle.std.specs.Io.KnownBytes.{Consumes}
 use Rattle.jls_io.specs.Event.{GrewBy}
 use Rattle.jls_station.specs.Inputs.{IsEnough, IsCopyDone, no_picture, copy_not_read}
-use Rattle.jls_station.specs.Reading.{AreBytes, ReadSoFar}
+use Rattle.jls_station.specs.Reading.{ReadSoFar}
 use Rattle.jls_station.specs.declared.input.ReadStop.TheVariants.{Whole, Failed}
 use Rattle.jls_station.specs.declared.input.InputFault.TheVariants as fault
 use Rattle.jls_station.proofs.Mapped.{error_at, value_at}
@@ -15,6 +15,7 @@ use Rattle.jls_station.proofs.OneInput.{empty_goes_on}
 use Rattle.jls_station.proofs.input.read_form.Given.{Over}
 use Rattle.jls_station.proofs.input.read_form.Goals.{After-prefix-first}
 use Rattle.jls_station.proofs.input.read_form.Goals as goal
+use Rattle.jls_marker.specs.SegmentLaws.{AreBytes}
 
 -- the first read gave some bytes, if none are not enough
 first_gave : (g : Over) (c : After-prefix-first g) (E : List ℕ → Type 0) → (E [] → ⊥)

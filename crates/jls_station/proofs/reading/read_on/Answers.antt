@@ -3,13 +3,14 @@ use Rattle.std.specs.Prelude.{ℕ}
 use Rattle.std.specs.Io.KnownBytes.{Consumes}
 use Rattle.std.proofs.lemmas.List.{length-take}
 use Rattle.jls_io.specs.Event.{GrewBy}
-use Rattle.jls_station.specs.Reading.{AreBytes, IsRead, IsReadInPart}
+use Rattle.jls_station.specs.Reading.{IsRead, IsReadInPart}
 use Rattle.jls_station.specs.declared.input.ReadStop.TheVariants.{Whole, Failed, Turns}
 use Rattle.jls_station.proofs.CopySteps.{of_reader, goes_on, none_more, stops_enough, stops_known, stops_longer, one_more, consumes_no_more}
 use Rattle.jls_station.proofs.CopySteps.{put_fits}
 use Rattle.jls_partial.proofs.TextPrefixes.{on_error}
 use Rattle.jls_station.proofs.OneInput.{one_read_more, read_to_end, read_to_failure, read_to_turns, read_in_part}
 use Rattle.jls_station.proofs.reading.read_on.Goals as goal
+use Rattle.jls_marker.specs.SegmentLaws.{AreBytes}
 
 pub returns-in-Err-clause-read : goal.returns-in-Err-clause-read
 returns-in-Err-clause-read g c before fed was h =

@@ -1,10 +1,10 @@
 use Rattle.std.proofs.Common.{length}
-use Rattle.jls_interval.specs.Decoding.{HasShape, TakesFirst}
+use Rattle.jls_interval.specs.Decoding.{KeepsShape, TakesFirst}
 use Rattle.jls_interval.proofs.interval_reader.IntervalReader.push_chunk.Given as goal
 
 abbrev pub invariant-events : goal.invariant-events
 invariant-events l = record {
-  shape : HasShape l.initial.self l.self;
+  shape : KeepsShape l.initial.self l.self;
   taking : TakesFirst l.initial.self l.initial.chunk l.self l.chunk;
 }
 

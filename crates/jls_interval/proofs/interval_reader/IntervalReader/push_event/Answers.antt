@@ -5,7 +5,7 @@ use Rattle.jls_values.specs.Params.{CodingParameters, AreCodingParameters}
 use Rattle.jls_interval.specs.Events.{Event, Above, above}
 use Rattle.jls_interval.specs.After.{IsAfter}
 use Rattle.jls_interval.specs.OpenEvents.{Holds, EventDone, EventPushed}
-use Rattle.jls_interval.specs.Decoding.{IsWorking, StateIs, HaveWidth, IsReading, Takes}
+use Rattle.jls_interval.specs.Decoding.{IsWorking, StateIs, HaveWidth, IsReading, TakesSomeBits}
 use Rattle.jls_interval.specs.declared.line_reader.OpenEvent.TheVariants.{NotBegun}
 use Rattle.jls_interval.specs.declared.line_reader.LineReader.{LineReader}
 use Rattle.jls_interval.specs.declared.line_reader.EventStep.{EventStep}
@@ -98,11 +98,11 @@ module _ {p : CodingParameters} {given : List Bool} {d : IntervalReader} {new : 
     some = working_takes p ok w n d.count h.width_at_least given L line d.reader.coder.cells d.reader.coder.run_indices d.reader.open_event
         work m.0 line' new.coder.cells new.coder.run_indices m.2
 
-    takes : {next : IntervalReader} → IsReading p (given ++ m.0) next → Takes p given next chunk unread
+    takes : {next : IntervalReader} → IsReading p (given ++ m.0) next → TakesSomeBits p given next chunk unread
     takes r = record { taken = m.0; chunk_is = m.1; some = some; reading = r }
 
     -- the line goes on
-    unfinished : (length line' ≡ w → ⊥) → Takes p given (record d { reader = new }) chunk unread
+    unfinished : (length line' ≡ w → ⊥) → TakesSomeBits p given (record d { reader = new }) chunk unread
     unfinished ne =
         let most = line_fits p w (length L % n) (above n L) line line' new.coder.cells new.coder.run_indices (work.fed ++ m.0) work.earlier
         m.2 work.unfinished in let short : length line' < w = omega arith in let paid = h.lines_paid in
@@ -126,7 +126,7 @@ module _ {p : CodingParameters} {given : List Bool} {d : IntervalReader} {new : 
       number = sym (length-map ls.items (λ (v : Vec ℕ Global). v.items)) ∙ ap length grown
 
       ended : {below : new.width < 2 ^ 16} (s : State) → Is m.0 (L ++ line' ∷ []) [] s
-          → Takes p given (record d { reader = record new { line = l; width_below = below }; lines = ls; state = s }) chunk unread
+          → TakesSomeBits p given (record d { reader = record new { line = l; width_below = below }; lines = ls; state = s }) chunk unread
       ended {below} s is =
           let few = work.few in let paid = h.lines_paid in let one = some in let a = number in let b = length-append L (line' ∷ []) in
           let maps = length-map d.lines.items (λ (v : Vec ℕ Global). v.items) in let zero = ap length begun in
@@ -135,14 +135,15 @@ module _ {p : CodingParameters} {given : List Bool} {d : IntervalReader} {new : 
           (subst (λ z. Is m.0 z l.items s) (sym grown) (subst (λ z. Is m.0 (L ++ line' ∷ []) z s) (sym begun) is)))
 
       complete : {below : new.width < 2 ^ 16} → d.count ≤ length ls.items
-          → Takes p given (record d { reader = record new { line = l; width_below = below }; lines = ls; state = Complete 0 }) chunk unread
+          → TakesSomeBits p given
+          (record d { reader = record new { line = l; width_below = below }; lines = ls; state = Complete 0 }) chunk unread
       complete all =
           let a = number in
           ended (Complete 0) (working_over p ok w n d.count h.width_at_least given L line d.reader.coder.cells d.reader.coder.run_indices
           d.reader.open_event work m.0 line' new.coder.cells new.coder.run_indices m.2 whole (omega arith))
 
       goes_on : {below : new.width < 2 ^ 16} → (length ls.items ≡ d.count → ⊥)
-          → Takes p given (record d { reader = record new { line = l; width_below = below }; lines = ls }) chunk unread
+          → TakesSomeBits p given (record d { reader = record new { line = l; width_below = below }; lines = ls }) chunk unread
       goes_on ne =
           let few = work.few in let a = number in let b = length-append L (line' ∷ []) in
           let more_lines : length (L ++ line' ∷ []) < d.count = omega arith in

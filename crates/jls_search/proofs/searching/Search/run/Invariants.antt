@@ -1,6 +1,6 @@
 use Rattle.std.proofs.Common.{◌≡◌, ◌-◌, ◌<◌, ◌≤◌, ◌⊎◌, length}
 use Rattle.std.specs.Prelude.{max, IfSome}
-use Rattle.jls_search.specs.Search.{IsAlike, IsAt, IsKept, Tried, lists_of}
+use Rattle.jls_search.specs.Search.{IsAlike, IsAt, IsKeptReader, Tried, lists_of}
 use Rattle.jls_search.proofs.searching.Search.run.Given as goal
 
 abbrev pub invariant-loop-alloc : goal.invariant-loop-alloc
@@ -12,7 +12,7 @@ invariant-loop-alloc l = record {
   files : length (lists_of l.fn.self.splices.items) ≤ length (lists_of l.self.splices.items);
   within : l.self.tries ≤ max l.fn.self.tries l.limit;
   some : (l.fn.self.tries < l.self.tries) ⊎ (l.self ≡ l.fn.self);
-  found : IfSome l.fn.self.judge.found (IsKept l.parts) → IfSome l.self.judge.found (IsKept l.parts);
+  found : IfSome l.fn.self.judge.found (IsKeptReader l.parts) → IfSome l.self.judge.found (IsKeptReader l.parts);
 }
 
 abbrev pub decreases-loop-alloc : goal.decreases-loop-alloc
