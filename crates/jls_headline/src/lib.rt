@@ -4,7 +4,7 @@
 //! - `calls`: what public calls hold that were made of copies
 //! - `headline`: the main theorem, and written files
 //! - `lines`: one line by itself
-//! - `lost_intervals`, `scans`, `trimmed`: damaged copies: lost restart markers, their scans, and pieces that were only truncated or extended
+//! - `lost_intervals`, `scans`, `trimmed`: damaged copies: lost restart markers, their scans, pieces that were only truncated or extended
 //!
 //! Definitions: `Damaged`, `Trimmed`, `Stations`, `Sources`, `Collected`, `ReadsAs`. Laws: `Headline`, `HeadlineLaws`, `CollectedLaws`,
 //! `LineLaws`, `LostIntervalLaws`, `ScanLaws`.

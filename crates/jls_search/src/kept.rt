@@ -26,7 +26,8 @@ pub struct KeptReader {
 pub struct Judge {
     /// The greatest sample that a whole file may have that is sought, if there is a limit.
     pub ceiling: Option<u16>,
-    /// The reader of the last path that was left open and doesn't go into a group.
+    /// In a search of a group: the reader of the last open path up to the part where the group begins. A search of whole files fills it
+    /// never.
     pub begin: Option<KeptReader>,
     /// The reader of the last path that was left open. In a search of a group it goes into it.
     pub kept: Option<KeptReader>,

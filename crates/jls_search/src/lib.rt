@@ -47,6 +47,7 @@
 //! - That a file which a search by groups passes by doesn't read in the group: a piece that begins before the group may be the broken one.
 //! - That no later level that `lone_path` comes to has one path that lives, and how many tries it makes.
 //! - How often a file is decoded.
+//! - Which groups are searched first (`order`), but that each has its turn.
 #![tactic(auto)]
 
 mod adding;

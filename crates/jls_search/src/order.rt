@@ -68,7 +68,7 @@ fn is_noted(notes: &[bool], number: usize) -> bool {
     }
 }
 
-/// Of each group, whether this copy reads in it, or another did, as was noted.
+/// Of each group, whether this copy reads in it, or one of which it was noted before.
 fn with_copy(
     alloc: Global,
     parts: &Parts<'_>,

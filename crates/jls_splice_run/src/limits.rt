@@ -1,4 +1,5 @@
-//! All searches of a run: the one that is asked for, and where it has no limit of samples and is cut off, others under limits in turn.
+//! All searches of a run. The first is the one asked for. If it has no ceiling and is cut off, others follow, each under the next ceiling
+//! of `LIMITS`.
 
 ghost use Rattle.std.specs.Prelude.{◌≡◌, ◌*◌, ◌<◌, ◌≤◌, ◌^◌, ℕ, List, Option, None, Some, false, length, map, max, min};
 ghost use Rattle.std.specs.Prelude.{IfOk, IfSome, OnErr};
@@ -209,8 +210,8 @@ fn limit_of_cut(
 /// given and that search is cut off, it searches under limits in turn, until one of these searches is cut off. The search that counts is
 /// the last that was not cut off and found a file, and else the first. Where it was cut off or came to nothing, groups are searched.
 ///
-/// If that is asked for, it prints a line on how far each search of all is, each time that 64 more were tried, and when it is over. A write
-/// that fails is ignored. `Err` comes where memory is refused, and where copies are longer than `are_short` of jls_search allows.
+/// With `options.tells` each search of whole files prints a line after every 64 tries, and one at its end. A write that fails is ignored.
+/// `Err` comes where memory is refused, and where copies are longer than `are_short` of jls_search allows.
 pub fn search_and_tell<'a, E: Sink>(
     alloc: Global,
     copies: &[&'a [u8]],

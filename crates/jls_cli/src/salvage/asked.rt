@@ -136,7 +136,7 @@ fn asked_write<'m, 'a>(
     }
 }
 
-/// What the words ask for. `None` if a value is none that its option has.
+/// What the words ask for. `None` if an option doesn't allow its value.
 pub fn asked_command<'m, 'a>(matches: &'m ArgMatches<'a>) -> Option<Asked<'m, 'a>>
     ensures { option_map asked_of result ≡ option_and_then (λ p. spec.asked_by p.0 p.1) (subcommand_rows_of matches.now) }
 {

@@ -106,7 +106,7 @@ fn asked_with<'m, 'a>(
     })
 }
 
-/// What the words ask for. `None` if a value is none that its option has.
+/// What the words ask for. `None` if an option doesn't allow its value.
 pub fn asked_splice<'m, 'a>(matches: &'m ArgMatches<'a>) -> Option<Asked<'m, 'a>>
     ensures { option_map asked_of result ≡ spec.asked_by (rows_of (found_of matches.now)) }
 {
