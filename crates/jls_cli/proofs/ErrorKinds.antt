@@ -8,7 +8,7 @@ use Rattle.clap.specs.Words.{matches_of, rows_of, subcommand_of, subcommand_rows
 use Rattle.clap.specs.declared.error.Error.{Error}
 use Rattle.clap.specs.declared.parser.matches.ArgMatches.{ArgMatches}
 use Rattle.clap.specs.declared.error.kind.ErrorKind.TheVariants as kind
-use Rattle.jls_cli.specs.Words.{Refuses, Takes}
+use Rattle.jls_cli.specs.Words.{RefusesWords, TakesWords}
 
 only_memory : (e : Error) → HasKind [] e → kind_of e ≡ kind.OutOfMemory
 only_memory e (inl h) = h
@@ -24,8 +24,8 @@ module _ (of : App) (simple : is_simple_and_free of ≡ true) (app : App) (words
   -- are refused have a fault of this kind, unless memory ran out
   pub answered : (r : Result ArgMatches Error) → IfErr r (λ e. takes app words ≡ true → kind_of e ≡ kind.OutOfMemory)
       → (is_simple_and_free app ≡ true → FailsBy (fault_of app words) r) → IfOk r (λ m. HasMatchesOf app words m)
-      → IfOk r (λ _. fault_of of words ≡ []) × IfErr r (λ e. Takes of words → kind_of e ≡ kind.OutOfMemory)
-      × IfErr r (λ e. (kind_of e ≡ kind.OutOfMemory) ⊎ Refuses of words (kind_of e))
+      → IfOk r (λ _. fault_of of words ≡ []) × IfErr r (λ e. TakesWords of words → kind_of e ≡ kind.OutOfMemory)
+      × IfErr r (λ e. (kind_of e ≡ kind.OutOfMemory) ⊎ RefusesWords of words (kind_of e))
       × IfOk r (λ m. rows_of (found_of m) ≡ matches_of of words) × IfOk r (λ m. subcommand_rows_of m ≡ subcommand_of of words)
   answered (Ok m) passes h matches =
       let rows = subst (λ (a : App). HasMatchesOf a words m) is_app matches (and_parts _ _ simple).0 in
@@ -35,7 +35,7 @@ module _ (of : App) (simple : is_simple_and_free of ≡ true) (app : App) (words
       has : HasKind (fault_of of words) e
       has = subst (λ (a : App). HasKind (fault_of a words) e) is_app (h (ap is_simple_and_free is_app ∙ simple))
 
-      for_memory : Takes of words → kind_of e ≡ kind.OutOfMemory
+      for_memory : TakesWords of words → kind_of e ≡ kind.OutOfMemory
       for_memory (inl t) = passes (ap (λ (a : App). takes a words) is_app ∙ t)
       for_memory (inr none) = only_memory e (subst (λ (kinds : Kinds). HasKind kinds e) none has)
 
@@ -44,6 +44,6 @@ module _ (of : App) (simple : is_simple_and_free of ≡ true) (app : App) (words
       among (inr is) other = is
 
       by_kind : (kind_of e ≡ kind.OutOfMemory) ⊎ (kind_of e ≡ kind.OutOfMemory → ⊥)
-          → (kind_of e ≡ kind.OutOfMemory) ⊎ Refuses of words (kind_of e)
+          → (kind_of e ≡ kind.OutOfMemory) ⊎ RefusesWords of words (kind_of e)
       by_kind (inl is) = inl is
       by_kind (inr other) = inr (record { not_taken = λ taken. other (for_memory taken); found = among has other })

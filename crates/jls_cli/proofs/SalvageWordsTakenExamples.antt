@@ -7,7 +7,7 @@ use Rattle.clap.specs.declared.error.kind.ErrorKind.TheVariants as kind
 use Rattle.clap.proofs.OnLiterals.{clap_on_literals}
 use Rattle.jls_cli.specs.SalvageAsking.{AskFor, AskForNothing, format_is_known, check, join, show, write_pnm, write_jls}
 use Rattle.jls_cli.specs.SalvageWords.{salvage_app, AreRefused}
-use Rattle.jls_cli.specs.Words.{Takes}
+use Rattle.jls_cli.specs.Words.{TakesWords}
 
 -- `jls-salvage join OUT A B`
 abbrev pub two_files : List Text
@@ -84,7 +84,7 @@ refused words k untaken found = record {
   found = subst (λ (kinds : Kinds). IsAmong k kinds) (sym found) (inl refl);
 }
   where
-    either : Takes salvage_app words → ⊥
+    either : TakesWords salvage_app words → ⊥
     either (inl taken) = cc
     either (inr none) = cc
 

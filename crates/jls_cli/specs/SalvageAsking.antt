@@ -4,7 +4,7 @@ use Rattle.std.specs.Prelude.{option_and_then}
 use Rattle.std.specs.Str.{bytes_eq}
 use Rattle.clap.specs.Words.{Row, Text, all_of, first_of, subcommand_of}
 use Rattle.jls_cli.specs.SalvageWords.{salvage_app}
-use Rattle.jls_cli.specs.Words.{Takes, number_in}
+use Rattle.jls_cli.specs.Words.{TakesWords, number_in}
 use Rattle.jls_cli.specs.declared.salvage.asked.Asked.{Asked as AskedValue}
 use Rattle.jls_cli.specs.declared.salvage.asked.Asked.TheVariants as asked
 
@@ -91,12 +91,12 @@ format_is_known words = format_is_known_by (subcommand_of salvage_app words)
 
 -- clap takes the words, and they ask for this
 pub record AskFor (words : List Text) (a : Asked) : Type 0 where
-  pub taken : Takes salvage_app words
+  pub taken : TakesWords salvage_app words
   pub asks : asked_in words ≡ Some a
 
 -- clap takes the words, and they ask for nothing that there is
 pub record AskForNothing (words : List Text) : Type 0 where
-  pub taken : Takes salvage_app words
+  pub taken : TakesWords salvage_app words
   pub asks : asked_in words ≡ None
 
 -- what is asked, as the code has it

@@ -3,7 +3,7 @@ use Rattle.std.specs.Prelude.{true, List, [], ◌∷◌, Some, codes}
 use Rattle.clap.specs.Words.{App, Rule, Text, new_app, with_rule, with_subcommand}
 use Rattle.clap.specs.declared.builder.ArgAction.TheVariants.{Append}
 use Rattle.clap.specs.declared.error.kind.ErrorKind.{ErrorKind}
-use Rattle.jls_cli.specs.Words.{Refuses, number_rule, option_rule, source_rule, word_rule}
+use Rattle.jls_cli.specs.Words.{RefusesWords, number_rule, option_rule, source_rule, word_rule}
 
 -- FILE..: one word or more
 abbrev pub files_rule : Rule
@@ -54,4 +54,4 @@ salvage_app = with_subcommand (with_subcommand (with_subcommand
 
 -- clap does not take the words, and this is one of the kinds of fault that its definition finds in them
 abbrev pub AreRefused : List Text → ErrorKind → Type 0
-AreRefused words k = Refuses salvage_app words k
+AreRefused words k = RefusesWords salvage_app words k

@@ -3,7 +3,7 @@ use Rattle.std.specs.Prelude.{◌≡◌, ℕ, Bool, false, List, ◌∷◌, Opti
 use Rattle.std.specs.Str.{bytes_eq}
 use Rattle.clap.specs.Words.{Row, Text, all_of, first_of, matches_of}
 use Rattle.jls_cli.specs.SpliceWords.{splice_app}
-use Rattle.jls_cli.specs.Words.{Takes, number_in}
+use Rattle.jls_cli.specs.Words.{TakesWords, number_in}
 use Rattle.jls_cli.specs.declared.splice.asked.Asked.{Asked as AskedValue}
 use Rattle.jls_cli.specs.declared.splice.asked.Options.{Options as OptionsValue}
 
@@ -78,12 +78,12 @@ asked_in words = asked_by (matches_of splice_app words)
 
 -- clap takes the words, and they ask for this
 pub record AskFor (words : List Text) (a : Asked) : Type 0 where
-  pub taken : Takes splice_app words
+  pub taken : TakesWords splice_app words
   pub asks : asked_in words ≡ Some a
 
 -- clap takes the words, and they ask for nothing that there is
 pub record AskForNothing (words : List Text) : Type 0 where
-  pub taken : Takes splice_app words
+  pub taken : TakesWords splice_app words
   pub asks : asked_in words ≡ None
 
 -- the options, as the code has them

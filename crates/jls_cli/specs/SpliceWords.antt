@@ -3,7 +3,7 @@ use Rattle.std.specs.Prelude.{true, List, [], ◌∷◌, Some, codes}
 use Rattle.clap.specs.Words.{App, Rule, Text, new_app, new_rule, with_rule}
 use Rattle.clap.specs.declared.builder.ArgAction.TheVariants.{Append, SetTrue}
 use Rattle.clap.specs.declared.error.kind.ErrorKind.{ErrorKind}
-use Rattle.jls_cli.specs.Words.{Refuses, number_rule, option_rule, source_rule, word_rule}
+use Rattle.jls_cli.specs.Words.{RefusesWords, number_rule, option_rule, source_rule, word_rule}
 
 -- --tries N, a number from 1 to 2^32 - 1, 4096 if it is not given
 abbrev pub tries_rule : Rule
@@ -47,4 +47,4 @@ splice_app = with_rule (with_rule (with_rule options_app (word_rule (codes "OUT"
 
 -- clap does not take the words, and this is one of the kinds of fault that its definition finds in them
 abbrev pub AreRefused : List Text → ErrorKind → Type 0
-AreRefused words k = Refuses splice_app words k
+AreRefused words k = RefusesWords splice_app words k

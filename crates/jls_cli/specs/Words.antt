@@ -27,10 +27,10 @@ abbrev pub number_in : ℕ → ℕ → Text → Option ℕ
 number_in least most value = if is_unsigned_in least most value then Some (digits_value 10 (without_leading_plus value)) else None
 
 -- by clap's own definitions a program takes the words, or there is no fault in them
-abbrev pub Takes : App → List Text → Type 0
-Takes app words = (takes app words ≡ true) ⊎ (fault_of app words ≡ [])
+abbrev pub TakesWords : App → List Text → Type 0
+TakesWords app words = (takes app words ≡ true) ⊎ (fault_of app words ≡ [])
 
 -- clap does not take the words, and this is one of the kinds of fault that its definition finds in them
-pub record Refuses (app : App) (words : List Text) (k : ErrorKind) : Type 0 where
-  pub not_taken : Takes app words → ⊥
+pub record RefusesWords (app : App) (words : List Text) (k : ErrorKind) : Type 0 where
+  pub not_taken : TakesWords app words → ⊥
   pub found : IsAmong k (fault_of app words)

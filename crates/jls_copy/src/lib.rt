@@ -98,7 +98,7 @@
 //!
 //! It is proved that the reader finds the course that is defined on the whole list of bytes. After each byte, its place describes the
 //! course of the bytes so far. Some bytes are taken at once: data of a piece, fill, a payload or a part of it, and a segment that stands
-//! whole in the slice. They lead where one by one they do (`BytesLead`). So the contract of `finish` is about the course of all bytes
+//! whole in the slice. They lead to where single bytes lead (`BytesLead`). So the contract of `finish` is about the course of all bytes
 //! fed, and not about the slices.
 //!
 //! `feed` refuses only if memory runs out. From then on every `feed` is refused, `finish` answers out of memory, and nothing is promised of

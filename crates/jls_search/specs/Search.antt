@@ -145,10 +145,10 @@ IsBegunOn parts path begun = (begun.choices ≤ length path) × (begun.reader �
 
 -- what a reader was fed is enough: no file without a fault begins so, or the piece in hand begins at the offset or after it. Where it is
 -- fed to the end, nothing is enough
-abbrev pub IsEnough : Until → List ℕ → Type 0
-IsEnough UntilDead = IsDead IsFaultless
-IsEnough (UntilPast offset) = IsPast offset
-IsEnough UntilEnd = λ prefix. ⊥
+abbrev pub IsFedEnough : Until → List ℕ → Type 0
+IsFedEnough UntilDead = IsDead IsFaultless
+IsFedEnough (UntilPast offset) = IsPast offset
+IsFedEnough UntilEnd = λ prefix. ⊥
 
 -- of more bytes so many were fed to a reader: all, or those up to some with which what it was fed is enough
 pub record IsFedUntil (Enough : List ℕ → Type 0) (way : List ℕ) (before after_it : Option (List ℕ)) (past : Bool) : Type 0 where

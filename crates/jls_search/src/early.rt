@@ -3,7 +3,7 @@
 ghost use Rattle.std.specs.Prelude.{◌≡◌, ◌+◌, ◌-◌, ◌^◌, ◌≤◌, [], true, length, take, Some, IfOk, IfSome};
 ghost use Rattle.jls_diff.specs.PartsOf.{parts_of};
 ghost use Rattle.jls_search.specs.Choices.{IsPath, prefix_of};
-ghost use Rattle.jls_search.specs.Search.{IsEnough, IsFedUntil};
+ghost use Rattle.jls_search.specs.Search.{IsFedEnough, IsFedUntil};
 
 use crate::faultless::is_broken;
 use jls_copy::CopyReader;
@@ -26,7 +26,7 @@ pub(crate) enum Until {
 
 /// Whether what the reader was fed is enough.
 fn is_enough(reader: &CopyReader, until: Until) -> bool
-    ensures { result ≡ true → IfSome reader.now (IsEnough until) }
+    ensures { result ≡ true → IfSome reader.now (IsFedEnough until) }
 {
     match until {
         Until::Dead => is_broken(reader),
@@ -38,7 +38,7 @@ fn is_enough(reader: &CopyReader, until: Until) -> bool
 /// Feeds what a choice takes of a part, until what was fed is enough. Then the answer is `true`.
 fn feed_until(reader: &mut CopyReader, way: &[u8], until: Until) -> Result<bool, AllocError>
     requires { IfSome reader.old (λ before. length before + length way.now ≤ 2 ^ 63 - 1) }
-    ensures { IfOk result (λ enough. IsFedUntil (IsEnough until) way.now reader.old reader.new enough) }
+    ensures { IfOk result (λ enough. IsFedUntil (IsFedEnough until) way.now reader.old reader.new enough) }
 {
     let mut rest = way;
     while !rest.is_empty() {
@@ -64,7 +64,7 @@ pub(crate) fn feed_path_until(
     requires fed { reader.old ≡ Some (prefix_of parts.now (take place path.now)) }
     requires path { IsPath parts.now path.now }
     requires few { length (prefix_of parts.now path.now) ≤ 2 ^ 63 - 1 }
-    ensures { IfOk result (λ enough. IsFedUntil (IsEnough until) (prefix_of parts.now path.now) (Some []) reader.new enough) }
+    ensures { IfOk result (λ enough. IsFedUntil (IsFedEnough until) (prefix_of parts.now path.now) (Some []) reader.new enough) }
 {
     for at in place..path.len() {
         let enough = feed_until(reader, parts.way(at, path[at]), until)?;

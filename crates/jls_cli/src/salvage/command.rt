@@ -6,7 +6,7 @@ ghost use Rattle.clap.specs.Words.{app_of, fault_of, kind_of, new_app, rule_of, 
 ghost use Rattle.clap.specs.declared.builder.command.Command.TheViews.{out-Command};
 ghost use Rattle.jls_cli.specs.SalvageWords.{as_rule, AreRefused, check_app, files_rule, ilv_rule, join_app, ri_rule};
 ghost use Rattle.jls_cli.specs.SalvageWords.{salvage_app, show_app, write_app, write_options_app};
-ghost use Rattle.jls_cli.specs.Words.{Takes};
+ghost use Rattle.jls_cli.specs.Words.{TakesWords};
 
 use crate::arguments::{number, option, source, word};
 use crate::salvage::texts;
@@ -123,7 +123,7 @@ fn command<'a>(alloc: Global) -> Result<Command<'a>, AllocError>
 pub fn matches<'a>(alloc: Global, words: &'a [String]) -> Result<ArgMatches<'a>, Error>
     ensures rows { IfOk result (λ m. subcommand_rows_of m ≡ subcommand_of salvage_app (map string_bytes words.entry.now)) }
     ensures no_fault { IfOk result (λ m. fault_of salvage_app (map string_bytes words.entry.now) ≡ []) }
-    ensures passes { IfErr result (λ e. Takes salvage_app (map string_bytes words.entry.now) → kind_of e ≡ ErrorKind.OutOfMemory) }
+    ensures passes { IfErr result (λ e. TakesWords salvage_app (map string_bytes words.entry.now) → kind_of e ≡ ErrorKind.OutOfMemory) }
     ensures refused { IfErr result (λ e. (kind_of e ≡ ErrorKind.OutOfMemory) ⊎ AreRefused (map string_bytes words.entry.now) (kind_of e)) }
 {
     command(alloc)?.try_get_matches_from(words)

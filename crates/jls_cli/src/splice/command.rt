@@ -6,7 +6,7 @@ ghost use Rattle.clap.specs.Words.{app_of, fault_of, found_of, kind_of, matches_
 ghost use Rattle.clap.specs.declared.builder.command.Command.TheViews.{out-Command};
 ghost use Rattle.jls_cli.specs.SpliceWords.{AreRefused, bare_app, ceiling_rule, file_rule, files_rule, numbers_app, options_app};
 ghost use Rattle.jls_cli.specs.SpliceWords.{others_rule, progress_rule, splice_app, tries_rule};
-ghost use Rattle.jls_cli.specs.Words.{Takes};
+ghost use Rattle.jls_cli.specs.Words.{TakesWords};
 
 use crate::arguments::{number, option, source, word};
 use crate::splice::texts;
@@ -112,7 +112,7 @@ fn command<'a>(alloc: Global) -> Result<Command<'a>, AllocError>
 pub fn matches<'a>(alloc: Global, words: &'a [String]) -> Result<ArgMatches<'a>, Error>
     ensures rows { IfOk result (λ m. rows_of (found_of m) ≡ matches_of splice_app (map string_bytes words.entry.now)) }
     ensures no_fault { IfOk result (λ m. fault_of splice_app (map string_bytes words.entry.now) ≡ []) }
-    ensures passes { IfErr result (λ e. Takes splice_app (map string_bytes words.entry.now) → kind_of e ≡ ErrorKind.OutOfMemory) }
+    ensures passes { IfErr result (λ e. TakesWords splice_app (map string_bytes words.entry.now) → kind_of e ≡ ErrorKind.OutOfMemory) }
     ensures refused { IfErr result (λ e. (kind_of e ≡ ErrorKind.OutOfMemory) ⊎ AreRefused (map string_bytes words.entry.now) (kind_of e)) }
 {
     command(alloc)?.try_get_matches_from(words)

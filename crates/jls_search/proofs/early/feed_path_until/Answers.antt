@@ -1,5 +1,5 @@
 use Rattle.std.proofs.Common.{arith}
-use Rattle.jls_search.specs.Search.{IsEnough}
+use Rattle.jls_search.specs.Search.{IsFedEnough}
 use Rattle.jls_search.proofs.EarlyReads.{fed_all, fed_enough, fed_whole}
 use Rattle.jls_search.proofs.KeptReaders.{room_for_one}
 use Rattle.jls_search.proofs.Paths.{path_at}
@@ -15,16 +15,17 @@ feed_until-requires c =
 
 pub returns-then-enough : goal.returns-then-enough
 returns-then-enough c =
-    fed_enough (IsEnough c.args.until) c.args.parts.now c.args.path.now c.loop-at.at c.requires.path c.loop-at-test.true c.loop-at.reader
+    fed_enough (IsFedEnough c.args.until) c.args.parts.now c.args.path.now c.loop-at.at c.requires.path c.loop-at-test.true c.loop-at.reader
     c.feed_until.new.reader c.way.result.now c.way.ensures c.loop-at.invariant c.in_ok-enough.enough c.in_ok-enough.ensures c.if-enough.true
 
 pub loop-at-preserved : goal.loop-at-preserved
 loop-at-preserved c =
-    fed_all (IsEnough c.args.until) c.args.parts.now c.args.path.now c.loop-at.at c.requires.path c.loop-at-test.true c.loop-at.reader
+    fed_all (IsFedEnough c.args.until) c.args.parts.now c.args.path.now c.loop-at.at c.requires.path c.loop-at-test.true c.loop-at.reader
     c.feed_until.new.reader c.way.result.now c.way.ensures c.loop-at.invariant c.in_ok-enough.enough c.in_ok-enough.ensures
     c.if-enough.false
 
 pub returns : goal.returns
 returns c =
-    fed_whole (IsEnough c.args.until) c.args.parts.now c.args.path.now c.loop-at.at c.loop-at.reader (omega (arith, c.loop-at-test.false))
+    fed_whole (IsFedEnough c.args.until) c.args.parts.now c.args.path.now c.loop-at.at c.loop-at.reader
+    (omega (arith, c.loop-at-test.false))
     c.loop-at.invariant
