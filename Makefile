@@ -1,6 +1,7 @@
 # make            builds bin/jls-salvage and bin/jls-splice from dist/ with a C compiler, and puts the commands of commands/ beside them
 # make install, make uninstall     PREFIX=.. (default /usr/local), DESTDIR=..
 # make proved     proves and builds the programs from the sources, and compares them with dist/: this one needs the toolchain (rt)
+# make check      the tests and checks that need no toolchain, on what `make` built
 # make test       the gate
 # make renew      makes dist/ anew from the sources
 # make dist, make deb, make release     archives for each processor, a Debian package for each, and both
@@ -31,7 +32,7 @@ PAGES = $(wildcard man/*.1)
 BASHES = $(wildcard completions/*.bash)
 ZSHES = $(wildcard completions/_*)
 
-.PHONY: all ready test proved renew install uninstall dist deb release current clean FORCE
+.PHONY: all ready check test proved renew install uninstall dist deb release current clean FORCE
 .DELETE_ON_ERROR:
 all: $(PROGRAMS) $(addprefix $(BUILD)/,$(COMMANDS) $(MODULES))
 
@@ -84,6 +85,9 @@ proved:
 
 renew:
 	checks/renew
+
+check: all
+	@JLS_SALVAGE="$(abspath $(BUILD))/jls-salvage" JLS_SPLICE="$(abspath $(BUILD))/jls-splice" checks/check
 
 test:
 	./test

@@ -9,7 +9,9 @@ FUNCTIONSDIR = $(DESTDIR)$(PREFIX)/share/man/man3
 LIBRARIES = $(addprefix $(BUILD)/,libjls_salvage.a $(SONAME))
 
 .PHONY: library install-library uninstall-library
+# 1.1.0 left a link in this folder, and the toolchain takes no link below the tree
 library: $(LIBRARIES)
+	@rm -f $(BUILD)/libjls_salvage.so
 
 $(BUILD)/libjls_salvage.o: library/memory.c dist/SHA256SUMS $(BUILD)/.how | ready
 	gzip -dc dist/$(PROCESSOR)/libjls_salvage.o.gz > $(BUILD)/.libjls_salvage.o
@@ -24,7 +26,6 @@ $(BUILD)/libjls_salvage.a: $(BUILD)/libjls_salvage.o
 # Its functions are all that the shared object shows, and no text of it is changed when it is loaded
 $(BUILD)/$(SONAME): $(BUILD)/libjls_salvage.o library/symbols.map
 	$(CC) $(CFLAGS) $(LDFLAGS) -shared -Wl,-soname,$(SONAME) -Wl,--version-script=library/symbols.map -Wl,-z,text -Wl,-z,defs -o $@ $<
-	ln -sf $(SONAME) $(BUILD)/libjls_salvage.so
 
 install-library: $(if $(filter-out $(wildcard $(LIBRARIES)),$(LIBRARIES)),library)
 	install -d "$(INCLUDEDIR)" "$(LIBRARYDIR)/pkgconfig" "$(FUNCTIONSDIR)"
