@@ -3,6 +3,8 @@
 The program is proved and built by `rt run`, once for each state of its sources. This happens in a copy of the crates below the temp
 folder, since the repository has no Rattle outside its crates. What is built is kept in `interop/out`, which git ignores.
 """
+from __future__ import annotations
+
 import array
 import glob
 import hashlib

@@ -12,6 +12,8 @@ marker syntax of ITU-T T.81, annex B, and T.87, annex C, with these rules of thi
 
 `tell` gives all that a reader finds in a file, as lines of text.
 """
+from __future__ import annotations
+
 import bisect
 import re
 from typing import NamedTuple

@@ -6,6 +6,8 @@ ones once, and the JPEG-LS frames that stand in a file. CharLS codes the others,
 
 It needs Debian's libcharls2, libgdcm-tools, dcmtk, python3-pydicom, python3-nibabel and python3-numpy, but only where it is asked.
 """
+from __future__ import annotations
+
 import array
 import gzip
 import hashlib

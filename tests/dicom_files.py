@@ -1,4 +1,6 @@
 """DICOM files that tests make, and a bench on which copies of them are mended. The frames are written by `jls-salvage write`."""
+from __future__ import annotations
+
 import os
 import struct
 import subprocess
@@ -12,14 +14,14 @@ CLASS, UID, SYNTAX = "1.2.840.10008.5.1.4.1.1.7", "1.2.3.4.5.6.7", "1.2.840.1000
 LONG = ("OB", "SQ", "OV")
 
 
-def element(tag, vr, value):
-    value = struct.pack("<H", value) if vr == "US" else value.encode() if isinstance(value, str) else value
+def element(tag: int, vr: str, value: bytes | str | int) -> bytes:
+    value = struct.pack("<H", value) if isinstance(value, int) else value.encode() if isinstance(value, str) else value
     value += (b"\0" if vr in ("UI", "OB") else b" ") * (len(value) % 2)
     length = b"\0\0" + struct.pack("<I", len(value)) if vr in LONG else struct.pack("<H", len(value))
     return struct.pack("<HH", tag >> 16, tag & 0xFFFF) + vr.encode() + length + value
 
 
-def item(value):
+def item(value: bytes) -> bytes:
     return b"\xfe\xff\x00\xe0" + struct.pack("<I", len(value)) + value
 
 

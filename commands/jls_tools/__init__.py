@@ -1,1 +1,11 @@
-"""What the commands jls-archive, jls-dicom and jls-view share. They call jls-salvage and jls-splice; they are tested, not proved."""
+"""What the commands jls-archive, jls-dicom and jls-view share. They call jls-salvage and jls-splice; they are tested, not proved.
+
+An older Python than they need is refused here, before any module that it can't read. So this file is written as Python 2 has it too.
+"""
+import os
+import sys
+
+if sys.version_info < (3, 9):
+    command = os.path.basename(sys.argv[0])
+    sys.stderr.write("%s: Python 3.9 or later is needed, and this is %d.%d\n" % ((command,) + tuple(sys.version_info[:2])))
+    sys.exit(127)

@@ -1,4 +1,6 @@
 """The rows of pictures.csv: one for each path, each kept in a file of its own as soon as it is known, so that a stopped run goes on."""
+from __future__ import annotations
+
 import csv
 import dataclasses
 import hashlib

@@ -313,7 +313,7 @@ def may_be_damage(own, other, size):
     patch = other[near[0] : near[-1] + 1]
     if len(patch) >= LONG_WAY:
         return is_noise(patch)
-    is_bit = len(near) == 1 and (own[near[0]] ^ other[near[0]]).bit_count() == 1
+    is_bit = len(near) == 1 and bin(own[near[0]] ^ other[near[0]]).count("1") == 1
     return is_bit or not PRINTABLE.match(patch)
 
 

@@ -21,7 +21,7 @@ STATUSES = """exit status:
   3  a file is refused, and the line says why
   4  a file can't be read, created or written
   5  out of memory
-  127  jls-salvage or jls-splice isn't there"""
+  127  jls-salvage or jls-splice isn't there, or Python is older than 3.9"""
 
 
 class Stopped(Exception):

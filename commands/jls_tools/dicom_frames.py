@@ -1,4 +1,6 @@
 """Where the frames of Pixel Data stand (PS3.5, A.4): fragments of a frame together, paired by place. A search comes last."""
+from __future__ import annotations
+
 import re
 import struct
 from dataclasses import dataclass

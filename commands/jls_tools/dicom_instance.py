@@ -1,4 +1,6 @@
 """Which copies are of one SOP instance (PS3.3, C.12.1): by their two UIDs, and those that a foreign file has overwritten."""
+from __future__ import annotations
+
 import itertools
 from collections import Counter
 from dataclasses import dataclass

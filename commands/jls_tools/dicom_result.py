@@ -1,4 +1,6 @@
 """What mending a DICOM file came to: the words between `jls-dicom mend` and whoever calls it."""
+from __future__ import annotations
+
 from dataclasses import dataclass, field
 
 # The statuses that a MendResult has; a ProgramFailed of programs.py stands for all others

@@ -1,4 +1,6 @@
 """Mends one frame from its copies, by jls-splice and jls-salvage."""
+from __future__ import annotations
+
 import itertools
 import os
 import re

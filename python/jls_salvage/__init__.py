@@ -17,7 +17,12 @@ A partial picture is the bytes of a .jlsp file. One that is damaged raises `NoPa
 
 Samples that no such file can have raise `NotWritable`.
 """
-from ._library import (
+import sys
+
+if sys.version_info < (3, 9):  # here, before a module that an older Python can't read
+    raise ImportError("Python 3.9 or later is needed, and this is %d.%d" % tuple(sys.version_info[:2]))
+
+from ._library import (  # noqa: E402
     BEYOND,
     BROKEN,
     DISPUTED,
