@@ -1,0 +1,15 @@
+pub mod Walk
+pub mod OneLine
+pub mod PlacedLines
+pub mod HeldLines
+pub mod EditedFiles
+pub mod OneLength
+pub mod SameHeads
+pub mod ScanWalk
+pub mod UnitsWalk
+pub mod StrictHeads
+pub mod SettledPictures
+mod ExampleTests
+mod EditExamples
+mod SkeletonExamples
+mod TwoCodingExamples

@@ -1,0 +1,7 @@
+pub mod MendedFiles
+pub mod Edits
+pub mod LineCode
+pub mod HeldLines
+pub mod StrictlyHeld
+pub mod TrueFiles
+pub mod Laws
