@@ -8,16 +8,21 @@ ghost use Rattle.std.specs.Io.KnownBytes.{ReadConsumes, WriteAppends};
 ghost use Rattle.jls_io.specs.Event.{History, opened, not_opened, gave, read_failed, created, not_created, took, write_failed};
 ghost use Rattle.jls_io.specs.Event.{count_of, has_input, has_output, is_read, is_failed_read, is_failed_write, is_failed_opening};
 
+use thiserror::Error;
+
 /// A read failed. The source's count of failed reads rose.
-#[derive(Clone, Copy, Debug, PartialEq, Eq)]
+#[derive(Clone, Copy, Debug, PartialEq, Eq, Error)]
+#[error("a read failed")]
 pub struct SourceFault;
 
 /// A write failed. The sink's count of failed writes rose.
-#[derive(Clone, Copy, Debug, PartialEq, Eq)]
+#[derive(Clone, Copy, Debug, PartialEq, Eq, Error)]
+#[error("a write failed")]
 pub struct SinkFault;
 
 /// An input was not opened, or an output was not created. The desk's count of these failures rose.
-#[derive(Clone, Copy, Debug, PartialEq, Eq)]
+#[derive(Clone, Copy, Debug, PartialEq, Eq, Error)]
+#[error("not opened or not created")]
 pub struct DeskFault;
 
 /// Every device has a history: the list of what it was asked and what it gave, from its start on. The history exists for

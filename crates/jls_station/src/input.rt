@@ -25,6 +25,7 @@ use jls_marker::MarkerFault;
 use jls_partial::{Partial, TextFault};
 use std::alloc::{AllocError, Global};
 use std::marker::Model;
+use thiserror::Error;
 
 /// How the reading of an input stopped.
 #[derive(Clone, Copy, Debug, PartialEq, Eq)]
@@ -38,15 +39,19 @@ pub enum ReadStop {
 }
 
 /// Why an input is refused.
-#[derive(Clone, Copy, Debug, PartialEq, Eq)]
+#[derive(Clone, Copy, Debug, PartialEq, Eq, Error)]
 pub enum InputFault {
     /// It begins as a text, and is not the text of a partial picture. This is its first fault.
+    #[error("{0}")]
     Text(TextFault),
     /// It is a copy that was read whole and in which no frame was taken: the fault that ended it, and its offset.
+    #[error("no picture: {0} at offset {1}")]
     NoPicture(MarkerFault, u64),
     /// The device stopped before its end, after it had given this many bytes. The input is a text, or a copy in which no frame was taken.
+    #[error("not read on after {1} bytes, before its end or a frame")]
     Read(ReadStop, u64),
     /// Memory ran out for it.
+    #[error("out of memory")]
     OutOfMemory,
 }
 

@@ -16,17 +16,22 @@ use jls_io::Source;
 use jls_marker::MarkerFault;
 use jls_values::MergeFault;
 use std::alloc::Global;
+use thiserror::Error;
 
 /// Why a station did not take a copy.
-#[derive(Clone, Copy, Debug, PartialEq, Eq)]
+#[derive(Clone, Copy, Debug, PartialEq, Eq, Error)]
 pub enum TakeFault {
     /// The copy was read whole, and no frame was taken: the fault that ended it, and its offset.
+    #[error("no picture: {0} at offset {1}")]
     NoPicture(MarkerFault, u64),
     /// The device stopped before a frame was taken, when it had given so many bytes.
+    #[error("not read on after {1} bytes, before a frame was taken")]
     Read(ReadStop, u64),
     /// The frame of the copy has another shape than the station.
+    #[error("the shapes differ")]
     ShapeDiffers,
     /// Memory ran out.
+    #[error("out of memory")]
     OutOfMemory,
 }
 

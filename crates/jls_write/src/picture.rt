@@ -12,12 +12,14 @@ use crate::lender::Lender;
 use jls_partial::Partial;
 use jls_values::Shape;
 use std::marker::Model;
+use thiserror::Error;
 
 /// Why a partial picture is no whole picture.
-#[derive(Clone, Copy, Debug, PartialEq, Eq)]
+#[derive(Clone, Copy, Debug, PartialEq, Eq, Error)]
 pub enum PictureFault {
     /// This line of the component with this index is missing or disputed. It is the first such line, by component in
     /// the order of the frame, and then by line.
+    #[error("line {1} of the component with index {0} is not settled")]
     Unsettled(u8, u16),
 }
 
