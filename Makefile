@@ -1,5 +1,5 @@
 # make            builds bin/jls-salvage and bin/jls-splice from dist/ with a C compiler, and puts the commands of commands/ beside them
-# make install, make uninstall     PREFIX=.. (default /usr/local), DESTDIR=..
+# make install, make uninstall     PREFIX=.. (default /usr/local), DESTDIR=.., and BINDIR=, LIBDIR=, INCLUDEDIR=, DATADIR=, MANDIR=
 # make proved     proves and builds the programs from the sources, and compares them with dist/: this one needs the toolchain (rt)
 # make check      the tests and checks that need no toolchain, on what `make` built
 # make test       the gate
@@ -16,21 +16,25 @@ CFLAGS ?= -O2
 LDFLAGS ?=
 STATIC =
 
-BINDIR = $(DESTDIR)$(PREFIX)/bin
-LIBDIR = $(DESTDIR)$(PREFIX)/lib/jls-salvage
-MANDIR = $(DESTDIR)$(PREFIX)/share/man/man1
-BASHDIR = $(DESTDIR)$(PREFIX)/share/bash-completion/completions
-ZSHDIR = $(DESTDIR)$(PREFIX)/share/zsh/site-functions
-SHAREDIR = $(DESTDIR)$(PREFIX)/share/jls-salvage
+# DESTDIR stands before each of these places, and is in none. The library lies in LIBDIR, and files of its own in LIBDIR/jls-salvage.
+BINDIR = $(PREFIX)/bin
+LIBDIR = $(PREFIX)/lib
+INCLUDEDIR = $(PREFIX)/include
+DATADIR = $(PREFIX)/share
+MANDIR = $(DATADIR)/man
+
+# The folder stands in names of targets, where make takes none of these
+ODD := $(strip $(foreach sign,: % \# ' " $$ ; & | * ? ~ \,$(findstring $(sign),$(BUILD))))
+ifneq ($(words $(BUILD)) $(ODD),1 )
+$(error BUILD is "$(BUILD)": name a folder without spaces and without any of : % \# ' " $$ ; & | * ? ~ \)
+endif
+override BUILD := $(patsubst %/,%,$(BUILD))
 
 NAMES = jls-salvage jls-splice
 PROGRAMS = $(addprefix $(BUILD)/,$(NAMES))
 # the commands are scripts, and call the programs beside them; with the modules that they read
 COMMANDS := $(sort $(patsubst commands/%,%,$(shell find commands -maxdepth 1 -type f -perm -100 2> /dev/null)))
 MODULES := $(sort $(patsubst commands/%,%,$(shell find commands -name '*.py' ! -perm -100 2> /dev/null)))
-PAGES = $(wildcard man/*.1)
-BASHES = $(wildcard completions/*.bash)
-ZSHES = $(wildcard completions/_*)
 
 .PHONY: all ready check test proved renew install uninstall dist deb release current clean FORCE
 .DELETE_ON_ERROR:
@@ -46,7 +50,7 @@ LINK = $(CC) $(CFLAGS) -fno-lto $(LDFLAGS) $(if $(STATIC),-static) -Wl,--wrap=ma
 
 $(PROGRAMS): $(BUILD)/%: dist/runtime.c dist/SHA256SUMS $(BUILD)/.how | ready
 	gzip -dc dist/$(PROCESSOR)/$*.o.gz > $(BUILD)/.$*.o
-	$(LINK) -o $(BUILD)/.$* dist/runtime.c $(BUILD)/.$*.o
+	$(LINK) -o $(BUILD)/.$* dist/runtime.c $(BUILD)/.$*.o || { echo 'make: $(CC) cannot link this: use gcc or clang' >&2; exit 1; }
 	@rm -f $(BUILD)/.$*.o
 	mv -f $(BUILD)/.$* $@
 
@@ -54,7 +58,7 @@ $(PROGRAMS): $(BUILD)/%: dist/runtime.c dist/SHA256SUMS $(BUILD)/.how | ready
 ready:
 	@command -v $(firstword $(CC)) > /dev/null \
 	    || { echo 'make: there is no C compiler $(firstword $(CC)): install one, or name one by CC=' >&2; exit 1; }
-	@case '$(MACHINE)' in *linux*) ;; *) echo 'make: $(CC) makes programs for $(MACHINE), and dist/ has objects for Linux alone' >&2; exit 1 ;; esac
+	@case '$(MACHINE)' in *linux*) ;; '') echo 'make: $(CC) does not tell its machine by -dumpmachine: use gcc or clang' >&2; exit 1 ;; *) echo 'make: $(CC) makes programs for $(MACHINE), and dist/ has objects for Linux alone' >&2; exit 1 ;; esac
 	@test -d 'dist/$(PROCESSOR)' \
 	    || { echo 'make: dist/ has no objects for $(PROCESSOR); it has them for $(notdir $(patsubst %/,%,$(wildcard dist/*/)))' >&2; exit 1; }
 	@cd dist && sums=$$(LC_ALL=C sha256sum -c SHA256SUMS 2>&1) \
@@ -70,8 +74,6 @@ endif
 # The library, where dist/ has its object
 ifneq ($(wildcard dist/$(PROCESSOR)/libjls_salvage.o.gz),)
 all: library
-install: install-library
-uninstall: uninstall-library
 include library/library.mk
 endif
 
@@ -94,25 +96,18 @@ test:
 
 # Their places ----------------------------------------------------------------
 
-# It installs what is there, and builds only what isn't: so root needs no compiler
-install: $(if $(filter-out $(wildcard $(PROGRAMS)),$(PROGRAMS)),all)
-	install -d "$(BINDIR)" "$(LIBDIR)" "$(MANDIR)" "$(BASHDIR)" "$(ZSHDIR)" "$(SHAREDIR)/recipes"
-	install -m 755 $(PROGRAMS) "$(BINDIR)"
-	for name in $(NAMES); do ln -sf ../../bin/$$name "$(LIBDIR)/$$name" || exit 1; done
-	for name in $(COMMANDS); do \
-	    install -m 755 commands/$$name "$(LIBDIR)/$$name" && ln -sf ../lib/jls-salvage/$$name "$(BINDIR)/$$name" || exit 1; \
-	done
-	for name in $(MODULES); do install -D -m 644 commands/$$name "$(LIBDIR)/$$name" || exit 1; done
-	install -m 644 $(PAGES) "$(MANDIR)"
-	for file in $(notdir $(BASHES)); do install -m 644 completions/$$file "$(BASHDIR)/$${file%.bash}" || exit 1; done
-	install -m 644 $(ZSHES) "$(ZSHDIR)"
-	install -m 755 $(filter-out %.py,$(wildcard recipes/*)) "$(SHAREDIR)/recipes"
-	for file in $(wildcard recipes/*.py); do install -m 644 $$file "$(SHAREDIR)/recipes" || exit 1; done
+# It builds what isn't there, or is older than dist/: so root needs no compiler
+ifneq ($(filter install,$(MAKECMDGOALS)),)
+OLDER := $(shell for file in $(PROGRAMS) $(LIBRARIES); do \
+    test -e $$file && test -z "$$(find dist/SHA256SUMS dist/runtime.c library -newer $$file)" || echo $$file; done)
+endif
+export BUILD VERSION DESTDIR PREFIX BINDIR LIBDIR INCLUDEDIR DATADIR MANDIR SONAME
+
+install: $(if $(OLDER),all)
+	@packaging/place install
 
 uninstall:
-	rm -f $(patsubst %,"$(BINDIR)/%",$(NAMES) $(COMMANDS)) $(patsubst man/%,"$(MANDIR)/%",$(PAGES))
-	rm -f $(patsubst completions/%.bash,"$(BASHDIR)/%",$(BASHES)) $(patsubst completions/%,"$(ZSHDIR)/%",$(ZSHES))
-	rm -rf "$(LIBDIR)" "$(SHAREDIR)"
+	@packaging/place remove
 
 # Archives and packages -------------------------------------------------------
 

@@ -3,12 +3,9 @@
 
 AR ?= ar
 SONAME = libjls_salvage.so.1
-INCLUDEDIR = $(DESTDIR)$(PREFIX)/include
-LIBRARYDIR = $(DESTDIR)$(PREFIX)/lib
-FUNCTIONSDIR = $(DESTDIR)$(PREFIX)/share/man/man3
 LIBRARIES = $(addprefix $(BUILD)/,libjls_salvage.a $(SONAME))
 
-.PHONY: library install-library uninstall-library
+.PHONY: library
 # 1.1.0 left a link in this folder, and the toolchain takes no link below the tree
 library: $(LIBRARIES)
 	@rm -f $(BUILD)/libjls_salvage.so
@@ -26,16 +23,3 @@ $(BUILD)/libjls_salvage.a: $(BUILD)/libjls_salvage.o
 # Its functions are all that the shared object shows, and no text of it is changed when it is loaded
 $(BUILD)/$(SONAME): $(BUILD)/libjls_salvage.o library/symbols.map
 	$(CC) $(CFLAGS) $(LDFLAGS) -shared -Wl,-soname,$(SONAME) -Wl,--version-script=library/symbols.map -Wl,-z,text -Wl,-z,defs -o $@ $<
-
-install-library: $(if $(filter-out $(wildcard $(LIBRARIES)),$(LIBRARIES)),library)
-	install -d "$(INCLUDEDIR)" "$(LIBRARYDIR)/pkgconfig" "$(FUNCTIONSDIR)"
-	install -m 644 include/jls_salvage.h "$(INCLUDEDIR)"
-	install -m 644 $(BUILD)/libjls_salvage.a "$(LIBRARYDIR)"
-	install -m 644 $(BUILD)/$(SONAME) "$(LIBRARYDIR)"
-	ln -sf $(SONAME) "$(LIBRARYDIR)/libjls_salvage.so"
-	sed 's#@PREFIX@#$(PREFIX)#; s#@VERSION@#$(VERSION)#' library/jls_salvage.pc > "$(LIBRARYDIR)/pkgconfig/jls_salvage.pc"
-	install -m 644 $(wildcard man/*.3) "$(FUNCTIONSDIR)"
-
-uninstall-library:
-	rm -f "$(INCLUDEDIR)/jls_salvage.h" "$(LIBRARYDIR)/pkgconfig/jls_salvage.pc" $(patsubst man/%,"$(FUNCTIONSDIR)/%",$(wildcard man/*.3))
-	rm -f "$(LIBRARYDIR)/libjls_salvage.a" "$(LIBRARYDIR)/libjls_salvage.so" "$(LIBRARYDIR)/$(SONAME)"
