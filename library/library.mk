@@ -38,3 +38,9 @@ install-library: $(if $(filter-out $(wildcard $(LIBRARIES)),$(LIBRARIES)),librar
 uninstall-library:
 	rm -f "$(INCLUDEDIR)/jls_salvage.h" "$(LIBRARYDIR)/pkgconfig/jls_salvage.pc" $(patsubst man/%,"$(FUNCTIONSDIR)/%",$(wildcard man/*.3))
 	rm -f "$(LIBRARYDIR)/libjls_salvage.a" "$(LIBRARYDIR)/libjls_salvage.so" "$(LIBRARYDIR)/$(SONAME)"
+
+# A wheel of the Python package with the library in it, which pip takes where glibc is as new
+WHEELS ?= out
+.PHONY: wheel
+wheel: library
+	python3 python/jls_build.py "$(WHEELS)" $(BUILD)/$(SONAME)
