@@ -5,6 +5,7 @@
 # make test       the gate
 # make renew      makes dist/ anew from the sources
 # make dist, make deb, make release     archives for each processor, a Debian package for each, and both
+# make wheel      a Python package with the library in it, for pip, in WHEELS=.. (default out)
 #
 # CC=.. another compiler, also one for another processor; STATIC=1 programs that need no library of the system; BUILD=.. another folder
 # than bin. docs/GUIDE.md, Installing, says more.

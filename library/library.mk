@@ -23,3 +23,9 @@ $(BUILD)/libjls_salvage.a: $(BUILD)/libjls_salvage.o
 # Its functions are all that the shared object shows, and no text of it is changed when it is loaded
 $(BUILD)/$(SONAME): $(BUILD)/libjls_salvage.o library/symbols.map
 	$(CC) $(CFLAGS) $(LDFLAGS) -shared -Wl,-soname,$(SONAME) -Wl,--version-script=library/symbols.map -Wl,-z,text -Wl,-z,defs -o $@ $<
+
+# A wheel of the Python package with the library in it, which pip takes where glibc is as new
+WHEELS ?= out
+.PHONY: wheel
+wheel: library
+	python3 python/jls_build.py "$(WHEELS)" $(BUILD)/$(SONAME)

@@ -1,5 +1,7 @@
 /* lines FILE.jls [FILE.pgm]: prints which lines of a damaged JPEG-LS file can't be read, and writes its first component as a PGM file.
-   Build it by: cc lines.c $(pkg-config --cflags --libs jls_salvage) */
+   After make install PREFIX=$HOME/.local, this builds it:
+       cc -o lines lines.c -I$HOME/.local/include $HOME/.local/lib/libjls_salvage.a
+   If the library is in a folder of the system: cc -o lines lines.c $(pkg-config --cflags --libs jls_salvage) */
 #include <jls_salvage.h>
 #include <stdio.h>
 #include <stdlib.h>

@@ -7,6 +7,8 @@ import ctypes.util
 import enum
 import functools
 import os
+import site
+import sys
 from dataclasses import dataclass
 from typing import Any, Callable, List, Optional, Sequence, Union
 
@@ -32,13 +34,15 @@ FAULTS = (
 
 MOST_PIECES = 4096
 
+_SONAME = "libjls_salvage.so.1"
+
 
 class Error(Exception):
     """What the library refuses."""
 
 
 class MissingLibrary(Error, OSError):
-    """libjls_salvage.so is not there. The variable JLS_SALVAGE_LIBRARY can name it."""
+    """libjls_salvage.so is not there, or can't be loaded. The variable JLS_SALVAGE_LIBRARY can name it."""
 
 
 class NoPicture(Error, ValueError):
@@ -174,13 +178,26 @@ class Picture:
         return planes[0] if self.info.components == 1 else numpy.moveaxis(planes, 0, -1)
 
 
+def _place() -> str:
+    """Where the library is: what the variable names, the one beside this file (in a wheel), the one below the prefix of Python, of the
+    user or /usr/local (after `make install`), or where the system looks."""
+    named = os.environ.get("JLS_SALVAGE_LIBRARY")
+    if named:
+        return named
+    prefixes = [sys.prefix, *([] if sys.flags.no_user_site else [site.getuserbase()]), "/usr/local"]
+    beside = os.path.join(os.path.dirname(os.path.abspath(__file__)), "libjls_salvage.so")
+    for path in (beside, *(os.path.join(prefix, "lib", _SONAME) for prefix in prefixes)):
+        if os.path.exists(path):
+            return path
+    return ctypes.util.find_library("jls_salvage") or _SONAME
+
+
 @functools.lru_cache(maxsize=None)
 def _library() -> ctypes.CDLL:
-    name = os.environ.get("JLS_SALVAGE_LIBRARY") or ctypes.util.find_library("jls_salvage") or "libjls_salvage.so.1"
     try:
-        library = ctypes.CDLL(name)
+        library = ctypes.CDLL(_place())
     except OSError as why:
-        raise MissingLibrary(str(why)) from None
+        raise MissingLibrary(f"{why}; JLS_SALVAGE_LIBRARY can name libjls_salvage.so") from None
     size, info, nothing = ctypes.c_size_t, ctypes.POINTER(_Info), ctypes.c_void_p
     library.jls_check.argtypes = [nothing, size, info, ctypes.POINTER(_Piece), size]
     library.jls_read.argtypes = [nothing, size, info, nothing, size, nothing, size]
