@@ -1,7 +1,8 @@
-//! How an output is made, and what becomes of it.
+//! How an output is made, and what becomes of it and of the file that had its name.
 
 ghost use Rattle.std.specs.Prelude.{◌≡◌};
-ghost use Rattle.jls_host.specs.Choices.{ending_of, is_jpeg_prefix, way_of};
+ghost use Rattle.jls_host.specs.Choices as spec;
+ghost use Rattle.jls_host.specs.Choices.{ending_of, kind_of, protects, way_of};
 
 /// The exit status that says that memory ran out.
 const OUT_OF_MEMORY: u8 = 5;
@@ -11,6 +12,33 @@ const MARKER_PREFIX: u8 = 0xFF;
 
 /// The code of SOI (T.81 B.1.1.3).
 const SOI: u8 = 0xD8;
+
+/// The first bytes of a partial picture: `JLSP` (docs/FORMAT.md).
+const MAGIC: [u8; 4] = [0x4A, 0x4C, 0x53, 0x50];
+
+/// What a run does not replace.
+#[derive(Clone, Copy, Debug, PartialEq, Eq)]
+pub enum Guard {
+    /// It replaces every file that it may read and write.
+    Nothing,
+    /// It replaces no JPEG file.
+    Jpeg,
+}
+
+/// What a name stands for, by first bytes, where a link is followed.
+#[derive(Clone, Copy, Debug, PartialEq, Eq)]
+pub enum Kind {
+    /// No regular file: nothing, a directory, a pipe or a device.
+    NoFile,
+    /// A regular file whose first bytes can't be read; or it isn't known what it is.
+    Unknown,
+    /// A JPEG file.
+    Jpeg,
+    /// A partial picture.
+    Partial,
+    /// Another regular file.
+    Other,
+}
 
 /// What stands at a name, where a link is not followed.
 #[derive(Clone, Copy, Debug, PartialEq, Eq)]
@@ -30,6 +58,8 @@ pub enum Way {
     Beside,
     /// It is written at its name.
     InPlace,
+    /// It is written to a file of its own beside its name, which is copied to the name at the end.
+    Over,
     /// It is not made.
     Refused,
 }
@@ -43,19 +73,51 @@ pub enum Ending {
     Drop,
 }
 
-/// The way of an output by what stands at its name; and, where that is a regular file, whether that opens for writing. A file that is
-/// guarded is never replaced, whatever stands at the name.
-pub fn way_to_make(standing: Standing, opens: bool, is_guarded: bool) -> Way
-    ensures { result ≡ way_of standing opens is_guarded }
+/// The way of an output by what stands at its name; and, where that is a regular file or leads to a precious one, whether that opens for
+/// writing. A file that is protected is never replaced, whatever stands at the name. One that is precious stays until the output is whole.
+pub fn way_to_make(standing: Standing, opens: bool, is_protected: bool, is_precious: bool) -> Way
+    ensures { result ≡ way_of standing opens is_protected is_precious }
 {
-    if is_guarded {
+    if is_protected {
         return Way::Refused;
     }
     match standing {
         Standing::Absent => Way::Beside,
         Standing::Regular(_) if opens => Way::Beside,
         Standing::Regular(_) => Way::Refused,
-        Standing::Other => Way::InPlace,
+        Standing::Other if !is_precious => Way::InPlace,
+        Standing::Other if opens => Way::Over,
+        Standing::Other => Way::Refused,
+    }
+}
+
+/// Whether no output replaces a file of this kind: it is a JPEG file and these are guarded, or it isn't known what it is.
+pub fn is_protected(guard: Guard, kind: Kind) -> bool
+    ensures { result ≡ protects guard kind }
+{
+    match kind {
+        Kind::Unknown => true,
+        Kind::Jpeg => guard == Guard::Jpeg,
+        Kind::NoFile | Kind::Partial | Kind::Other => false,
+    }
+}
+
+/// Whether an older file is kept, under another name, when an output with other bytes gets its name: it is a partial picture, and none of
+/// the inputs.
+pub fn is_precious(kind: Kind, is_input: bool) -> bool
+    ensures { result ≡ spec.is_precious kind is_input }
+{
+    kind == Kind::Partial && !is_input
+}
+
+/// Whether what stands at the name for an older file may go: nothing, or a regular file that is a partial picture and no input.
+pub fn can_go(standing: Standing, kind: Kind, is_input: bool) -> bool
+    ensures { result ≡ spec.can_go standing kind is_input }
+{
+    match standing {
+        Standing::Absent => true,
+        Standing::Regular(_) => is_precious(kind, is_input),
+        Standing::Other => false,
     }
 }
 
@@ -70,9 +132,16 @@ pub fn ending_of_run(status: u8, write_failures: u64) -> Ending
     }
 }
 
-/// Whether a file that begins with these two bytes is a JPEG file: with SOI, or with a fill byte before a marker (T.81 B.1.1.2).
-pub fn begins_as_jpeg(first: u8, second: u8) -> bool
-    ensures { result ≡ is_jpeg_prefix first second }
+/// The kind of a regular file by its first four bytes, with zeros for those that it doesn't have. A JPEG file begins with SOI, or with a
+/// fill byte before a marker (T.81 B.1.1.2).
+pub fn kind_of_file(first: u8, second: u8, third: u8, fourth: u8) -> Kind
+    ensures { result ≡ kind_of first second third fourth }
 {
-    first == MARKER_PREFIX && (second == SOI || second == MARKER_PREFIX)
+    if first == MARKER_PREFIX && (second == SOI || second == MARKER_PREFIX) {
+        return Kind::Jpeg;
+    }
+    if first == MAGIC[0] && second == MAGIC[1] && third == MAGIC[2] && fourth == MAGIC[3] {
+        return Kind::Partial;
+    }
+    Kind::Other
 }

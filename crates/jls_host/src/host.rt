@@ -1,25 +1,25 @@
 //! The files and standard streams of the machine.
 
-use crate::choice::{Ending, Standing, begins_as_jpeg};
+ghost use Rattle.std.specs.Prelude.{◌≤◌, length, IfOk};
+
+use crate::choice::{Ending, Guard, Kind, Standing, kind_of_file};
 use crate::machine::Machine;
 use crate::name::Name;
-use crate::output::Output;
+use crate::output::{Output, Unmade, Why};
 use jls_io::Open;
-use std::fs::{File, OpenOptions};
+use std::fs::{File, Metadata, OpenOptions};
 use std::io::{Read, Write};
 use std::os::fd::AsRawFd;
-use std::os::unix::fs::{OpenOptionsExt, PermissionsExt};
+use std::os::unix::fs::{MetadataExt, OpenOptionsExt, PermissionsExt};
 use std::path::Path;
 use std::rt::{Stdin, Stdout};
 use std::{fs, io};
 
-/// What a run does not replace.
+/// What tells a file from every other one: its device, and its number there.
 #[derive(Clone, Copy, Debug, PartialEq, Eq)]
-pub enum Guard {
-    /// It replaces every file that it may write.
-    Nothing,
-    /// It replaces no JPEG file.
-    Jpeg,
+struct Identity {
+    device: u64,
+    number: u64,
 }
 
 /// An input that is open.
@@ -36,9 +36,12 @@ enum Opened {
     File(Output<File>),
 }
 
-/// The calls of the system, each as it is.
+/// The calls of the system, each as it is, and the files that were opened as inputs.
 #[derive(Drop)]
-struct Calls<'a>(&'a HostRuntime);
+struct Calls<'a> {
+    rt: &'a HostRuntime,
+    inputs: &'a [Identity],
+}
 
 /// Files by their names, where `-` is standard input as an input and standard output as an output. Each read and each write is one
 /// call of the system, or none where nothing is open: nothing is buffered, tried again or counted here. Reads go to the input
@@ -49,27 +52,87 @@ pub struct HostFiles<'a> {
     rt: &'a HostRuntime,
     guard: Guard,
     input: Option<Input>,
+    inputs: Vec<Identity>,
     output: Option<Opened>,
-    guarded: Option<Name>,
-    unkept: Option<Name>,
+    not_created: Option<Unmade>,
+    unkept: Option<Unmade>,
 }
 
-/// The first two bytes of a regular file, each of one read; zeros where there is none. A read that fails isn't made again.
-fn prefix(rt: &HostRuntime, name: &str) -> io::Result<[u8; 2]> {
-    let mut first = [0; 1];
-    let mut second = [0; 1];
-    if fs::metadata(rt, name)?.is_file() {
-        let mut file = File::open(rt, name)?;
-        file.read(&mut first)?;
-        file.read(&mut second)?;
+/// The file that standard input is.
+const STANDARD_INPUT: &str = "/dev/stdin";
+
+/// The most bytes of a file that are read in one call.
+const CHUNK: usize = 4096;
+
+/// Reads until the buffer is full or the file ends, and answers how many bytes came.
+fn fill(file: &mut File, into: &mut [u8]) -> io::Result<usize>
+    ensures within { IfOk result (λ n. n ≤ length into.new) }
+{
+    let mut filled = 0;
+    while filled < into.len() {
+        let count = file.read(&mut into[filled..])?;
+        if count == 0 {
+            break;
+        }
+        filled += count;
     }
-    Ok([first[0], second[0]])
+    Ok(filled)
+}
+
+/// The kind of the file of this name, or of the one that a link leads to.
+fn kind(rt: &HostRuntime, name: &str) -> io::Result<Kind> {
+    let metadata = match fs::metadata(rt, name) {
+        Ok(metadata) => metadata,
+        Err(error) if error.kind() == io::ErrorKind::NotFound => return Ok(Kind::NoFile),
+        Err(error) => return Err(error),
+    };
+    if !metadata.is_file() {
+        return Ok(Kind::NoFile);
+    }
+    let mut first = [0; 4];
+    fill(&mut File::open(rt, name)?, &mut first)?;
+    Ok(kind_of_file(first[0], first[1], first[2], first[3]))
+}
+
+/// Whether the rest of two files is equal.
+fn are_equal(one: &mut File, other: &mut File) -> io::Result<bool> {
+    let mut left = [0; CHUNK];
+    let mut right = [0; CHUNK];
+    for _ in 0..u64::MAX {
+        let count = fill(one, &mut left)?;
+        if fill(other, &mut right)? != count || left[..count] != right[..count] {
+            return Ok(false);
+        }
+        if count == 0 {
+            break;
+        }
+    }
+    Ok(true)
+}
+
+fn identity_of(metadata: &Metadata) -> Identity {
+    Identity {
+        device: metadata.dev(),
+        number: metadata.ino(),
+    }
+}
+
+/// The identity of the file of this name, or of the one that a link leads to.
+fn identity_at(rt: &HostRuntime, name: &str) -> io::Result<Identity> {
+    Ok(identity_of(&fs::metadata(rt, name)?))
+}
+
+/// Notes the file of an input. Where memory runs out it isn't noted: then it is kept, if it is an output too.
+fn note(inputs: &mut Vec<Identity>, metadata: io::Result<Metadata>) {
+    if let Ok(metadata) = metadata {
+        let _ = inputs.push(identity_of(&metadata));
+    }
 }
 
 /// Ends an output, if it is a file. `Err` has its name, where it could not be kept.
-fn end_of(rt: &HostRuntime, output: Option<Opened>, ending: Ending) -> Result<(), Name> {
+fn end_of(calls: &mut Calls<'_>, output: Option<Opened>, ending: Ending) -> Result<(), Unmade> {
     match output {
-        Some(Opened::File(output)) => output.end(&mut Calls(rt), ending),
+        Some(Opened::File(output)) => output.end(calls, ending),
         _ => Ok(()),
     }
 }
@@ -86,7 +149,7 @@ impl Machine for Calls<'_> {
     type File = File;
 
     fn standing(&mut self, name: &str) -> Standing {
-        match fs::symlink_metadata(self.0, name) {
+        match fs::symlink_metadata(self.rt, name) {
             Ok(metadata) if metadata.is_file() => {
                 Standing::Regular(metadata.permissions().mode() & 0o7777)
             }
@@ -96,18 +159,41 @@ impl Machine for Calls<'_> {
     }
 
     fn opens(&mut self, name: &str) -> bool {
-        OpenOptions::new().write(true).open(self.0, name).is_ok()
+        OpenOptions::new().write(true).open(self.rt, name).is_ok()
     }
 
-    fn is_jpeg(&mut self, name: &str) -> bool {
-        match prefix(self.0, name) {
-            Ok(prefix) => begins_as_jpeg(prefix[0], prefix[1]),
+    fn kind(&mut self, name: &str) -> Kind {
+        kind(self.rt, name).unwrap_or(Kind::Unknown)
+    }
+
+    fn mode(&mut self, name: &str) -> Option<u32> {
+        let metadata = fs::metadata(self.rt, name).ok()?;
+        Some(metadata.permissions().mode() & 0o7777)
+    }
+
+    fn is_input(&mut self, name: &str) -> bool {
+        match identity_at(self.rt, name) {
+            Ok(identity) => self.inputs.contains(&identity),
             Err(_) => false,
         }
     }
 
+    fn are_one(&mut self, name: &str, other: &str) -> bool {
+        match (identity_at(self.rt, name), identity_at(self.rt, other)) {
+            (Ok(one), Ok(other)) => one == other,
+            _ => false,
+        }
+    }
+
+    fn are_equal(&mut self, name: &str, other: &str) -> io::Result<bool> {
+        are_equal(
+            &mut File::open(self.rt, name)?,
+            &mut File::open(self.rt, other)?,
+        )
+    }
+
     fn create(&mut self, name: &str) -> io::Result<File> {
-        File::create(self.0, name)
+        File::create(self.rt, name)
     }
 
     fn create_new(&mut self, name: &str, mode: Option<u32>) -> io::Result<File> {
@@ -116,7 +202,16 @@ impl Machine for Calls<'_> {
         if let Some(mode) = mode {
             options.mode(mode & 0o777);
         }
-        options.open(self.0, name)
+        options.open(self.rt, name)
+    }
+
+    fn link(&mut self, name: &str, second: &str) -> io::Result<()> {
+        fs::hard_link(self.rt, name, second)
+    }
+
+    fn copy(&mut self, name: &str, to: &mut File) -> io::Result<()> {
+        io::copy(&mut File::open(self.rt, name)?, to)?;
+        Ok(())
     }
 
     fn sync(&mut self, file: &File, mode: Option<u32>) -> io::Result<()> {
@@ -127,15 +222,15 @@ impl Machine for Calls<'_> {
     }
 
     fn rename(&mut self, from: &str, to: &str) -> io::Result<()> {
-        fs::rename(self.0, from, to)
+        fs::rename(self.rt, from, to)
     }
 
     fn sync_folder(&mut self, name: &str) -> io::Result<()> {
-        File::open(self.0, folder(name))?.sync_all()
+        File::open(self.rt, folder(name))?.sync_all()
     }
 
     fn remove(&mut self, name: &str) -> io::Result<()> {
-        fs::remove_file(self.0, name)
+        fs::remove_file(self.rt, name)
     }
 }
 
@@ -146,28 +241,45 @@ impl<'a> HostFiles<'a> {
             rt,
             guard,
             input: None,
+            inputs: Vec::new(rt.alloc()),
             output: None,
-            guarded: None,
+            not_created: None,
             unkept: None,
         }
     }
 
-    /// The name of an output that was not created, since it is a JPEG file. A name of more than 4,096 bytes is not reported.
-    pub fn guarded(&self) -> Option<&str> {
-        match &self.guarded {
-            Some(name) => Some(name.as_str()),
-            None => None,
-        }
+    /// The output that was not created, and why. A name of more than 4,096 bytes is not told.
+    pub fn not_created(&self) -> Option<&Unmade> {
+        self.not_created.as_ref()
+    }
+
+    /// Ends the output that was created last. `Err` has its name, where it could not be kept.
+    fn end_last(&mut self, ending: Ending) -> Result<(), Unmade> {
+        let last = self.output.take();
+        let mut calls = Calls {
+            rt: self.rt,
+            inputs: &self.inputs,
+        };
+        end_of(&mut calls, last, ending)
     }
 
     /// Ends the output that was created last, when the run has ended. `Err` has the name of an output that could not be kept: of the one
     /// before it, if there is such a one.
-    pub fn end(&mut self, ending: Ending) -> Result<(), Name> {
-        let ended = end_of(self.rt, self.output.take(), ending);
+    pub fn end(&mut self, ending: Ending) -> Result<(), Unmade> {
+        let ended = self.end_last(ending);
         match self.unkept.take() {
-            Some(name) => Err(name),
+            Some(unmade) => Err(unmade),
             None => ended,
         }
+    }
+
+    /// Makes the output of this name.
+    fn make(&self, name: &str) -> Result<Output<File>, Why> {
+        let mut calls = Calls {
+            rt: self.rt,
+            inputs: &self.inputs,
+        };
+        Output::create(&mut calls, name, self.guard)
     }
 }
 
@@ -195,33 +307,39 @@ impl Write for HostFiles<'_> {
     }
 }
 
-impl Open for &mut HostFiles<'_> {
+impl Open for HostFiles<'_> {
     fn open_input(&mut self, name: &str) -> io::Result<()> {
-        self.input = Some(if name == "-" {
-            Input::Standard(self.rt.stdin())
-        } else {
-            Input::File(File::open(self.rt, name)?)
-        });
+        if name == "-" {
+            let metadata = fs::metadata(self.rt, STANDARD_INPUT);
+            note(&mut self.inputs, metadata);
+            self.input = Some(Input::Standard(self.rt.stdin()));
+            return Ok(());
+        }
+        let file = File::open(self.rt, name)?;
+        let metadata = file.metadata();
+        note(&mut self.inputs, metadata);
+        self.input = Some(Input::File(file));
         Ok(())
     }
 
     fn create_output(&mut self, name: &str) -> io::Result<()> {
-        let last = self.output.take();
-        if let Err(name) = end_of(self.rt, last, Ending::Keep) {
-            self.unkept = Some(name);
+        if let Err(unmade) = self.end_last(Ending::Keep) {
+            self.unkept = Some(unmade);
         }
         if name == "-" {
             self.output = Some(Opened::Standard(self.rt.stdout()));
             return Ok(());
         }
-        let mut calls = Calls(self.rt);
-        let is_guarded = self.guard == Guard::Jpeg && calls.is_jpeg(name);
-        if is_guarded {
-            self.guarded = Name::from(name).ok();
+        match self.make(name) {
+            Ok(output) => {
+                self.output = Some(Opened::File(output));
+                Ok(())
+            }
+            Err(why) => {
+                self.not_created = Name::from(name).ok().map(|name| Unmade { name, why });
+                Err(io::Error::from(io::ErrorKind::PermissionDenied))
+            }
         }
-        let output = Output::create(&mut calls, name, is_guarded)?;
-        self.output = Some(Opened::File(output));
-        Ok(())
     }
 }
 

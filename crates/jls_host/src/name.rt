@@ -31,3 +31,18 @@ pub fn name_beside(name: &str, number: u32) -> Option<Name>
     };
     Some(beside)
 }
+
+/// The name under which an older file is kept: the output's name, then `~`. `None` if that is longer than 4,096 bytes.
+pub fn name_kept(name: &str) -> Option<Name>
+    ensures named { IfSome result (λ n. n.bytes ≡ name.now ++ codes "~") }
+    ensures too_long { IfNone result (4096 < length (name.now ++ codes "~")) }
+{
+    let mut kept = Name::new();
+    let Ok(()) = kept.try_push_str(name) else {
+        return None;
+    };
+    let Ok(()) = kept.try_push_str("~") else {
+        return None;
+    };
+    Some(kept)
+}

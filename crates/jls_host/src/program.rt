@@ -1,11 +1,19 @@
 //! A program over the files and standard streams of the machine.
 
-use crate::choice::ending_of_run;
-use crate::host::{Guard, HostFiles, hold_streams};
-use jls_io::{Counted, Desk, Sink, print_plain};
+use crate::choice::{Guard, ending_of_run};
+use crate::host::{HostFiles, hold_streams};
+use crate::name::name_kept;
+use crate::output::{Unmade, Why};
+use jls_io::{Counted, Desk, Sink, print_about, print_plain};
 use std::alloc::Global;
 use std::io;
 use std::process::ExitCode;
+
+/// What is said of an output that is there and can't be read.
+const UNREADABLE: &str = " cannot be read, and is not replaced";
+
+/// What is said of a file that has the name for an older output.
+const TAKEN: &str = " is in the way of the older file, and is not replaced";
 
 /// What is peculiar to a program.
 pub trait Program {
@@ -48,21 +56,35 @@ fn refuse_words<P: Program>(rt: &HostRuntime, error: &io::Error) -> u8 {
     status
 }
 
+/// Says why an output did not get its name, where more can be said than that it was not created.
+fn print_why<P: Program, E: Sink>(faults: &mut E, unmade: &Unmade) {
+    let name = unmade.name.as_str();
+    let kept = name_kept(name).unwrap_or_default();
+    match unmade.why {
+        Why::Failed => {}
+        Why::Jpeg => P::print_not_replaced(faults, name),
+        Why::Unreadable => print_about(faults, P::name(), name, UNREADABLE),
+        Why::Taken => print_about(faults, P::name(), kept.as_str(), TAKEN),
+        Why::NotKept => P::print_not_created(faults, kept.as_str()),
+    }
+}
+
 /// Ends the output after a run with this status, and gives the exit status: 4 where the output could not be kept. Says why an output
-/// was not created, if it is a JPEG file.
+/// was not created, if more is known.
 fn end_output<P: Program, E: Sink>(
     files: &mut HostFiles<'_>,
     faults: &mut E,
     status: u8,
     failures: u64,
 ) -> u8 {
-    if let Some(name) = files.guarded() {
-        P::print_not_replaced(faults, name);
+    if let Some(unmade) = files.not_created() {
+        print_why::<P, E>(faults, unmade);
     }
     match files.end(ending_of_run(status, failures)) {
         Ok(()) => status,
-        Err(name) => {
-            P::print_not_created(faults, name.as_str());
+        Err(unmade) => {
+            P::print_not_created(faults, unmade.name.as_str());
+            print_why::<P, E>(faults, &unmade);
             4
         }
     }
@@ -77,12 +99,12 @@ pub fn run_program<P: Program>(rt: HostRuntime) -> ExitCode {
         Ok(words) => words,
         Err(error) => return ExitCode::from(refuse_words::<P>(&rt, &error)),
     };
-    let mut files = HostFiles::new(&rt, P::guard(&words));
+    let files = HostFiles::new(&rt, P::guard(&words));
     let mut report = Counted::new(rt.stdout());
     let mut faults = Counted::new(rt.stderr());
-    let mut desk = Counted::closed(&mut files);
+    let mut desk = Counted::closed(files);
     let status = P::run(rt.alloc(), &words, &mut desk, &mut report, &mut faults);
     let failures = desk.write_failures();
-    drop(desk);
+    let mut files = desk.into_inner();
     ExitCode::from(end_output::<P, _>(&mut files, &mut faults, status, failures))
 }
