@@ -1,6 +1,6 @@
 //! Writing one line, a stretch of columns at a time (ITU-T T.87, A.3 and A.7).
 
-ghost use Rattle.std.specs.Prelude.{◌≡◌, ◌^◌, ◌<◌, ◌≤◌, true, ◌==◌, [], ◌∷◌, length, IfOk, OnOk};
+ghost use Rattle.std.specs.Prelude.{◌≡◌, ◌^◌, ◌<◌, ◌≤◌, true, ◌==◌, [], ◌∷◌, length, slice_index, EachIndex, IsTrue, IfOk, OnOk};
 ghost use Rattle.std.specs.List.{AllByRecursion, prefix_len};
 ghost use Rattle.jls_context.specs.Mode.{is_run_mode};
 ghost use Rattle.jls_interval.specs.Events.{neighbours, stretch, line_events};
@@ -17,15 +17,36 @@ use crate::run_index::{lowered, run_order};
 use jls_context::Mode;
 use std::alloc::AllocError;
 
+/// How many samples are compared at once.
+const BLOCK: usize = 16;
+
+/// Whether all these samples have this value. It looks at each of them, so that the compiler compares several by one instruction.
+#[inline(always)]
+fn are_all(samples: &[u16], value: u16) -> bool
+    ensures { IsTrue result → EachIndex samples.now (λ k. slice_index samples.now k ≡ value) }
+{
+    let mut same = true;
+    for sample in samples {
+        if *sample != value {
+            same = false;
+        }
+    }
+    same
+}
+
 /// How many samples from the start on have this value.
 fn run_length(samples: &[u16], value: u16) -> usize
     ensures value { result ≡ prefix_len (λ sample. sample == value) samples.now }
     ensures within { result ≤ length samples.now }
 {
-    samples
-        .iter()
-        .take_while(|&&sample| sample == value)
-        .count()
+    let mut count = 0;
+    while count + BLOCK <= samples.len() && are_all(&samples[count..count + BLOCK], value) {
+        count += BLOCK;
+    }
+    while count < samples.len() && samples[count] == value {
+        count += 1;
+    }
+    count
 }
 
 /// Writes the run of this value from column x on, and the sample that interrupts it, and gives the column

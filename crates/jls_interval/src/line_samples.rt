@@ -138,6 +138,10 @@ fn take_samples_of(
     // A copy of its own, which the updates of the cells can't change.
     let lengths = reader.coder.lengths;
     let mut near = place.neighbours(reader.width, &reader.line, reader.line.len());
+    if near.rd == near.rb && near.rb == near.rc && near.rc == near.ra {
+        // A run begins here.
+        return Ok(());
+    }
     let mut second = reader.coder.cells.gradient(near.rb, near.rc);
     'columns: while chunk.len() >= looked_for {
         let first = reader.coder.cells.gradient(near.rd, near.rb);
