@@ -9,6 +9,7 @@ pub mod ScanWalk
 pub mod UnitsWalk
 pub mod StrictHeads
 pub mod SettledPictures
+pub mod MendedCopies
 mod ExampleTests
 mod EditExamples
 mod SkeletonExamples

@@ -1,5 +1,6 @@
 pub mod MendedFiles
 pub mod Edits
+pub mod Mending
 pub mod LineCode
 pub mod HeldLines
 pub mod StrictlyHeld
