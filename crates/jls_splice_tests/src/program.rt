@@ -38,15 +38,20 @@ a header, and a place in all: eight: 2+4=0 300+8=0 / 12+3=0 300+8=85: OUT 1 2: 1
 one try: eight: 100+8=0 / 400+8=0: --tries 1 OUT 1 2: 1 other: before 100
 lines of one try: eight: 100+8=0 / 400+8=0: --tries 1 OUT 1 2: 1 other: missing 1 2-19
 within a limit, and a place in all: eight: 300+8=0 / 300+8=85: --max 255 OUT 1 2: 1 other: before 300, samples up to 255
-a promise: eight: 100+8=0 / 400+8=0: OUT 1 2: 0 eight: promise picture if each differ is true in some copy
-a promise within a limit: eight: 100+8=0 / 400+8=0: --max 255 OUT 1 2: 0 eight: promise picture if each differ is true in some copy and \
+a promise: eight: 100+8=0 / 400+8=0: OUT 1 2: 0 eight: \
+promise picture if the true file has what one copy has at each differ, and what all have elsewhere
+a promise within a limit: eight: 100+8=0 / 400+8=0: --max 255 OUT 1 2: 0 eight: \
+promise picture if the true file has what one copy has at each differ, and what all have elsewhere and \
 samples are up to 255
+a promise whose premise fails: eight: 114+1=221 / 114+1=221: OUT 1 2: 0 other: \
+promise picture if the true file has what one copy has at each differ, and what all have elsewhere
 no promise: eight: 300+8=0 / 300+8=85: OUT 1 2: 1 other: promise lines
 no promise of disputed lines: eight: whole / other: OUT 1 2: 1 other: promise lines
 limits in turn: deep: 50+3=85 98+3=85 146+3=85 194+3=85 242+3=85 / \
 74+3=85 122+3=85 170+3=85 218+3=85 266+3=85: --tries 40 OUT 1 2: 0 deep: limit 8191
 a promise within the limit that counts: deep: 50+3=85 98+3=85 146+3=85 194+3=85 242+3=85 / 74+3=85 122+3=85 170+3=85 218+3=85 266+3=85: \
---tries 40 OUT 1 2: 0 deep: promise picture if each differ is true in some copy and samples are up to 8191
+--tries 40 OUT 1 2: 0 deep: promise picture if the true file has what one copy has at each differ, and what all have elsewhere \
+and samples are up to 8191
 limits up to the last: deep: 50+3=85 98+3=85 146+3=85 194+3=85 242+3=85 / \
 74+3=85 122+3=85 170+3=85 218+3=85 266+3=85: --tries 300 OUT 1 2: 0 deep: limit 46340
 each search tells its tries: deep: 50+3=85 98+3=85 146+3=85 194+3=85 242+3=85 / 74+3=85 122+3=85 170+3=85 218+3=85 266+3=85: \
@@ -71,7 +76,8 @@ no frame but in the last: eight: 0+999=lost / 0+3=0 / 400+8=0: OUT 1 2 3: 0 eigh
 65 copies, of which the last is whole: eight: 64*0 100+8=0 / whole: OUT 1..65: 0 eight: splices 0
 65 copies, each damaged elsewhere: eight: 65*10 30+4=0: OUT 1..65: 0 eight: splices 1
 standard output: eight: 100+8=0 / 400+8=0: - 1 2: 0 eight: jls-splice: splices 1
-a promise on standard error: eight: 100+8=0 / 400+8=0: - 1 2: 0 eight: jls-splice: promise picture if each differ is true in some copy
+a promise on standard error: eight: 100+8=0 / 400+8=0: - 1 2: 0 eight: \
+jls-splice: promise picture if the true file has what one copy has at each differ, and what all have elsewhere
 OUT forgotten: eight: whole / 100+8=0 / 400+8=0: 1 2 3: 4 nothing: jls-splice: 1: cannot be created
 a partial picture: eight: whole / text: OUT 1 2: 3 nothing: jls-splice: 2: is a partial picture
 two shapes: eight: whole / restarts: OUT 1 2: 3 nothing: jls-splice: 2: shape differs
