@@ -64,7 +64,9 @@ a limit of a shallow picture: deep: 50+3=85 150+4=0 / 74+3=85 150+4=51: OUT 1 2:
 lines of a shallow picture: deep: 50+3=85 150+4=0 / 74+3=85 150+4=51: OUT 1 2: 1 other: missing 1 5-13
 none of a deep picture: sixteen: 50+3=85 200+4=0 / 74+3=85 200+4=51: OUT 1 2: 1 other: before 200
 none of eight bits: eight: 100+8=0 300+8=0 / 200+8=0 300+8=85: OUT 1 2: 1 other: before 300
-no promise by groups: eight: 100+8=0 / 400+8=0: --max 254 OUT 1 2: 0 eight: promise lines
+no promise by groups: eight: 100+8=0 / 400+8=0: --max 254 OUT 1 2: 1 eight: promise lines
+no promise beside an undamaged copy: eight: 100+8=0 / whole: --tries 1 OUT 1 2: 1 eight: promise lines
+no promise on standard error: eight: 100+8=0 / 400+8=0: - 1 2 --max 254: 1 eight: jls-splice: promise lines
 one copy twice: eight: whole / whole: OUT 1 2: 0 eight: splices 0
 a flipped bit in each: eight: 114+1=221 / 400+1=237: OUT 1 2: 1 other: splices 1
 two pictures: eight: whole / other: OUT 1 2: 1 other: splices 0
@@ -85,13 +87,14 @@ nothing in common, and one has a fault: eight: 300+8=0 / scans: OUT 1 2: 0 scans
 not there: eight: whole / whole: OUT 1 3: 4 nothing: jls-splice: 3: cannot be opened
 the mended file: eight: 100+8=0 / 400+8=0: --file NAME OUT 1 2: 0 eight: splices 1
 the mended file at OUT: eight: 100+8=0 / 400+8=0: --file OUT OUT 1 2: 2 nothing: jls-splice: OUT: is named as OUT and by --file
+the mended file without a promise: eight: 100+8=0 / 400+8=0: --file NAME --max 254 OUT 1 2: 1 eight: promise lines
 no mended file: eight: 300+8=0 / 300+8=85: --file NAME OUT 1 2: 1 other: no single file
 two mended files: eight: whole / other: --file NAME OUT 1 2: 1 other: no single file
 each sixteenth: eight: 40+4=0 120+4=0 200+4=0 280+4=0 360+4=0 440+4=0 520+4=0 600+4=0 / 80+4=0 160+4=0 240+4=0 320+4=0 400+4=0 \
 480+4=0 560+4=0 640+4=0: --tries 100 OUT 1 2: 0 eight: splices 1
 few tries: eight: 100+8=0 / 400+8=0: --tries 2 OUT 1 2: 1 other: tries used up
 within a limit: eight: 100+8=0 / 400+8=0: --max 255 OUT 1 2: 0 eight: splices 1
-above a limit, and by groups: eight: 100+8=0 / 400+8=0: --max 254 OUT 1 2: 0 eight: by groups 1
+above a limit, and by groups: eight: 100+8=0 / 400+8=0: --max 254 OUT 1 2: 1 eight: by groups 1
 its progress: eight: 100+8=0 / 400+8=0: --tries 2 --progress OUT 1 2: 1 other: 2 tries, 0 files
 many files: sixteen: 40+1=165 112+1=165 184+1=165 256+1=165 328+1=165 400+1=165 472+1=165 / 76+1=165 148+1=165 220+1=165 292+1=165 \
 364+1=165 436+1=165: OUT 1 2: 1 other: tries used up";
@@ -191,7 +194,7 @@ fn is_output(alloc: Global, row: Row<'_>, files: &MemoryFiles<'_>) -> Result<boo
 
 /// Whether NAME is created where exactly one file has no fault, and is that file then.
 fn is_mended(row: Row<'_>, file: &[u8], mended: Option<&[u8]>) -> bool {
-    let is_wanted = row.status == "0" && row.words.starts_with("--file");
+    let is_wanted = row.picture == row.file && row.words.starts_with("--file");
     match mended {
         Some(mended) => is_wanted && mended == file,
         None => !is_wanted,
