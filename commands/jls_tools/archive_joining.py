@@ -35,14 +35,20 @@ class Joining:
             self.files.setdefault(outcome.report.shape, []).extend([] if is_text else [name])
 
     def salvage(self, row, shape, spare):
-        """The picture of the copies of a shape; if lines are missing, with what jls-splice gets of them and of the spare ones."""
+        """The picture of the copies of a shape; if lines are missing, with what jls-splice gets of them and of the spare ones.
+
+        Where jls-splice added to it and never promised the picture, it isn't whole, also if each line is settled.
+        """
         joined, files = self.of.get(shape, []), self.files.get(shape, [])
         known, status = self.join(None, joined, 3) if joined else (None, 3)
-        mended = False
+        splices = []
         for names in [files, files + spare] if spare else [files]:
-            known, status, was_mended = self.mend(known, status, names)
-            mended = mended or was_mended
-        self.end(row, known, status, "mended" if mended else "joined")
+            known, status, splice = self.mend(known, status, names)
+            splices += [splice] if splice else []
+        result = "mended" if splices else "joined"
+        if status == 0 and splices and not any(splice.promises for splice in splices):
+            status, result = 1, "not promised"
+        self.end(row, known, status, result)
         row.say(f"{len(joined)} used, {self.refused} refused")
 
     def join(self, known, names, status):
@@ -55,18 +61,18 @@ class Joining:
         return known, status if known else outcome.status
 
     def mend(self, known, status, names):
-        """(the partial picture, the status, whether jls-splice added to it)"""
+        """(the partial picture, the status, what jls-splice came to if it added to it)"""
         if len(names) < 2 or known and not self.desk.programs.show(known, self.desk.folder).report.missing:
-            return known, status, False
+            return known, status, None
         spliced = self.desk.name("spliced")
         outcome = self.desk.programs.splice(spliced, names, None, self.desk.folder, ["--tries", str(self.desk.options.tries)])
         self.note("splice", outcome)
         if not os.path.exists(self.desk.place(spliced)):
-            return known, status, False
-        return *self.join(known, [spliced], status), True
+            return known, status, None
+        return *self.join(known, [spliced], status), outcome
 
     def end(self, row, known, status, result):
-        """Writes the picture if each line is settled, and keeps all that the copies have."""
+        """Writes the picture if it is whole, and keeps all that the copies have."""
         desk = self.desk
         if known:
             row.take(desk.programs.show(known, desk.folder).report)

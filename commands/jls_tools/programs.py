@@ -83,9 +83,14 @@ class Splice(Outcome):
         self.file_written = file_written
 
     @property
-    def promises_picture(self):
-        """Whether the line "promise" says so, each line is settled, and exactly one file decodes."""
-        return self.status == 0 and self.file_written and (self.report.promise or "").split()[:1] == ["picture"]
+    def promises(self) -> bool:
+        """Whether the line "promise" says so. Status 0 comes with it."""
+        return bool(self.status == 0 and (self.report.promise or "").split()[:1] == ["picture"])
+
+    @property
+    def promises_picture(self) -> bool:
+        """Whether the picture is promised, and exactly one file decodes."""
+        return bool(self.file_written and self.promises)
 
 
 def find(name):

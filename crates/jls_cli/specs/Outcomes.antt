@@ -12,7 +12,8 @@ use Rattle.jls_cli.specs.declared.outcome.Refusal.{Refusal}
 abbrev pub Outcome : Type 0
 Outcome = Result Done Refusal
 
--- a command is done. Whether each line of what it made is settled, and whether each input was read whole
+-- a command is done. Whether each line of what it made is settled, or of `jls-splice` whether the picture is promised; and whether each
+-- input was read whole
 abbrev pub finished : Bool → Bool → Outcome
 finished settled whole = Ok (record { settled = settled; whole = whole })
 
@@ -43,7 +44,7 @@ status_of_cause (cause.FileNotCreated number) = 4
 status_of_cause (cause.FileNotWritten number count) = 4
 status_of_cause cause.OutOfMemory = 5
 
--- 4 if an input was not read whole, else 0 or 1 as all lines are settled or not
+-- 4 if an input was not read whole, else 0 if all lines are settled, or the picture is promised, and 1 if not
 abbrev pub status_of_done : Bool → Bool → ℕ
 status_of_done settled false = 4
 status_of_done true true = 0

@@ -10,14 +10,15 @@ use jls_station::InputFault;
 /// What is said of a command that is done.
 #[derive(Clone, Copy, Debug, PartialEq, Eq)]
 pub struct Done {
-    /// True if and only if every line of what the command made is settled.
+    /// Of `jls-salvage`, true if and only if every line of what the command made is settled. Of `jls-splice`, true if and only if the
+    /// picture is promised.
     pub settled: bool,
     /// True if and only if every input was read whole (`ReadStop::Whole`).
     pub whole: bool,
 }
 
 impl Done {
-    /// The exit status: 4 if an input was not read whole. Else it is 0 if every line is settled, and 1 if not.
+    /// The exit status: 4 if an input was not read whole. Else it is 0 if `settled`, and 1 if not.
     pub fn status(self) -> u8
         ensures { result ≡ status_of_done self.settled self.whole }
     {

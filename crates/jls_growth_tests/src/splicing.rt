@@ -36,7 +36,8 @@ const FOUR_BACK: Row = Row {
     begin: 0,
     has_file: false,
     report: "differ 25 1\ndiffer 53 1\nsplices 1\n\
-        promise picture if each differ is true in some copy\npicture 4x4, 8 bits, components 1\n\
+        promise picture if the true file has what one copy has at each differ, and what all have elsewhere\n\
+        picture 4x4, 8 bits, components 1\n\
         settled 4, missing 0, disputed 0\n",
     faults: "",
 };
@@ -107,7 +108,8 @@ fn splice_with_numbered_files(rt: HostRuntime) {
         line: "jls-splice --files NAME OUT 1 2",
         has_file: true,
         report: "differ 25 1\ndiffer 53 1\nsplices 1\nfiles 1\n\
-            promise picture if each differ is true in some copy\npicture 4x4, 8 bits, components 1\n\
+            promise picture if the true file has what one copy has at each differ, and what all have elsewhere\n\
+            picture 4x4, 8 bits, components 1\n\
             settled 4, missing 0, disputed 0\n",
         ..FOUR_BACK
     };

@@ -1,9 +1,14 @@
--- Runs that end with status 0.
-use Rattle.std.proofs.Common.{◌≡◌, ℕ, ◌<◌, ◌≤◌, Bool, true, false, List, [], ◌∷◌, ◌++◌, length, Option, Some, None, refl, sym, ◌∙◌, subst}
+-- Runs that were done.
+use Rattle.std.proofs.Common.{◌≡◌, ℕ, ◌<◌, ◌≤◌, Bool, true, false, List, [], ◌∷◌, ◌++◌, length, Option, Some, None, refl, sym, ap, ◌∙◌, subst}
 use Rattle.std.proofs.Common.{arith, inl, inr}
-use Rattle.std.specs.Prelude.{IsTrue, IfSome, if◌then◌else◌}
+use Rattle.std.specs.Prelude.{◌↔◌, ◌⊎◌, IsTrue, IfSome, if◌then◌else◌}
 use Rattle.std.specs.List.{Contains}
-use Rattle.jls_io.specs.Event.{Event}
+use Rattle.std.proofs.lemmas.List.{append-nil}
+use Rattle.std.proofs.lemmas.List.Elements.{Contains-append_right}
+use Rattle.clap.specs.Words.{Text}
+use Rattle.jls_io.specs.Event.{Event, bytes_taken, took}
+use Rattle.jls_io.specs.Writing.{AreWrites, Printed}
+use Rattle.jls_write.specs.Picture.{WholePicture, picture_of}
 use Rattle.jls_station.specs.CopyFiles.{CopyBytes, AreCopiesRead}
 use Rattle.jls_partial.specs.Partial.{PartialPicture, nothing_known}
 use Rattle.jls_partial.specs.Status.{IsSettled}
@@ -14,17 +19,24 @@ use Rattle.jls_search.proofs.NoGroups.{splices_of_all}
 use Rattle.jls_search.specs.Shapes.{IsShapeTaken}
 use Rattle.jls_search.specs.Stations.{TakesFiles}
 use Rattle.jls_splice_laws.specs.WholeFiles.{WholeFilesAreFaultless}
-use Rattle.jls_cli.specs.SpliceAsking.{Asked}
+use Rattle.jls_cli.specs.SpliceAsking.{Asked, AskFor, Options, asked_with}
 use Rattle.jls_cli.specs.Outcomes.{exit_status, finished}
-use Rattle.jls_splice_run.specs.Copies.{bytes_read}
+use Rattle.jls_splice_run.specs.Copies.{AreWhole, bytes_read}
+use Rattle.jls_splice_run.specs.Handing.{HandsAll}
 use Rattle.jls_splice_run.specs.Limits.{has_some}
-use Rattle.jls_splice_run.specs.Making.{IsCutFile, IsCutTaken, IsMade, IsPictureOf, IsPictureOfFiles, Made, cut_file, promise_of}
+use Rattle.jls_splice_run.specs.Listing.{AreNamedAsked, is_named}
+use Rattle.jls_splice_run.specs.Single.{IsOnly, IsSingleAsked}
+use Rattle.jls_splice_run.specs.Making.{IsCutFile, IsCutTaken, IsMade, IsPictureOf, IsPictureOfFiles, Made, cut_file, is_of_picture}
+use Rattle.jls_splice_run.specs.Making.{TellsOfSearches, files_taken, notes, promise_of, promise_on}
 use Rattle.jls_splice_run.specs.declared.found.Promise.TheVariants.{Picture, Lines}
 use Rattle.jls_copy_laws.proofs.Members.{none_in}
-use Rattle.jls_splice_run.specs.Runs.{Performs, came_of, no_names, at_copies, not_made, not_handed, done}
+use Rattle.jls_splice_run.specs.Runs.{Performs, came_of, no_names, at_copies, not_made, not_handed, done, texts}
+use Rattle.jls_splice_run.specs.Runs.{performed, named_twice, numbered_out, misused, helped, help_cut, nothing_begun, nothing_asked}
+use Rattle.jls_splice_laws.proofs.HandedFiles.{is_named_if_few}
 use Rattle.jls_splice_laws.proofs.StoppedRuns.{copies_above, handing_above, unmade_above}
 use Rattle.jls_splice_laws.specs.SplicingLaws.{SplicedCopiesGiveNoOther}
-use Rattle.jls_splice_laws.specs.RunLaws.{DidMake, IsOfEachWholeSplice, SplicedRunsGiveNoOther, SplicedRunsTakeTheCut}
+use Rattle.jls_splice_laws.specs.RunLaws.{DidMake, DidStop, FailedReadsCauseStatus4, IsWholeSplice, SplicedRunsAreDone}
+use Rattle.jls_splice_laws.specs.RunLaws.{SplicedRunsGiveNoOther, SplicedRunsHandOutTheFile, SplicedRunsTakeTheCut}
 
 -- a run that stops has a status above 1
 not_done : (status : ℕ) → 1 < status → status ≤ 1 → ⊥
@@ -34,64 +46,141 @@ was_whole : (settled whole : Bool) → exit_status (finished settled whole) ≤ 
 was_whole settled true e = refl
 was_whole settled false e = absurd (omega (arith, e))
 
-did_make : (a : Asked) (status : ℕ) (desk report faults : List Event) → Performs a status desk report faults → status ≤ 1
-    → DidMake a desk report
-did_make a _ _ _ _ (came_of _ _ _ _ line (at_copies r desk stops) reported) e = absurd (not_done _ (copies_above _ r desk stops) e)
-did_make a _ _ _ _ (came_of _ _ _ _ line (not_made r copies desk faults read cant) reported) e =
-    absurd (not_done _ (unmade_above a copies r faults cant) e)
-did_make a _ _ _ _ (came_of _ _ _ _ line (not_handed r copies m reading desk report faults noting read made tells noted stops) reported) e =
-    absurd (not_done _ (handing_above _ r desk report stops) e)
-did_make a _ _ _ _
-    (came_of _ _ _ _ line (done copies m settled whole reading desk report faults noting read made tells noted handed is_set is_read)
-    reported) e = record {
-      copies = copies;
-      made = m;
-      reading = reading;
-      writing = desk;
-      desk_is = refl;
-      read = read;
-      whole = is_read.0 (was_whole settled whole e);
-      is_made = made;
-      handed = handed;
-    }
-did_make a _ _ _ _ (no_names faults reported) e = absurd (omega (arith, e))
+-- a run that is done, and whose copies were read to their ends, ends with status 0 exactly where the promise is of the picture
+status_is : (promises whole : Bool) → exit_status (finished promises whole) ≤ 1
+    → (exit_status (finished promises whole) ≡ 0 ↔ IsTrue promises)
+status_is true true e = (λ is. refl, λ is. refl)
+status_is false true e = (λ is. absurd (omega (arith, is)), λ is. absurd cc)
+status_is true false e = absurd (omega (arith, e))
+status_is false false e = absurd (omega (arith, e))
 
--- a run that is done ends with status 0 only if each line is settled
-is_settled : (settled whole : Bool) → exit_status (finished settled whole) ≡ 0 → IsTrue settled
-is_settled true true e = refl
-is_settled true false e = absurd (omega (arith, e))
-is_settled false true e = absurd (omega (arith, e))
-is_settled false false e = absurd (omega (arith, e))
+-- a run that is done ends with status 4 only if a copy was not read to its end
+not_whole : (promises whole : Bool) → exit_status (finished promises whole) ≡ 4 → IsTrue whole → ⊥
+not_whole true true e is = omega (arith, e)
+not_whole false true e is = omega (arith, e)
+not_whole promises false e is = absurd cc
 
-at_most_1 : (n : ℕ) → n ≡ 0 → n ≤ 1
-at_most_1 n e = omega (arith, e)
+-- where there are no bytes, nothing is printed
+none_written : (writes : List Event) → AreWrites writes → bytes_taken writes ≡ [] → writes ≡ []
+none_written [] h e = refl
+none_written (took [] ∷ more) h e = absurd (omega (arith, h.0))
+none_written (took (b ∷ bs) ∷ more) h e = absurd cc
+none_written (x ∷ more) h e = absurd h
 
-did_settle : (a : Asked) (status : ℕ) (desk report faults : List Event) → Performs a status desk report faults → status ≡ 0
-    → (did : DidMake a desk report) × IsSettled did.made.picture
-did_settle a _ _ _ _ (came_of _ _ _ _ line (at_copies r desk stops) reported) e =
-    absurd (not_done _ (copies_above _ r desk stops) (at_most_1 _ e))
-did_settle a _ _ _ _ (came_of _ _ _ _ line (not_made r copies desk faults read cant) reported) e =
-    absurd (not_done _ (unmade_above a copies r faults cant) (at_most_1 _ e))
-did_settle a _ _ _ _ (came_of _ _ _ _ line (not_handed r copies m reading desk report faults noting read made tells noted stops) reported)
-    e =
-    absurd (not_done _ (handing_above _ r desk report stops) (at_most_1 _ e))
-did_settle a _ _ _ _
-    (came_of _ _ _ _ line (done copies m settled whole reading desk report faults noting read made tells noted handed is_set is_read)
-    reported) e = (
-      record {
-        copies = copies;
-        made = m;
-        reading = reading;
-        writing = desk;
-        desk_is = refl;
-        read = read;
-        whole = is_read.0 (was_whole settled whole (at_most_1 _ e));
-        is_made = made;
-        handed = handed;
-      },
-      is_set.0 (is_settled settled whole e),
-    )
-did_settle a _ _ _ _ (no_names faults reported) e = absurd (omega (arith, e))
+none_printed : (events : List Event) → Printed [] events → events ≡ []
+none_printed events (inl h) = none_written events h.are_writes h.they_took
+none_printed events (inr (count, h)) = let lt = h.not_all in absurd (omega (arith, lt))
+
+module _ (words : List Text) (a : Asked) (asks : AskFor words a) where
+  was_done : (copies : List CopyBytes) (m : Made) (reading writing report telling noting line : List Event)
+      → AreCopiesRead a.copies copies reading → IsMade a (bytes_read copies) m → TellsOfSearches a m.searches telling
+      → Printed (notes a (bytes_read copies) m) noting → HandsAll (texts a copies m) writing report → Printed [] line
+      → DidMake words a (reading ++ writing) report ((telling ++ noting) ++ line)
+  was_done copies m reading writing report telling noting line read made told noted handed none = record {
+    asks = asks;
+    copies = copies;
+    made = m;
+    reading = reading;
+    writing = writing;
+    telling = telling;
+    noting = noting;
+    desk_is = refl;
+    faults_are = ap (λ (es : List Event). (telling ++ noting) ++ es) (none_printed line none) ∙ append-nil (telling ++ noting);
+    read = read;
+    is_made = made;
+    told = told;
+    noted = noted;
+    handed = handed;
+  }
+
+  did_make : (status : ℕ) (desk report faults : List Event) → Performs a status desk report faults → status ≤ 1
+      → (did : DidMake words a desk report faults) × AreWhole did.copies × (status ≡ 0 ↔ IsTrue (is_of_picture (promise_on did.made)))
+  unfolding was_done
+  did_make _ _ _ _ (came_of _ _ _ _ line (at_copies r desk stops) told) e = absurd (not_done _ (copies_above _ r desk stops) e)
+  did_make _ _ _ _ (came_of _ _ _ _ line (not_made r copies desk faults read cant) told) e =
+      absurd (not_done _ (unmade_above a copies r faults cant) e)
+  did_make _ _ _ _ (came_of _ _ _ _ line (not_handed r copies m reading desk report faults noting read made tells noted stops) told) e =
+      absurd (not_done _ (handing_above _ r desk report stops) e)
+  did_make _ _ _ _
+      (came_of _ _ _ _ line (done copies m whole reading desk report faults noting read made tells noted handed is_read) none) e = (
+        was_done copies m reading desk report faults noting line read made tells noted handed none,
+        is_read.0 (was_whole (is_of_picture (promise_on m)) whole e),
+        status_is (is_of_picture (promise_on m)) whole e,
+      )
+  did_make _ _ _ _ (no_names faults told) e = absurd (omega (arith, e))
+
+  did_fail : (status : ℕ) (desk report faults : List Event) → Performs a status desk report faults → status ≡ 4
+      → ((did : DidMake words a desk report faults) × (AreWhole did.copies → ⊥)) ⊎ DidStop a desk report faults
+  unfolding was_done
+  did_fail _ _ _ _ (came_of _ _ _ _ line (at_copies r desk stops) told) e =
+      inr (record { refusal = r; stopping = []; line = line; faults_are = refl; stopped = at_copies r desk stops; told = told })
+  did_fail _ _ _ _ (came_of _ _ _ _ line (not_made r copies desk faults read cant) told) e =
+      inr (record {
+        refusal = r;
+        stopping = faults;
+        line = line;
+        faults_are = refl;
+        stopped = not_made r copies desk faults read cant;
+        told = told;
+      })
+  did_fail _ _ _ _ (came_of _ _ _ _ line (not_handed r copies m reading desk report faults noting read made tells noted stops) told) e =
+      inr (record {
+        refusal = r;
+        stopping = faults ++ noting;
+        line = line;
+        faults_are = refl;
+        stopped = not_handed r copies m reading desk report faults noting read made tells noted stops;
+        told = told;
+      })
+  did_fail _ _ _ _
+      (came_of _ _ _ _ line (done copies m whole reading desk report faults noting read made tells noted handed is_read) none) e =
+      inl (
+        was_done copies m reading desk report faults noting line read made tells noted handed none,
+        λ are. not_whole (is_of_picture (promise_on m)) whole e (is_read.1 are),
+      )
+  did_fail _ _ _ _ (no_names faults told) e = absurd (omega (arith, e))
+
+  one_asked : (b : Asked) → AskFor words b → b ≡ a
+  one_asked b other = let e : Some b ≡ Some a = sym other.asks ∙ asks.asks in cc
+
+pub spliced_runs_are_done : SplicedRunsAreDone
+spliced_runs_are_done words a _ _ _ _ asks (performed b status desk report faults other not_file not_numbered h) e =
+    did_make words a asks status desk report faults
+    (subst (λ (x : Asked). Performs x status desk report faults) (one_asked words a asks b other) h) e
+spliced_runs_are_done words a _ _ _ _ asks (named_twice b faults other is line) e = absurd (omega (arith, e))
+spliced_runs_are_done words a _ _ _ _ asks (numbered_out b faults other not_file is line) e = absurd (omega (arith, e))
+spliced_runs_are_done words a _ _ _ _ asks (misused k usage faults refused is line) e = absurd (omega (arith, e))
+spliced_runs_are_done words a _ _ _ _ asks (helped k help report refused is wrote) e = absurd (refused.not_taken asks.taken)
+spliced_runs_are_done words a _ _ _ _ asks (help_cut k help count report faults refused is wrote line) e = absurd (omega (arith, e))
+spliced_runs_are_done words a _ _ _ _ asks (nothing_begun faults line) e = absurd (omega (arith, e))
+spliced_runs_are_done words a _ _ _ _ asks (nothing_asked faults nothing line) e = absurd (omega (arith, e))
+
+pub failed_reads_cause_status_4 : FailedReadsCauseStatus4
+failed_reads_cause_status_4 words a _ _ _ _ asks (performed b status desk report faults other not_file not_numbered h) e =
+    did_fail words a asks status desk report faults
+    (subst (λ (x : Asked). Performs x status desk report faults) (one_asked words a asks b other) h) e
+failed_reads_cause_status_4 words a _ _ _ _ asks (named_twice b faults other is line) e = absurd (omega (arith, e))
+failed_reads_cause_status_4 words a _ _ _ _ asks (numbered_out b faults other not_file is line) e = absurd (omega (arith, e))
+failed_reads_cause_status_4 words a _ _ _ _ asks (misused k usage faults refused is line) e = absurd (omega (arith, e))
+failed_reads_cause_status_4 words a _ _ _ _ asks (helped k help report refused is wrote) e = absurd (omega (arith, e))
+failed_reads_cause_status_4 words a _ _ _ _ asks (help_cut k help count report faults refused is wrote line) e =
+    absurd (refused.not_taken asks.taken)
+failed_reads_cause_status_4 words a _ _ _ _ asks (nothing_begun faults line) e = absurd (omega (arith, e))
+failed_reads_cause_status_4 words a _ _ _ _ asks (nothing_asked faults nothing line) e = absurd (omega (arith, e))
+
+-- ---- what was made
+
+-- words ask for some copy
+asked_some : (o : Option Options) (out first : Option Text) (others : Option (List Text)) (a : Asked)
+    → asked_with o out first others ≡ Some a → 0 < length a.copies
+asked_some (Some o) (Some out) (Some first) (Some (second ∷ others)) a e =
+    let same : a ≡ record { options = o; out = out; copies = first ∷ second ∷ others } = cc in
+    subst (λ (x : Asked). 0 < length x.copies) (sym same) (omega arith)
+asked_some (Some o) (Some out) (Some first) (Some []) a e = absurd cc
+asked_some (Some o) (Some out) (Some first) None a e = absurd cc
+asked_some (Some o) (Some out) None others a e = absurd cc
+asked_some (Some o) None first others a e = absurd cc
+asked_some None out first others a e = absurd cc
 
 -- as many copies were read as there are names
 some_copy : (names : List (List ℕ)) (copies : List CopyBytes) (events : List Event) → AreCopiesRead names copies events → 0 < length names
@@ -121,73 +210,110 @@ module _ (a : Asked) (copies : List (List ℕ)) (m : Made) (is : IsMade a copies
 
 -- what the promise stands on
 promised : (ceiling limit : Option ℕ) (f : Found) (is_settled : Bool) → promise_of ceiling f is_settled ≡ Picture limit
-    → (f.is_used_up ≡ false) × (ceiling ≡ limit)
+    → (f.is_used_up ≡ false) × (has_some f.choices ≡ true) × (is_settled ≡ true) × (ceiling ≡ limit)
 promised ceiling limit f is_settled e = by f.is_used_up (has_some f.choices) is_settled e
   where
     by : (used some all : Bool)
         → (if used then Lines else (if some then (if all then Picture ceiling else Lines) else Lines)) ≡ Picture limit
-        → (used ≡ false) × (ceiling ≡ limit)
+        → (used ≡ false) × (some ≡ true) × (all ≡ true) × (ceiling ≡ limit)
     by true some all e = absurd cc
     by false false all e = absurd cc
     by false true false e = absurd cc
-    by false true true e = (refl, cc)
+    by false true true e = (refl, refl, refl, cc)
 
-module _ (are_faultless : WholeFilesAreFaultless) (never : SplicedCopiesGiveNoOther) (a : Asked) (desk report : List Event)
-    (some : 0 < length a.copies) (d : DidMake a desk report) (settled : IsSettled d.made.picture) where
-  of_each : d.made.found.is_used_up ≡ false → IsOfEachWholeSplice d.made.ceiling (bytes_read d.copies) d.made
-  of_each enough pic is file whole within splice =
-      let copies : List (List ℕ) = bytes_read d.copies in
-      let ceiling = d.made.ceiling in
-      let f : Found = d.made.found in
-      let p : PartialPicture = d.made.picture in
-      let copy : 0 < length copies = some_copy a.copies d.copies d.reading d.read some in
-      let is_found = d.is_made.is_found in
-      let came : CameTo (IsSought ceiling) f.parts f.choices false =
-      subst (CameTo (IsSought ceiling) f.parts f.choices) enough is_found.came_to in
-      let among : Contains (files_of f.parts f.choices) file =
-      came.all refl (length copies) copy is_found.are_parts.ways file whole.bytes splice (are_faultless pic file whole, within) in
-      let splices : splices_in f ≡ files_of f.parts f.choices = splices_of_all ceiling copies f file is_found enough among in
-      let picture : IsPictureOfFiles a.options.source copies (splices_in f) p =
-      files_alone a copies d.made d.is_made file d.made.cut refl among in
-      never ceiling copies f.parts a.options.source p (record {
-        some_copy = copy;
-        are_parts = is_found.are_parts;
-        found = f.choices;
-        searched = came;
-        shape = p.shape;
-        shape_is = subst (λ (xs : List (List ℕ)). IsShapeTaken copies xs p.shape) splices picture.shape_is;
-        takes = subst (λ (xs : List (List ℕ)). TakesFiles a.options.source (copies ++ xs) (nothing_known p.shape) p)
-            splices picture.union_is;
-      }) pic is file whole within splice settled
+module _ (are_faultless : WholeFilesAreFaultless) (words : List Text) (a : Asked) (desk report faults : List Event)
+    (d : DidMake words a desk report faults) where
+  abbrev IsTrueFile : WholePicture → List ℕ → Type 0
+  IsTrueFile pic file = IsWholeSplice d.made.ceiling (bytes_read d.copies) d.made pic file
+
+  copy_read : 0 < length (bytes_read d.copies)
+  copy_read = some_copy a.copies d.copies d.reading d.read (asked_some _ _ _ _ a d.asks.asks)
+
+  module _ (enough : d.made.found.is_used_up ≡ false) (pic : WholePicture) (file : List ℕ) (is : IsTrueFile pic file) where
+    abbrev copies : List (List ℕ)
+    copies = bytes_read d.copies
+
+    abbrev f : Found
+    f = d.made.found
+
+    came : CameTo (IsSought d.made.ceiling) f.parts f.choices false
+    came = subst (CameTo (IsSought d.made.ceiling) f.parts f.choices) enough d.is_made.is_found.came_to
+
+    among : Contains (files_of f.parts f.choices) file
+    among =
+        came.all refl (length copies) copy_read d.is_made.is_found.are_parts.ways file is.whole.bytes is.splice
+        (are_faultless pic file is.whole, is.within)
+
+    splices : splices_in f ≡ files_of f.parts f.choices
+    splices = splices_of_all d.made.ceiling copies f file d.is_made.is_found enough among
+
+    taken : Contains (files_taken copies f) file
+    taken =
+        Contains-append_right copies (splices_in f) file (subst (λ (xs : List (List ℕ)). Contains xs file) (sym splices) among)
+
+    -- the picture is that of the file
+    is_its_picture : SplicedCopiesGiveNoOther → IsSettled d.made.picture → picture_of d.made.picture ≡ pic
+    is_its_picture never settled =
+        let p : PartialPicture = d.made.picture in
+        let picture : IsPictureOfFiles a.options.source copies (splices_in f) p =
+        files_alone a copies d.made d.is_made file d.made.cut refl among in
+        never d.made.ceiling copies f.parts a.options.source p (record {
+          some_copy = copy_read;
+          are_parts = d.is_made.is_found.are_parts;
+          found = f.choices;
+          searched = came;
+          shape = p.shape;
+          shape_is = subst (λ (xs : List (List ℕ)). IsShapeTaken copies xs p.shape) splices picture.shape_is;
+          takes = subst (λ (xs : List (List ℕ)). TakesFiles a.options.source (copies ++ xs) (nothing_known p.shape) p)
+              splices picture.union_is;
+        }) pic is.is_picture file is.whole is.within is.splice settled
+
+    -- the single file is the file
+    single_is_it : (name single : List ℕ) → a.options.file ≡ Some name → d.made.single ≡ Some single → single ≡ file
+    single_is_it name single asked found =
+        let only : IsOnly (files_taken copies f) single =
+        subst (λ (o : Option (List ℕ)). IsSingleAsked (Some name) (files_taken copies f) o) found
+        (subst (λ (o : Option Text). IsSingleAsked o (files_taken copies f) d.made.single) asked d.is_made.is_single) in
+        sym (only.alone file taken (are_faultless pic file is.whole))
+
+    -- the file has a name
+    it_is_named : (prefix : List ℕ) → a.options.files ≡ Some prefix → length d.made.files < 64 → is_named d.made.files file ≡ true
+    it_is_named prefix asked few =
+        is_named_if_few 64 prefix (files_taken copies f) d.made.files
+        (subst (λ (o : Option Text). AreNamedAsked o (files_taken copies f) d.made.files) asked d.is_made.are_named) few file taken
+        (are_faultless pic file is.whole)
 
 pub spliced_runs_give_no_other : WholeFilesAreFaultless → SplicedCopiesGiveNoOther → SplicedRunsGiveNoOther
-spliced_runs_give_no_other are_faultless never a desk report faults some performs =
-    let h = did_settle a 0 desk report faults performs refl in
-    let d : DidMake a desk report = h.0 in
-    let each = of_each are_faultless never a desk report some d h.1 in (
-      d,
-      h.1,
-      each,
-      λ limit promises.
-          let p = promised d.made.ceiling limit d.made.found d.made.is_settled promises in
-          subst (λ (l : Option ℕ). IsOfEachWholeSplice l (bytes_read d.copies) d.made) p.1 (each p.0),
-    )
+spliced_runs_give_no_other are_faultless never words a desk report faults d limit promises =
+    let p = promised d.made.ceiling limit d.made.found d.made.is_settled promises in
+    let settled : IsSettled d.made.picture = d.is_made.settled.0 p.2 in
+    record {
+      of_limit = p.3;
+      not_cut_off = p.0;
+      some_file = p.1;
+      settled = settled;
+      no_other = λ pic file is.
+          is_its_picture are_faultless words a desk report faults d p.0 pic file
+          (subst (λ (l : Option ℕ). IsWholeSplice l (bytes_read d.copies) d.made pic file) (sym p.3) is) never settled;
+    }
+
+pub spliced_runs_hand_out_the_file : WholeFilesAreFaultless → SplicedRunsHandOutTheFile
+spliced_runs_hand_out_the_file are_faultless words a desk report faults d enough pic whole is = (
+  single_is_it are_faultless words a desk report faults d enough pic whole is,
+  it_is_named are_faultless words a desk report faults d enough pic whole is,
+)
 
 pub spliced_runs_take_the_cut : SplicedRunsTakeTheCut
-spliced_runs_take_the_cut a status desk report faults performs e =
-    let d : DidMake a desk report = did_make a status desk report faults performs e in (
-      d,
-      λ path is.
-          let m : Made = d.made in
-          let copies : List (List ℕ) = bytes_read d.copies in
-          let cut : IsCutFile m.cut_ceiling m.found path =
-          cut_is_lone copies m.found m.cut_ceiling m.lone m.cut path is d.is_made.is_lone d.is_made.is_cut in
-          record {
-            are_parts = d.is_made.is_found.are_parts;
-            is_lone = cut.1;
-            splices = splices_in m.found;
-            takes = subst (λ (c : Option (List ℕ)). IsPictureOf a.options.source copies (splices_in m.found) (cut_file m.found c) m.picture)
-                is
-                d.is_made.is_picture;
-          },
-    )
+spliced_runs_take_the_cut words a desk report faults d path is =
+    let m : Made = d.made in
+    let copies : List (List ℕ) = bytes_read d.copies in
+    let cut : IsCutFile m.cut_ceiling m.found path =
+    cut_is_lone copies m.found m.cut_ceiling m.lone m.cut path is d.is_made.is_lone d.is_made.is_cut in
+    record {
+      are_parts = d.is_made.is_found.are_parts;
+      is_lone = cut.1;
+      splices = splices_in m.found;
+      takes = subst (λ (c : Option (List ℕ)). IsPictureOf a.options.source copies (splices_in m.found) (cut_file m.found c) m.picture)
+          is
+          d.is_made.is_picture;
+    }

@@ -8,4 +8,5 @@ pub mod HeldFiles
 pub mod SplicedCopies
 pub mod CutFiles
 pub mod DoneRuns
+mod HandedFiles
 mod StoppedRuns

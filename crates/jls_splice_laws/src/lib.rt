@@ -17,7 +17,10 @@ mod settled;
 mod splicing;
 
 pub use cut::cut_lines_are_the_picture;
-pub use runs::{spliced_runs_give_no_other, spliced_runs_take_the_cut};
+pub use runs::{
+    spliced_runs_are_done, spliced_runs_give_no_other, spliced_runs_hand_out_the_file,
+    spliced_runs_take_the_cut,
+};
 pub use searches::searches_lose_nothing;
 pub use settled::{faultless_splices_are_taken, splices_give_no_other, whole_files_survive};
 pub use splicing::{files_are_held, spliced_copies_give_no_other};

@@ -1,14 +1,22 @@
 //! The laws of what a run has written. Each is a function that does nothing and whose contract is the law.
 
-ghost use Rattle.jls_splice_laws.specs.RunLaws.{SplicedRunsGiveNoOther, SplicedRunsTakeTheCut};
+ghost use Rattle.jls_splice_laws.specs.RunLaws.{FailedReadsCauseStatus4, SplicedRunsAreDone, SplicedRunsGiveNoOther};
+ghost use Rattle.jls_splice_laws.specs.RunLaws.{SplicedRunsHandOutTheFile, SplicedRunsTakeTheCut};
 
 use crate::settled::whole_files_survive;
 use crate::splicing::spliced_copies_give_no_other;
 
-/// A law: what was asked of `jls-splice` ended with status 0, so OUT was handed the text of a picture. Take an undamaged file that is a
-/// splice of the copies: it agrees with them where they are found to agree, and in each stretch between with one copy. Let no sample of it
-/// be above the limit of the search that counts, if it has one. If that search was not cut off, the picture is that file's and no other. So
-/// it is if the run prints `promise picture`, for the limit that it prints.
+/// A law: the words of `jls-splice` ask for something, and the run ends with status 0 or 1. Then it was done: OUT was handed the text of
+/// what was made, and each copy was read to its end. The status is 0 exactly where the picture is promised. If the run ends with status 4,
+/// either it was done too, and a copy was not read to its end, or something stopped it.
+pub fn spliced_runs_are_done()
+    ensures done { SplicedRunsAreDone }
+    ensures failed_reads { FailedReadsCauseStatus4 }
+{}
+
+/// A law: a run prints `promise picture` only where the search that counts was not cut off and found a file, and each line is settled. Take
+/// an undamaged file that is a splice of the copies: it agrees with them where they are found to agree, and in each stretch between with
+/// one copy. Let no sample of it be above the printed limit, if there is one. Then the picture is that file's and no other.
 pub fn spliced_runs_give_no_other()
     ensures { SplicedRunsGiveNoOther }
 {
@@ -16,8 +24,17 @@ pub fn spliced_runs_give_no_other()
     spliced_copies_give_no_other();
 }
 
-/// A law: what was asked of `jls-splice` ended with status 0 or 1, so it was done. If a cut file was taken, what the run made of it is as
-/// `cut_lines_are_the_picture` requires. So that law says which lines of OUT are the picture's.
+/// A law: assume that the search that counts was not cut off. Assume also that an undamaged file is a splice of the copies, with no sample
+/// above the limit of that search, if it has one. Then the file that `--file` gives has its bytes. Where `--files` gives fewer than 64
+/// files, one of them has its bytes.
+pub fn spliced_runs_hand_out_the_file()
+    ensures { SplicedRunsHandOutTheFile }
+{
+    whole_files_survive();
+}
+
+/// A law: if a cut file was taken, what the run made of it is as `cut_lines_are_the_picture` requires. So that law says which lines of OUT
+/// are the picture's.
 pub fn spliced_runs_take_the_cut()
     ensures { SplicedRunsTakeTheCut }
 {}

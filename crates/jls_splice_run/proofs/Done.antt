@@ -5,7 +5,6 @@ use Rattle.std.proofs.lemmas.List.{append-nil}
 use Rattle.jls_io.specs.Event.{Event, History, GrewBy, GrewBoth}
 use Rattle.jls_io.specs.Writing.{Printed}
 use Rattle.jls_io.proofs.Growing.{grew_twice}
-use Rattle.jls_partial.specs.Status.{IsSettled}
 use Rattle.jls_station.specs.CopyFiles.{AreCopiesRead, CopyBytes}
 use Rattle.jls_cli.specs.SpliceAsking.{Asked}
 use Rattle.jls_cli.specs.Outcomes.{Outcome, finished}
@@ -13,8 +12,9 @@ use Rattle.jls_cli.specs.declared.outcome.Refusal.{Refusal}
 use Rattle.jls_splice_run.specs.Copies.{AreWhole, bytes_read, StopsAtCopies}
 use Rattle.jls_splice_run.specs.Handing.{HandsAll, StopsInHanding, Texts}
 use Rattle.jls_splice_run.specs.Listing.{prefix_in}
-use Rattle.jls_splice_run.specs.Making.{AreTextsOf, CantMake, HoldsMade, Made, notes}
+use Rattle.jls_splice_run.specs.Making.{AreTextsOf, CantMake, HoldsMade, Made, is_of_picture, notes}
 use Rattle.jls_splice_run.specs.Runs.{GrewAll, Splices, at_copies, done, not_handed, not_made, texts, texts_held}
+use Rattle.jls_splice_run.specs.declared.found.Promise.{Promise}
 use Rattle.jls_splice_run.specs.declared.made.Made.{Made as MadeValue}
 
 -- as many copies are read as there are names
@@ -97,10 +97,10 @@ module _ (a : Asked) (desk mid report faults : History) where
           (subst (λ (t : Texts). StopsInHanding t r events reported) (texts_are a copies made.0 v made.2) stops))
 
       pub is_done : (whole : Bool) → (IsTrue whole ↔ AreWhole copies) → GrewBoth (HandsAll (texts_held a v)) mid new report report'
-          → GrewAll (Splices a (finished v.settled whole)) desk new report report' faults last
+          → GrewAll (Splices a (finished (is_of_picture v.promise) whole)) desk new report report' faults last
       is_done whole whole_is =
-          handed (HandsAll (texts_held a v)) (finished v.settled whole)
-          (λ events reported all. done copies made.0 v.settled whole read.events events reported holds.events noted.events read.they_are
-          made.1 made.3 its_notes
-          (subst (λ (t : Texts). HandsAll t events reported) (texts_are a copies made.0 v made.2) all)
-          (subst (λ (b : Bool). IsTrue b ↔ IsSettled made.0.picture) (sym made.2.settled_is) made.1.settled) whole_is)
+          handed (HandsAll (texts_held a v)) (finished (is_of_picture v.promise) whole)
+          (λ events reported all. subst (λ (p : Promise). Splices a (finished (is_of_picture p) whole) (read.events ++ events) reported
+          (holds.events ++ noted.events)) (sym made.2.promise_is)
+          (done copies made.0 whole read.events events reported holds.events noted.events read.they_are made.1 made.3 its_notes
+          (subst (λ (t : Texts). HandsAll t events reported) (texts_are a copies made.0 v made.2) all) whole_is))

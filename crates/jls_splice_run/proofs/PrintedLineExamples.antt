@@ -73,11 +73,13 @@ cut_within = rw (d12, d4095) refl
 no_cut : before_line None ≡ []
 no_cut = refl
 
-picture : promise_line (Picture None) ≡ codes "promise picture if each differ is true in some copy\n"
+picture : promise_line (Picture None)
+    ≡ codes "promise picture if the true file has what one copy has at each differ, and what all have elsewhere\n"
 picture = refl
 
 picture_within : promise_line (Picture (Some 4095))
-    ≡ codes "promise picture if each differ is true in some copy and samples are up to 4095\n"
+    ≡ codes "promise picture if the true file has what one copy has at each differ, and what all have elsewhere"
+    ++ codes " and samples are up to 4095\n"
 picture_within = rw d4095 refl
 
 only_lines : promise_line Lines ≡ codes "promise lines\n"
@@ -135,5 +137,7 @@ complete = record {
 }
 
 text_of_complete : found_text two complete
-    ≡ codes "differ 2 1\ndiffer 4 0\nsplices 1\nlimit 4095\npromise picture if each differ is true in some copy and samples are up to 4095\n"
+    ≡ codes "differ 2 1\ndiffer 4 0\nsplices 1\nlimit 4095\n"
+    ++ codes "promise picture if the true file has what one copy has at each differ, and what all have elsewhere"
+    ++ codes " and samples are up to 4095\n"
 text_of_complete = rw (d0, d1, d2, d4, d4095) refl

@@ -53,10 +53,13 @@ abbrev pub before_line : Option CutEnd → List ℕ
 before_line None = []
 before_line (Some end) = codes "before " ++ decimal end.offset ++ samples_end (codes ", samples up to ") end.limit
 
+-- what the line of a promise of the picture begins with: its premise, but for the limit of samples
+abbrev pub picture_words : List ℕ
+picture_words = codes "promise picture if the true file has what one copy has at each differ, and what all have elsewhere"
+
 -- the line of the promise that holds
 abbrev pub promise_line : Promise → List ℕ
-promise_line (Picture limit) =
-    codes "promise picture if each differ is true in some copy" ++ samples_end (codes " and samples are up to ") limit
+promise_line (Picture limit) = picture_words ++ samples_end (codes " and samples are up to ") limit
 promise_line Lines = codes "promise lines\n"
 
 -- the line of how many files have no fault; no line if they were not asked for

@@ -150,6 +150,15 @@ abbrev pub promise_of : Option ℕ → Found → Bool → Promise
 promise_of ceiling f is_settled =
     if f.is_used_up then Lines else (if has_some f.choices then (if is_settled then Picture ceiling else Lines) else Lines)
 
+-- the promise of what was made, which is printed
+abbrev pub promise_on : Made → Promise
+promise_on m = promise_of m.ceiling m.found m.is_settled
+
+-- whether a promise is of the picture
+abbrev pub is_of_picture : Promise → Bool
+is_of_picture (Picture limit) = true
+is_of_picture Lines = false
+
 -- what is reported of the search
 abbrev pub report_on : Asked → List (List ℕ) → Made → SearchReport
 report_on a copies m = record {
@@ -160,7 +169,7 @@ report_on a copies m = record {
   before = option_map (cut_end m.found.parts m.cut_ceiling) m.cut;
   files = files_reported a.options.files m.files;
   lacks_single_file = lacks_single a.options.file m.single;
-  promise = promise_of m.ceiling m.found m.is_settled;
+  promise = promise_on m;
 }
 
 -- what is printed: the lines of what was found and the report. Nothing, if the output is standard output
@@ -212,9 +221,9 @@ CantMake a copies r events =
 -- ---- as the code has it
 
 -- what was made, by the searches, what was found with the limit of a cut file, the choices of the one found and of the one taken, the
--- picture, and what the code holds of it
-abbrev pub made_of : Searches → FoundInTurn → Option (Vec ℕ Global) → Option (Vec ℕ Global) → PartialPicture → MadeValue → Made
-made_of w all lone cut p v = record {
+-- picture, whether each line of it is settled, and what the code holds of it
+abbrev pub made_of : Searches → FoundInTurn → Option (Vec ℕ Global) → Option (Vec ℕ Global) → PartialPicture → Bool → MadeValue → Made
+made_of w all lone cut p is_settled v = record {
   searches = w;
   ceiling = all.splices.ceiling;
   found = found_of all.splices;
@@ -223,7 +232,7 @@ made_of w all lone cut p v = record {
   lone = option_map (λ path. path.items) lone;
   cut = option_map (λ path. path.items) cut;
   picture = p;
-  is_settled = v.settled;
+  is_settled = is_settled;
   single = option_map (λ f. f.items) v.file;
   files = named_files v.files.items;
 }
@@ -235,7 +244,7 @@ pub record AreTextsOf (a : Asked) (copies : List (List ℕ)) (m : Made) (v : Mad
   pub text_is : v.text.items ≡ text m.picture
   pub file_is : option_map (λ f. f.items) v.file ≡ m.single
   pub files_are : named_files v.files.items ≡ m.files
-  pub settled_is : v.settled ≡ m.is_settled
+  pub promise_is : v.promise ≡ promise_on m
 
 -- and it was made of these copies, and reported so
 abbrev pub HoldsMade : Asked → List CopyBytes → MadeValue → List Event → Type 0

@@ -4,7 +4,6 @@ use Rattle.clap.specs.Words.{Text}
 use Rattle.clap.specs.declared.error.kind.ErrorKind.{ErrorKind}
 use Rattle.jls_io.specs.Event.{Event, History}
 use Rattle.jls_io.specs.Writing.{Wrote, WrotePrefix, Printed}
-use Rattle.jls_partial.specs.Status.{IsSettled}
 use Rattle.jls_partial.specs.Text.{text}
 use Rattle.jls_station.specs.CopyFiles.{AreCopiesRead, CopyBytes}
 use Rattle.jls_cli.specs.SpliceAsking.{Asked, AskFor, AskForNothing}
@@ -18,7 +17,7 @@ use Rattle.jls_cli.specs.declared.outcome.Refusal.{Refusal}
 use Rattle.jls_splice_run.specs.Copies.{AreWhole, bytes_read, StopsAtCopies}
 use Rattle.jls_splice_run.specs.Handing.{HandsAll, StopsInHanding, Texts}
 use Rattle.jls_splice_run.specs.Listing.{IsNumbered, named_files, prefix_in}
-use Rattle.jls_splice_run.specs.Making.{CantMake, IsMade, Made, TellsOfSearches, lines, notes}
+use Rattle.jls_splice_run.specs.Making.{CantMake, IsMade, Made, TellsOfSearches, is_of_picture, lines, notes, promise_on}
 use Rattle.jls_splice_run.specs.declared.made.Made.{Made as MadeValue}
 
 -- the histories of the three devices grew by events, and they are such: nothing else was done
@@ -57,7 +56,8 @@ texts_held a v = record {
 
 -- What comes of what was asked, by the events of the desk, of the report output and of the fault output. A copy stops the run; or all
 -- were read, and nothing can be made of them; or something is, and one of the outputs stops the run; or all of it is handed out. Then it is
--- said whether each line is settled, and whether each copy was read to its end. The searches tell how far they are, if that is asked for.
+-- said whether the promise is of the picture, and whether each copy was read to its end. So the status is 0 exactly where both are so. The
+-- searches tell how far they are, if that is asked for.
 -- If the output is standard output, what was found is noted on the fault output
 pub data Splices (a : Asked) : Outcome → List Event → List Event → List Event → Type 0 where
   at_copies : (r : Refusal) (desk : List Event) → StopsAtCopies a.copies r desk → Splices a (Err r) desk [] []
@@ -67,12 +67,12 @@ pub data Splices (a : Asked) : Outcome → List Event → List Event → List Ev
       → AreCopiesRead a.copies copies reading → IsMade a (bytes_read copies) m → TellsOfSearches a m.searches faults
       → Printed (notes a (bytes_read copies) m) noting
       → StopsInHanding (texts a copies m) r desk report → Splices a (Err r) (reading ++ desk) report (faults ++ noting)
-  done : (copies : List CopyBytes) (m : Made) (settled whole : Bool) (reading desk report faults noting : List Event)
+  done : (copies : List CopyBytes) (m : Made) (whole : Bool) (reading desk report faults noting : List Event)
       → AreCopiesRead a.copies copies reading → IsMade a (bytes_read copies) m → TellsOfSearches a m.searches faults
       → Printed (notes a (bytes_read copies) m) noting
       → HandsAll (texts a copies m) desk report
-      → (IsTrue settled ↔ IsSettled m.picture) → (IsTrue whole ↔ AreWhole copies)
-      → Splices a (finished settled whole) (reading ++ desk) report (faults ++ noting)
+      → (IsTrue whole ↔ AreWhole copies)
+      → Splices a (finished (is_of_picture (promise_on m)) whole) (reading ++ desk) report (faults ++ noting)
 
 -- what was asked ends with this status, and its fault line is printed last; or memory ran out before a copy was opened
 pub data Performs (a : Asked) : ℕ → List Event → List Event → List Event → Type 0 where

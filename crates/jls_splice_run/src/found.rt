@@ -1,5 +1,8 @@
 //! What is printed of a search.
 
+ghost use Rattle.std.specs.Prelude.{◌≡◌};
+ghost use Rattle.jls_splice_run.specs.Making as spec;
+
 /// What the search by groups came to.
 #[derive(Clone, Copy, Debug, PartialEq, Eq)]
 pub struct GroupSearch {
@@ -26,6 +29,18 @@ pub enum Promise {
     Picture(Option<u16>),
     /// Only what holds of each line of a `join`.
     Lines,
+}
+
+impl Promise {
+    /// Whether it is of the picture. A run that promises less does not end with status 0.
+    pub fn is_of_picture(self) -> bool
+        ensures { result ≡ spec.is_of_picture self }
+    {
+        match self {
+            Promise::Picture(_) => true,
+            Promise::Lines => false,
+        }
+    }
 }
 
 /// What a search came to, as its lines tell it.

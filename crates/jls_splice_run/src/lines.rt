@@ -153,7 +153,9 @@ fn put_before(out: &mut Vec<u8>, before: Option<CutEnd>) -> Result<(), AllocErro
 fn put_picture(out: &mut Vec<u8>, limit: Option<u16>) -> Result<(), AllocError>
     ensures { OnOk result (out.new.items ≡ out.old.items ++ promise_line (Promise.Picture limit)) }
 {
-    out.extend_from_slice(b"promise picture if each differ is true in some copy")?;
+    out.extend_from_slice(
+        b"promise picture if the true file has what one copy has at each differ, and what all have elsewhere",
+    )?;
     put_samples(out, b" and samples are up to ", limit)
 }
 

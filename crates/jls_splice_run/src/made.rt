@@ -1,6 +1,6 @@
 //! What is made of the copies, in memory.
 
-ghost use Rattle.std.specs.Prelude.{◌≡◌, ◌<◌, ◌≤◌, ◌^◌, ◌↔◌, ℕ, List, None, Option, length, IfOk, IfErr, IfSome, IfNone, IsTrue};
+ghost use Rattle.std.specs.Prelude.{◌≡◌, ◌<◌, ◌≤◌, ◌^◌, ◌↔◌, ℕ, Bool, List, None, Option, length, IfOk, IfErr, IfSome, IfNone, IsTrue};
 ghost use Rattle.std.specs.Prelude.{option_map};
 ghost use Rattle.std.specs.List.{AllByRecursion};
 ghost use Rattle.std.specs.declared.vec.Vec.{Vec};
@@ -41,7 +41,7 @@ use jls_search::{Files, FoundSplices, GroupsReported, HeldFiles, lone_path};
 use jls_station::CopyFile;
 use std::alloc::{AllocError, Global};
 
-/// What a run hands out, and whether each line of its picture is settled.
+/// What a run hands out, and what it promises of it.
 #[derive(Drop)]
 pub struct Made {
     /// The lines that are printed.
@@ -54,8 +54,8 @@ pub struct Made {
     pub file: Option<Vec<u8>>,
     /// The files without a fault, with their names, if they are asked for.
     pub files: Vec<NumberedFile>,
-    /// Whether each line of the picture is settled.
-    pub settled: bool,
+    /// Which promise is printed.
+    pub promise: Promise,
 }
 
 /// The choices of the cut file, if the search that counts found nothing.
@@ -206,10 +206,9 @@ fn texts_of(
     requires small { length (made 0 all.now.splices.parts) < 2 ^ 64 }
     requires path { IfSome held.now.cut (λ path. IsPath all.now.splices.parts path.items) }
     requires verdicts { AreVerdicts (given.files_taken files.now) held.now.faultless.items }
-    ensures texts { IfOk result (λ made. (searches : Searches) → (lone : Option (Vec ℕ Global))
-        → AreTextsOf (task_of task.now) (bytes_of files.now.copies.now)
-        (made_of searches all.now lone held.now.cut held.now.station made) made) }
-    ensures settled { IfOk result (λ made. IsTrue made.settled ↔ IsSettled held.now.station) }
+    ensures texts { IfOk result (λ made. (settled : Bool) × (IsTrue settled ↔ IsSettled held.now.station)
+        × ((searches : Searches) → (lone : Option (Vec ℕ Global)) → AreTextsOf (task_of task.now) (bytes_of files.now.copies.now)
+        (made_of searches all.now lone held.now.cut held.now.station settled made) made)) }
     ensures single { IfOk result (λ made. IsSingleAsked (task_of task.now).options.file
         (files_taken (bytes_of files.now.copies.now) (found_of all.now.splices)) (option_map (λ f. f.items) made.file)) }
     ensures named { IfOk result (λ made. AreNamedAsked (task_of task.now).options.files
@@ -222,6 +221,7 @@ fn texts_of(
     let file = file_asked(alloc, task.options.file, files, verdicts)?;
     let numbered = files_asked(alloc, task.options.files, files, verdicts)?;
     let splices = count_new(alloc, files.copies, files.parts, files.splices)?;
+    let promise = promise_of(found, settled);
     let report = SearchReport {
         splices,
         is_used_up: found.is_used_up,
@@ -230,7 +230,7 @@ fn texts_of(
         before: cut_end(all, &held.cut),
         files: files_reported(task.options.files, &numbered),
         lacks_single_file: lacks_file(task.options.file, &file),
-        promise: promise_of(found, settled),
+        promise,
     };
     let lines = lines_of(alloc, task.out, &found.parts, &report, partial)?;
     let notes = notes_of(alloc, task.out, &report)?;
@@ -241,7 +241,7 @@ fn texts_of(
         text,
         file,
         files: numbered,
-        settled,
+        promise,
     })
 }
 

@@ -43,8 +43,8 @@ fn perform<D: Desk, W: Sink, E: Sink>(
 
 /// The program `jls-splice`. The words begin with the program's own name, and the answer is the exit status:
 ///
-/// - 0: done, and each line of OUT is settled; or help or the version was asked for;
-/// - 1: done, with lines that are missing or disputed;
+/// - 0: done, and the picture is promised (`promise picture ..`); or help or the version was asked for;
+/// - 1: done, and it is not: lines are missing or disputed, the search that counts was cut off, or only groups gave files;
 /// - 2: the words were not understood, or `--file` names OUT, or OUT is a name that `--files` can give;
 /// - 3: a copy is a partial picture, no file taken has a picture, or files without a fault differ in shape;
 /// - 4: a copy can't be opened or read, an output can't be created, or a write failed. The run may be done then, if a copy was not read

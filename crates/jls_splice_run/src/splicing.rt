@@ -81,7 +81,7 @@ pub fn splice<'a, D: Desk, W: Sink, E: Sink>(
     print_notes(faults, &made.notes);
     match hand_out(desk, report, task, &made) {
         Ok(()) => Ok(Done {
-            settled: made.settled,
+            settled: made.promise.is_of_picture(),
             whole: are_whole(&copies),
         }),
         Err(refusal) => Err(refusal),

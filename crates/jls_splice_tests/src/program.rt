@@ -38,15 +38,20 @@ a header, and a place in all: eight: 2+4=0 300+8=0 / 12+3=0 300+8=85: OUT 1 2: 1
 one try: eight: 100+8=0 / 400+8=0: --tries 1 OUT 1 2: 1 other: before 100
 lines of one try: eight: 100+8=0 / 400+8=0: --tries 1 OUT 1 2: 1 other: missing 1 2-19
 within a limit, and a place in all: eight: 300+8=0 / 300+8=85: --max 255 OUT 1 2: 1 other: before 300, samples up to 255
-a promise: eight: 100+8=0 / 400+8=0: OUT 1 2: 0 eight: promise picture if each differ is true in some copy
-a promise within a limit: eight: 100+8=0 / 400+8=0: --max 255 OUT 1 2: 0 eight: promise picture if each differ is true in some copy and \
+a promise: eight: 100+8=0 / 400+8=0: OUT 1 2: 0 eight: \
+promise picture if the true file has what one copy has at each differ, and what all have elsewhere
+a promise within a limit: eight: 100+8=0 / 400+8=0: --max 255 OUT 1 2: 0 eight: \
+promise picture if the true file has what one copy has at each differ, and what all have elsewhere and \
 samples are up to 255
+a promise whose premise fails: eight: 114+1=221 / 114+1=221: OUT 1 2: 0 other: \
+promise picture if the true file has what one copy has at each differ, and what all have elsewhere
 no promise: eight: 300+8=0 / 300+8=85: OUT 1 2: 1 other: promise lines
 no promise of disputed lines: eight: whole / other: OUT 1 2: 1 other: promise lines
 limits in turn: deep: 50+3=85 98+3=85 146+3=85 194+3=85 242+3=85 / \
 74+3=85 122+3=85 170+3=85 218+3=85 266+3=85: --tries 40 OUT 1 2: 0 deep: limit 8191
 a promise within the limit that counts: deep: 50+3=85 98+3=85 146+3=85 194+3=85 242+3=85 / 74+3=85 122+3=85 170+3=85 218+3=85 266+3=85: \
---tries 40 OUT 1 2: 0 deep: promise picture if each differ is true in some copy and samples are up to 8191
+--tries 40 OUT 1 2: 0 deep: promise picture if the true file has what one copy has at each differ, and what all have elsewhere \
+and samples are up to 8191
 limits up to the last: deep: 50+3=85 98+3=85 146+3=85 194+3=85 242+3=85 / \
 74+3=85 122+3=85 170+3=85 218+3=85 266+3=85: --tries 300 OUT 1 2: 0 deep: limit 46340
 each search tells its tries: deep: 50+3=85 98+3=85 146+3=85 194+3=85 242+3=85 / 74+3=85 122+3=85 170+3=85 218+3=85 266+3=85: \
@@ -59,7 +64,9 @@ a limit of a shallow picture: deep: 50+3=85 150+4=0 / 74+3=85 150+4=51: OUT 1 2:
 lines of a shallow picture: deep: 50+3=85 150+4=0 / 74+3=85 150+4=51: OUT 1 2: 1 other: missing 1 5-13
 none of a deep picture: sixteen: 50+3=85 200+4=0 / 74+3=85 200+4=51: OUT 1 2: 1 other: before 200
 none of eight bits: eight: 100+8=0 300+8=0 / 200+8=0 300+8=85: OUT 1 2: 1 other: before 300
-no promise by groups: eight: 100+8=0 / 400+8=0: --max 254 OUT 1 2: 0 eight: promise lines
+no promise by groups: eight: 100+8=0 / 400+8=0: --max 254 OUT 1 2: 1 eight: promise lines
+no promise beside an undamaged copy: eight: 100+8=0 / whole: --tries 1 OUT 1 2: 1 eight: promise lines
+no promise on standard error: eight: 100+8=0 / 400+8=0: - 1 2 --max 254: 1 eight: jls-splice: promise lines
 one copy twice: eight: whole / whole: OUT 1 2: 0 eight: splices 0
 a flipped bit in each: eight: 114+1=221 / 400+1=237: OUT 1 2: 1 other: splices 1
 two pictures: eight: whole / other: OUT 1 2: 1 other: splices 0
@@ -71,7 +78,8 @@ no frame but in the last: eight: 0+999=lost / 0+3=0 / 400+8=0: OUT 1 2 3: 0 eigh
 65 copies, of which the last is whole: eight: 64*0 100+8=0 / whole: OUT 1..65: 0 eight: splices 0
 65 copies, each damaged elsewhere: eight: 65*10 30+4=0: OUT 1..65: 0 eight: splices 1
 standard output: eight: 100+8=0 / 400+8=0: - 1 2: 0 eight: jls-splice: splices 1
-a promise on standard error: eight: 100+8=0 / 400+8=0: - 1 2: 0 eight: jls-splice: promise picture if each differ is true in some copy
+a promise on standard error: eight: 100+8=0 / 400+8=0: - 1 2: 0 eight: \
+jls-splice: promise picture if the true file has what one copy has at each differ, and what all have elsewhere
 OUT forgotten: eight: whole / 100+8=0 / 400+8=0: 1 2 3: 4 nothing: jls-splice: 1: cannot be created
 a partial picture: eight: whole / text: OUT 1 2: 3 nothing: jls-splice: 2: is a partial picture
 two shapes: eight: whole / restarts: OUT 1 2: 3 nothing: jls-splice: 2: shape differs
@@ -79,13 +87,14 @@ nothing in common, and one has a fault: eight: 300+8=0 / scans: OUT 1 2: 0 scans
 not there: eight: whole / whole: OUT 1 3: 4 nothing: jls-splice: 3: cannot be opened
 the mended file: eight: 100+8=0 / 400+8=0: --file NAME OUT 1 2: 0 eight: splices 1
 the mended file at OUT: eight: 100+8=0 / 400+8=0: --file OUT OUT 1 2: 2 nothing: jls-splice: OUT: is named as OUT and by --file
+the mended file without a promise: eight: 100+8=0 / 400+8=0: --file NAME --max 254 OUT 1 2: 1 eight: promise lines
 no mended file: eight: 300+8=0 / 300+8=85: --file NAME OUT 1 2: 1 other: no single file
 two mended files: eight: whole / other: --file NAME OUT 1 2: 1 other: no single file
 each sixteenth: eight: 40+4=0 120+4=0 200+4=0 280+4=0 360+4=0 440+4=0 520+4=0 600+4=0 / 80+4=0 160+4=0 240+4=0 320+4=0 400+4=0 \
 480+4=0 560+4=0 640+4=0: --tries 100 OUT 1 2: 0 eight: splices 1
 few tries: eight: 100+8=0 / 400+8=0: --tries 2 OUT 1 2: 1 other: tries used up
 within a limit: eight: 100+8=0 / 400+8=0: --max 255 OUT 1 2: 0 eight: splices 1
-above a limit, and by groups: eight: 100+8=0 / 400+8=0: --max 254 OUT 1 2: 0 eight: by groups 1
+above a limit, and by groups: eight: 100+8=0 / 400+8=0: --max 254 OUT 1 2: 1 eight: by groups 1
 its progress: eight: 100+8=0 / 400+8=0: --tries 2 --progress OUT 1 2: 1 other: 2 tries, 0 files
 many files: sixteen: 40+1=165 112+1=165 184+1=165 256+1=165 328+1=165 400+1=165 472+1=165 / 76+1=165 148+1=165 220+1=165 292+1=165 \
 364+1=165 436+1=165: OUT 1 2: 1 other: tries used up";
@@ -185,7 +194,7 @@ fn is_output(alloc: Global, row: Row<'_>, files: &MemoryFiles<'_>) -> Result<boo
 
 /// Whether NAME is created where exactly one file has no fault, and is that file then.
 fn is_mended(row: Row<'_>, file: &[u8], mended: Option<&[u8]>) -> bool {
-    let is_wanted = row.status == "0" && row.words.starts_with("--file");
+    let is_wanted = row.picture == row.file && row.words.starts_with("--file");
     match mended {
         Some(mended) => is_wanted && mended == file,
         None => !is_wanted,

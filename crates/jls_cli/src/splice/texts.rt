@@ -14,15 +14,22 @@ It prints
   differ more N, if there are more than 4,096 such places: N of them are not listed
   splices N, the number of files that are no copies and decode whole
   tries used up, if the search of all splices was cut off
+  limit N, if --max was not given and the search was cut off: one for samples up to N was not, and counts
   by groups N, if it was cut off or found no file: N groups, each between two markers, were searched;
     with ', tries used up' after it if that search was cut off
+  before OFFSET, if no file decodes whole: up to there in the first COPY one prefix alone fits, and OUT has
+    its lines; with ', samples up to N' after it if files with samples above N were left aside
   files N, if --files was given: N files that decode whole are written, at most 64
   no single file, if --file was given and not exactly one file decodes whole
-and then what jls-salvage show prints for OUT. If OUT is -, only the text of OUT is printed.
+  promise picture if the true file has what one copy has at each differ, and what all have elsewhere:
+    if that is so, OUT is its picture; with ' and samples are up to N' after it, if that is so too
+  promise lines, if no picture is promised: lines are missing or disputed, or not all splices were tried
+and then what jls-salvage show prints for OUT. If OUT is -, only the text of OUT is printed, and standard
+error has the lines from splices to promise.
 
 Exit status:
-  0  done, and each line has exactly one reading
-  1  done, but a line has no reading, or several
+  0  done, and the picture is promised
+  1  done, and it is not
   2  the command line is wrong
   3  no COPY and no splice has a picture, a COPY is a partial picture, or the pictures differ in width,
      height, precision or components; OUT was not created

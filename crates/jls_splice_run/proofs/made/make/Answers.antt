@@ -148,6 +148,7 @@ returns-in-Ok-texts_of-clause-made g c =
     let all = c.in-Ok-search_and_tell.found in
     let found = all.splices in
     let held = c.in_ok-held.held in
+    let settled = c.in-Ok-texts_of.ensures.texts.0 in
     let parts = found.parts in
     let searched : bytes_of c.deref.result.now ≡ copies = ap bytes_of c.deref.ensures.value ∙ c.in-Ok.ensures in
     let reported : bytes_of c.deref-2.result.now ≡ copies = ap bytes_of c.deref-2.ensures.value ∙ c.in-Ok.ensures in
@@ -165,7 +166,7 @@ returns-in-Ok-texts_of-clause-made g c =
     grew_as (Searched a all) (HoldsMade a (copies_of c.args.copies.now) v)
     (g.E.Device.history c.args.faults.now) (g.E.Device.history c.search_and_tell.new.faults)
     (λ events h. (
-      made_of h.1.searches all c.in-Ok-find_cut.cut held.cut held.station v,
+      made_of h.1.searches all c.in-Ok-find_cut.cut held.cut held.station settled v,
       record {
         is_counted = counted_in a copies all events groups h;
         is_found = is_found;
@@ -181,14 +182,14 @@ returns-in-Ok-texts_of-clause-made g c =
             (subst (λ (xs : List (List ℕ)). IsPictureOf a.options.source copies xs
             (option_map (λ (path : Vec ℕ Global). prefix_of found.parts path.items) held.cut) held.station) splices
             c.in_ok-held.ensures.settled);
-        settled = c.in-Ok-texts_of.ensures.settled;
+        settled = c.in-Ok-texts_of.ensures.texts.1;
         is_single = subst (λ (xs : List (List ℕ)). IsSingleAsked a.options.file (files_taken xs (found_of found))
             (option_map (λ (f : Vec ℕ Global). f.items) v.file)) reported c.in-Ok-texts_of.ensures.single;
         are_named = subst (λ (xs : List (List ℕ)). AreNamedAsked a.options.files (files_taken xs (found_of found))
             (named_files v.files.items)) reported c.in-Ok-texts_of.ensures.named;
       },
-      subst (λ (xs : List (List ℕ)). AreTextsOf a xs (made_of h.1.searches all c.in-Ok-find_cut.cut held.cut held.station v) v) reported
-          (c.in-Ok-texts_of.ensures.texts h.1.searches c.in-Ok-find_cut.cut),
+      subst (λ (xs : List (List ℕ)). AreTextsOf a xs (made_of h.1.searches all c.in-Ok-find_cut.cut held.cut held.station settled v) v)
+          reported (c.in-Ok-texts_of.ensures.texts.2 h.1.searches c.in-Ok-find_cut.cut),
       h.1.reported,
     ))
     (told a all c.search_options.result c.search_options.ensures _ _ c.in-Ok-search_and_tell.ensures.searched)

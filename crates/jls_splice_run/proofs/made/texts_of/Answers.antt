@@ -22,74 +22,74 @@ use Rattle.jls_splice_run.proofs.MakingLemmas.{lacks_maps, mapped_twice, single_
 use Rattle.jls_splice_run.proofs.made.texts_of.Goals as goal
 
 pub returns-clause-texts : goal.returns-clause-texts
-returns-clause-texts c = λ searches lone.
-    let found = c.args.all.now.splices in
-    let limit = c.args.all.now.cut_limit in
-    let parts = found.parts in
-    let lists = lists_of found.splices.items in
-    let copies = bytes_of c.args.files.now.copies.now in
-    let options = c.args.task.now.options in
-    let cut = c.args.held.now.cut in
-    let file = c.in_ok-file.file in
-    let name_asked = option_map (λ (s : Bor (List ℕ)). s.now) options.file in
-    let single = option_map (λ (f : Vec ℕ Global). f.items) file in
-    let new : c.in_ok-splices.splices ≡ count_new copies (splices_in (found_of found)) =
-    c.in_ok-splices.ensures ∙ ap (count_new copies) c.requires.splices in
-    let groups : c.groups_reported.result ≡ groups_reported (found_of found).by_groups =
-    c.groups_reported.ensures (drop found.whole lists) in
-    let before : c.cut_end.result ≡ option_map (cut_end parts limit) (option_map (λ (v : Vec ℕ Global). v.items) cut) =
-    c.cut_end.ensures ∙ sym (mapped_twice (cut_end parts limit) (λ (v : Vec ℕ Global). v.items) cut) in
-    let lacks : c.lacks_file.result ≡ lacks_single name_asked single =
-    c.lacks_file.ensures ∙ sym (lacks_maps (λ (s : Bor (List ℕ)). s.now) (λ (f : Vec ℕ Global). f.items) options.file file) in
-    let numbered = c.in_ok-numbered.numbered.items in
-    let files : c.files_reported.result ≡ files_reported (option_map (λ (s : Bor (List ℕ)). s.now) options.files) (named_files numbered) =
-    c.files_reported.ensures ∙ (λ i. files_reported options.files (c.deref.ensures.value i))
-    ∙ sym (reported_maps (λ (s : Bor (List ℕ)). s.now) named_file options.files numbered) in
-    let name = c.args.task.now.out.now in
-    let reported : SearchReport = record {
-      splices = c.in_ok-splices.splices;
-      is_used_up = found.is_used_up;
-      limit = c.limit_reported.result;
-      by_groups = c.groups_reported.result;
-      before = c.cut_end.result;
-      files = c.files_reported.result;
-      lacks_single_file = c.lacks_file.result;
-      promise = c.promise_of.result;
-    } in
-    let report : reported ≡ record {
-      splices = count_new copies (splices_in (found_of found));
-      is_used_up = found.is_used_up;
-      limit = limit_reported options.ceiling found.ceiling;
-      by_groups = groups_reported (found_of found).by_groups;
-      before = option_map (cut_end parts limit) (option_map (λ (v : Vec ℕ Global). v.items) cut);
-      files = files_reported (option_map (λ (s : Bor (List ℕ)). s.now) options.files) (named_files numbered);
-      lacks_single_file = lacks_single name_asked single;
-      promise = promise_of found.ceiling (found_of found) c.is_settled-settled.result;
-    } =
-    λ i. record {
-      splices = new i;
-      is_used_up = found.is_used_up;
-      limit = c.limit_reported.ensures i;
-      by_groups = groups i;
-      before = before i;
-      files = files i;
-      lacks_single_file = lacks i;
-      promise = c.promise_of.ensures i;
-    } in
-    record {
-      lines_are = c.in_ok-lines.ensures
-          ∙ (λ i. if bytes_eq name (codes "-") then []
-          else found_text (differences parts) (report i) ++ report_text (report_of (c.partial-partial.ensures i)));
-      notes_are = c.in_ok-notes.ensures ∙ (λ i. if bytes_eq name (codes "-") then noted_text (report i) else []);
-      text_is = c.in_ok-text.ensures ∙ ap text c.partial-partial.ensures;
-      file_is = refl;
-      files_are = refl;
-      settled_is = refl;
-    }
-
-pub returns-clause-settled : goal.returns-clause-settled
-returns-clause-settled c = subst (λ (p : PartialPicture). IsTrue c.is_settled-settled.result ↔ IsSettled p) c.partial-partial.ensures
-    c.is_settled-settled.ensures
+returns-clause-texts c = (
+  c.is_settled-settled.result,
+  subst (λ (p : PartialPicture). IsTrue c.is_settled-settled.result ↔ IsSettled p) c.partial-partial.ensures c.is_settled-settled.ensures,
+  λ searches lone.
+      let found = c.args.all.now.splices in
+      let limit = c.args.all.now.cut_limit in
+      let parts = found.parts in
+      let lists = lists_of found.splices.items in
+      let copies = bytes_of c.args.files.now.copies.now in
+      let options = c.args.task.now.options in
+      let cut = c.args.held.now.cut in
+      let file = c.in_ok-file.file in
+      let name_asked = option_map (λ (s : Bor (List ℕ)). s.now) options.file in
+      let single = option_map (λ (f : Vec ℕ Global). f.items) file in
+      let new : c.in_ok-splices.splices ≡ count_new copies (splices_in (found_of found)) =
+      c.in_ok-splices.ensures ∙ ap (count_new copies) c.requires.splices in
+      let groups : c.groups_reported.result ≡ groups_reported (found_of found).by_groups =
+      c.groups_reported.ensures (drop found.whole lists) in
+      let before : c.cut_end.result ≡ option_map (cut_end parts limit) (option_map (λ (v : Vec ℕ Global). v.items) cut) =
+      c.cut_end.ensures ∙ sym (mapped_twice (cut_end parts limit) (λ (v : Vec ℕ Global). v.items) cut) in
+      let lacks : c.lacks_file.result ≡ lacks_single name_asked single =
+      c.lacks_file.ensures ∙ sym (lacks_maps (λ (s : Bor (List ℕ)). s.now) (λ (f : Vec ℕ Global). f.items) options.file file) in
+      let numbered = c.in_ok-numbered.numbered.items in
+      let files : c.files_reported.result ≡ files_reported (option_map (λ (s : Bor (List ℕ)). s.now) options.files) (named_files numbered) =
+      c.files_reported.ensures ∙ (λ i. files_reported options.files (c.deref.ensures.value i))
+      ∙ sym (reported_maps (λ (s : Bor (List ℕ)). s.now) named_file options.files numbered) in
+      let name = c.args.task.now.out.now in
+      let reported : SearchReport = record {
+        splices = c.in_ok-splices.splices;
+        is_used_up = found.is_used_up;
+        limit = c.limit_reported.result;
+        by_groups = c.groups_reported.result;
+        before = c.cut_end.result;
+        files = c.files_reported.result;
+        lacks_single_file = c.lacks_file.result;
+        promise = c.promise_of-promise.result;
+      } in
+      let report : reported ≡ record {
+        splices = count_new copies (splices_in (found_of found));
+        is_used_up = found.is_used_up;
+        limit = limit_reported options.ceiling found.ceiling;
+        by_groups = groups_reported (found_of found).by_groups;
+        before = option_map (cut_end parts limit) (option_map (λ (v : Vec ℕ Global). v.items) cut);
+        files = files_reported (option_map (λ (s : Bor (List ℕ)). s.now) options.files) (named_files numbered);
+        lacks_single_file = lacks_single name_asked single;
+        promise = promise_of found.ceiling (found_of found) c.is_settled-settled.result;
+      } =
+      λ i. record {
+        splices = new i;
+        is_used_up = found.is_used_up;
+        limit = c.limit_reported.ensures i;
+        by_groups = groups i;
+        before = before i;
+        files = files i;
+        lacks_single_file = lacks i;
+        promise = c.promise_of-promise.ensures i;
+      } in
+      record {
+        lines_are = c.in_ok-lines.ensures
+            ∙ (λ i. if bytes_eq name (codes "-") then []
+            else found_text (differences parts) (report i) ++ report_text (report_of (c.partial-partial.ensures i)));
+        notes_are = c.in_ok-notes.ensures ∙ (λ i. if bytes_eq name (codes "-") then noted_text (report i) else []);
+        text_is = c.in_ok-text.ensures ∙ ap text c.partial-partial.ensures;
+        file_is = refl;
+        files_are = refl;
+        promise_is = c.promise_of-promise.ensures;
+      },
+)
 
 pub returns-clause-single : goal.returns-clause-single
 returns-clause-single c =

@@ -50,7 +50,8 @@ returns g c =
 pub returns-in-Ok-hand_out : goal.returns-in-Ok-hand_out
 returns-in-Ok-hand_out g c =
     let whole = c.are_whole.result in
-    is_done (task_of c.args.task.now) _ _ _ _ _ (copies_of c.in-Ok.copies.items) c.in-Ok.ensures.read _ _ _ c.in-Ok-make.made
+    rw c.is_of_picture.ensures
+    (is_done (task_of c.args.task.now) _ _ _ _ _ (copies_of c.in-Ok.copies.items) c.in-Ok.ensures.read _ _ _ c.in-Ok-make.made
     (ap copies_of c.deref.ensures.value) c.in-Ok-make.ensures.made c.deref-2.ensures.value c.print_notes.ensures whole
     (subst (λ (xs : List CopyFile). IsTrue whole ↔ AreWhole (copies_of xs)) c.deref-in-Ok-hand_out.ensures.value c.are_whole.ensures)
-    c.in-Ok-hand_out.ensures.done
+    c.in-Ok-hand_out.ensures.done)
