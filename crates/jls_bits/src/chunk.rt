@@ -75,6 +75,23 @@ impl Chunk {
         Some(bit)
     }
 
+    /// Takes the first `count` bits as a number. Where there are fewer it takes nothing.
+    pub fn take_bits(&mut self, count: u8) -> Option<u32>
+        requires { (1 ≤ count) × (count ≤ 16) }
+        ensures some { IfSome result (λ number. self.old ≡ bits count number ++ self.new) }
+        ensures number { IfSome result (λ number. number < 2 ^ count) }
+        ensures none { IfNone result (self.new ≡ self.old) }
+    {
+        if self.count < count {
+            return None;
+        }
+        let rest = self.count - count;
+        let number = self.value >> rest;
+        self.value %= 1 << rest;
+        self.count = rest;
+        Some(number as u32)
+    }
+
     /// The same bits once more, to look ahead in.
     pub fn fork(&self) -> Chunk
         ensures { result ≡ self.now }

@@ -1,11 +1,17 @@
 -- The bits of a run that are taken from a chunk, one after another.
-use Rattle.std.proofs.Common.{◌≡◌, ℕ, Bool, List, [], ◌∷◌, ◌++◌, refl, sym, ap, ◌∙◌, subst, append_assoc}
+use Rattle.std.proofs.Common.{◌≡◌, ℕ, ◌+◌, ◌-◌, ◌^◌, ◌<◌, ◌≤◌, Bool, false, List, [], ◌∷◌, ◌++◌, refl, sym, ap, ◌∙◌, subst, append_assoc}
 use Rattle.std.proofs.lemmas.List.{append-nil}
-use Rattle.jls_interval.specs.RunState.{RunAt, RunStepIs}
+use Rattle.jls_bits.specs.Bits.{bits}
+use Rattle.jls_interval.specs.Runs.{run_order}
+use Rattle.jls_interval.specs.Reading.{Taken}
+use Rattle.jls_interval.specs.RunState.{IsRunState, RunAt, RunStepIs}
 use Rattle.jls_interval.specs.RunChunks.{HasTakenAll, RunPushed}
 use Rattle.jls_interval.specs.declared.run_reader.RunState.{RunState}
+use Rattle.jls_interval.specs.declared.run_reader.RunState.TheVariants.{Count}
+use Rattle.jls_interval.specs.declared.run_reader.Run.TheVariants.{Interrupted}
 use Rattle.jls_interval.specs.declared.run_reader.RunStep.{RunStep}
 use Rattle.jls_interval.specs.declared.run_reader.RunStep.TheVariants.{More, Done, Refused}
+use Rattle.jls_interval.proofs.RunSteps.{count_taken, counted, counted_long}
 
 has_taken : (step : RunStep) (unread : List Bool) → ((next : RunState) → step ≡ More next → ⊥) → HasTakenAll step unread
 has_taken (More next) unread n = absurd (n next refl)
@@ -43,3 +49,41 @@ module _ (w0 : ℕ) (first : RunState) (chunk : List Bool) where
       → RunPushed w0 first chunk left' (More state)
   taking_all state left left' t e =
       record { taken = t.taken; chunk_is = t.chunk_is ∙ ap (λ z. t.taken ++ z) (e.0 ∙ sym e.1); step_is = t.at; all = e.1 }
+
+  -- and then several more at once
+  pub taking_then : (state : RunState) (left left' : List Bool) (step : RunStep) → Taking state left → RunPushed w0 state left left' step
+      → RunPushed w0 first chunk left' step
+  taking_then state left left' step t p = record {
+    taken = t.taken ++ p.taken;
+    chunk_is = t.chunk_is ∙ ap (λ z. t.taken ++ z) p.chunk_is ∙ sym (append_assoc t.taken p.taken left');
+    step_is = λ r0 fed h. subst (λ z. RunStepIs r0 w0 z step) (append_assoc fed t.taken p.taken)
+        (p.step_is r0 (fed ++ t.taken) (t.at r0 fed h));
+    all = p.all;
+  }
+
+-- The count of columns that remain, whose bits are taken at once --------------------------------------------
+
+module _ (w0 : ℕ) (state : RunState) (r w have x j n : ℕ) (chunk unread : List Bool) (is : state ≡ Count r w have x) (none : have ≡ 0)
+    (holds : IsRunState w0 state) (order : j ≡ run_order r) (bits_are : chunk ≡ bits j n ++ unread) (fits : n < 2 ^ j) where
+  numbers : IsRunState w0 (Count r w have x)
+  numbers = subst (IsRunState w0) is holds
+
+  whole : (r0 : ℕ) (fed : List Bool) → RunAt r0 w0 fed state → Taken r0 w0 (fed ++ bits j n) r w (false ∷ bits j n)
+  whole r0 fed h = count_taken r0 w0 fed r w x j n
+      (subst (λ z. Taken r0 w0 fed r w (false ∷ bits z x)) none (subst (RunAt r0 w0 fed) is h))
+
+  pub count_at_once : n < w → RunPushed w0 state chunk unread (Done (Interrupted (w0 - w + n) r))
+  count_at_once less = record {
+    taken = bits j n;
+    chunk_is = bits_are;
+    step_is = λ r0 fed h. counted r0 w0 (fed ++ bits j n) r w j n (whole r0 fed h) order fits numbers.2 less;
+    all = tt;
+  }
+
+  pub no_count_at_once : w ≤ n → RunPushed w0 state chunk unread Refused
+  no_count_at_once more = record {
+    taken = bits j n;
+    chunk_is = bits_are;
+    step_is = λ r0 fed h. counted_long r0 w0 (fed ++ bits j n) r w j n (whole r0 fed h) order fits numbers.1 more;
+    all = tt;
+  }

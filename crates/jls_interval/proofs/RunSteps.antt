@@ -46,6 +46,13 @@ zero_taken r0 w0 given r w t b e =
 pub one_taken : (r0 w0 : ℕ) (given : List Bool) (r w : ℕ) → Taken r0 w0 given r w [] → Taken r0 w0 (given ++ true ∷ []) r w (true ∷ [])
 one_taken r0 w0 given r w t = taken_with r0 w0 given r w [] t (true ∷ [])
 
+-- a count whose bits are taken at once
+pub count_taken : (r0 w0 : ℕ) (given : List Bool) (r w x j n : ℕ) → Taken r0 w0 given r w (false ∷ bits 0 x)
+    → Taken r0 w0 (given ++ bits j n) r w (false ∷ bits j n)
+count_taken r0 w0 given r w x j n t =
+    subst (λ z. Taken r0 w0 (given ++ bits j n) r w (false ∷ (z ++ bits j n))) (bits_none x)
+    (taken_with r0 w0 given r w (false ∷ bits 0 x) t (bits j n))
+
 -- a whole count
 pub counted : (r0 w0 : ℕ) (given : List Bool) (r w j n : ℕ) → Taken r0 w0 given r w (false ∷ bits j n) → j ≡ run_order r → n < 2 ^ j
     → w ≤ w0 → n < w

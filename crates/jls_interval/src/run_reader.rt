@@ -1,6 +1,6 @@
 //! Reading a run, a few bits at a time (ITU-T T.87, A.7.1).
 
-ghost use Rattle.std.specs.Prelude.{ℕ, ◌<◌, Bool, true, List, [], ◌∷◌, ◌++◌};
+ghost use Rattle.std.specs.Prelude.{◌≡◌, ℕ, ◌<◌, Bool, true, List, [], ◌∷◌, ◌++◌, IfSome, IfNone};
 ghost use Rattle.jls_interval.specs.RunState.{IsRunState, IsRunStep, RunAt, RunStepIs};
 ghost use Rattle.jls_interval.specs.RunChunks.{RunPushed};
 ghost use Rattle.jls_interval.specs.declared.run_reader.RunState.TheVariants.{Blocks, Count};
@@ -56,11 +56,43 @@ impl RunState {
         let mut state = self;
         while let Some(bit) = chunk.take_bit() {
             match state.push(width, bit) {
-                RunStep::More(next) => state = next,
+                RunStep::More(next) => match next.take_count(width, chunk) {
+                    None => state = next,
+                    Some(step) => return step,
+                },
                 step => return step,
             }
         }
         RunStep::More(state)
+    }
+
+    /// Takes the whole count of columns that remain, where the chunk has all its bits. Else it takes nothing.
+    fn take_count(self, width: u32, chunk: &mut Chunk) -> Option<RunStep>
+        requires { IsRunState width self }
+        ensures state { IfSome result (IsRunStep width) }
+        ensures step { IfSome result (RunPushed width self chunk.old chunk.new) }
+        ensures none { IfNone result (chunk.new ≡ chunk.old) }
+    {
+        let RunState::Count {
+            run_index,
+            columns,
+            bits: 0,
+            ..
+        } = self
+        else {
+            return None;
+        };
+        match chunk.take_bits(run_order(run_index)) {
+            None => None,
+            Some(value) => {
+                if value < columns {
+                    let count = width - columns + value;
+                    Some(RunStep::Done(Run::Interrupted { count, run_index }))
+                } else {
+                    Some(RunStep::Refused)
+                }
+            }
+        }
     }
 
     /// Takes the next bit, where the line had `width` columns left when the run began.

@@ -1,4 +1,5 @@
-use Rattle.jls_interval.proofs.RunChunks.{taking_none, taking_more, taking_end, taking_all}
+use Rattle.std.proofs.Common.{sym, subst}
+use Rattle.jls_interval.proofs.RunChunks.{Taking, taking_none, taking_more, taking_end, taking_all, taking_then}
 use Rattle.jls_interval.proofs.run_reader.RunState.push_chunk.Goals as goal
 
 pub loop-bit-init : goal.loop-bit-init
@@ -7,9 +8,18 @@ loop-bit-init c = record { state = c.requires; taking = taking_none c.args.width
 pub loop-bit-preserved : goal.loop-bit-preserved
 loop-bit-preserved c = record {
   state = c.in-More.ensures.state;
-  taking = taking_more c.args.width c.args.self c.args.chunk.now c.loop-bit.state c.loop-bit.chunk c.take_bit.new.self c.in-Some.bit
-      c.loop-bit.invariant.taking c.in-Some.ensures.some c.in-More.next c.in-More.ensures.step;
+  taking = subst (Taking c.args.width c.args.self c.args.chunk.now c.in-More.next) (sym c.in-None.ensures.none)
+      (taking_more c.args.width c.args.self c.args.chunk.now c.loop-bit.state c.loop-bit.chunk c.take_bit.new.self c.in-Some.bit
+      c.loop-bit.invariant.taking c.in-Some.ensures.some c.in-More.next c.in-More.ensures.step);
 }
+
+pub returns-in-Some-take_count-clause-step : goal.returns-in-Some-take_count-clause-step
+returns-in-Some-take_count-clause-step c =
+    taking_then c.args.width c.args.self c.args.chunk.now c.in-More.next c.take_bit.new.self c.take_count.new.chunk
+    c.in-Some-take_count.step
+    (taking_more c.args.width c.args.self c.args.chunk.now c.loop-bit.state c.loop-bit.chunk c.take_bit.new.self c.in-Some.bit
+    c.loop-bit.invariant.taking c.in-Some.ensures.some c.in-More.next c.in-More.ensures.step)
+    c.in-Some-take_count.ensures.step
 
 pub returns-in_default-push-clause-step : goal.returns-in_default-push-clause-step
 returns-in_default-push-clause-step c =
