@@ -59,15 +59,6 @@ struct Noting {
     made: usize,
 }
 
-/// The names beside OUT, in their order.
-const BESIDE: [&str; 5] = [
-    "OUT.jls-salvage-1",
-    "OUT.jls-salvage-2",
-    "OUT.jls-salvage-3",
-    "OUT.jls-salvage-4",
-    "OUT.jls-salvage-5",
-];
-
 impl Noting {
     /// Notes a call by its word and a name, and lets it fail if it is to.
     fn note(&mut self, word: &str, name: &str) -> io::Result<()> {
@@ -82,7 +73,11 @@ impl Noting {
 
     /// Makes a file of this name, if it isn't there.
     fn make(&mut self, name: &str) -> io::Result<()> {
-        if name != BESIDE[2 + self.made % 3] {
+        let free = match self.made {
+            0 => "OUT.jls-salvage-3",
+            _ => "OUT.jls-salvage-4",
+        };
+        if name != free {
             return Err(io::Error::from(io::ErrorKind::AlreadyExists));
         }
         self.made = self.made.saturating_add(1);
@@ -475,10 +470,10 @@ fn asked(
     let why = match Output::create(&mut machine, "OUT", guard) {
         Ok(mut output) => {
             let _ = output.write(b"text")?;
-            output
-                .end(&mut machine, ending)
-                .err()
-                .map(|unmade| unmade.why)
+            match output.end(&mut machine, ending) {
+                Ok(()) => None,
+                Err(unmade) => Some(unmade.why),
+            }
         }
         Err(why) => Some(why),
     };
@@ -647,22 +642,22 @@ fn outputs_of_failed_runs_are_dropped(rt: HostRuntime) {
 }
 
 /// The first bytes of files, and their kinds: SOI, and a fill byte; then APP0, `P5`, a partial picture of each version, and less of one.
-const FILES: [([u8; 4], Kind); 10] = [
-    ([0xFF, 0xD8, 0xFF, 0xF7], Kind::Jpeg),
-    ([0xFF, 0xFF, 0xD8, 0xFF], Kind::Jpeg),
-    ([0xFF, 0xD8, 0, 0], Kind::Jpeg),
-    ([0xFF, 0xE0, 0, 0], Kind::Other),
-    ([0xD8, 0xFF, 0, 0], Kind::Other),
-    ([0x50, 0x35, 0x0A, 0x31], Kind::Other),
-    ([0x4A, 0x4C, 0x53, 0x50], Kind::Partial),
-    ([0x4A, 0x4C, 0x53, 0], Kind::Other),
-    ([0x4A, 0xD8, 0xFF, 0xF7], Kind::Other),
-    ([0, 0, 0, 0], Kind::Other),
+const FILES: [(u8, u8, u8, u8, Kind); 10] = [
+    (0xFF, 0xD8, 0xFF, 0xF7, Kind::Jpeg),
+    (0xFF, 0xFF, 0xD8, 0xFF, Kind::Jpeg),
+    (0xFF, 0xD8, 0, 0, Kind::Jpeg),
+    (0xFF, 0xE0, 0, 0, Kind::Other),
+    (0xD8, 0xFF, 0, 0, Kind::Other),
+    (0x50, 0x35, 0x0A, 0x31, Kind::Other),
+    (0x4A, 0x4C, 0x53, 0x50, Kind::Partial),
+    (0x4A, 0x4C, 0x53, 0, Kind::Other),
+    (0x4A, 0xD8, 0xFF, 0xF7, Kind::Other),
+    (0, 0, 0, 0, Kind::Other),
 ];
 
 #[test]
 fn files_are_known_by_four_bytes(rt: HostRuntime) {
-    for &([first, second, third, fourth], kind) in &FILES {
+    for &(first, second, third, fourth, kind) in &FILES {
         assert_eq!(rt;
             kind_of_file(first, second, third, fourth),
             kind,
