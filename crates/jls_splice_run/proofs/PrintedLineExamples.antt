@@ -1,5 +1,5 @@
 -- Parts of two copies, and what is printed of them, worked out by hand.
-use Rattle.std.proofs.Common.{◌≡◌, true, false, List, [], ◌∷◌, Some, None, refl}
+use Rattle.std.proofs.Common.{◌≡◌, true, false, List, [], ◌∷◌, ◌++◌, Some, None, refl}
 use Rattle.std.specs.Prelude.{codes}
 use Rattle.jls_diff.specs.Parts.{Part, Same, Differ}
 use Rattle.jls_splice_run.specs.Differences.{differences}
