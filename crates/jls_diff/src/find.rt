@@ -1,10 +1,11 @@
 //! The parts of some copies.
 
-ghost use Rattle.std.specs.Prelude.{IfOk};
+ghost use Rattle.std.specs.Prelude.{IfOk, IfSome};
 ghost use Rattle.jls_diff.specs.Parts.{AreParts};
 ghost use Rattle.jls_diff.specs.PartsOf.{bytes_of};
 
 use crate::checking::are_parts;
+use crate::finer::cut_finer;
 use crate::part::Part;
 use crate::parts::Parts;
 use crate::propose::proposed;
@@ -38,4 +39,33 @@ pub fn find_parts<'a>(alloc: Global, copies: &[&'a [u8]]) -> Result<Parts<'a>, A
         return Ok(Parts::of(parts));
     }
     one_part(alloc, copies)
+}
+
+/// Whether two lists of parts of some copies are cut at the same places, as the first copy has them.
+fn are_same_cuts(parts: &[Part<'_>], others: &[Part<'_>]) -> bool {
+    parts.len() == others.len()
+        && parts
+            .iter()
+            .zip(others)
+            .all(|(part, other)| part.way(0).len() == other.way(0).len())
+}
+
+/// Finer parts of the copies that these are the parts of. `None` comes if they are the same. `Err` comes if memory is refused.
+///
+/// They serve where damaged places touch: then a part holds bytes of two such places, and no copy has all of it. Parts with fewer than
+/// 8 agreeing bytes between them are one stretch. In a stretch of up to 16 bytes each byte that differs is a part, unless more than 4 in a
+/// row differ. A longer one is cut at multiples of 512 bytes in the first copy. A part whose bytes have several lengths stays as it is.
+/// They are checked as the others are.
+pub fn find_finer_parts<'a>(
+    alloc: Global,
+    copies: &[&'a [u8]],
+    parts: &Parts<'a>,
+) -> Result<Option<Parts<'a>>, AllocError>
+    ensures { IfOk result (λ finer. IfSome finer (AreParts (bytes_of copies.now))) }
+{
+    let finer = cut_finer(alloc, copies, parts)?;
+    if are_same_cuts(&finer, parts.list()) || !are_parts(copies, &finer) {
+        return Ok(None);
+    }
+    Ok(Some(Parts::of(finer)))
 }

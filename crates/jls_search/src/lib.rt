@@ -14,6 +14,7 @@
 //! - `searching`: the search, as a value that goes on as far as its caller wants; `adding`: the choices that it finds
 //! - `whole_search`: the search of whole files
 //! - `levels`: the search level by level, for the last level at which exactly one path lives
+//! - `codings`: whether copies are of one coding, as far as can be told. No contract speaks of it
 //! - `laws`: the laws of searches
 //!
 //! The search by groups: splices that read between two markers, where no splice is without a fault.
@@ -53,6 +54,7 @@
 mod adding;
 mod ceiling;
 mod choosing;
+mod codings;
 mod cut;
 mod early;
 mod faultless;
@@ -85,6 +87,7 @@ mod taking;
 mod whole_search;
 
 pub use choosing::next_way_at;
+pub use codings::are_of_one_coding;
 pub use cut::settle_with_cut;
 pub use faultless::{is_dead, is_faultless, is_read_faultless, is_sought};
 pub use feeding::{feed_prefix, reader_of};

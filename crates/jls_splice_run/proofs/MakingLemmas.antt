@@ -1,10 +1,12 @@
 -- What the making of a picture needs.
-use Rattle.std.proofs.Common.{◌≡◌, ℕ, zero, suc, ◌<◌, ◌≤◌, ◌+◌, Bool, true, false, Vec, Global, List, [], ◌∷◌, ◌++◌, length, map, take}
+use Rattle.std.proofs.Common.{◌≡◌, ℕ, zero, suc, ◌<◌, ◌≤◌, ◌+◌, Bool, true, false, Bor, Vec, Global, List, [], ◌∷◌, ◌++◌, length, map, take}
 use Rattle.std.proofs.Common.{get_or, Option, Some, None, refl, sym, ap, ◌∙◌, subst, arith, inl, inr}
-use Rattle.std.specs.Prelude.{◌^◌, ◌⊎◌, IfSome, IfNone, option_map, if◌then◌else◌}
+use Rattle.std.specs.Prelude.{◌^◌, ◌⊎◌, IfSome, option_map, if◌then◌else◌}
 use Rattle.std.specs.List.{sum_by}
 use Rattle.std.proofs.lemmas.List.{length-map}
 use Rattle.std.proofs.lemmas.List.Sums.{sum_by-cons}
+use Rattle.jls_diff.proofs.Slices.{count_of_slices}
+use Rattle.jls_diff.specs.PartsOf.{bytes_of}
 use Rattle.jls_diff.specs.Parts.{AreParts, Part, Same, made, way}
 use Rattle.jls_search.proofs.Prefixes.{prefix_more}
 use Rattle.jls_search.specs.Choices.{IsPath, prefix_of}
@@ -26,6 +28,10 @@ prefix_one_more ps cs i file bytes path l is here =
 first_within : (copies : List (List ℕ)) → length (get_or copies 0 []) ≤ sum_by length copies
 first_within [] = omega arith
 first_within (c ∷ cs) = let s = sum_by-cons length c cs in omega (arith, s)
+
+-- there is a copy
+pub some_copy : (copies : List (Bor (List ℕ))) → 0 < length copies → 0 < length (bytes_of copies)
+some_copy copies some = subst (λ n. 0 < n) (sym (count_of_slices copies)) some
 
 pub first_is_short : (copies : List (List ℕ)) (parts : List Part) → AreParts copies parts → 0 < length copies → AreShort copies
     → length (made 0 parts) < 2 ^ 64
@@ -97,11 +103,6 @@ pub found_mapped : (P : List ℕ → Type 0) (cut : Option (Vec ℕ Global)) →
     → IfSome (option_map (λ (v : Vec ℕ Global). v.items) cut) P
 found_mapped P None h = tt
 found_mapped P (Some path) h = h
-
--- or why none was
-pub none_mapped : (P : Type 0) (cut : Option (Vec ℕ Global)) → IfNone cut P → IfNone (option_map (λ (v : Vec ℕ Global). v.items) cut) P
-none_mapped P None h = h
-none_mapped P (Some path) h = tt
 
 -- the choices of the one that is taken are a path
 pub path_taken : (P : List ℕ → Type 0) (Q : Vec ℕ Global → Type 0) (taken cut : Option (Vec ℕ Global))

@@ -1,15 +1,17 @@
 -- Searches under limits in turn, one more at a time.
 use Rattle.std.proofs.Common.{◌≡◌, ℕ, ◌+◌, ◌*◌, ◌<◌, ◌≤◌, Bool, true, false, List, [], ◌∷◌, ◌++◌, length, drop, take, get_or, Option, Some}
 use Rattle.std.proofs.Common.{None, refl, sym, ap, ◌∙◌, subst, arith, inl, inr}
-use Rattle.std.specs.Prelude.{◌⊎◌, IsSome, is_some, min, max, if◌then◌else◌}
+use Rattle.std.specs.Prelude.{◌⊎◌, IsSome, is_some, min, max, replicate, if◌then◌else◌}
 use Rattle.std.specs.List.{AllByRecursion}
-use Rattle.std.proofs.lemmas.List.{append-nil, append_assoc, drop_more, take-append-drop, take_more}
+use Rattle.std.proofs.lemmas.List.{append-nil, append_assoc, drop_more, length-replicate, take-append-drop, take_more}
 use Rattle.jls_io.specs.Event.{Event, GrewBy, History}
 use Rattle.jls_io.proofs.Growing.{grew_as, grew_on}
 use Rattle.jls_diff.specs.Parts.{Part}
 use Rattle.jls_splice_run.specs.Limits.{AreInTurn, IsSearchMade, SearchMade, WentThrough, counting, counting_of, cut_limit, has_some}
-use Rattle.jls_splice_run.specs.Limits.{last_or, limit_or, limits, none, one_more, through_all, tries_after, next_tries, up_to}
-use Rattle.jls_splice_run.specs.Telling.{AreReported, HasSearched, HasTurned, IsReported, ReportedSome, ReportedUpTo, TookTurns}
+use Rattle.jls_splice_run.specs.Limits.{last_or, limit_or, limits, none, one_more, search_made, through_all, tries_after, next_tries, up_to}
+use Rattle.jls_splice_run.specs.Telling.{AreReported, GoesFiner, HasSearched, HasSearchedSome, HasTurned, IsReported, ReportedSome, ReportedUpTo}
+use Rattle.jls_splice_run.specs.Telling.{TookTurns}
+use Rattle.jls_splice_run.specs.declared.limits.SearchedParts.{SearchedParts}
 use Rattle.jls_splice_run.specs.declared.limits.Turned.{Turned}
 use Rattle.jls_splice_run.specs.declared.options.SearchOptions.{SearchOptions}
 use Rattle.jls_splice_run.proofs.Rounds.{none_reported}
@@ -192,6 +194,60 @@ searched_before options parts s cut events h =
     others : AllByRecursion (λ s. s.tries ≤ options.tries) h.searches.more
     others = by options.ceiling h.searches.first.is_used_up refl refl
 
+-- two searches, or more, after others
+abbrev as_search : ℕ → ℕ → SearchMade
+as_search tries files = record { ceiling = None; tries = tries; choices = replicate files []; is_used_up = false }
+
+as_reported : (tells : Bool) (tries files : ℕ) (events : List Event) → IsReported tells tries files events
+    → IsReported tells tries (length (as_search tries files).choices) events
+as_reported tells tries files events h = subst (λ (n : ℕ). IsReported tells tries n events) (sym (length-replicate files [])) h
+
+pub both_reported : (most : ℕ) (tells : Bool) (a b : List Event) → ReportedUpTo most tells a → ReportedUpTo most tells b
+    → ReportedUpTo most tells (a ++ b)
+both_reported most tells a b ([], done, last, is, all, nothing, (tries, files, within, reported)) h =
+    let e : a ++ b ≡ last ++ b = ap (λ (z : List Event). z ++ b) (is ∙ ap (λ (z : List Event). z ++ last) nothing) in
+    subst (ReportedUpTo most tells) (sym e)
+    (one_before most tells (as_search tries files) last b within (as_reported tells tries files last reported) h)
+both_reported most tells a b (x ∷ xs, done, last, is, all, (first, rest, they_are, one, more), some) h =
+    let e : a ++ b ≡ first ++ ((rest ++ last) ++ b) =
+    ap (λ (z : List Event). z ++ b) (is ∙ ap (λ (z : List Event). z ++ last) they_are ∙ append_assoc first rest last)
+    ∙ append_assoc first (rest ++ last) b in
+    subst (ReportedUpTo most tells) (sym e)
+    (one_before most tells x first ((rest ++ last) ++ b) all.0 one
+    (both_reported most tells (rest ++ last) b (xs, rest, last, refl, all.1, more, some) h))
+
+-- all that was reported, where some of it counts
+pub some_searched : (options : SearchOptions) (parts : List Part) (s : SearchMade) (cut : Option ℕ) (events : List Event)
+    → HasSearchedSome options parts s cut events → ReportedUpTo options.tries options.tells events
+some_searched options parts s cut events h =
+    subst (ReportedUpTo options.tries options.tells) (sym h.events_are)
+    (both_reported options.tries options.tells (h.before ++ h.counted) h.after
+    (both_reported options.tries options.tells h.before h.counted h.reported_before
+    (searched_before options parts s cut h.counted h.searched)) h.reported_after)
+
+-- those over finer parts, after the others
+pub finer_searched : (options : SearchOptions) (old new : SearchedParts) (a b : List Event)
+    → HasSearched options old.parts (search_made old.all.searched) old.all.cut_limit a → GoesFiner options old new b
+    → HasSearchedSome options new.parts (search_made new.all.searched) new.all.cut_limit (a ++ b)
+finer_searched options old new a b h (inl finer) = record {
+  before = a;
+  counted = b;
+  after = [];
+  events_are = sym (append-nil (a ++ b));
+  reported_before = searched_before options old.parts (search_made old.all.searched) old.all.cut_limit a h;
+  searched = finer;
+  reported_after = nothing_reported options.tries options.tells;
+}
+finer_searched options old new a b h (inr (same, more)) = record {
+  before = [];
+  counted = a;
+  after = b;
+  events_are = refl;
+  reported_before = nothing_reported options.tries options.tells;
+  searched = subst (λ (z : SearchedParts). HasSearched options z.parts (search_made z.all.searched) z.all.cut_limit a) (sym same) h;
+  reported_after = more;
+}
+
 -- ---- one search more
 
 module _ (parts : List Part) (options : SearchOptions) where
@@ -309,6 +365,12 @@ pub grew_up_to : {before now : History} (parts : List Part) (options : SearchOpt
 grew_up_to {before} {now} parts options s cut =
     grew_as (HasSearched options parts s cut) (ReportedUpTo options.tries options.tells) before now
     (λ events h. searched_before options parts s cut events h)
+
+pub grew_some_up_to : {before now : History} (parts : List Part) (options : SearchOptions) (s : SearchMade) (cut : Option ℕ)
+    → GrewBy (HasSearchedSome options parts s cut) before now → GrewBy (ReportedUpTo options.tries options.tells) before now
+grew_some_up_to {before} {now} parts options s cut =
+    grew_as (HasSearchedSome options parts s cut) (ReportedUpTo options.tries options.tells) before now
+    (λ events h. some_searched options parts s cut events h)
 
 module _ (parts : List Part) (options : SearchOptions) {before mid now : History} where
   -- memory runs out in a search in turn

@@ -1,5 +1,5 @@
 -- What is made of the copies.
-use Rattle.std.specs.Prelude.{◌≡◌, ◌↔◌, ◌⊎◌, ℕ, Bool, true, false, IsTrue, List, [], ◌∷◌, ◌++◌, Option, Some, None, IfSome, IfNone, codes}
+use Rattle.std.specs.Prelude.{◌≡◌, ◌↔◌, ◌⊎◌, ℕ, Bool, true, false, IsTrue, List, [], ◌∷◌, ◌++◌, Option, Some, None, IfSome, codes}
 use Rattle.std.specs.Prelude.{get_or, length, option_map, if◌then◌else◌}
 use Rattle.std.specs.Str.{bytes_eq}
 use Rattle.std.specs.declared.vec.Vec.{Vec}
@@ -28,7 +28,7 @@ use Rattle.jls_station.specs.CopyFiles.{CopyBytes}
 use Rattle.jls_search.specs.Shapes.{IsShapeFound, IsShapeTaken}
 use Rattle.jls_search.specs.Stations.{TakesFiles}
 use Rattle.jls_search.specs.Cuts.{TakesCut, TakesNoCut}
-use Rattle.jls_search.specs.Levels.{IsFirstDead, IsLone}
+use Rattle.jls_search.specs.Levels.{IsLone}
 use Rattle.jls_search.specs.Choices.{prefix_of}
 use Rattle.jls_search.specs.Faultless.{IsSought}
 use Rattle.jls_search.specs.declared.shape_found.ShapeFound.{ShapeFound}
@@ -69,10 +69,6 @@ cut_file f cut = option_map (prefix_of f.parts) cut
 abbrev pub IsCutFile : Option ℕ → Found → List ℕ → Type 0
 IsCutFile ceiling f path = (f.choices ≡ []) × IsLone (IsSought ceiling) f.parts path
 
--- why no cut file is found: a file was found, no try was allowed, or no file that is sought begins with what all copies have alike
-abbrev pub FindsNoCut : Option ℕ → ℕ → Found → Type 0
-FindsNoCut ceiling tries f = (has_some f.choices ≡ true) ⊎ ((tries ≡ 0) ⊎ IsFirstDead (IsSought ceiling) f.parts)
-
 -- the cut file that was found is taken, if one was found; or none is, where a copy or splice has no fault or the cut file no frame
 abbrev pub IsCutTaken : List (List ℕ) → Found → Option (List ℕ) → Option (List ℕ) → Type 0
 IsCutTaken copies f lone cut =
@@ -111,7 +107,6 @@ pub record IsMade (a : Asked) (copies : List (List ℕ)) (m : Made) : Type 0 whe
   pub is_found : IsFound m.ceiling copies m.found
   pub cut_ceiling_is : IsCutLimit m.found.parts (cut_limit m.searches.first.ceiling m.searches.more) m.found.choices m.cut_ceiling
   pub is_lone : IfSome m.lone (IsCutFile m.cut_ceiling m.found)
-  pub no_lone : IfNone m.lone (FindsNoCut m.cut_ceiling a.options.tries m.found)
   pub is_cut : IsCutTaken copies m.found m.lone m.cut
   pub is_picture : IsPictureOf a.options.source copies (splices_in m.found) (cut_file m.found m.cut) m.picture
   pub settled : IsTrue m.is_settled ↔ IsSettled m.picture
@@ -182,9 +177,13 @@ lines a copies m =
 abbrev pub notes : Asked → List (List ℕ) → Made → List ℕ
 notes a copies m = if bytes_eq a.out (codes "-") then noted_text (report_on a copies m) else []
 
--- events of the fault output: each search reported how far it was, if that is asked for
+-- events of the fault output: each search reported how far it was, if that is asked for. Those over other parts of the copies, of which
+-- nothing counts, reported before them or after
 abbrev pub TellsOfSearches : Asked → Searches → List Event → Type 0
-TellsOfSearches a w events = AreReported a.options.progress (w.first ∷ w.more) events
+TellsOfSearches a w events =
+    (before : List Event) × (counted : List Event) × (after : List Event) × (events ≡ (before ++ counted) ++ after)
+    × ReportedUpTo a.options.tries a.options.progress before × AreReported a.options.progress (w.first ∷ w.more) counted
+    × ReportedUpTo a.options.tries a.options.progress after
 
 -- ---- why nothing is made
 

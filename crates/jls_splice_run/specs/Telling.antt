@@ -1,5 +1,5 @@
 -- What a search tells of how far it is.
-use Rattle.std.specs.Prelude.{◌≡◌, ℕ, ◌+◌, ◌*◌, ◌<◌, ◌≤◌, Bool, true, false, List, [], ◌∷◌, ◌++◌, length, Option}
+use Rattle.std.specs.Prelude.{◌≡◌, ◌⊎◌, ℕ, ◌+◌, ◌*◌, ◌<◌, ◌≤◌, Bool, true, false, List, [], ◌∷◌, ◌++◌, length, Option}
 use Rattle.std.specs.List.{AllByRecursion}
 use Rattle.jls_io.specs.Event.{Event}
 use Rattle.jls_io.specs.Writing.{Printed}
@@ -7,8 +7,9 @@ use Rattle.jls_search.specs.Search.{CanGoOn, IsBegun, IsSearch, Tried, lists_of}
 use Rattle.jls_diff.specs.Parts.{Part}
 use Rattle.jls_search.specs.declared.searching.Search.{Search}
 use Rattle.jls_splice_run.specs.Limits.{AreInTurn, AreSearches, SearchMade, Searches, WentThrough, counting, cut_limit, last_or, limit_or}
-use Rattle.jls_splice_run.specs.Limits.{IsCutLimit, tries_after}
+use Rattle.jls_splice_run.specs.Limits.{IsCutLimit, search_made, tries_after}
 use Rattle.jls_splice_run.specs.Lines.{progress_line}
+use Rattle.jls_splice_run.specs.declared.limits.SearchedParts.{SearchedParts}
 use Rattle.jls_splice_run.specs.declared.limits.Turned.{Turned}
 use Rattle.jls_splice_run.specs.declared.options.SearchOptions.{SearchOptions}
 
@@ -49,10 +50,21 @@ pub record HasSearched (options : SearchOptions) (parts : List Part) (s : Search
   pub cut_is : cut_limit searches.first.ceiling searches.more ≡ cut
   pub reported : AreReported options.tells (searches.first ∷ searches.more) events
 
+-- The searches over these parts, one of which counts, and what they reported. Before or after them others may have reported, over other
+-- parts of the copies
+pub record HasSearchedSome (options : SearchOptions) (parts : List Part) (s : SearchMade) (cut : Option ℕ) (events : List Event) : Type 0 where
+  pub before : List Event
+  pub counted : List Event
+  pub after : List Event
+  pub events_are : events ≡ (before ++ counted) ++ after
+  pub reported_before : ReportedUpTo options.tries options.tells before
+  pub searched : HasSearched options parts s cut counted
+  pub reported_after : ReportedUpTo options.tries options.tells after
+
 -- all searches of a run, with the limit under which the cut file is sought
 abbrev pub HasChosenLimit : SearchOptions → List Part → SearchMade → Option ℕ → List Event → Type 0
 HasChosenLimit options parts s cut events =
-    (limit : Option ℕ) × HasSearched options parts s limit events × IsCutLimit parts limit s.choices cut
+    (limit : Option ℕ) × HasSearchedSome options parts s limit events × IsCutLimit parts limit s.choices cut
 
 -- Inside the crate -------------------------------------------------------------------------------------------------
 
@@ -98,3 +110,9 @@ pub record TookTurns (parts : List Part) (options : SearchOptions) (limits : Lis
   pub found_is : (first : SearchMade) → counting first searches ≡ last_or first turned.found
   pub whole_is : (limit : Option ℕ) → cut_limit limit searches ≡ limit_or limit turned.whole
   pub reported : AreReported options.tells searches events
+
+-- after searches over some parts, those over finer ones were made and count, or the former still do
+abbrev pub GoesFiner : SearchOptions → SearchedParts → SearchedParts → List Event → Type 0
+GoesFiner options before new events =
+    HasSearched options new.parts (search_made new.all.searched) new.all.cut_limit events
+    ⊎ ((new ≡ before) × ReportedUpTo options.tries options.tells events)

@@ -5,24 +5,27 @@ ghost use Rattle.std.specs.Prelude.{◌≡◌, ◌*◌, ◌<◌, ◌≤◌, ◌^
 ghost use Rattle.std.specs.Prelude.{IfOk, IfSome, OnErr};
 ghost use Rattle.std.specs.List.{AllByRecursion};
 ghost use Rattle.jls_io.specs.Event.{GrewBy};
-ghost use Rattle.jls_diff.specs.Parts.{Part, made};
+ghost use Rattle.jls_diff.specs.Parts.{AreParts, Part, made};
 ghost use Rattle.jls_diff.specs.PartsOf.{bytes_of, parts_of};
 ghost use Rattle.jls_search.specs.Choices.{HasSomeWay, IsWhole};
 ghost use Rattle.jls_search.specs.Faultless.{IsSought};
 ghost use Rattle.jls_search.specs.Levels.{IsLone};
 ghost use Rattle.jls_search.specs.Search.{IsKeptReader, IsShort, files_of, lists_of};
+ghost use Rattle.jls_search.specs.SearchLaws.{AreShort};
 ghost use Rattle.jls_search.specs.Found.{IsFound, IsGroupSearch, found_of, splices_in};
 ghost use Rattle.jls_splice_run.specs.Limits.{HasReader, IsCutLimit, SearchMade, counting_of, last_or, next_tries, search_made};
 ghost use Rattle.jls_splice_run.specs.Limits as spec;
 ghost use Rattle.jls_splice_run.specs.Making.{search_of};
-ghost use Rattle.jls_splice_run.specs.Telling.{HasChosenLimit, HasSearched, ReportedUpTo, TookTurns};
+ghost use Rattle.jls_splice_run.specs.Telling.{GoesFiner, HasChosenLimit, HasSearched, HasSearchedSome, ReportedUpTo, TookTurns};
 
 use crate::options::SearchOptions;
 use crate::searching::search_once;
 use crate::shallow::{CutLimit, shallow_limit};
-use jls_diff::{Parts, find_parts};
+use jls_diff::{Parts, find_finer_parts, find_parts};
 use jls_io::Sink;
-use jls_search::{FoundSplices, Searched, are_short, complete_by_groups, parts_can_be_searched};
+use jls_search::{
+    FoundSplices, Searched, are_of_one_coding, are_short, complete_by_groups, parts_can_be_searched,
+};
 use std::alloc::{AllocError, Global};
 
 /// The limits: for each k from 16 to 31 the greatest whole number that is less than the square root of 2^k.
@@ -56,6 +59,8 @@ pub struct FoundInTurn<'a> {
     pub cut_limit: Option<u16>,
     /// The path that `lone_path` finds without a limit, if it was asked for, and there is one.
     pub unlimited: Option<Vec<usize>>,
+    /// Whether a cut file is sought.
+    pub seeks_cut: bool,
 }
 
 /// How many tries a search has after one that found a file and made so many.
@@ -183,12 +188,107 @@ fn search_all<E: Sink>(
     Ok(chosen(first, turned))
 }
 
+/// Parts of copies, and what the searches over them came to.
+#[derive(Drop)]
+pub(crate) struct SearchedParts<'a> {
+    /// The parts.
+    parts: Parts<'a>,
+    /// The search that counts, and the limit of the last one that was not cut off.
+    all: CountingSearch,
+}
+
+/// Makes all searches over these parts of the copies.
+fn search_over<'a, E: Sink>(
+    alloc: Global,
+    copies: &[&'a [u8]],
+    parts: Parts<'a>,
+    options: SearchOptions,
+    faults: &mut E,
+) -> Result<SearchedParts<'a>, AllocError>
+    requires some { 0 < length copies.now }
+    requires short { AreShort (bytes_of copies.now) }
+    requires parts { AreParts (bytes_of copies.now) parts }
+    ensures parts { IfOk result (λ new. AreParts (bytes_of copies.now) new.parts) }
+    ensures searched { IfOk result (λ new. GrewBy (HasSearched options new.parts (search_made new.all.searched) new.all.cut_limit)
+        (E.history faults.old) (E.history faults.new)) }
+    ensures reader { IfOk result (λ new. IfSome new.all.searched.reader (IsKeptReader new.parts)) }
+    ensures reported_some { OnErr result (GrewBy (ReportedUpTo options.tries options.tells) (E.history faults.old) (E.history faults.new)) }
+{
+    parts_can_be_searched();
+    let all = search_all(alloc, &parts, options, faults)?;
+    Ok(SearchedParts { parts, all })
+}
+
+/// Makes all searches over finer parts of the copies, if those before found no file. These count if they find one.
+fn search_finer<'a, E: Sink>(
+    alloc: Global,
+    copies: &[&'a [u8]],
+    before: SearchedParts<'a>,
+    options: SearchOptions,
+    faults: &mut E,
+) -> Result<SearchedParts<'a>, AllocError>
+    requires some { 0 < length copies.now }
+    requires short { AreShort (bytes_of copies.now) }
+    requires parts { AreParts (bytes_of copies.now) before.parts }
+    requires reader { IfSome before.all.searched.reader (IsKeptReader before.parts) }
+    ensures parts { IfOk result (λ new. AreParts (bytes_of copies.now) new.parts) }
+    ensures searched { IfOk result (λ new. GrewBy (GoesFiner options before.entry new) (E.history faults.old) (E.history faults.new)) }
+    ensures reader { IfOk result (λ new. IfSome new.all.searched.reader (IsKeptReader new.parts)) }
+    ensures reported_some { OnErr result (GrewBy (ReportedUpTo options.tries options.tells) (E.history faults.old) (E.history faults.new)) }
+{
+    if !before.all.searched.splices.is_empty() {
+        return Ok(before);
+    }
+    let Some(finer) = find_finer_parts(alloc, copies, &before.parts)? else {
+        return Ok(before);
+    };
+    let new = search_over(alloc, copies, finer, options, faults)?;
+    if new.all.searched.splices.is_empty() {
+        return Ok(before);
+    }
+    Ok(new)
+}
+
+/// Finds the parts of copies and makes all searches over them, and over finer ones if these find no file.
+fn search_copies<'a, E: Sink>(
+    alloc: Global,
+    copies: &[&'a [u8]],
+    options: SearchOptions,
+    faults: &mut E,
+) -> Result<SearchedParts<'a>, AllocError>
+    requires some { 0 < length copies.now }
+    requires short { AreShort (bytes_of copies.now) }
+    ensures parts { IfOk result (λ new. AreParts (bytes_of copies.now) new.parts) }
+    ensures searched { IfOk result (λ new. GrewBy (HasSearchedSome options new.parts (search_made new.all.searched) new.all.cut_limit)
+        (E.history faults.old) (E.history faults.new)) }
+    ensures reader { IfOk result (λ new. IfSome new.all.searched.reader (IsKeptReader new.parts)) }
+    ensures reported_some { OnErr result (GrewBy (ReportedUpTo options.tries options.tells) (E.history faults.old) (E.history faults.new)) }
+{
+    let parts = find_parts(alloc, copies)?;
+    let before = search_over(alloc, copies, parts, options, faults)?;
+    search_finer(alloc, copies, before, options, faults)
+}
+
+/// Whether a cut file is sought: where the search that counts found nothing, and the copies are of one coding, as far as can be told.
+fn seeks_cut(
+    alloc: Global,
+    copies: &[&[u8]],
+    parts: &Parts<'_>,
+    all: &CountingSearch,
+) -> Result<bool, AllocError> {
+    if !all.searched.splices.is_empty() {
+        return Ok(false);
+    }
+    are_of_one_coding(alloc, copies, parts)
+}
+
 /// The limit under which a cut file is sought: that of the searches. If they have none and found nothing, it may be that of a shallow
 /// picture. `Err` comes where memory is refused.
 fn limit_of_cut(
     alloc: Global,
     parts: &Parts<'_>,
     all: &CountingSearch,
+    is_sought: bool,
     tries: u32,
 ) -> Result<CutLimit, AllocError>
     requires some_way { AllByRecursion HasSomeWay parts.now }
@@ -197,7 +297,7 @@ fn limit_of_cut(
         IsCutLimit parts.now all.now.cut_limit (lists_of all.now.searched.splices.items) cut.limit) }
     ensures lone { IfOk result (λ cut. IfSome cut.unlimited (λ path. IsLone (IsSought None) parts.now path.items)) }
 {
-    if all.cut_limit.is_some() || !all.searched.splices.is_empty() {
+    if !is_sought || all.cut_limit.is_some() || !all.searched.splices.is_empty() {
         return Ok(CutLimit {
             limit: all.cut_limit,
             unlimited: None,
@@ -208,7 +308,10 @@ fn limit_of_cut(
 
 /// Finds the parts of copies and searches their splices, under the ceiling if there is one, with so many tries at most. Where no ceiling is
 /// given and that search is cut off, it searches under limits in turn, until one of these searches is cut off. The search that counts is
-/// the last that was not cut off and found a file, and else the first. Where it was cut off or came to nothing, groups are searched.
+/// the last that was not cut off and found a file, and else the first. Where it was cut off or came to nothing, groups are searched. A cut
+/// file is to be sought where it found nothing, unless the copies are of several codings.
+///
+/// If no search found a file, all are made once more over finer parts. If these find one, the finer parts stand in place of the first.
 ///
 /// With `options.tells` each search of whole files prints a line after every 64 tries, and one at its end. A write that fails is ignored.
 /// `Err` comes where memory is refused, and where copies are longer than `are_short` of jls_search allows.
@@ -242,13 +345,15 @@ pub fn search_and_tell<'a, E: Sink>(
     if !are_short(copies) {
         return Err(AllocError);
     }
-    let parts = find_parts(alloc, copies)?;
-    let all = search_all(alloc, &parts, options, faults)?;
-    let cut = limit_of_cut(alloc, &parts, &all, options.tries)?;
+    let found = search_copies(alloc, copies, options, faults)?;
+    let SearchedParts { parts, all } = found;
+    let seeks_cut = seeks_cut(alloc, copies, &parts, &all)?;
+    let cut = limit_of_cut(alloc, &parts, &all, seeks_cut, options.tries)?;
     let splices = complete_by_groups(alloc, copies, parts, all.searched, options.tries)?;
     Ok(FoundInTurn {
         splices,
         cut_limit: cut.limit,
         unlimited: cut.unlimited,
+        seeks_cut,
     })
 }

@@ -1,6 +1,6 @@
 //! What is made of the copies, in memory.
 
-ghost use Rattle.std.specs.Prelude.{◌≡◌, ◌<◌, ◌≤◌, ◌^◌, ◌↔◌, ℕ, Bool, List, None, Option, length, IfOk, IfErr, IfSome, IfNone, IsTrue};
+ghost use Rattle.std.specs.Prelude.{◌≡◌, ◌<◌, ◌≤◌, ◌^◌, ◌↔◌, ℕ, Bool, List, None, Option, length, IfOk, IfErr, IfSome, IsTrue};
 ghost use Rattle.std.specs.Prelude.{option_map};
 ghost use Rattle.std.specs.List.{AllByRecursion};
 ghost use Rattle.std.specs.declared.vec.Vec.{Vec};
@@ -18,7 +18,7 @@ ghost use Rattle.jls_search.specs.Found.{by_groups_of, found_of, splices_in};
 ghost use Rattle.jls_search.specs.Files.{AreVerdicts};
 ghost use Rattle.jls_search.specs.Files as given;
 ghost use Rattle.jls_splice_run.specs.Limits.{Searches};
-ghost use Rattle.jls_splice_run.specs.Making.{AreTextsOf, CantMake, FindsNoCut, HoldsMade, IsCutFile, files_taken, lacks_single, made_of};
+ghost use Rattle.jls_splice_run.specs.Making.{AreTextsOf, CantMake, HoldsMade, IsCutFile, files_taken, lacks_single, made_of};
 ghost use Rattle.jls_splice_run.specs.Making as spec;
 ghost use Rattle.jls_splice_run.specs.Listing.{AreNamedAsked, named_files};
 ghost use Rattle.jls_splice_run.specs.Single.{IsSingleAsked};
@@ -58,7 +58,7 @@ pub struct Made {
     pub promise: Promise,
 }
 
-/// The choices of the cut file, if the search that counts found nothing.
+/// The choices of the cut file, if one is sought and found.
 fn find_cut(
     alloc: Global,
     found: &FoundInTurn<'_>,
@@ -69,9 +69,8 @@ fn find_cut(
     requires whole { found.now.splices.whole ≤ length found.now.splices.splices.items }
     requires unlimited { IfSome found.now.unlimited (λ path. IsLone (IsSought None) found.now.splices.parts path.items) }
     ensures lone { IfOk result (λ cut. IfSome cut (λ path. IsCutFile found.now.cut_limit (found_of found.now.splices) path.items)) }
-    ensures none { IfOk result (λ cut. IfNone cut (FindsNoCut found.now.cut_limit limit (found_of found.now.splices))) }
 {
-    if found.splices.whole != 0 {
+    if found.splices.whole != 0 || !found.seeks_cut {
         return Ok(None);
     }
     if found.cut_limit.is_none() {

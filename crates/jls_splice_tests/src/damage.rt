@@ -50,19 +50,30 @@ fn byte_at(damages: &[Damage], offset: usize, byte: u8) -> Option<u8> {
     Some(byte)
 }
 
-/// The copy of a file that is damaged so, each damage so many bytes further on. A name of another file is a copy of that one.
+/// The file that a text begins with the name of, and else this one.
+fn file_named(alloc: Global, file: &[u8], text: &str) -> Result<Vec<u8>, AllocError> {
+    let name = match text.split_once(' ') {
+        Some((name, _)) => name,
+        None => text,
+    };
+    match file_of(alloc, name)? {
+        Some(other) => Ok(other),
+        None => Vec::from_slice(alloc, file),
+    }
+}
+
+/// The copy of a file that is damaged so, each damage so many bytes further on. Where the name of another file stands first, it is a copy
+/// of that one.
 pub(crate) fn copy_of(
     alloc: Global,
     file: &[u8],
     text: &str,
     further: usize,
 ) -> Result<Vec<u8>, AllocError> {
-    if let Some(other) = file_of(alloc, text)? {
-        return Ok(other);
-    }
+    let undamaged = file_named(alloc, file, text)?;
     let damages = damages_of(alloc, text, further)?;
     let mut copy = Vec::new(alloc);
-    for (offset, byte) in file.iter().enumerate() {
+    for (offset, byte) in undamaged.iter().enumerate() {
         if let Some(byte) = byte_at(&damages, offset, *byte) {
             copy.push(byte)?;
         }

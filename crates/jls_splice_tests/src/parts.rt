@@ -1,6 +1,6 @@
 //! Which parts are found of copies that are damaged in known places.
 
-use jls_diff::{Part, Parts, find_parts};
+use jls_diff::{Part, Parts, find_finer_parts, find_parts};
 use std::alloc::{AllocError, Global};
 use std::test::Fail;
 
@@ -235,6 +235,87 @@ const CASES: [Case<'static>; 18] = [
 fn parts_of_damaged_copies(rt: HostRuntime) -> Result<(), Fail> {
     for case in CASES.iter() {
         let found = parts_of(rt.alloc(), 400, case.copies)?;
+        assert_eq!(rt; found.as_str(), case.wanted, "{}", case.name);
+    }
+    Ok(())
+}
+
+/// The finer parts of copies of a file with these damages, or `none`.
+fn finer_of(alloc: Global, length: u32, copies: &[&[Damage]]) -> Result<String, Fail> {
+    let file = file(alloc, length)?;
+    let mut held = Vec::new(alloc);
+    for damages in copies {
+        held.push(damaged(alloc, &file, damages)?)?;
+    }
+    let mut slices = Vec::new(alloc);
+    for copy in held.iter() {
+        slices.push(copy.as_slice())?;
+    }
+    let parts = find_parts(alloc, &slices)?;
+    match find_finer_parts(alloc, &slices, &parts)? {
+        Some(finer) => text(alloc, &finer),
+        None => Ok(String::from_str(alloc, "none")?),
+    }
+}
+
+const FINER: [Case<'static>; 7] = [
+    Case {
+        name: "the same copy twice",
+        copies: &[&[], &[]],
+        wanted: "none",
+    },
+    Case {
+        name: "bytes that do not touch",
+        copies: &[&[Other(50)], &[Other(62)]],
+        wanted: "none",
+    },
+    Case {
+        name: "bytes that touch",
+        copies: &[&[Other(50)], &[Other(51)]],
+        wanted: "=50 1,1 1,1 =1348 ",
+    },
+    Case {
+        name: "two of three bytes, and the byte between",
+        copies: &[&[Other(50), Other(52)], &[Other(51)]],
+        wanted: "=50 1,1 1,1 1,1 =1347 ",
+    },
+    Case {
+        name: "five in a row are one place",
+        copies: &[&[Other(50), Other(51), Other(52)], &[Other(53), Other(54)]],
+        wanted: "none",
+    },
+    Case {
+        name: "stretches that touch where a sector ends",
+        copies: &[
+            &[
+                Other(1012),
+                Other(1014),
+                Other(1016),
+                Other(1018),
+                Other(1020),
+                Other(1022),
+            ],
+            &[
+                Other(1024),
+                Other(1026),
+                Other(1028),
+                Other(1030),
+                Other(1032),
+            ],
+        ],
+        wanted: "=1012 12,12 9,9 =367 ",
+    },
+    Case {
+        name: "lost bytes stay one part",
+        copies: &[&[Lost(50, 20)], &[Other(100)]],
+        wanted: "none",
+    },
+];
+
+#[test]
+fn finer_parts_of_damaged_copies(rt: HostRuntime) -> Result<(), Fail> {
+    for case in FINER.iter() {
+        let found = finer_of(rt.alloc(), 1400, case.copies)?;
         assert_eq!(rt; found.as_str(), case.wanted, "{}", case.name);
     }
     Ok(())

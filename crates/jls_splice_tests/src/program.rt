@@ -23,6 +23,8 @@ lost and zeroed: eight: 200+5=lost / 400+8=0: OUT 1 2: 0 eight: splices 1
 a header and data: eight: 0+24=0 / 300+8=0: OUT 1 2: 0 eight: splices 1
 a header twice and data: eight: 2+4=0 300+8=0 / 12+3=0: OUT 1 2: 0 eight: splices 1
 a third of each: eight: 25+220=0 / 245+220=0 / 465+219=0: OUT 1 2 3: 0 eight: splices 1
+bytes that touch: eight: 300+1=0 / 301+1=0: OUT 1 2: 0 eight: splices 1
+bytes that touch, in two places: eight: 200+1=0 401+1=0 / 201+1=0 400+1=0: OUT 1 2: 0 eight: splices 1
 lost where others are damaged: eight: 200+8=lost / 200+2=0 400+8=0 / 206+2=0 500+8=0: OUT 1 2 3: 0 eight: splices 1
 in a COM segment: comment: 100+8=0 / 400+8=0: OUT 1 2: 0 comment: splices 1
 three scans: scans: 60+8=85 330+8=85 / 200+8=85: OUT 1 2: 0 scans: splices 1
@@ -35,6 +37,19 @@ one place in all, and others: eight: 100+8=0 300+8=0 / 200+8=0 300+8=85: OUT 1 2
 the same place in all: eight: 100+8=0 300+8=0 / 200+8=0 300+8=0: OUT 1 2: 1 other: missing 1 4-19
 where its last difference is: eight: 100+8=0 300+8=0 / 200+8=0 300+8=0: OUT 1 2: 1 other: before 200
 a header, and a place in all: eight: 2+4=0 300+8=0 / 12+3=0 300+8=85: OUT 1 2: 1 other: missing 1 7-19
+a flipped bit of the precision: eight: 6+1=12 / 300+8=0: OUT 1 2: 0 eight: splices 1
+a flipped bit of the interleaving: eight: 23+1=2 / 300+8=0: OUT 1 2: 0 eight: splices 1
+a flipped bit of the restart interval: restarts: 20+1=6 / 70+3=0: OUT 1 2: 0 restarts: splices 1
+a zeroed header: eight: 0+25=0 / 300+8=0: OUT 1 2: 0 eight: splices 1
+where all differ, and a flipped bit of the precision: eight: 6+1=12 100+8=0 300+8=0 / 200+8=0 300+8=85: OUT 1 2: 1 other: before 300
+where all differ, and a flipped bit of the interleaving: eight: 23+1=2 100+8=0 300+8=0 / 200+8=0 300+8=85: OUT 1 2: 1 other: \
+before 300
+where all differ, and a flipped bit of the restart interval: restarts: 20+1=6 45+3=0 140+3=0 / 70+3=0 140+3=85: OUT 1 2: 1 other: \
+before 140
+where all differ, and a zeroed header: eight: 0+25=0 100+8=0 300+8=0 / 200+8=0 300+8=85: OUT 1 2: 1 other: before 300
+two codings, and no other way to a line: narrow: 70+8=0 / reset 40+8=0: OUT 1 2: 1 other: missing 1 0-19
+two codings, with intervals: fives: 445+8=0 / tens 355+8=0: OUT 1 2: 1 other: missing 1 15-19
+three copies of two codings: narrow: 70+8=0 / reset 40+8=0 / narrow 200+8=0: OUT 1 2 3: 0 narrow: splices 1
 one try: eight: 100+8=0 / 400+8=0: --tries 1 OUT 1 2: 1 other: before 100
 lines of one try: eight: 100+8=0 / 400+8=0: --tries 1 OUT 1 2: 1 other: missing 1 2-19
 within a limit, and a place in all: eight: 300+8=0 / 300+8=85: --max 255 OUT 1 2: 1 other: before 300, samples up to 255

@@ -14,16 +14,16 @@ use Rattle.jls_search.specs.Found.{IsFound, IsGroupSearch, found_of, splices_in}
 use Rattle.jls_splice_run.specs.Limits.{IsCutLimit}
 use Rattle.jls_splice_run.specs.Telling.{HasChosenLimit, ReportedUpTo}
 use Rattle.jls_splice_run.specs.Copies.{bytes_read}
-use Rattle.jls_splice_run.specs.Making.{AreTextsOf, CantMake, FindsNoCut, HoldsMade, IsCounted, IsCutFile, IsPictureOf, IsUnsettled}
-use Rattle.jls_splice_run.specs.Making.{IsWantOfMemory, cut_file, files_taken, made_of, search_of}
+use Rattle.jls_splice_run.specs.Making.{AreTextsOf, CantMake, HoldsMade, IsCounted, IsCutFile, IsPictureOf, IsUnsettled}
+use Rattle.jls_splice_run.specs.Making.{IsWantOfMemory, TellsOfSearches, cut_file, files_taken, made_of, search_of}
 use Rattle.jls_splice_run.specs.Listing.{AreNamedAsked, named_files}
 use Rattle.jls_splice_run.specs.Single.{IsSingleAsked}
 use Rattle.jls_splice_run.specs.Tasks.{task_of}
 use Rattle.jls_splice_run.specs.declared.limits.FoundInTurn.{FoundInTurn}
 use Rattle.jls_splice_run.specs.declared.options.SearchOptions.{SearchOptions}
 use Rattle.jls_cli.specs.declared.outcome.Refusal.{Refusal}
-use Rattle.jls_splice_run.proofs.MakingLemmas.{cut_mapped, found_mapped, mapped_twice, none_mapped}
-use Rattle.jls_splice_run.proofs.Turns.{nothing_reported, searched_before}
+use Rattle.jls_splice_run.proofs.MakingLemmas.{cut_mapped, found_mapped, mapped_twice}
+use Rattle.jls_splice_run.proofs.Turns.{nothing_reported, some_searched}
 use Rattle.jls_splice_run.proofs.made.make.Goals as goal
 
 -- how the searches of what was asked are made
@@ -81,7 +81,7 @@ stops_after {before} {now} {o} a found copies r want same h =
     grew_as (Searched a found) (CantMake a copies r) before now
     (λ events searched. inl (
       want,
-      searched_before (options_of a) found.splices.parts
+      some_searched (options_of a) found.splices.parts
           (search_of found.splices.ceiling (found_of found.splices) found.splices.tries) searched.0 events searched.1,
     ))
     (told a found o same before now h)
@@ -99,8 +99,14 @@ settle-requires-clause-cut g c =
 -- the searches of what was asked, over the parts that were found
 counted_in : (a : Asked) (copies : List (List ℕ)) (found : FoundInTurn) (events : List Event)
     → IfSome (found_of found.splices).by_groups (IsGroupSearch a.options.tries (length copies) found.splices.parts)
-    → (h : Searched a found events) → IsCounted a copies h.1.searches found.splices.ceiling (found_of found.splices) found.splices.tries
-counted_in a copies found events groups h = record { are_searches = h.1.are; counts = h.1.counts; of_groups = groups }
+    → (h : Searched a found events) → IsCounted a copies h.1.searched.searches found.splices.ceiling (found_of found.splices) found.splices.tries
+counted_in a copies found events groups h = record { are_searches = h.1.searched.are; counts = h.1.searched.counts; of_groups = groups }
+
+-- what these reported
+reported_of : (a : Asked) (found : FoundInTurn) (events : List Event) (h : Searched a found events)
+    → TellsOfSearches a h.1.searched.searches events
+reported_of a found events h =
+    (h.1.before, h.1.counted, h.1.after, h.1.events_are, h.1.reported_before, h.1.searched.reported, h.1.reported_after)
 
 pub returns-in_err-held-clause-stopped : goal.returns-in_err-held-clause-stopped
 returns-in_err-held-clause-stopped g c =
@@ -123,14 +129,14 @@ returns-in_err-held-clause-stopped g c =
     rw (p.1, p.2) (grew_as (Searched a all) (CantMake a copies r)
     (g.E.Device.history c.args.faults.now) (g.E.Device.history c.search_and_tell.new.faults)
     (λ events h. inr (
-      h.1.searches,
+      h.1.searched.searches,
       found.ceiling,
       found_of found,
       found.tries,
       counted_in a (bytes_read copies) all events groups h,
       is_found,
       unsettled,
-      h.1.reported,
+      reported_of a all events h,
     ))
     (told a all c.search_options.result c.search_options.ensures _ _ c.in-Ok-search_and_tell.ensures.searched))
 
@@ -166,14 +172,12 @@ returns-in-Ok-texts_of-clause-made g c =
     grew_as (Searched a all) (HoldsMade a (copies_of c.args.copies.now) v)
     (g.E.Device.history c.args.faults.now) (g.E.Device.history c.search_and_tell.new.faults)
     (λ events h. (
-      made_of h.1.searches all c.in-Ok-find_cut.cut held.cut held.station settled v,
+      made_of h.1.searched.searches all c.in-Ok-find_cut.cut held.cut held.station settled v,
       record {
         is_counted = counted_in a copies all events groups h;
         is_found = is_found;
-        cut_ceiling_is = subst (λ (l : Option ℕ). IsCutLimit parts l (found_of found).choices all.cut_limit) (sym h.1.cut_is) h.2;
+        cut_ceiling_is = subst (λ (l : Option ℕ). IsCutLimit parts l (found_of found).choices all.cut_limit) (sym h.1.searched.cut_is) h.2;
         is_lone = found_mapped (IsCutFile all.cut_limit (found_of found)) c.in-Ok-find_cut.cut c.in-Ok-find_cut.ensures.lone;
-        no_lone = none_mapped (FindsNoCut all.cut_limit a.options.tries (found_of found)) c.in-Ok-find_cut.cut
-            c.in-Ok-find_cut.ensures.none;
         is_cut = cut_mapped (λ path. TakesNoCut copies (splices_in (found_of found)) (prefix_of parts path)) held.cut c.in-Ok-find_cut.cut
             (subst (λ (xs : List (List ℕ)). (held.cut ≡ c.in-Ok-find_cut.cut)
             ⊎ ((held.cut ≡ None) × IfSome c.in-Ok-find_cut.cut (λ path. TakesNoCut copies xs (prefix_of parts path.items)))) splices
@@ -188,9 +192,9 @@ returns-in-Ok-texts_of-clause-made g c =
         are_named = subst (λ (xs : List (List ℕ)). AreNamedAsked a.options.files (files_taken xs (found_of found))
             (named_files v.files.items)) reported c.in-Ok-texts_of.ensures.named;
       },
-      subst (λ (xs : List (List ℕ)). AreTextsOf a xs (made_of h.1.searches all c.in-Ok-find_cut.cut held.cut held.station settled v) v)
-          reported (c.in-Ok-texts_of.ensures.texts.2 h.1.searches c.in-Ok-find_cut.cut),
-      h.1.reported,
+      subst (λ (xs : List (List ℕ)). AreTextsOf a xs (made_of h.1.searched.searches all c.in-Ok-find_cut.cut held.cut held.station settled v) v)
+          reported (c.in-Ok-texts_of.ensures.texts.2 h.1.searched.searches c.in-Ok-find_cut.cut),
+      reported_of a all events h,
     ))
     (told a all c.search_options.result c.search_options.ensures _ _ c.in-Ok-search_and_tell.ensures.searched)
 

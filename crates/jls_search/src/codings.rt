@@ -1,0 +1,276 @@
+//! Whether copies are of one coding, as far as their headers and their bytes tell. It only advises: no contract speaks of it, and each
+//! promise holds whatever it answers.
+//!
+//! Copies are of one coding if their headers say the same of the frame, the scans, the parameters and the restart intervals. A damaged
+//! header can say something else. So copies are also of one coding if their scan data are mostly alike, from the first place on where
+//! these differ. Files of one picture in two codings have stretches alike too, so single ones don't count.
+
+use jls_diff::Parts;
+use jls_marker::codes::{DRI, LSE, SOS, has_segment};
+use jls_marker::{Headers, ScanPlan};
+use std::alloc::{AllocError, Global};
+
+/// How many bytes are compared at a time.
+const WINDOW: usize = 8;
+
+/// Bytes that repeat what stands so many bytes before them, or fewer, say nothing: black lines have the same code in many codings.
+const LONGEST_PERIOD: usize = 16;
+
+/// What the headers of a copy say.
+#[derive(Drop)]
+struct Coding {
+    /// The frame, and what else the segments set.
+    headers: Headers,
+    /// The scans, in their order.
+    scans: Vec<ScanPlan>,
+    /// Where the data of the first scan begins; 0 where there is none.
+    data: usize,
+}
+
+/// Two copies in which their bytes are compared.
+#[derive(Clone, Copy)]
+struct Pair {
+    first: usize,
+    second: usize,
+}
+
+/// Two offsets, one in each copy of a pair.
+#[derive(Clone, Copy)]
+struct Offsets {
+    first: usize,
+    second: usize,
+}
+
+/// The payload of a segment whose length stands at this place, if it stands there whole.
+fn payload_at(bytes: &[u8], at: usize) -> Option<&[u8]> {
+    let high = *bytes.get(at)?;
+    let low = *bytes.get(at.saturating_add(1))?;
+    let length = usize::from(u16::from_be_bytes([high, low]));
+    bytes.get(at.saturating_add(2)..at.saturating_add(length))
+}
+
+/// The code and the payload of a segment whose marker stands at this place. In scan data those that say nothing of the coding don't count.
+fn segment_at(bytes: &[u8], at: usize, is_data: bool) -> Option<(u8, &[u8])> {
+    if *bytes.get(at)? != 0xFF {
+        return None;
+    }
+    let code = *bytes.get(at.saturating_add(1))?;
+    let counts = if is_data {
+        code == SOS || code == LSE || code == DRI
+    } else {
+        has_segment(code)
+    };
+    if !counts {
+        return None;
+    }
+    Some((code, payload_at(bytes, at.saturating_add(2))?))
+}
+
+/// What the headers of a copy say. What can't stand there is passed over.
+fn coding_of(alloc: Global, bytes: &[u8]) -> Result<Coding, AllocError> {
+    let mut headers = Headers::new();
+    let mut scans = Vec::new(alloc);
+    let mut data = 0usize;
+    let mut next = 0usize;
+    for at in 0..bytes.len() {
+        if at < next {
+            continue;
+        }
+        let Some((code, payload)) = segment_at(bytes, at, data != 0) else {
+            continue;
+        };
+        if let Ok(scan) = headers.take(code, payload) {
+            next = at.saturating_add(4).saturating_add(payload.len());
+            if let Some(plan) = scan {
+                scans.push(plan)?;
+                if data == 0 {
+                    data = next;
+                }
+            }
+        }
+    }
+    Ok(Coding {
+        headers,
+        scans,
+        data,
+    })
+}
+
+/// Whether two scans are of the same components, under the same parameters, with the same restart intervals.
+fn are_same_scans(first: &ScanPlan, second: &ScanPlan) -> bool {
+    let count = first.intervals();
+    if count == 0 || second.intervals() != count {
+        return false;
+    }
+    *first.components() == *second.components()
+        && first.params() == second.params()
+        && first.rows(0) == second.rows(0)
+}
+
+/// Whether the headers of two copies say the same, of one scan at least.
+fn say_the_same(first: &Coding, second: &Coding) -> bool {
+    let (Some(shape), Some(other)) = (first.headers.shape(), second.headers.shape()) else {
+        return false;
+    };
+    if *shape != *other || first.scans.is_empty() || first.scans.len() != second.scans.len() {
+        return false;
+    }
+    for (scan, other) in first.scans.iter().zip(&second.scans) {
+        if !are_same_scans(scan, other) {
+            return false;
+        }
+    }
+    true
+}
+
+/// Whether the bytes from this place on, so many as are compared, are there, and repeat nothing that stands shortly before them.
+fn is_news(bytes: &[u8], at: usize) -> bool {
+    let Some(window) = bytes.get(at..at.saturating_add(WINDOW)) else {
+        return false;
+    };
+    for period in 1..LONGEST_PERIOD + 1 {
+        if period > at {
+            return true;
+        }
+        let from = at.saturating_sub(period);
+        if let Some(before) = bytes.get(from..from.saturating_add(WINDOW)) {
+            if *before == *window {
+                return false;
+            }
+        }
+    }
+    true
+}
+
+/// At how many places of a stretch there is news that doesn't go past it.
+fn count_news(bytes: &[u8], from: usize, end: usize) -> usize {
+    let mut count = 0usize;
+    for at in from..end.saturating_sub(WINDOW - 1) {
+        if is_news(bytes, at) {
+            count = count.saturating_add(1);
+        }
+    }
+    count
+}
+
+/// How two copies compare from the first place on where their scan data differ.
+#[derive(Clone, Copy)]
+struct Comparison {
+    /// That place, if there is one.
+    from: Option<Offsets>,
+    /// How much news behind it both have.
+    alike: usize,
+}
+
+/// Compares two copies. Their scan data begin at these offsets.
+fn compare(copies: &[&[u8]], parts: &Parts<'_>, pair: Pair, data: Offsets) -> Comparison {
+    let mut at = Offsets {
+        first: 0,
+        second: 0,
+    };
+    let mut from = None;
+    let mut alike = 0usize;
+    for place in 0..parts.len() {
+        let way = parts.way(place, pair.first);
+        let other = parts.way(place, pair.second);
+        let end = Offsets {
+            first: at.first.saturating_add(way.len()),
+            second: at.second.saturating_add(other.len()),
+        };
+        if *way != *other {
+            if from.is_none() && (end.first > data.first || end.second > data.second) {
+                from = Some(at);
+            }
+        } else if from.is_some() {
+            if let Some(copy) = copies.get(pair.first) {
+                alike = alike.saturating_add(count_news(copy, at.first, end.first));
+            }
+        }
+        at = end;
+    }
+    Comparison { from, alike }
+}
+
+/// How much news a copy has from an offset on.
+fn news_from(copies: &[&[u8]], number: usize, from: usize) -> usize {
+    match copies.get(number) {
+        Some(copy) => count_news(copy, from, copy.len()),
+        None => 0,
+    }
+}
+
+/// Whether the scan data of two copies, which begin at these offsets, are mostly alike where they could differ: three quarters of what the
+/// one has that has less.
+fn are_mostly_alike(copies: &[&[u8]], parts: &Parts<'_>, pair: Pair, data: Offsets) -> bool {
+    let found = compare(copies, parts, pair, data);
+    let Some(from) = found.from else {
+        return true;
+    };
+    let first = news_from(copies, pair.first, from.first.max(data.first));
+    let second = news_from(copies, pair.second, from.second.max(data.second));
+    found.alike.saturating_mul(4) >= first.min(second).saturating_mul(3)
+}
+
+/// The numbers of copies whose headers differ: of those whose headers say the same, the first.
+fn different_ones(alloc: Global, codings: &[Coding]) -> Result<Vec<usize>, AllocError> {
+    let mut numbers: Vec<usize> = Vec::new(alloc);
+    for (number, coding) in codings.iter().enumerate() {
+        let mut is_new = true;
+        for other in numbers.iter() {
+            if let Some(other) = codings.get(*other) {
+                if say_the_same(other, coding) {
+                    is_new = false;
+                }
+            }
+        }
+        if is_new {
+            numbers.push(number)?;
+        }
+    }
+    Ok(numbers)
+}
+
+/// Where the scan data of a copy begin, as its headers say.
+fn data_of(codings: &[Coding], number: usize) -> usize {
+    match codings.get(number) {
+        Some(coding) => coding.data,
+        None => 0,
+    }
+}
+
+/// Whether copies are of one coding, as far as can be told. The parts are those of the copies. `Err` comes where memory is refused.
+pub fn are_of_one_coding(
+    alloc: Global,
+    copies: &[&[u8]],
+    parts: &Parts<'_>,
+) -> Result<bool, AllocError> {
+    let mut codings = Vec::new(alloc);
+    for copy in copies {
+        codings.push(coding_of(alloc, copy)?)?;
+    }
+    let mut others = different_ones(alloc, &codings)?;
+    let mut reached = Vec::new(alloc);
+    if let Some(number) = others.pop() {
+        reached.push(number)?;
+    }
+    for at in 0..copies.len() {
+        let Some(first) = reached.get(at).copied() else {
+            break;
+        };
+        let mut left = Vec::new(alloc);
+        for second in others.iter().copied() {
+            let pair = Pair { first, second };
+            let data = Offsets {
+                first: data_of(&codings, first),
+                second: data_of(&codings, second),
+            };
+            if are_mostly_alike(copies, parts, pair, data) {
+                reached.push(second)?;
+            } else {
+                left.push(second)?;
+            }
+        }
+        others = left;
+    }
+    Ok(others.is_empty())
+}
