@@ -7,7 +7,9 @@ import random
 import struct
 
 from dicom_files import CLASS, UID, File, changed, element
+from dicom_rules import put_before
 
+NEIGHBOUR = UID[:-1] + "8"
 END = b"\xfe\xff\xdd\xe0\0\0\0\0"
 EXPLICIT = "1.2.840.10008.1.2.1"
 
@@ -34,6 +36,40 @@ def without(data, tag, vr, value):
     at = rest.index(b"UL\4\0") + 4
     (size,) = struct.unpack_from("<I", rest, at)
     return changed(rest, (at, struct.pack("<I", size - len(gone))))
+
+
+# Two instances -------------------------------------------------------------------------------------
+
+
+def slice_of(made, uid, letter):
+    """A file with many elements before its frames: another slice of a series has them at the same places."""
+    values = [element(0x190010, "LO", "MINE")]
+    values += [element(0x191000 + at, "LO", f"value {at * 37 % 100:02} of {letter}") for at in range(800)]
+    data = put_before(made.bytes, 0x280002, *values)
+    return data.replace(UID.encode(), uid.encode()).replace(b"Doe^Jane", b"Roe^Jane" if letter == "b" else b"Doe^Jane")
+
+
+def checks_of_chimeras(bench, made):
+    """Another slice's first 4,096 bytes, whole and consistent, on the true frames: of two copies either can be the file."""
+    true, other = slice_of(made, UID, "a"), slice_of(made, NEIGHBOUR, "b")
+    chimera, noise = other[:4096] + true[4096:], random.Random(3).randbytes(40)
+    item_at = true.index(made.frames[1]) - 8
+    third, second = slice_of(made, "1.2.3.9.9", "c"), made.bytes.rindex(UID.encode(), 0, made.name_at) + 4
+    twice = made.bytes.replace(UID.encode(), NEIGHBOUR.encode())
+    for name, copies in {
+        "a chimera": [true, chimera],
+        "a chimera, and zeros behind its end in the other copy": [changed(true, (4096, bytes(4096))), chimera],
+        "a chimera, and noise behind its end": [changed(true, (4096, noise)), chimera],
+        "a chimera, and noise before its end": [changed(true, (3000, noise)), chimera],
+        "a chimera without a header of an item, and noise": [changed(true, (3000, noise)), changed(chimera, (item_at, bytes(8)))],
+        "a chimera, and a sector of a third file": [changed(true, (1024, third[1024:1536])), chimera],
+        "a chimera, and noise that goes on far behind it": [changed(true, (4096, random.Random(3).randbytes(8192))), chimera],
+        "another UID twice, and noise over one": [changed(made.bytes, (second, b"\x81\x02\x93 ")), twice],
+    }.items():
+        for order in (copies, copies[::-1]):
+            got, out, printed, faults, _ = bench.mend(order)
+            yield f"{name}: undecided ({got}, {printed[-300:]}, {faults})", got in (1, 3) and out is None
+    yield case(bench, "a chimera, and a third copy", [true, chimera, changed(true, (5000, noise))], 0, true)
 
 
 # The finished file ---------------------------------------------------------------------------------
@@ -139,4 +175,4 @@ def checks_of_syntaxes(bench, made):
     yield case(bench, "a bit that says JPEG 2000", [changed(true, (at, b"9")), damaged(made)], 0, true, "the frames are JPEG-LS")
 
 
-TRUTH = [checks_of_finished, checks_of_cuts, checks_of_tails, checks_of_syntaxes]
+TRUTH = [checks_of_chimeras, checks_of_finished, checks_of_cuts, checks_of_tails, checks_of_syntaxes]

@@ -12,6 +12,7 @@ from jls_tools.dicom_result import Place
 from jls_tools.dicom_sectors import is_noise_alone
 from jls_tools.dicom_tables import Tables
 from jls_tools.dicom_terms import KNOWN, has_terms, is_made_of, is_term
+from jls_tools.dicom_uids import are_denied
 from jls_tools.dicom_values import NOT_IN_TEXT, TEXTS, allows, is_written
 
 GROUP_LENGTH, CLASS_IN_META, INSTANCE_IN_META, SYNTAX = 0x00020000, 0x00020002, 0x00020003, 0x00020010
@@ -175,7 +176,7 @@ class Header:
         ones = [reading for reading in self.readings(one.value, one.end) if allows(b"UI", reading[0])]
         twos = [reading for reading in self.readings(two.value, two.end) if allows(b"UI", reading[0])]
         both = {text_of(value) for value, _ in ones} & {text_of(value) for value, _ in twos}
-        if both:
+        if both and not are_denied(self.copies, both, (one, two)):
             why = f"{tag_name(first)} and {tag_name(second)} are equal so"
             self.keep_readings([reading for reading in ones if text_of(reading[0]) in both], why)
             self.keep_readings([reading for reading in twos if text_of(reading[0]) in both], why)

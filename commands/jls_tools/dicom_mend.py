@@ -74,7 +74,7 @@ class Mending:
         try:
             self.folder = folder
             self.mender = FrameMender(self.programs, folder, self.options)
-            self.rests, self.uncertain = instances.rests, instances.uncertain
+            self.rests, self.uncertain, self.doubts = instances.rests, instances.uncertain, instances.doubts
             self.mend_all(instances)
         finally:
             shutil.rmtree(folder, ignore_errors=True)
@@ -244,6 +244,9 @@ class Mending:
 
     def can_write(self):
         """Whether the header is decided and reads; why not, else."""
+        doubts = [why for at, why in self.doubts.items() if self.options.header != self.paths[at]]
+        if doubts:
+            return doubts[0]
         if not self.layout.has_header:
             return "no copy has a header that leads to Pixel Data"
         if self.header.is_open:
