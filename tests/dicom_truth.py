@@ -8,6 +8,7 @@ import struct
 
 from dicom_files import CLASS, UID, File, changed, element
 from dicom_rules import put_before
+from jls_tools.programs import Programs
 
 NEIGHBOUR = UID[:-1] + "8"
 END = b"\xfe\xff\xdd\xe0\0\0\0\0"
@@ -150,6 +151,47 @@ def checks_of_tails(bench, made, neighbour):
     yield case(bench, "a tail, and a letter of a name", [true, flipped + zeros], 1, b"", "(0010,0010), undecided")
 
 
+# Most copies ---------------------------------------------------------------------------------------
+
+
+def decoding_flips(bench, made, most):
+    """Files with one flipped bit in the first frame, which decodes all the same: of two copies it is disputed."""
+    stream, name, found = made.frames[0], f"{bench.folder}/flipped.jls", []
+    for at in range(len(stream) - 6, 60, -7):
+        flipped = changed(stream, (at, bytes([stream[at] ^ 4])))
+        with open(name, "wb") as file:
+            file.write(flipped)
+        if Programs().check(name).status == 0:
+            found.append(changed(made.bytes, (made.items[0] + 8, flipped)))
+        if len(found) == most:
+            break
+    return found
+
+
+def checks_of_most(bench, made):
+    """Two equal copies against one decide. A copy alone does not outvote two by what VRs forbid; an empty value may be the true one."""
+    true, first = made.bytes, made.items[0]
+    for flipped in decoding_flips(bench, made, 3):
+        yield case(bench, "two equal copies, and one with a flipped bit that decodes", [true, flipped, true], 0, true)
+    named = changed(true, (made.name_at, b"E"))
+    apart = [changed(true, (made.items[1] + 70, bytes(8))), changed(true, (made.items[2] + 70, bytes(8)))]
+    twice = changed(true, *((first + 60 + at, bytes([true[first + 60 + at] ^ 4])) for at in (0, 9)))
+    yield case(bench, "two copies with damage of their own, and one with two flipped bits", [apart[0], twice, apart[1]], 0, true)
+    yield case(bench, "a letter of a name in one of three", [true, named, true], 0, true, "most copies have it")
+    date, inner = element(0x80020, "DA", "20200131"), element(0x81040, "LO", "WARD") + element(0x81090, "LO", "ACME")
+    pairs = (("", inner), ("A" * len(inner), b""))
+    empty, longer = (true.replace(date, date + element(0x81030, "LO", text) + rest) for text, rest in pairs)
+    for name, short, long in (("an empty value", empty, longer), ("a longer value", longer, empty)):
+        other = changed(short, (short.index(made.frames[0]) + 70, bytes(8)))
+        for order in ([short, long, other], [long, short, other], [other, short, long]):
+            yield case(bench, f"{name} in two of three", order, 0, short)
+    yield case(bench, "an empty value and a longer one", [empty, longer], 1, b"", "undecided")
+    yield case(bench, "a longer value and an empty one", [longer, empty], 1, b"", "undecided")
+    prefix = changed(true, (128, bytes(4)))
+    yield case(bench, "four zeros in the place of DICM", [prefix, damaged(made)], 0, true, "each DICOM file has it")
+    yield case(bench, "the same in two of three", [prefix, changed(prefix, (first + 70, bytes(8))), true], 0, true)
+
+
 # Other transfer syntaxes ---------------------------------------------------------------------------
 
 
@@ -175,4 +217,4 @@ def checks_of_syntaxes(bench, made):
     yield case(bench, "a bit that says JPEG 2000", [changed(true, (at, b"9")), damaged(made)], 0, true, "the frames are JPEG-LS")
 
 
-TRUTH = [checks_of_chimeras, checks_of_finished, checks_of_cuts, checks_of_tails, checks_of_syntaxes]
+TRUTH = [checks_of_chimeras, checks_of_finished, checks_of_cuts, checks_of_tails, checks_of_most, checks_of_syntaxes]

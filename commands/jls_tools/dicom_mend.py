@@ -12,7 +12,7 @@ from jls_tools.dicom_frames import DELIMITER, by_search, paired_by_bytes, shape_
 from jls_tools.dicom_instance import Instances, TwoInstances
 from jls_tools.dicom_kinds import NoKind, other_kinds
 from jls_tools.dicom_layout import contradiction, forbidden, has_shape, is_through, laid_out
-from jls_tools.dicom_lost import Lost, most_of
+from jls_tools.dicom_lost import Lost, equal_in_most, most_of
 from jls_tools.dicom_result import FAILED, NOT_WHOLE, REFUSED, WHOLE, FrameResult, MendOptions, MendResult, Place
 from jls_tools.dicom_sum import BySum
 from jls_tools.dicom_tails import without_tails
@@ -162,11 +162,12 @@ class Mending:
         return other if other.is_whole else mended
 
     def mended_by_most(self, number, begin):
-        """A Mended of three copies or more, each of which was damaged elsewhere: what most of them have, if it is whole; or nothing."""
+        """A Mended of three copies or more: what most of them have, if it is whole; or nothing."""
         place = self.layout.places[number] if self.layout.places else None
         if place is None or any(copy.lacks(place.begin, place.end) for copy in self.copies):
             return None
-        stream = most_of(list(self.own[number].values()))
+        own = self.own[number]
+        stream = equal_in_most(own, self.copies) or most_of(list(own.values()))
         mended = self.mender.mend(number, [stream], begin) if stream is not None else None
         return mended if mended and mended.is_whole else None
 
