@@ -8,12 +8,12 @@ from jls_tools import dicom_gaps, partial_picture
 from jls_tools.dicom_align import Copy
 from jls_tools.dicom_alone import Stranger
 from jls_tools.dicom_finished import faults_of
-from jls_tools.dicom_frames import DELIMITER, by_search, paired_by_bytes, shape_of
+from jls_tools.dicom_frames import DELIMITER, by_search, paired_by_bytes
 from jls_tools.dicom_instance import Instances, TwoInstances
 from jls_tools.dicom_kinds import NoKind, other_kinds
 from jls_tools.dicom_layout import contradiction, forbidden, has_shape, is_through, laid_out
 from jls_tools.dicom_lost import Lost, equal_in_most, most_of
-from jls_tools.dicom_result import FAILED, NOT_WHOLE, REFUSED, WHOLE, FrameResult, MendOptions, MendResult, Place
+from jls_tools.dicom_result import FAILED, NOT_SUPPORTED, NOT_WHOLE, REFUSED, WHOLE, FrameResult, MendOptions, MendResult, Place
 from jls_tools.dicom_sum import BySum
 from jls_tools.dicom_tails import without_tails
 from jls_tools.dicom_write import packed, put_frames, store, top_level
@@ -31,6 +31,10 @@ class Refused(Exception):
         self.status = status
 
 
+class Unsupported(Refused):
+    """These programs don't read the frames. Nothing says that they are damaged."""
+
+
 def mend(paths, out, options=None, programs=None):
     """Writes the file `out` from the copies `paths`, and answers a MendResult. Programs that fail raise a ProgramFailed.
 
@@ -40,7 +44,7 @@ def mend(paths, out, options=None, programs=None):
     try:
         Mending(paths, out, options or MendOptions(), programs or Programs(), result).run()
     except Refused as refused:
-        result.status, result.refusal = refused.status, str(refused)
+        result.status, result.refusal, result.is_unsupported = refused.status, str(refused), isinstance(refused, Unsupported)
     except OSError as fault:
         result.status, result.refusal = FAILED, f"{fault.filename or out}: {fault.strerror}"
     return result
@@ -84,7 +88,7 @@ class Mending:
         try:
             others = other_kinds(self.paths, self.texts)
         except NoKind as fault:
-            raise Refused(str(fault)) from fault
+            raise (Unsupported if fault.is_other else Refused)(str(fault)) from fault
         self.result.left_out = [(self.paths[at], why) for at, why in sorted(others.items())]
         self.paths = [path for at, path in enumerate(self.paths) if at not in others]
         self.tails = without_tails([text for at, text in enumerate(self.texts) if at not in others])
@@ -137,7 +141,6 @@ class Mending:
             filled = [self.own_streams(place, texts) for place in self.layout.places]
             self.kept = {place.number: lost.of_this_file(place, filled[place.number]) for place in self.layout.places}
         self.streams = [list(dict.fromkeys(own.values())) for own in filled]
-        self.refuse_other_codings()
         if not self.layout.places:
             texts = [self.texts[at][self.rests.get(at, (0,))[0] :] for at in chosen]  # a foreign beginning has frames of its own
             self.streams = paired_by_bytes([[text[begin:end] for begin, end in by_search(text)] for text in texts])
@@ -148,6 +151,7 @@ class Mending:
             self.mended.append(self.mended_frame(number, streams, begin))
             if self.options.progress:
                 self.options.progress(number + 1, len(self.streams))
+        self.refuse_unsupported()
 
     def mended_frame(self, number, streams, begin):
         """A Mended: of all streams, or if it isn't whole of those that are of this file, if these are fewer and it is whole then."""
@@ -191,13 +195,12 @@ class Mending:
             found = {number: stream[:-1] if len(stream) == place.size else stream for number, stream in found.items()}
         return found
 
-    def refuse_other_codings(self):
-        shapes = [shape for streams in self.streams for shape in map(shape_of, streams) if shape and shape.near is not None]
-        is_near, is_by_sample = (all(shape.near > 0 for shape in shapes), all(shape.interleave == 2 for shape in shapes))
-        is_sure = len(shapes) > 1 or len(shapes) == sum(map(len, self.streams)) > 0  # else a flipped bit of one copy could say so
-        if is_sure and (is_near or is_by_sample):
-            name = "near-lossless" if is_near else "interleaved by sample"
-            raise Refused(f"{self.copies[0].path}: JPEG-LS {name}; it is read by dcmdjpls of DCMTK")
+    def refuse_unsupported(self):
+        """Refuses a file of which no line came back, and whose frames have a coding that isn't read."""
+        results = [frame.result for frame in self.mended]
+        names = sorted({result.note for result in results if result.kind == NOT_SUPPORTED})
+        if names and not any(result.settled or result.disputed for result in results):
+            raise Unsupported(f"{self.copies[0].path}: {NOT_SUPPORTED}: {', '.join(names)}; dcmdjpls of DCMTK can read it")
 
     # What comes of it --------------------------------------------------------------------
 
@@ -258,6 +261,9 @@ class Mending:
             return "the file ends before its last element does"
         if not self.tails.is_decided:
             return "what stands behind the last element is not in all copies, and no copy that reads whole lacks it"
+        odd = next((frame.result for frame in self.mended if frame.result.kind == NOT_SUPPORTED), None)
+        if odd is not None:
+            return f"frame {odd.number} is {NOT_SUPPORTED}: {odd.note}"
         fault = contradiction(self.header, self.shape, len(self.mended))
         return fault if fault or self.options.header is not None else forbidden(self.header)
 
