@@ -1,15 +1,23 @@
 """DICOM files that tests make, and a bench on which copies of them are mended. The frames are written by `jls-salvage write`."""
 from __future__ import annotations
 
+import contextlib
+import io
 import os
 import struct
 import subprocess
+import sys
+import traceback
 
 import objects
 
 HERE = os.path.dirname(os.path.dirname(os.path.abspath(__file__)))
 COMMAND = os.path.join(HERE, "commands", "jls-dicom")
-PROGRAMS = {**os.environ, "JLS_SALVAGE": objects.program("jls-salvage"), "JLS_SPLICE": objects.program("jls-splice")}
+os.environ.update({"JLS_SALVAGE": objects.program("jls-salvage"), "JLS_SPLICE": objects.program("jls-splice")})
+PROGRAMS = os.environ
+sys.path.append(os.path.join(HERE, "commands"))
+from jls_tools import dicom_command  # noqa: E402
+
 CLASS, UID, SYNTAX = "1.2.840.10008.5.1.4.1.1.7", "1.2.3.4.5.6.7", "1.2.840.10008.1.2.4.80"
 LONG = ("OB", "SQ", "OV")
 
@@ -91,9 +99,23 @@ class Bench:
                 file.write(data)
         out = f"{self.folder}/{self.count}-out.dcm"
         words = [word.replace("COPY0", names[0]).replace("COPY1", names[1]) for word in words]
-        done = subprocess.run([COMMAND, "mend", *words, out, *names], capture_output=True, text=True, env=PROGRAMS)
+        status, printed, faults = called("mend", *words, out, *names)
         got = [get(name) for name in names] == list(copies)
-        return done.returncode if got else "a copy was changed", get(out), done.stdout, done.stderr, out
+        return status if got else "a copy was changed", get(out), printed, faults, out
+
+
+def called(*words):
+    """(status, what was printed, fault lines) of jls-dicom, in this process: to start Python anew takes longer than most mends."""
+    printed, faults = io.StringIO(), io.StringIO()
+    with contextlib.redirect_stdout(printed), contextlib.redirect_stderr(faults):
+        try:
+            status = dicom_command.run(dicom_command.parser().parse_args(words))
+        except SystemExit as ended:
+            status = ended.code
+        except Exception:
+            status = "Traceback"
+            traceback.print_exc()
+    return status, printed.getvalue(), faults.getvalue()
 
 
 def get(path):

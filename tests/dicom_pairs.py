@@ -145,18 +145,18 @@ def described(made, bits, *more):
     return made.bytes[:at] + b"".join(element(tag, "US", value) for tag, value in zip(tags, (*bits, *more))) + made.bytes[end:]
 
 
-def checks_of_samples(bench, made):
+def checks_of_samples(bench, small):
     """Bits Allocated goes with Bits Stored and High Bit; no sample of a frame of 8 bits is larger than 255."""
-    true = described(made, (8, 8, 7), 0, 3, 255)
+    true = described(small, (8, 8, 7), 0, 3, 255)
     for name, other, is_back in (
-        ("what another file says of samples", described(made, (16, 16, 15), 0, 3, 65535), True),
-        ("Bits Allocated alone", described(made, (16, 8, 7), 0, 3, 255), False),
-        ("two of three", described(made, (16, 16, 7), 0, 3, 255), False),
-        ("another largest sample that can be", described(made, (8, 8, 7), 0, 3, 191), False),
+        ("what another file says of samples", described(small, (16, 16, 15), 0, 3, 65535), True),
+        ("Bits Allocated alone", described(small, (16, 8, 7), 0, 3, 255), False),
+        ("two of three", described(small, (16, 16, 7), 0, 3, 255), False),
+        ("another largest sample that can be", described(small, (8, 8, 7), 0, 3, 191), False),
     ):
         yield told(bench, name, [other, true], true, is_back)
-    signed = described(made, (8, 8, 7), 1, 3, 65535)
-    yield told(bench, "a largest sample, with signs", [signed, described(made, (8, 8, 7), 1, 3, 255)], signed, False)
+    signed = described(small, (8, 8, 7), 1, 3, 65535)
+    yield told(bench, "a largest sample, with signs", [signed, described(small, (8, 8, 7), 1, 3, 255)], signed, False)
 
 
 def sectored(made):
@@ -197,7 +197,7 @@ def checks_of_zeros(bench, made):
             yield told(bench, name, order, true, is_back, 1)
 
 
-def checks_of_refusals(bench, made, folder, rng):
+def checks_of_no_copy(bench, made, folder, rng):
     """What no copy has is not taken from one of them: a UID, a value that its VR forbids, noise in a text, a frame of another shape."""
     true, uid = made.bytes, made.bytes.rindex(UID.encode(), 0, made.name_at)
     noise = random.Random(8)
@@ -226,15 +226,5 @@ def checks_of_refusals(bench, made, folder, rng):
     yield f"a frame of another shape: not whole ({status}, {printed})", (status, out) == (1, None) and "frame 1 whole" not in printed
 
 
-def checks_of_pairs(bench, made, folder, rng):
-    yield from checks_of_entries(bench, File([frame(rng, 8, 40, 30, folder)], 8, 40, 30))
-    yield from checks_of_losses(bench, made)
-    yield from checks_of_foreign_files(bench, folder, rng)
-    yield from checks_of_shorter_copies(bench, made)
-    yield from checks_of_foreign_frames(bench, made, folder, rng)
-    yield from checks_of_one_copy_alone(bench, made)
-    yield from checks_of_beginnings(bench, made)
-    yield from checks_of_samples(bench, File([frame(rng, 8, 16, 12, folder)], 8, 16, 12))
-    yield from checks_of_whole_sectors(bench, made)
-    yield from checks_of_zeros(bench, made)
-    yield from checks_of_refusals(bench, made, folder, rng)
+PAIRS = [checks_of_entries, checks_of_losses, checks_of_foreign_files, checks_of_shorter_copies, checks_of_foreign_frames]
+PAIRS += [checks_of_one_copy_alone, checks_of_beginnings, checks_of_samples, checks_of_whole_sectors, checks_of_zeros, checks_of_no_copy]

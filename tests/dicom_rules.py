@@ -92,8 +92,9 @@ def checks_of_tables(bench, made):
     yield f"the offset table, damage side by side: the same file ({status}, {printed})", (status, out == true) == (0, True)
 
 
-def checks_of_halves(bench, folder, rng):
+def checks_of_halves(bench, folder):
     """A foreign file over the end of one copy and the beginning of the other: only one joint lets the elements go on to the end."""
+    rng = random.Random(10)
     big, other = (File([frame(rng, 8, 64, 60, folder)], 8, 64, 60, uid=uid) for uid in (UID, "1.2.3.9.9"))
     size = len(big.bytes)
     foreign = (bytes(128) + b"DICM" + other.bytes[132 : other.name_at] + rng.randbytes(size))[:size]
@@ -203,12 +204,5 @@ def checks_of_two_damages(bench, made, rng):
         yield f"{what}: nothing false ({status}, {printed}, {faults})", out in (None, whole) and (out is None) == (status != 0)
 
 
-def checks_of_rules(bench, made, work, rng):
-    yield from checks_of_csa_headers(bench, made, rng)
-    yield from checks_of_terms(bench, made)
-    yield from checks_of_lost_sectors(bench, work, rng)
-    yield from checks_of_tables(bench, made)
-    yield from checks_of_one_uid(bench, made)
-    yield from checks_of_halves(bench, work, rng)
-    yield from checks_of_one_picture(bench)
-    yield from checks_of_false_readings(bench, made, rng)
+RULES = [checks_of_csa_headers, checks_of_terms, checks_of_lost_sectors, checks_of_tables, checks_of_one_uid, checks_of_halves]
+RULES += [checks_of_one_picture, checks_of_false_readings]

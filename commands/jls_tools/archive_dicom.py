@@ -4,6 +4,7 @@ import os
 from . import archive_names, dicom_info, dicom_mend, dicom_result
 from .mending import FrameMender
 from .programs import ProgramFailed
+from .unsupported import NOT_SUPPORTED
 
 FRAMES = ".frames"
 
@@ -74,6 +75,8 @@ def mend_files(desk, row, copies):
 
 def keep(desk, row, copies, result):
     """A file that isn't whole: its frames and a log stand beside OUT. Copies of which nothing came are set aside."""
+    if result.is_unsupported:
+        return set_unsupported_aside(desk, row, copies, result.refusal)
     desk.keep_log(row, log_of(result), row.path + ".log")
     if result.refusal or not any(frame.settled or frame.disputed for frame in result.frames):
         return desk.set_aside(row, copies, "does not read", 3).end("does not read", 3, result.refusal or "no frame has a line")
@@ -86,6 +89,12 @@ def keep(desk, row, copies, result):
     words = words_for(result.frames) if any(frame.kind != "whole" for frame in result.frames) else "undecided"
     desk.set_aside(row, copies, words)
     return row.end(words, max(result.status, 1), "; ".join(result.notes))
+
+
+def set_unsupported_aside(desk, row, copies, why):
+    """Copies that differ, of a coding that isn't read: nothing says which of them is damaged, or how much of it is lost."""
+    row.settled = row.missing = row.disputed = None
+    return desk.set_aside(row, copies, NOT_SUPPORTED).end(NOT_SUPPORTED, 1, why)
 
 
 def look(desk, row, copy):
@@ -106,6 +115,10 @@ def look_at(desk, row, file):
         return row.end("does not read" if is_broken else "copied", 3 if is_broken else 0, refusal)
     mender = FrameMender(desk.programs, desk.folder, dicom_result.MendOptions())
     mended = [mender.mend(number, [stream]) for number, (_, stream) in enumerate(file.frames)]
+    odd = sorted({frame.result.note for frame in mended if frame.result.kind == NOT_SUPPORTED})
+    if odd and all(frame.is_whole or frame.result.kind == NOT_SUPPORTED for frame in mended):
+        row.frames = len(mended)
+        return row.end(NOT_SUPPORTED, 0, ", ".join(odd))
     take(row, [frame.result for frame in mended])
     lost = [frame for frame in mended if frame.result.kind != "whole"]
     if not lost:

@@ -2,8 +2,10 @@
 import os
 
 from . import archive_desk
+from .unsupported import NOT_SUPPORTED, unsupported
 
 PART = ".jlsp"
+BEGINNING = 1 << 16  # bytes of a file in which its first headers stand
 
 
 def result_of(report, status):
@@ -23,6 +25,10 @@ def look(desk, row, copy):
     name = desk.links([copy])[0]
     outcome = desk.programs.check(name, desk.folder)
     report = outcome.report
+    odd = unsupported_of(desk, name, outcome)
+    if odd is not None:
+        row.frames, row.shape = 1, report.shape
+        return row.end(NOT_SUPPORTED, 0, odd)
     row.take(report)
     result = result_of(report, outcome.status)
     row.end(result, status_of(outcome, report), outcome.faults.replace(name, "it"))
@@ -30,6 +36,14 @@ def look(desk, row, copy):
         partial = desk.name("partial")
         if desk.programs.join(partial, [name], desk.folder).status <= 1:
             desk.keep_partial(row, partial, row.path + PART)
+
+
+def unsupported_of(desk, name, outcome):
+    """What a copy without any line has that isn't read; or nothing."""
+    if outcome.report.settled:
+        return None
+    with open(desk.place(name), "rb") as file:
+        return unsupported(file.read(BEGINNING), outcome.fault)
 
 
 def log_of(desk, copies, names, outcome):
@@ -44,6 +58,10 @@ def mend(desk, row, copies):
     outcome = desk.programs.splice(spliced, names, mended, desk.folder, ["--tries", str(desk.options.tries)])
     log = log_of(desk, copies, names, outcome)
     row.take(outcome.report)
+    odd = set() if outcome.report.settled else {unsupported_of(desk, name, desk.programs.check(name, desk.folder)) for name in names}
+    if len(odd) == 1 and None not in odd:
+        row.settled = row.missing = row.disputed = None
+        return desk.set_aside(row, copies, NOT_SUPPORTED).end(NOT_SUPPORTED, 1, odd.pop())
     if outcome.status >= 2 or not os.path.exists(desk.place(spliced)):
         row.say(outcome.faults)
         keep_log(desk, row, log)

@@ -8,6 +8,8 @@ import json
 import os
 import tempfile
 
+from .dicom_result import NOT_SUPPORTED
+
 COLUMNS = ("path", "kind", "copies", "frames", "settled", "missing", "disputed", "before", "sum", "status", "result", "shape", "note")
 PICTURES = ("dicom", "jls", "jlsp")
 PART = ".part-"  # begins the name of a file that isn't complete; eight letters or digits follow
@@ -57,8 +59,8 @@ class Row:
 
     @property
     def loss(self):
-        """Which share of a picture's lines is missing or disputed, all if nothing could be made of it; nothing if it is no picture."""
-        if self.kind not in PICTURES:
+        """Which share of a picture's lines is missing or disputed, all if nothing could be made of it; nothing if that isn't known."""
+        if self.kind not in PICTURES or self.result == NOT_SUPPORTED:
             return None
         if self.lines:
             return ((self.missing or 0) + (self.disputed or 0)) / self.lines

@@ -31,13 +31,13 @@ class Copy:
 
     path: str
     data: bytes
-    absent: list = field(default_factory=list)
+    absent: list[tuple[int, int]] = field(default_factory=list)
     foreign: bytes = b""
 
-    def lacks(self, begin, end):
+    def lacks(self, begin: int, end: int) -> bool:
         return any(first < end and begin < last for first, last in self.absent)
 
-    def has_only(self, begin, end):
+    def has_only(self, begin: int, end: int) -> bytes:
         """The bytes of a range that it has itself."""
         parts, at = [], begin
         for first, last in self.absent:

@@ -1,6 +1,10 @@
 """What DICOM files are made of (PS3.5, PS3.10): how they begin, their transfer syntaxes, and a walk along the elements of one file."""
+from __future__ import annotations
+
 import re
 import struct
+from collections.abc import Iterator
+from typing import Optional, Union
 
 from jls_tools.dicom_values import is_uid
 
@@ -36,22 +40,22 @@ SYNTAXES = {
 UIDS_WITHIN = 1 << 16  # the two SOP Instance UIDs stand near the beginning
 
 
-def begins_as_dicom(path):
+def begins_as_dicom(path: Union[str, bytes]) -> bool:
     """Whether a file begins as a DICOM file does: 128 bytes and DICM (PS3.10, 7.1). An OSError says why it can't be read."""
     with open(path, "rb") as file:
         return file.read(132)[128:] == b"DICM"
 
 
-def syntax_name(uid):
+def syntax_name(uid: str) -> str:
     name, reader = SYNTAXES.get(uid, ("another one", "pydicom or GDCM perhaps"))
     return f"transfer syntax {uid} ({name}); it is read by {reader}"
 
 
-def tag_bytes(tag):
+def tag_bytes(tag: int) -> bytes:
     return struct.pack("<HH", tag >> 16, tag & 0xFFFF)
 
 
-def tag_name(tag):
+def tag_name(tag: int) -> str:
     return f"({tag >> 16:04x},{tag & 0xFFFF:04x})"
 
 
@@ -60,7 +64,7 @@ class Element:
 
     __slots__ = ("tag", "vr", "start", "value", "length")
 
-    def __init__(self, tag, vr, start, value, length):
+    def __init__(self, tag: int, vr: bytes, start: int, value: int, length: int) -> None:
         self.tag = tag
         self.vr = vr
         self.start = start
@@ -68,14 +72,14 @@ class Element:
         self.length = length
 
     @property
-    def end(self):
+    def end(self) -> int:
         return self.value + self.length
 
-    def bytes_of(self, data):
+    def bytes_of(self, data: bytes) -> bytes:
         return bytes(data[self.value : self.end])
 
 
-def header_of(head, at):
+def header_of(head: bytes, at: int) -> Optional[Element]:
     """The Element whose header these bytes begin with, twelve at most; nothing if they can't be one."""
     if len(head) < 8:
         return None
@@ -88,7 +92,7 @@ def header_of(head, at):
     return None
 
 
-def skip_undefined(data, at):
+def skip_undefined(data: bytes, at: int) -> Optional[int]:
     """Where the sequence of undefined length whose items begin here ends, or nothing. It goes by items and elements, to any depth."""
     depth = 1
     while at + 8 <= len(data):
@@ -109,7 +113,7 @@ def skip_undefined(data, at):
     return None
 
 
-def walk(data, at=132):
+def walk(data: bytes, at: int = 132) -> Iterator[Element]:
     """The elements of the top level of one file up to Pixel Data or where they break off. Nothing is judged but their form."""
     while True:
         element = header_of(data[at : at + 12], at)
@@ -118,21 +122,22 @@ def walk(data, at=132):
         yield element
         if element.tag == PIXEL_DATA:
             return
-        at = skip_undefined(data, element.value) if element.length == UNDEFINED else element.end
-        if at is None:
+        behind = skip_undefined(data, element.value) if element.length == UNDEFINED else element.end
+        if behind is None:
             return
+        at = behind
 
 
-def text_of(value):
+def text_of(value: bytes) -> str:
     return bytes(value).rstrip(b"\0 ").decode("latin-1")
 
 
-def values_of(data, tags):
+def values_of(data: bytes, tags: set[int]) -> dict[int, bytes]:
     """{tag: value} of elements of the top level, as far as the file can be walked."""
     return {element.tag: element.bytes_of(data) for element in walk(data) if element.tag in tags and element.length != UNDEFINED}
 
 
-def uid_at(data, tag):
+def uid_at(data: bytes, tag: int) -> Optional[str]:
     """A UID of the top level: by the walk, else the first that stands near the beginning. None if it does not read."""
     value = values_of(data, {tag}).get(tag)
     if value is None:
@@ -146,11 +151,11 @@ def uid_at(data, tag):
     return text_of(value) if is_uid(value) else None
 
 
-def instance_of(data):
+def instance_of(data: bytes) -> tuple[Optional[str], Optional[str]]:
     """The two SOP Instance UIDs of a file, of its meta information and of its data set; None for one that does not read."""
     return uid_at(data, 0x00020003), uid_at(data, 0x00080018)
 
 
-def syntax_of(data):
+def syntax_of(data: bytes) -> Optional[str]:
     """The transfer syntax UID, or None."""
     return uid_at(data, 0x00020010)

@@ -4,6 +4,7 @@ from __future__ import annotations
 import re
 import struct
 from dataclasses import dataclass
+from typing import Optional
 
 from jls_tools.dicom_file import UNDEFINED
 
@@ -20,26 +21,26 @@ class FramePlace:
     """A frame: its fragments as (begin, end) on the axis; `is_exact` where each of their headers reads."""
 
     number: int
-    fragments: list
+    fragments: list[tuple[int, int]]
     is_exact: bool = True
 
     @property
-    def begin(self):
+    def begin(self) -> int:
         return self.fragments[0][0]
 
     @property
-    def end(self):
+    def end(self) -> int:
         return self.fragments[-1][1]
 
     @property
-    def size(self):
+    def size(self) -> int:
         return sum(end - begin for begin, end in self.fragments)
 
-    def stream(self, data):
+    def stream(self, data: bytes) -> bytes:
         return b"".join(data[begin:end] for begin, end in self.fragments)
 
 
-def table_of(data, begin, end, size):
+def table_of(data: bytes, begin: int, end: int, size: int) -> list[int]:
     """The entries of an offset table. A length that lies does not lead beyond the file."""
     end = min(end, len(data))
     return [int.from_bytes(data[at : at + size], "little") for at in range(begin, end - size + 1, size)]
@@ -112,7 +113,7 @@ class Fragments:
         ]
 
 
-def by_search(data):
+def by_search(data: bytes) -> list[tuple[int, int]]:
     """Streams of one copy that are found by their first bytes: (begin, end)."""
     places = [found.start() for found in BEGIN.finditer(data)]
     found = []
@@ -123,14 +124,14 @@ def by_search(data):
     return found
 
 
-def pieces_of(stream, size=32):
+def pieces_of(stream: bytes, size: int = 32) -> set[bytes]:
     """What a stream can be known by: its pieces at whole steps."""
     return {stream[at : at + size] for at in range(64, len(stream) - size, size)}
 
 
-def paired_by_bytes(streams):
+def paired_by_bytes(streams: list[list[bytes]]) -> list[list[bytes]]:
     """Streams of several copies, [[of the first], [of the second], ..], together where they have pieces in common: lists of streams."""
-    groups = []
+    groups: list[tuple[set[bytes], list[bytes]]] = []
     for own in streams:
         for stream in own:
             mine = pieces_of(stream)
@@ -149,11 +150,11 @@ class Shape:
     columns: int
     precision: int
     components: int
-    near: int | None = None
-    interleave: int | None = None
+    near: Optional[int] = None
+    interleave: Optional[int] = None
 
 
-def shape_of(stream):
+def shape_of(stream: bytes) -> Optional[Shape]:
     """What the frame header and the first scan header of a codestream say (T.87, C.2.2 and C.2.3), or nothing."""
     at, found = 2, None
     while at + 4 <= len(stream) and stream[at] == 0xFF:
@@ -175,7 +176,22 @@ def shape_of(stream):
     return found
 
 
-def usual_thresholds(maxval):
+MARKER = re.compile(rb"\xff+([\x80-\xfe])", re.S)
+EOI, RESTARTS = 0xD9, range(0xD0, 0xD8)
+
+
+def codestream_end(stream: bytes) -> Optional[int]:
+    """Where a codestream ends, behind its EOI; nothing if its marker segments don't lead there. No scan has a marker in it (T.87, A.1)."""
+    at = 2 if stream[:2] == b"\xff\xd8" else len(stream)
+    while found := MARKER.search(stream, at):
+        code, at = found.group(1)[0], found.end()
+        if code == EOI:
+            return at
+        at += 0 if code in RESTARTS else int.from_bytes(stream[at : at + 2], "big")
+    return None
+
+
+def usual_thresholds(maxval: int) -> tuple[int, int, int]:
     """T1, T2 and T3 of lossless coding as they are if nothing else is said (T.87, C.2.4.1.1)."""
     if maxval >= 128:
         factor = (min(maxval, 4095) + 128) >> 8
@@ -184,7 +200,7 @@ def usual_thresholds(maxval):
     return max(2, 3 // factor), max(3, 7 // factor), max(4, 21 // factor)
 
 
-def has_usual_parameters(stream):
+def has_usual_parameters(stream: bytes) -> bool:
     """Whether the preset coding parameters of a lossless codestream are absent or those that it would have without them."""
     shape, found = shape_of(stream), stream.find(b"\xff\xf8\0\x0d\1", 0, max(0, stream.find(b"\xff\xda")))
     if shape is None or shape.near != 0:
@@ -195,7 +211,7 @@ def has_usual_parameters(stream):
     return maxval == (1 << shape.precision) - 1 and tuple(thresholds) == usual_thresholds(maxval) and reset == USUAL_RESET
 
 
-def other_coding(stream):
+def other_coding(stream: bytes) -> Optional[str]:
     """What a codestream is that is no JPEG-LS, by its first marker segments; None for JPEG-LS or what can't be told."""
     if stream[:4] in (b"\xff\x4f\xff\x51", b"\0\0\0\x0c"):
         return "JPEG 2000"

@@ -12,6 +12,7 @@ from jls_tools.dicom_result import Place
 from jls_tools.dicom_sectors import is_noise_alone
 from jls_tools.dicom_tables import Tables
 from jls_tools.dicom_terms import KNOWN, has_terms, is_made_of, is_term
+from jls_tools.dicom_uids import are_denied
 from jls_tools.dicom_values import NOT_IN_TEXT, TEXTS, allows, is_written
 
 GROUP_LENGTH, CLASS_IN_META, INSTANCE_IN_META, SYNTAX = 0x00020000, 0x00020002, 0x00020003, 0x00020010
@@ -22,7 +23,9 @@ SMALLEST, LARGEST = 0x00280106, 0x00280107
 BITS = [[allocated, stored, stored - 1] for allocated in (8, 16) for stored in range(1, allocated + 1)]  # allocated, stored, the high one
 TWINS = ((CLASS_IN_META, CLASS), (INSTANCE_IN_META, INSTANCE))
 MOST_TOGETHER = 4096
-PREAMBLE = 128
+PREAMBLE, PREFIX = 128, b"DICM"
+BY_MOST = "most copies have it"
+IS_PREFIX = "each DICOM file has it there"
 ZEROS, IS_PADDING, NO_MEANING = "others are zeros", "padding is zeros", "the preamble has no meaning"
 GUESSES = (ZEROS, IS_PADDING, NO_MEANING)
 
@@ -60,6 +63,9 @@ class Header:
             yield begin, end
 
     def first_ways(self, number, run):
+        if run.firm is not None:
+            self.why[number] = BY_MOST
+            return [run.firm]
         found = self.structure.ways.get(number)
         if found is not None:
             self.why[number] = "it goes on so"
@@ -120,6 +126,7 @@ class Header:
 
     def decide(self, shape, frame_count, table):
         """All that the file itself can say. `table` has what the offset tables should have, by tag; None is the tag of the basic one."""
+        self.by_prefix()
         self.by_values()
         self.by_meta()
         self.by_frames(shape, frame_count)
@@ -134,10 +141,18 @@ class Header:
         self.by_most()
         self.by_preamble()
 
+    def by_prefix(self):
+        """Leaves DICM behind the preamble, where any copy has it (PS3.10, 7.1)."""
+        for number in self.open_runs(PREAMBLE, PREAMBLE + len(PREFIX)):
+            run = self.runs.runs[number]
+            wanted = PREFIX[max(0, run.begin - PREAMBLE) : run.end - PREAMBLE]
+            ways = {way for way in self.left[number] if run.part(way, PREAMBLE, PREAMBLE + len(PREFIX)) == wanted}
+            self.keep(number, ways, IS_PREFIX)
+
     def by_values(self):
         """Drops what the VR of a value forbids, where it was not looked at on the way."""
         for element in self.leaves:
-            if element.vr not in TEXTS:
+            if element.vr not in TEXTS or self.open_runs(element.value, element.end) and self.structure.is_open(element):
                 continue
             if NOT_IN_TEXT.search(self.agreed(element).rstrip(b"\0")):  # its writer puts there what the VR forbids
                 continue
@@ -175,7 +190,7 @@ class Header:
         ones = [reading for reading in self.readings(one.value, one.end) if allows(b"UI", reading[0])]
         twos = [reading for reading in self.readings(two.value, two.end) if allows(b"UI", reading[0])]
         both = {text_of(value) for value, _ in ones} & {text_of(value) for value, _ in twos}
-        if both:
+        if both and not are_denied(self.copies, both, (one, two)):
             why = f"{tag_name(first)} and {tag_name(second)} are equal so"
             self.keep_readings([reading for reading in ones if text_of(reading[0]) in both], why)
             self.keep_readings([reading for reading in twos if text_of(reading[0]) in both], why)
@@ -274,7 +289,7 @@ class Header:
             holders = self.runs.runs[number].holders
             present = sum(len(each) for each in holders)
             if present >= 3:
-                self.keep(number, {way for way in self.left[number] if len(holders[way]) * 2 > present}, "most copies have it")
+                self.keep(number, {way for way in self.left[number] if len(holders[way]) * 2 > present}, BY_MOST)
 
     def by_copy(self, copy):
         """Takes what one copy has wherever it is open."""

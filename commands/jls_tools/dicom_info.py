@@ -10,9 +10,10 @@ from jls_tools.dicom_header import COLUMNS, FRAMES, ROWS, SAMPLES, STORED
 from jls_tools.dicom_instance import identity_of
 from jls_tools.dicom_layout import Layout
 from jls_tools.dicom_mend import read
-from jls_tools.dicom_result import FAILED, NOT_WHOLE, REFUSED, WHOLE, MendOptions
+from jls_tools.dicom_result import FAILED, NOT_SUPPORTED, NOT_WHOLE, REFUSED, WHOLE, MendOptions
 from jls_tools.mending import FrameMender
 
+NO_LINE = "damaged: no line decodes; jls-splice needs a second copy"
 INTERLEAVES = {0: "a scan for each component", 1: "interleaved by line", 2: "interleaved by sample"}
 
 
@@ -51,6 +52,8 @@ def unpadded(stream):
 
 def refusal_of(path, file):
     """Why a file is not for these tools, or nothing."""
+    if file.data[:3] == b"\xff\xd8\xff" and other_coding(file.data):
+        return f"{path}: {NOT_SUPPORTED}: {other_coding(file.data)}"
     if not file.is_dicom and not file.layout.has_header and not file.frames:
         return f"{path}: it is no DICOM file"
     if file.syntax not in (None, JPEG_LS) and file.syntax in SYNTAXES:
@@ -102,19 +105,34 @@ def info(path, programs, progress=None):
         lines = list(header_lines(file)) if file.is_dicom and file.layout.structure.is_found else []
         return lines, refusal, REFUSED
     lines = [*header_lines(file), *coding_lines(file.frames[0][1])]
-    status = WHOLE
+    results = []
     folder = tempfile.mkdtemp(prefix="jls-dicom-")
     try:
         mender = FrameMender(programs, folder, MendOptions())
         for number, (offset, stream) in enumerate(file.frames):
             result = mender.mend(number, [stream]).result
             lines.append(f"{result.line()}, {len(stream)} bytes at {offset}")
-            status = status if result.kind == "whole" else NOT_WHOLE
+            results.append(result)
             if progress:
                 progress(number + 1, len(file.frames))
     finally:
         shutil.rmtree(folder, ignore_errors=True)
-    return lines, None, status
+    return [*lines, *verdict_lines(results)], None, status_of(results)
+
+
+def verdict_lines(results):
+    """What a file is as a whole, where none of its lines decodes: of a kind that isn't read, or damaged."""
+    names = sorted({result.note for result in results if result.kind == NOT_SUPPORTED})
+    if names:
+        yield f"{NOT_SUPPORTED}: {', '.join(names)}"
+    elif not any(result.settled or result.disputed for result in results):
+        yield NO_LINE
+
+
+def status_of(results):
+    if any(result.kind == NOT_SUPPORTED for result in results):
+        return REFUSED
+    return WHOLE if all(result.kind == "whole" for result in results) else NOT_WHOLE
 
 
 def frames(path, folder):

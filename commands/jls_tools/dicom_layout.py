@@ -4,6 +4,7 @@ from jls_tools.dicom_alone import is_against_rules
 from jls_tools.dicom_file import JPEG_LS, tag_name
 from jls_tools.dicom_frames import EXTENDED_LENGTHS, EXTENDED_TABLE, Fragments, shape_of
 from jls_tools.dicom_header import ALLOCATED, COLUMNS, FRAMES, ROWS, SAMPLES, STORED, SYNTAX, TWINS, Header
+from jls_tools.dicom_most import agreed
 from jls_tools.dicom_runs import FINEST, Runs
 from jls_tools.dicom_structure import Walk
 from jls_tools.dicom_values import DIGITS_AND_DOTS, NOT_IN_TEXT, TEXTS, is_doubtful, is_written
@@ -18,6 +19,7 @@ class Layout:
     def __init__(self, copies):
         self.copies = copies
         self.ranges = differing([copy.data for copy in copies])
+        self.agreed = agreed(copies, self.ranges)
         self.runs, self.structure = self.find()
         self.has_header = self.structure.is_found and self.structure.pixel_data is not None
         self.fragments = Fragments(self.structure, copies) if self.has_header else None
@@ -30,7 +32,7 @@ class Layout:
         for fineness in (0, 1, 2):
             if fineness == 2 and apart > FINEST:
                 break
-            runs = Runs(self.copies, fineness, self.ranges)
+            runs = Runs(self.copies, fineness, self.ranges, self.agreed)
             structure = Walk(runs, len(self.copies[0].data)).solve([copy.data for copy in self.copies])
             if best is None or structure.is_found and (not best[1].is_found or rank(structure) < rank(best[1])):
                 best = runs, structure

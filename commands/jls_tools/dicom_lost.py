@@ -113,3 +113,19 @@ def most_of(streams):
                 return None
             found[at] = value
     return bytes(found)
+
+
+def equal_in_most(own, copies):
+    """The stream of a frame that most copies have, {copy: its stream}; nothing if these can be copies of one damaged file.
+
+    They are none where they differ elsewhere. Of equal files the others have to differ in one place alone: else each can have damage.
+    """
+    stream, count = Counter(own.values()).most_common(1)[0] if own else (b"", 0)
+    holders = [copies[copy].data for copy in own if own[copy] == stream]
+    if count < 2 or count * 2 <= len(own) or count == len(own):
+        return None
+    others = [each for each in own.values() if each != stream]
+    if any(len(each) != len(stream) for each in others):
+        return None
+    are_apart = any(data != holders[0] for data in holders[1:])
+    return stream if are_apart or all(len(differing([stream, each])) == 1 for each in others) else None

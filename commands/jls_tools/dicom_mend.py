@@ -7,13 +7,16 @@ import tempfile
 from jls_tools import dicom_gaps, partial_picture
 from jls_tools.dicom_align import Copy
 from jls_tools.dicom_alone import Stranger
-from jls_tools.dicom_file import JPEG_LS, syntax_name, syntax_of
-from jls_tools.dicom_frames import DELIMITER, by_search, paired_by_bytes, shape_of
+from jls_tools.dicom_finished import faults_of
+from jls_tools.dicom_frames import DELIMITER, by_search, paired_by_bytes
 from jls_tools.dicom_instance import Instances, TwoInstances
+from jls_tools.dicom_kinds import NoKind, other_kinds
 from jls_tools.dicom_layout import contradiction, forbidden, has_shape, is_through, laid_out
-from jls_tools.dicom_lost import Lost, most_of
-from jls_tools.dicom_result import FAILED, NOT_WHOLE, REFUSED, WHOLE, FrameResult, MendOptions, MendResult, Place
-from jls_tools.dicom_write import find_sum, in_fragments, packed, padding, put_frames, store, top_level, with_choices
+from jls_tools.dicom_lost import Lost, equal_in_most, most_of
+from jls_tools.dicom_result import FAILED, NOT_SUPPORTED, NOT_WHOLE, REFUSED, WHOLE, FrameResult, MendOptions, MendResult, Place
+from jls_tools.dicom_sum import BySum
+from jls_tools.dicom_tails import without_tails
+from jls_tools.dicom_write import packed, put_frames, store, top_level
 from jls_tools.mending import FrameMender, Mended, is_connected, is_spliced, shapes_of
 from jls_tools.programs import Programs
 
@@ -28,6 +31,10 @@ class Refused(Exception):
         self.status = status
 
 
+class Unsupported(Refused):
+    """These programs don't read the frames. Nothing says that they are damaged."""
+
+
 def mend(paths, out, options=None, programs=None):
     """Writes the file `out` from the copies `paths`, and answers a MendResult. Programs that fail raise a ProgramFailed.
 
@@ -37,7 +44,7 @@ def mend(paths, out, options=None, programs=None):
     try:
         Mending(paths, out, options or MendOptions(), programs or Programs(), result).run()
     except Refused as refused:
-        result.status, result.refusal = refused.status, str(refused)
+        result.status, result.refusal, result.is_unsupported = refused.status, str(refused), isinstance(refused, Unsupported)
     except OSError as fault:
         result.status, result.refusal = FAILED, f"{fault.filename or out}: {fault.strerror}"
     return result
@@ -66,23 +73,26 @@ class Mending:
             instances = Instances(self.texts, self.options.same)
         except TwoInstances as fault:
             raise Refused(f"{fault}; --same takes them as copies of one") from fault
-        self.result.left_out = [(self.paths[at], why) for at, why in sorted(instances.left_out.items())]
+        self.result.left_out += [(self.paths[at], why) for at, why in sorted(instances.left_out.items())]
         folder = tempfile.mkdtemp(prefix=".jls-dicom-", dir=os.path.dirname(os.path.abspath(self.out)))
         try:
             self.folder = folder
             self.mender = FrameMender(self.programs, folder, self.options)
-            self.rests, self.uncertain = instances.rests, instances.uncertain
+            self.rests, self.uncertain, self.doubts = instances.rests, instances.uncertain, instances.doubts
             self.mend_all(instances)
         finally:
             shutil.rmtree(folder, ignore_errors=True)
 
     def look_at_kinds(self):
-        """Refuses what is no DICOM file, or one of another transfer syntax."""
-        if not any(text[128:132] == b"DICM" or b"\xe0\x7f\x10\x00O" in text for text in self.texts):
-            raise Refused(f"{self.paths[0]}: it is no DICOM file, and none of the others is one")
-        syntaxes = [syntax for syntax in map(syntax_of, self.texts) if syntax is not None]
-        if syntaxes and JPEG_LS not in syntaxes:
-            raise Refused(f"{self.paths[0]}: no JPEG-LS lossless: {syntax_name(syntaxes[0])}")
+        """Leaves out copies of another transfer syntax, and cuts tails. Refuses what is no DICOM file of JPEG-LS frames."""
+        try:
+            others = other_kinds(self.paths, self.texts)
+        except NoKind as fault:
+            raise (Unsupported if fault.is_other else Refused)(str(fault)) from fault
+        self.result.left_out = [(self.paths[at], why) for at, why in sorted(others.items())]
+        self.paths = [path for at, path in enumerate(self.paths) if at not in others]
+        self.tails = without_tails([text for at, text in enumerate(self.texts) if at not in others])
+        self.texts = self.tails.texts
 
     # Copies ----------------------------------------------------------------------------
 
@@ -131,7 +141,6 @@ class Mending:
             filled = [self.own_streams(place, texts) for place in self.layout.places]
             self.kept = {place.number: lost.of_this_file(place, filled[place.number]) for place in self.layout.places}
         self.streams = [list(dict.fromkeys(own.values())) for own in filled]
-        self.refuse_other_codings()
         if not self.layout.places:
             texts = [self.texts[at][self.rests.get(at, (0,))[0] :] for at in chosen]  # a foreign beginning has frames of its own
             self.streams = paired_by_bytes([[text[begin:end] for begin, end in by_search(text)] for text in texts])
@@ -142,6 +151,7 @@ class Mending:
             self.mended.append(self.mended_frame(number, streams, begin))
             if self.options.progress:
                 self.options.progress(number + 1, len(self.streams))
+        self.refuse_unsupported()
 
     def mended_frame(self, number, streams, begin):
         """A Mended: of all streams, or if it isn't whole of those that are of this file, if these are fewer and it is whole then."""
@@ -156,11 +166,12 @@ class Mending:
         return other if other.is_whole else mended
 
     def mended_by_most(self, number, begin):
-        """A Mended of three copies or more, each of which was damaged elsewhere: what most of them have, if it is whole; or nothing."""
+        """A Mended of three copies or more: what most of them have, if it is whole; or nothing."""
         place = self.layout.places[number] if self.layout.places else None
         if place is None or any(copy.lacks(place.begin, place.end) for copy in self.copies):
             return None
-        stream = most_of(list(self.own[number].values()))
+        own = self.own[number]
+        stream = equal_in_most(own, self.copies) or most_of(list(own.values()))
         mended = self.mender.mend(number, [stream], begin) if stream is not None else None
         return mended if mended and mended.is_whole else None
 
@@ -184,13 +195,12 @@ class Mending:
             found = {number: stream[:-1] if len(stream) == place.size else stream for number, stream in found.items()}
         return found
 
-    def refuse_other_codings(self):
-        shapes = [shape for streams in self.streams for shape in map(shape_of, streams) if shape and shape.near is not None]
-        is_near, is_by_sample = (all(shape.near > 0 for shape in shapes), all(shape.interleave == 2 for shape in shapes))
-        is_sure = len(shapes) > 1 or len(shapes) == sum(map(len, self.streams)) > 0  # else a flipped bit of one copy could say so
-        if is_sure and (is_near or is_by_sample):
-            name = "near-lossless" if is_near else "interleaved by sample"
-            raise Refused(f"{self.copies[0].path}: JPEG-LS {name}; it is read by dcmdjpls of DCMTK")
+    def refuse_unsupported(self):
+        """Refuses a file of which no line came back, and whose frames have a coding that isn't read."""
+        results = [frame.result for frame in self.mended]
+        names = sorted({result.note for result in results if result.kind == NOT_SUPPORTED})
+        if names and not any(result.settled or result.disputed for result in results):
+            raise Unsupported(f"{self.copies[0].path}: {NOT_SUPPORTED}: {', '.join(names)}; dcmdjpls of DCMTK can read it")
 
     # What comes of it --------------------------------------------------------------------
 
@@ -238,14 +248,22 @@ class Mending:
 
     def can_write(self):
         """Whether the header is decided and reads; why not, else."""
+        doubts = [why for at, why in self.doubts.items() if self.options.header != self.paths[at]]
+        if doubts:
+            return doubts[0]
         if not self.layout.has_header:
             return "no copy has a header that leads to Pixel Data"
         if self.header.is_open:
             return "a place is undecided"
         if any(not self.is_in_pixels(begin, end) for begin, end in self.layout.breaks):
             return "the header is broken where no copy has it"
-        if self.layout.structure.is_cut_outside:
-            return "an element is cut in every copy"
+        if self.layout.structure.is_cut:
+            return "the file ends before its last element does"
+        if not self.tails.is_decided:
+            return "what stands behind the last element is not in all copies, and no copy that reads whole lacks it"
+        odd = next((frame.result for frame in self.mended if frame.result.kind == NOT_SUPPORTED), None)
+        if odd is not None:
+            return f"frame {odd.number} is {NOT_SUPPORTED}: {odd.note}"
         fault = contradiction(self.header, self.shape, len(self.mended))
         return fault if fault or self.options.header is not None else forbidden(self.header)
 
@@ -257,6 +275,9 @@ class Mending:
         return all(frame.is_whole for frame in self.mended)
 
     def without_sum(self):
+        if self.tails.cut:
+            names = ", ".join(self.paths[at] for at in self.tails.cut)
+            self.result.notes.append(f"bytes behind the last element are no part of the file: they were cut from {names}")
         fault = self.can_write()
         if fault is None and self.all_whole():
             self.write_whole([frame.stream for frame in self.mended])
@@ -273,7 +294,29 @@ class Mending:
         if not self.result.in_place:
             data = packed(self.data, self.layout.structure, streams)
         self.result.is_guessed = self.header.is_guessed
-        self.store(bytes(data), WHOLE)
+        fault = self.fault_of(bytes(data))
+        if fault is None:
+            self.store(bytes(data) + self.tails.ways[0], WHOLE)
+        else:
+            self.result.notes.append(f"OUT is not written: {fault}")
+            self.write_frames()
+
+    def fault_of(self, data):
+        """What forbids status 0 in the finished file. What every copy has is its writer's: that is noted."""
+        moved = len(data) - len(self.data)
+        for fault in faults_of(data, len(self.mended)):
+            if not (fault.can_be_writers and all(self.is_in_all(*part, moved) for part in fault.ranges)):
+                return fault.text
+            self.result.notes.append(f"{fault.text}: every copy has it so")
+        if self.tails.ways[0]:
+            self.result.notes.append(f"{len(self.tails.ways[0])} bytes stand behind the last element: every copy has them")
+        return None
+
+    def is_in_all(self, begin, end, moved):
+        """Whether each copy has the bytes of this range of the finished file. What follows Pixel Data can have been moved."""
+        shift = moved if begin >= self.layout.structure.end_of_pixels() + moved else 0
+        begin, end = begin - shift, end - shift
+        return not any(copy.lacks(begin, end) for copy in self.copies) and len({copy.data[begin:end] for copy in self.copies}) == 1
 
     def store(self, data, status):
         store(data, self.out, self.folder)
@@ -284,60 +327,14 @@ class Mending:
 
     def by_sum(self):
         """Tries what is open, until the file has the sum that is given."""
-        wanted = self.options.sha256.lower()
-        choices = self.choices()
-        taken = find_sum(bytes(self.data), choices, wanted) if choices is not None else None
-        if taken is None:
+        by_sum = BySum(self.layout, self.header, self.copies, self.mended, bytes(self.data), self.tails.ways)
+        found = by_sum.find(self.options.sha256.lower())
+        if found is None:
             self.result.notes.append("OUT is not written: no combination of what is open has the SHA-256 that is given")
             self.write_frames()
             return
         self.result.matched = self.result.in_place = True
-        for frame in self.mended:
-            if not frame.is_whole:
-                frame.result.kind, frame.result.note = "whole", "the SHA-256 matched"
-        self.take_choices(choices, taken)
-        self.store(with_choices(bytes(self.data), choices, taken), WHOLE)
-
-    def choices(self):
-        """[(begin, end, ways)] of frames and of open places outside of them, in order; nothing if a frame has no stream that fits."""
-        found = []
-        for place, frame in zip(self.layout.places, self.mended):
-            ways = self.frame_ways(place, frame)
-            if not ways:
-                return None
-            found.append((place.begin, place.end, ways))
-        for number in self.header.open_runs():
-            run = self.header.runs.runs[number]
-            for begin, end in self.header.parts[number]:
-                if not any(first < end and begin < last for first, last, _ in found):
-                    found.append((begin, end, [run.part(way, begin, end) for way in self.header.left[number]]))
-        return sorted(found, key=lambda choice: choice[0])
-
-    def frame_ways(self, place, frame):
-        """The bytes from a frame's begin to its end, for each stream that decodes and fits."""
-        found = []
-        for stream in dict.fromkeys(([frame.stream] if frame.stream is not None else []) + frame.others):
-            pad = padding(place, stream, self.copies)
-            if pad is not None:
-                data = bytearray(self.data[place.begin : place.end])
-                for begin, part in in_fragments(place, stream + pad):
-                    data[begin - place.begin : begin - place.begin + len(part)] = part
-                found.append(bytes(data))
-        return found
-
-    def take_choices(self, choices, taken):
-        for (begin, end, ways), way in zip(choices, taken):
-            for number in self.header.open_runs(begin, end):
-                run = self.header.runs.runs[number]
-                kept = {own for own in self.header.left[number] if run.part(own, begin, end) == ways[way]}
-                self.header.keep(number, kept, "the SHA-256 matched")
-        for place in self.header.alone:
-            self.header.take_alone(place, self.copy_of(place), "the SHA-256 matched")
-
-    def copy_of(self, place):
-        """A copy that has a place itself; the first of all, if each lacks some of it."""
-        end = place.offset + place.length
-        return next((number for number, copy in enumerate(self.copies) if not copy.lacks(place.offset, end)), 0)
+        self.store(found, WHOLE)
 
     # Where not all is there ----------------------------------------------------------------
 

@@ -5,6 +5,7 @@ from dataclasses import dataclass, field
 
 # The statuses that a MendResult has; a ProgramFailed of programs.py stands for all others
 WHOLE, NOT_WHOLE, USAGE, REFUSED, FAILED = 0, 1, 2, 3, 4
+NOT_SUPPORTED = "not supported"  # a frame that these programs don't read, which can be intact
 
 
 @dataclass
@@ -22,7 +23,7 @@ class MendOptions:
 
 @dataclass
 class FrameResult:
-    """A frame, counted from 0: `kind` is whole, lines (some are missing), disputed or missing (there is nothing of it)."""
+    """A frame, counted from 0: `kind` is whole, lines (some are missing), disputed, missing (there is nothing of it) or not supported."""
 
     number: int
     kind: str
@@ -33,6 +34,8 @@ class FrameResult:
     note: str = ""
 
     def line(self):
+        if self.kind == NOT_SUPPORTED:
+            return f"frame {self.number} {self.kind}: {self.note}"
         counts = f"settled {self.settled}, missing {self.missing}, disputed {self.disputed}"
         words = [f"frame {self.number} {self.kind}, {counts}"]
         words += [f"promise {self.promise}"] if self.promise else []
@@ -72,6 +75,7 @@ class MendResult:
     left_out: list = field(default_factory=list)  # (path, why)
     notes: list = field(default_factory=list)
     refusal: str | None = None
+    is_unsupported: bool = False  # refused for what these programs don't read: nothing says that it is damaged
 
     def count(self, kind):
         return sum(frame.kind == kind for frame in self.frames)

@@ -21,6 +21,7 @@ class Run:
     holders: list
     zeros: list  # for each way whether it is to be dropped as a run of zeros
     whole: int  # the number of the cluster that it is a part of
+    firm: object = None  # the way of most copies, where their headers agree
 
     def part(self, way, begin, end):
         """What a way has in a range, as far as the run goes."""
@@ -86,7 +87,7 @@ def run_at(copies, begin, end, whole, number_of_whole):
 class Runs:
     """All runs of copies on one axis, in order. `fineness` 0 joins near ranges, 1 does not, and 2 makes each byte a run of its own."""
 
-    def __init__(self, copies, fineness, ranges=None):
+    def __init__(self, copies, fineness, ranges=None, agreed=None):
         ranges = differing([copy.data for copy in copies]) if ranges is None else ranges
         wholes = list(clusters(ranges))
         begins = [begin for begin, _ in wholes]
@@ -99,6 +100,9 @@ class Runs:
             for begin, end in ranges
             for first, last in cut_at_sectors(begin, end)
         ]
+        for run in self.runs if agreed else ():
+            if agreed.begin <= run.begin and run.end <= agreed.until:
+                run.firm = next((way for way, holders in enumerate(run.holders) if agreed.copies <= set(holders)), None)
         self.begins = [run.begin for run in self.runs]
         self.data = copies[0].data
 
@@ -108,6 +112,11 @@ class Runs:
         if first < 0 or self.runs[first].end <= begin:
             first += 1
         return range(first, bisect.bisect_left(self.begins, end))
+
+    def ways_of(self, number):
+        """The ways of a run that can be true."""
+        run = self.runs[number]
+        return range(len(run.ways)) if run.firm is None else (run.firm,)
 
     def bytes_with(self, begin, end, chosen):
         """The bytes of a range where runs go as `chosen` says, {run: way}; others go as the first copy does."""

@@ -64,14 +64,14 @@ class Walk:
             yield self.runs.data[begin:end], chosen, 0
             return
         free = [number for number in touched if number not in chosen]
-        for ways in itertools.product(*(range(len(self.runs.runs[number].ways)) for number in free)):
+        for ways in itertools.product(*(self.runs.ways_of(number) for number in free)):
             self.looks += 1
             both = {**chosen, **dict(zip(free, ways))}
             cost = sum(ZEROED for number, way in zip(free, ways) if self.runs.runs[number].zeros[way])
             yield self.runs.bytes_with(begin, end, both), both, cost
 
     def is_small(self, begin, end, chosen):
-        sizes = [len(self.runs.runs[number].ways) for number in self.runs.touching(begin, end) if number not in chosen]
+        sizes = [len(self.runs.ways_of(number)) for number in self.runs.touching(begin, end) if number not in chosen]
         return len(sizes) <= 12 and math.prod(sizes) <= MOST_COMBINATIONS
 
     def going_on(self, place, chosen):
@@ -302,6 +302,7 @@ class Structure:
         self.is_found = self.cost is not None
         self.ways = {}
         self.items = set()  # where items of Pixel Data begin and end, on any of the best ways
+        self.values = set()  # where values begin and end, on any of the best ways
         self.steps = self.best_steps(start) if self.is_found else []
         if self.is_found:
             self.collect(start)
@@ -351,6 +352,8 @@ class Structure:
                     self.ways.setdefault(number, set()).add(way)
                 if step.kind == "fragment":
                     self.items.add((step.element.start, step.element.end))
+                if step.kind == "leaf":
+                    self.values.add((step.element.value, step.element.end))
                 if step.after not in seen:
                     seen.add(step.after)
                     waiting.append(step.after)
@@ -379,6 +382,11 @@ class Structure:
     def has_rival(self, begin, end):
         """Whether another of the best ways has other items where this item stands."""
         return any(first < end and begin < last and (first, last) != (begin, end) for first, last in self.items)
+
+    def is_open(self, element):
+        """Whether another of the best ways has other values where this value stands: it can be empty or shorter in the true file."""
+        own = element.value, element.end
+        return any(begin < own[1] and own[0] < end and (begin, end) != own for begin, end in self.values)
 
     def items_of_pixels(self):
         """The items of Pixel Data, as Elements, the offset table first; jumps as pairs."""

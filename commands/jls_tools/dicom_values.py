@@ -1,4 +1,6 @@
 """What a VR allows a value to be (PS3.5, 6.2), and the VRs of well-known elements (PS3.6)."""
+from __future__ import annotations
+
 import calendar
 import itertools
 import re
@@ -29,20 +31,20 @@ TEXTS = frozenset(b"AE AS CS DA DS DT IS LO LT PN SH ST TM UC UI UR UT".split())
 LONGEST = {b"AE": 16, b"LO": 64, b"SH": 16, b"PN": 324}
 
 
-def is_uid(value):
+def is_uid(value: bytes) -> bool:
     """Whether bytes are a UID: numbers and dots, 64 at most, one byte 0 to make its length even."""
     if not DIGITS_AND_DOTS.match(value) or len(value) > 65:
         return False
     return bool(UID_PARTS.match(value.rstrip(b"\0").decode("ascii")))
 
 
-def each_matches(form, value):
+def each_matches(form: re.Pattern[bytes], value: bytes) -> bool:
     """Whether each value of a text has a form. One byte 0 at the end is taken for padding; more are not (PS3.5, 6.2)."""
     value = value[:-1] if value.endswith(b"\0") else value
     return all(not part.strip(b" ") or form.match(part.strip(b" ")) for part in value.split(b"\\"))
 
 
-def is_dates(value):
+def is_dates(value: bytes) -> bool:
     """Whether a value is dates that the calendar has, or ranges of them."""
     if b"-" in value:
         return each_matches(DATES, value)
@@ -50,12 +52,12 @@ def is_dates(value):
     return each_matches(DATE, value) and all(is_in_calendar(part.strip(b" ")) for part in parts)
 
 
-def is_in_calendar(text):
+def is_in_calendar(text: bytes) -> bool:
     year, month, day = int(text[:4]), int(text[4:6]), int(text[6:])
     return year == 0 or day <= calendar.monthrange(year, month)[1]
 
 
-def is_string(vr, value):
+def is_string(vr: bytes, value: bytes) -> bool:
     """One or several short strings. A byte 0 at the end is no value of these VRs, but some writers pad with it."""
     value = value[:-1] if value.endswith(b"\0") else value
     if NOT_IN_STRING.search(value):
@@ -63,7 +65,7 @@ def is_string(vr, value):
     return all(len(part.rstrip(b" ")) <= LONGEST[vr] for part in value.split(b"\\"))
 
 
-def allows(vr, value):
+def allows(vr: bytes, value: bytes) -> bool:
     """Whether a VR allows a value. Of binary VRs only the length is looked at."""
     if vr in SIZES:
         return len(value) % SIZES[vr] == 0
@@ -84,12 +86,12 @@ def allows(vr, value):
     return True
 
 
-def is_written(vr, value):
+def is_written(vr: bytes, value: bytes) -> bool:
     """Whether control characters of a text can be those of its writer."""
     return vr in FREE_TEXTS and value.isascii() and len(WRITTEN.findall(value)) > 1
 
 
-def is_doubtful(vr, value):
+def is_doubtful(vr: bytes, value: bytes) -> bool:
     """Whether a value is one that its VR forbids, and that damage can have made.
 
     Some writers put other texts there, such as Anon. No flip of one bit makes them allowed, and noise is no text. Others fill an empty
@@ -188,8 +190,8 @@ fffc fffcOB
 """
 
 
-def known_vrs():
-    found = {}
+def known_vrs() -> dict[int, bytes]:
+    found: dict[int, bytes] = {}
     for line in KNOWN.split("\n"):
         group, *rest = line.split() or [""]
         found.update({int(group + word[:4], 16): word[4:].encode() for word in rest})
@@ -197,12 +199,14 @@ def known_vrs():
 
 
 KNOWN_VRS = known_vrs()
-EITHER = {0x00280106: (b"US", b"SS"), 0x00280107: (b"US", b"SS"), 0x00280120: (b"US", b"SS"), 0x7FE00010: (b"OB", b"OW")}
+EITHER: dict[int, tuple[bytes, ...]] = {
+    0x00280106: (b"US", b"SS"), 0x00280107: (b"US", b"SS"), 0x00280120: (b"US", b"SS"), 0x7FE00010: (b"OB", b"OW")
+}
 EITHER |= {0x00281101 + at: (b"US", b"SS") for at in range(3)}
 EITHER |= {0x00281201 + at: (b"OW", b"US") for at in range(3)}
 
 
-def strangeness(tag, vr):
+def strangeness(tag: int, vr: bytes) -> int:
     """0 for an element with the VR that it has in PS3.6, 1 for one that isn't known here, 4 for one with another VR."""
     group, number = tag >> 16, tag & 0xFFFF
     if vr == b"UN":

@@ -7,9 +7,10 @@ import re
 from dataclasses import dataclass, field
 
 from jls_tools.dicom_align import differing
-from jls_tools.dicom_frames import has_usual_parameters, other_coding, shape_of
+from jls_tools.dicom_frames import has_usual_parameters, shape_of
 from jls_tools.dicom_result import FAILED, FrameResult
 from jls_tools.programs import ProgramFailed
+from jls_tools.unsupported import NOT_SUPPORTED, unsupported
 
 # A frame is known by what stands after its headers
 HEADERS, LEAST_SHARED, LEAST_SPLICED = 64, 128, 16
@@ -21,8 +22,6 @@ MOST_CROSSED, MOST_SECTORS = 40, 5
 SAME_RUN, SAME_KINDS, REST_KINDS = re.compile(rb"\0{8,}"), 6, 24
 ZERO_RUN = re.compile(rb"\0{8,}")
 EQUAL_RUN = re.compile(rb"\0{4,}")
-FAULT = re.compile(r"end fault (\d+)")
-FAULTS = {6: "near-lossless coding", 7: "colour interleaved by sample", 8: "a mapping table", 15: "an interval that is too large"}
 
 
 @dataclass
@@ -234,20 +233,18 @@ class FrameMender:
         outcome = self.check(name)
         if outcome.status == 0:
             return Mended(self.result(number, "whole", outcome.report), stream, [], None, outcome.report.shape)
+        if not outcome.report.settled and unsupported(stream, outcome.fault):
+            return Mended(FrameResult(number, NOT_SUPPORTED, note=unsupported(stream, outcome.fault)))
         if outcome.status == 3 or not outcome.report.width:
-            return Mended(FrameResult(number, "missing", note=self.why_unread(stream, outcome.faults)))
+            return Mended(FrameResult(number, "missing", note=self.why_unread(outcome.faults)))
         partial = self.name(number, ".jlsp")
         self.sure(self.programs.join(partial, [name], self.folder))
-        found = FAULT.search(outcome.printed)
-        note = FAULTS.get(int(found.group(1)), "") if found else ""
+        note = unsupported(stream, outcome.fault) or ""
         kind = "missing" if outcome.report.settled + outcome.report.disputed == 0 else "lines"
         return Mended(self.result(number, kind, outcome.report, note=note), None, [], self.path(partial), outcome.report.shape)
 
-    def why_unread(self, stream, faults):
-        """Why there is no picture: another coding, or the fault as the program names it."""
-        coding = other_coding(stream)
-        if coding:
-            return f"it is {coding}"
+    def why_unread(self, faults):
+        """Why there is no picture: the fault as the program names it."""
         found = re.search(r"no picture, (fault .*)", faults)
         return found.group(1) if found else "no copy reads"
 
@@ -261,8 +258,11 @@ class FrameMender:
         others = self.others(prefix, streams, names)
         self.drop([file])
         report = splice.report
+        name = self.unsupported_of(streams, names) if stream is None and not report.settled else None
+        if name is not None:
+            return Mended(FrameResult(number, NOT_SUPPORTED, note=name), None, others)
         if splice.status == 3 or not report.width:
-            return Mended(FrameResult(number, "missing", note=self.why_unread(streams[0], splice.faults)), None, others)
+            return Mended(FrameResult(number, "missing", note=self.why_unread(splice.faults)), None, others)
         promise = report.promise or "lines"
         kind, note = self.kind_of(splice, report), ""
         if stream is not None and not splice.file_written:
@@ -271,6 +271,11 @@ class FrameMender:
             if stream in streams:
                 kind, note = "disputed", "another copy has less than half of these bytes here"
         return Mended(self.result(number, kind, report, promise, note), stream, others, self.path(partial), report.shape)
+
+    def unsupported_of(self, streams, names):
+        """What all streams of a frame have that isn't read; nothing if one of them says otherwise."""
+        found = {unsupported(stream, self.check(name).fault) for stream, name in zip(streams, names)}
+        return found.pop() if len(found) == 1 else None
 
     def usual_of_several(self, splice, names, prefix, words):
         """Of several files that have one picture, which is promised: the one whose coding parameters are the usual ones; or nothing."""

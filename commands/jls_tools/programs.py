@@ -6,6 +6,7 @@ import subprocess
 import sys
 
 PICTURE = re.compile(r"picture (\d+)x(\d+), (\d+) bits, components (\d+(?:,\d+)*)$")
+FAULT = re.compile(r"^end fault (\d+)|no picture, fault (\d+)", re.M)
 COUNTS = re.compile(r"settled (\d+), missing (\d+), disputed (\d+)$")
 # No verdict on a picture: out of memory, not built, not executable, not there
 NO_VERDICT = {5, 125, 126, 127}
@@ -73,6 +74,12 @@ class Outcome:
         self.printed = printed
         self.faults = faults
         self.report = Report(printed)
+
+    @property
+    def fault(self):
+        """The number of the fault at which the reading of a copy ended; nothing if there is none."""
+        found = FAULT.search(self.printed) or FAULT.search(self.faults)
+        return int(found.group(1) or found.group(2)) if found else None
 
 
 class Splice(Outcome):

@@ -1,0 +1,65 @@
+"""Checks of what `jls-dicom info` says of files that are intact and not supported, and of one that is damaged; and headers of such files."""
+import os
+
+from dicom_files import HERE, File, called, changed, frame
+
+SCAN = b"\xff\x11\x42" * 20 + b"\xff\xd9"  # the headers alone tell, so that a scan of anything will do
+
+
+def near_of(stream):
+    """A codestream that says NEAR 3."""
+    at = stream.index(b"\xff\xda")
+    return changed(stream, (at + 2 + int.from_bytes(stream[at + 2 : at + 4], "big") - 3, b"\3"))
+
+
+def unsupported(stream):
+    """{its name: a codestream of a kind that isn't read}, by T.87, C.2.2 and C.2.3, and T.81, B.2.2."""
+    three = "ffd8fff70011080010001003011100021100031100ffda000c0301000200030000"
+    size, one = "080010001001", bytes.fromhex("ffda0008010100000000") + SCAN
+    return {
+        "near-lossless coding": near_of(stream),
+        "interleaved by sample": bytes.fromhex(f"{three}0200") + SCAN,
+        "several components in a scan without interleaving": bytes.fromhex(f"{three}0000") + SCAN,
+        "a mapping table": bytes.fromhex(f"ffd8fff7000b{size}011100 fff80006020101aa ffda0008010101000000") + SCAN,
+        "subsampling": bytes.fromhex(f"ffd8fff7000b{size}012200") + one,
+        "a height of 0": bytes.fromhex("ffd8fff7000b08000000100101 1100") + one,
+        "a point transform": bytes.fromhex(f"ffd8fff7000b{size}011100 ffda0008010100000001") + SCAN,
+    }
+
+
+def checks_of_info(work, rng):
+    stream, name = frame(rng, 8, 16, 12, work), f"{work}/one.jls"
+    for kind, data in unsupported(stream).items():
+        with open(name, "wb") as file:
+            file.write(data)
+        status, printed, _ = called("info", name)
+        named = f"\nframe 0 not supported: {kind}, " in printed and printed.endswith(f"\nnot supported: {kind}\n")
+        yield f"info: {kind} ({status}, {printed})", (status, named, "missing" in printed) == (3, True, False)
+    with open(name, "wb") as file:
+        file.write(bytes.fromhex("ffd8ffc0000b080010001001011100") + SCAN)
+    status, printed, faults = called("info", name)
+    yield f"info: JPEG, lossy ({status}, {printed}, {faults})", status == 3 and "not supported: JPEG, lossy" in faults
+    status, printed, _ = called("info", os.path.join(HERE, "examples", "head-first.jls"))
+    told = "\ndamaged: no line decodes; jls-splice needs a second copy\n"
+    yield f"info: damaged ({status}, {printed})", (status, printed.endswith(told), "not supported" in printed) == (1, True, False)
+    with open(name, "wb") as file:
+        file.write(stream)
+    status, printed, _ = called("info", name)
+    yield f"info: whole ({status}, {printed})", status == 0 and "damaged" not in printed and "not supported" not in printed
+
+
+def checks_of_unsupported(bench, work, rng):
+    """Copies of a coding that isn't read are refused by name; a frame of one is never filled as a lost one is."""
+    stream = frame(rng, 8, 16, 12, work)
+    near = File([near_of(stream)] * 2, 8, 16, 12).bytes
+    other = changed(near, (near.rindex(b"\xff\xd9") - 40, b"abcdef"))
+    status, out, _, faults, _ = bench.mend([near, other])
+    yield f"near-lossless frames: refused by name ({status}, {faults})", (status, out) == (3, None) and "not supported: near-lossless" in faults
+    mixed = File([stream, near_of(stream)], 8, 16, 12).bytes
+    for words in ((), ("--with-gaps", "0")):
+        status, out, printed, _, _ = bench.mend([mixed, changed(mixed, (20, b"x"))], *words)
+        told = "frame 1 not supported: near-lossless coding" in printed
+        yield f"one near-lossless frame, {words}: no OUT ({status}, {printed})", (status, out, told) == (1, None, True)
+
+
+INFO = [checks_of_info, checks_of_unsupported]

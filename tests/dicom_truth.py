@@ -1,0 +1,220 @@
+"""Checks that nothing false comes with status 0, and that no copy blocks the others: chimeras, the finished file, tails, most copies.
+
+Each case says what the status has to be and what OUT; "" stands for no OUT. `words` is what has to be printed.
+"""
+import hashlib
+import random
+import struct
+
+from dicom_files import CLASS, UID, File, changed, element
+from dicom_rules import put_before
+from jls_tools.programs import Programs
+
+NEIGHBOUR = UID[:-1] + "8"
+END = b"\xfe\xff\xdd\xe0\0\0\0\0"
+EXPLICIT = "1.2.840.10008.1.2.1"
+
+
+def case(bench, name, copies, status, out, words="", options=()):
+    """(name with what came of it, whether that is as it has to be)."""
+    got, data, printed, faults, _ = bench.mend(copies, *options)
+    said = printed + faults
+    return f"{name}: {status} ({got}, {said})", (got, data if data is not None else b"") == (status, out) and words in said
+
+
+def damaged(made, number=0):
+    """A file with eight bytes of a frame zeroed."""
+    return changed(made.bytes, (made.items[number] + 70, bytes(8)))
+
+
+def without(data, tag, vr, value):
+    """A file without an element, whose group length fits."""
+    gone = element(tag, vr, value)
+    at = data.index(gone)
+    rest = data[:at] + data[at + len(gone) :]
+    if tag >> 16 != 2:
+        return rest
+    at = rest.index(b"UL\4\0") + 4
+    (size,) = struct.unpack_from("<I", rest, at)
+    return changed(rest, (at, struct.pack("<I", size - len(gone))))
+
+
+# Two instances -------------------------------------------------------------------------------------
+
+
+def slice_of(made, uid, letter):
+    """A file with many elements before its frames: another slice of a series has them at the same places."""
+    values = [element(0x190010, "LO", "MINE")]
+    values += [element(0x191000 + at, "LO", f"value {at * 37 % 100:02} of {letter}") for at in range(800)]
+    data = put_before(made.bytes, 0x280002, *values)
+    return data.replace(UID.encode(), uid.encode()).replace(b"Doe^Jane", b"Roe^Jane" if letter == "b" else b"Doe^Jane")
+
+
+def checks_of_chimeras(bench, made):
+    """Another slice's first 4,096 bytes, whole and consistent, on the true frames: of two copies either can be the file."""
+    true, other = slice_of(made, UID, "a"), slice_of(made, NEIGHBOUR, "b")
+    chimera, noise = other[:4096] + true[4096:], random.Random(3).randbytes(40)
+    item_at = true.index(made.frames[1]) - 8
+    third, second = slice_of(made, "1.2.3.9.9", "c"), made.bytes.rindex(UID.encode(), 0, made.name_at) + 4
+    twice = made.bytes.replace(UID.encode(), NEIGHBOUR.encode())
+    for name, copies in {
+        "a chimera": [true, chimera],
+        "a chimera, and zeros behind its end in the other copy": [changed(true, (4096, bytes(4096))), chimera],
+        "a chimera, and noise behind its end": [changed(true, (4096, noise)), chimera],
+        "a chimera, and noise before its end": [changed(true, (3000, noise)), chimera],
+        "a chimera without a header of an item, and noise": [changed(true, (3000, noise)), changed(chimera, (item_at, bytes(8)))],
+        "a chimera, and a sector of a third file": [changed(true, (1024, third[1024:1536])), chimera],
+        "a chimera, and noise that goes on far behind it": [changed(true, (4096, random.Random(3).randbytes(8192))), chimera],
+        "another UID twice, and noise over one": [changed(made.bytes, (second, b"\x81\x02\x93 ")), twice],
+    }.items():
+        for order in (copies, copies[::-1]):
+            got, out, printed, faults, _ = bench.mend(order)
+            yield f"{name}: undecided ({got}, {printed[-300:]}, {faults})", got in (1, 3) and out is None
+    yield case(bench, "a chimera, and a third copy", [true, chimera, changed(true, (5000, noise))], 0, true)
+
+
+# The finished file ---------------------------------------------------------------------------------
+
+
+def checks_of_finished(bench, made):
+    """The finished file is read anew. What every copy has is its writer's, but for UIDs that are missing, cuts, and false ends of items."""
+    true = made.bytes
+    for tag, uid in ((0x20002, CLASS), (0x20003, UID), (0x80016, CLASS), (0x80018, UID)):
+        data = without(true, tag, "UI", uid)
+        yield case(bench, f"no UID of {tag:08x}", [data, changed(data, (20, b"x"))], 1, b"", "is missing")
+    tail = File(made.frames[:-1] + [made.frames[-1] + bytes(146)], 12, 24, 20)
+    yield case(bench, "a frame's item with 146 bytes behind it", [tail.bytes, damaged(tail)], 1, b"", "does not end with it")
+    odd = changed(true, (140, struct.pack("<I", struct.unpack("<I", true[140:144])[0] + 2)))
+    both = [odd, changed(odd, (made.items[0] + 70, bytes(8)))]
+    yield case(bench, "a group length that is wrong in each copy", both, 0, odd, "every copy has it")
+    other = changed(true, (true.rindex(UID.encode(), 0, made.name_at) + len(UID) - 1, b"9"))
+    both = [other, changed(other, (made.items[0] + 70, bytes(8)))]
+    yield case(bench, "two SOP Instance UIDs in each copy", both, 0, other, "the SOP Instance UIDs are not equal: every copy", ["--same"])
+    table = changed(true, (made.table_at + 4, struct.pack("<I", made.items[1] - made.items[0] + 12)))
+    both = [table, changed(table, (made.items[0] + 70, bytes(8)))]
+    yield case(bench, "an offset table that leads elsewhere in each copy", both, 0, table, "to the frames: every copy has it")
+    name = element(0x20012, "UI", "1.2.3") + element(0x20013, "SH", "MINE")
+    meta = true.index(element(0x20010, "UI", "1.2.840.10008.1.2.4.80"))
+    until = meta + len(element(0x20010, "UI", "1.2.840.10008.1.2.4.80"))
+    whole = true[:until] + name + true[until:]
+    whole = changed(whole, (140, struct.pack("<I", struct.unpack("<I", true[140:144])[0] + len(name))))
+    at = whole.index(b"1.2.3\0", until)
+    letters = changed(whole, (at, b"Anon!!"))
+    both = [letters, whole[: at - 8] + whole[at + 6 :]]
+    yield case(bench, "letters in a UID of one copy alone", both, 1, b"", "has what its VR forbids")
+    first, second = element(0x80020, "DA", "20200131"), element(0x90010, "LO", "PRIVATE")
+    turned = true.replace(first + second, second + first)
+    both = [turned, changed(turned, (made.items[0] + 70, bytes(8)))]
+    yield case(bench, "tags that don't ascend in each copy", both, 0, turned, "every copy has it")
+
+
+def checks_of_cuts(bench, made):
+    """A file that ends before its last element does has no status 0, though each frame is whole."""
+    end = made.bytes.index(END, made.items[-1])
+    places = (("the end of Pixel Data", end), ("half of its delimiter", end + 4), ("a part of the last element", len(made.bytes) - 20))
+    for name, until in places:
+        data = made.bytes[:until]
+        yield case(bench, f"cut in each copy: {name}", [data, damaged(made)[:until]], 1, b"")
+    yield case(bench, "cut in one copy", [made.bytes[: end + 4], damaged(made)], 0, made.bytes)
+
+
+# Tails ---------------------------------------------------------------------------------------------
+
+
+def checks_of_tails(bench, made, neighbour):
+    """Bytes behind the last element are cut where a whole copy lacks them or most do. In all copies they stay."""
+    true, zeros, noise = made.bytes, bytes(-len(made.bytes) % 4096), random.Random(4).randbytes(300)
+    flipped = changed(true, (made.name_at, b"E"))
+    for name, copies in {
+        "zeros to a border behind one": [true, true + zeros],
+        "zeros behind a damaged one": [true, damaged(made) + zeros],
+        "zeros behind a whole one": [damaged(made), true + zeros],
+        "noise": [true, true + noise],
+        "the rest of another file": [true + neighbour.bytes[len(true) // 2 :], damaged(made)],
+        "zeros behind two of three": [true + zeros, true + zeros + bytes(4096), true],
+        "zeros behind one of three": [damaged(made), damaged(made, 1), true + noise],
+        "zeros behind one without a header of an item": [true, changed(true, (made.items[1], bytes(8))) + zeros],
+    }.items():
+        yield case(bench, f"a tail: {name}", copies, 0, true, "they were cut from")
+    both = [true + zeros, damaged(made) + zeros]
+    yield case(bench, "a tail in each copy", both, 0, true + zeros, "every copy has them")
+    yield case(bench, "the same, and a sum without it", both, 0, true, "matched", ["--sha256", hashlib.sha256(true).hexdigest()])
+    sums = ["--sha256", hashlib.sha256(true + noise).hexdigest()]
+    yield case(bench, "a tail that one copy lacks, and a sum with it", [true, damaged(made) + noise], 0, true + noise, "matched", sums)
+    alone = [true[: len(true) // 2], true + noise]
+    yield case(bench, "a tail, and the other copy is cut", alone, 1, b"", "what stands behind the last element")
+    sums = ["--sha256", hashlib.sha256(true).hexdigest()]
+    yield case(bench, "the same, and a sum without it", alone, 0, true, "matched", sums)
+    yield case(bench, "two tails that differ", [true + zeros, true + noise], 1, b"", "what stands behind the last element")
+    padding = changed(true, (len(true) - 42, b"\x13\x57\x9b\xdf"))
+    yield case(bench, "the last element's tag is damaged", [padding, damaged(made)], 0, true)
+    yield case(bench, "a tail, and a letter of a name", [true, flipped + zeros], 1, b"", "(0010,0010), undecided")
+
+
+# Most copies ---------------------------------------------------------------------------------------
+
+
+def decoding_flips(bench, made, most):
+    """Files with one flipped bit in the first frame, which decodes all the same: of two copies it is disputed."""
+    stream, name, found = made.frames[0], f"{bench.folder}/flipped.jls", []
+    for at in range(len(stream) - 6, 60, -7):
+        flipped = changed(stream, (at, bytes([stream[at] ^ 4])))
+        with open(name, "wb") as file:
+            file.write(flipped)
+        if Programs().check(name).status == 0:
+            found.append(changed(made.bytes, (made.items[0] + 8, flipped)))
+        if len(found) == most:
+            break
+    return found
+
+
+def checks_of_most(bench, made):
+    """Two equal copies against one decide. A copy alone does not outvote two by what VRs forbid; an empty value may be the true one."""
+    true, first = made.bytes, made.items[0]
+    for flipped in decoding_flips(bench, made, 3):
+        yield case(bench, "two equal copies, and one with a flipped bit that decodes", [true, flipped, true], 0, true)
+    named = changed(true, (made.name_at, b"E"))
+    apart = [changed(true, (made.items[1] + 70, bytes(8))), changed(true, (made.items[2] + 70, bytes(8)))]
+    twice = changed(true, *((first + 60 + at, bytes([true[first + 60 + at] ^ 4])) for at in (0, 9)))
+    yield case(bench, "two copies with damage of their own, and one with two flipped bits", [apart[0], twice, apart[1]], 0, true)
+    yield case(bench, "a letter of a name in one of three", [true, named, true], 0, true, "most copies have it")
+    date, inner = element(0x80020, "DA", "20200131"), element(0x81040, "LO", "WARD") + element(0x81090, "LO", "ACME")
+    pairs = (("", inner), ("A" * len(inner), b""))
+    empty, longer = (true.replace(date, date + element(0x81030, "LO", text) + rest) for text, rest in pairs)
+    for name, short, long in (("an empty value", empty, longer), ("a longer value", longer, empty)):
+        other = changed(short, (short.index(made.frames[0]) + 70, bytes(8)))
+        for order in ([short, long, other], [long, short, other], [other, short, long]):
+            yield case(bench, f"{name} in two of three", order, 0, short)
+    yield case(bench, "an empty value and a longer one", [empty, longer], 1, b"", "undecided")
+    yield case(bench, "a longer value and an empty one", [longer, empty], 1, b"", "undecided")
+    prefix = changed(true, (128, bytes(4)))
+    yield case(bench, "four zeros in the place of DICM", [prefix, damaged(made)], 0, true, "each DICOM file has it")
+    yield case(bench, "the same in two of three", [prefix, changed(prefix, (first + 70, bytes(8))), true], 0, true)
+
+
+# Other transfer syntaxes ---------------------------------------------------------------------------
+
+
+def plain_of(made, syntax):
+    """The file with Pixel Data that is not compressed."""
+    at = made.bytes.index(b"\xe0\x7f\x10\x00OB\0\0\xff\xff\xff\xff")
+    samples = random.Random(9).randbytes(2 * 24 * 20 * len(made.frames))
+    head = made.bytes[:at].replace(element(0x20010, "UI", "1.2.840.10008.1.2.4.80"), element(0x20010, "UI", syntax))
+    size = struct.unpack("<I", head[140:144])[0] + len(syntax) + len(syntax) % 2 - 22
+    return changed(head, (140, struct.pack("<I", size))) + b"\xe0\x7f\x10\x00OW\0\0" + struct.pack("<I", len(samples)) + samples
+
+
+def checks_of_syntaxes(bench, made):
+    """A copy in another transfer syntax is left out by name, and the others are mended. A flipped bit of the UID is damage."""
+    true, plain = made.bytes, plain_of(made, EXPLICIT)
+    other = changed(true, (made.items[1] + 70, bytes(8)))
+    for order in ([plain, damaged(made), other], [damaged(made), plain, other], [damaged(made), other, plain]):
+        yield case(bench, "a copy that is not compressed", order, 0, true, "it has transfer syntax 1.2.840.10008.1.2.1 (Explicit VR Little")
+    wavelet = File([b"\xff\x4f\xff\x51" + bytes(60)] * 4, 12, 24, 20, syntax="1.2.840.10008.1.2.4.90").bytes
+    yield case(bench, "a copy in JPEG 2000", [damaged(made), wavelet, other], 0, true, "JPEG 2000 lossless")
+    yield case(bench, "two copies that are not compressed", [plain, plain], 3, b"", "no JPEG-LS lossless")
+    at = true.index(b"1.2.840.10008.1.2.4.80") + 20
+    yield case(bench, "a bit that says JPEG 2000", [changed(true, (at, b"9")), damaged(made)], 0, true, "the frames are JPEG-LS")
+
+
+TRUTH = [checks_of_chimeras, checks_of_finished, checks_of_cuts, checks_of_tails, checks_of_most, checks_of_syntaxes]
