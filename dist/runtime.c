@@ -53,8 +53,27 @@ static char **words;
 /* The program's own main, which the toolchain made. It takes no words: it asks for them. */
 int __real_main(int, char **);
 
-/* What the C library calls in place of main. */
+#ifdef __x86_64__
+/* Whether the processor has what x86-64-v2 has beyond x86-64. In ecx of leaf 1 these are SSE3, SSSE3, CMPXCHG16B, SSE4.1, SSE4.2 and POPCNT;
+   of leaf 0x80000001 LAHF. */
+static bool has_level(void) {
+    const unsigned needed = 1 << 0 | 1 << 9 | 1 << 13 | 1 << 19 | 1 << 20 | 1 << 23;
+    unsigned a, b, c, d;
+    if (!__get_cpuid(1, &a, &b, &c, &d) || (c & needed) != needed) return false;
+    return __get_cpuid(0x80000001, &a, &b, &c, &d) && (c & 1) != 0;
+}
+#endif
+
+/* What the C library calls in place of main. The program's own main refuses such a processor too, and names an option of the toolchain. */
 int __wrap_main(int argc, char **argv) {
+#ifdef __x86_64__
+    static const char line[] = "this processor lacks a feature of x86-64-v2 (as SSE4.2 or POPCNT), which the program needs: use a newer one\n";
+    if (!has_level()) {
+        ssize_t done = write(2, line, sizeof line - 1);
+        (void)done;
+        return 127;
+    }
+#endif
     count = argc > 0 ? (size_t)argc : 0;
     words = argv;
     return __real_main(argc, argv);

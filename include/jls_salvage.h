@@ -2,7 +2,8 @@
 
    Each function reads whole buffers of the caller's, and answers a number of `enum jls_answer`. A buffer is a pointer and the number of
    its elements; at 0 elements the pointer may be NULL. Buffers that a function writes must not overlap another one. The library keeps
-   nothing between two calls, so threads may call it at once, on buffers of their own. It takes memory by malloc and gives all back. */
+   nothing between two calls, so threads may call it at once, on buffers of their own. It takes memory by malloc and gives all back.
+   Each function can answer JLS_PROCESSOR too, and on such a processor answers nothing else. */
 #ifndef JLS_SALVAGE_H
 #define JLS_SALVAGE_H
 
@@ -24,7 +25,8 @@ enum jls_answer {
     JLS_SHAPES_DIFFER = 6,     /* the partial pictures of jls_join have different shapes: nothing was written */
     JLS_BAD_FRAME = 7,         /* no picture has such a frame, or so many samples: nothing was written */
     JLS_LARGE_SAMPLE = 8,      /* a sample has more bits than the precision: nothing was written */
-    JLS_LARGE_INTERVAL = 9     /* a restart interval would have more than 2^28 samples: nothing was written */
+    JLS_LARGE_INTERVAL = 9,    /* a restart interval would have more than 2^28 samples: nothing was written */
+    JLS_PROCESSOR = 10         /* x86-64: the processor is below x86-64-v2, which has SSE4.2 and POPCNT: nothing was written */
 };
 
 /* How much is known of a line: it has no reading, one, or several that differ. */

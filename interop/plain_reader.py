@@ -14,7 +14,6 @@ marker syntax of ITU-T T.81, annex B, and T.87, annex C, with these rules of thi
 """
 from __future__ import annotations
 
-import bisect
 import re
 from typing import NamedTuple
 
@@ -214,10 +213,19 @@ def words(*facts):
     return " ".join(str(fact) for fact in facts)
 
 
+def first_final(file: bytes) -> int:
+    """The number of its first bytes that settle its end."""
+    low, high = 0, len(file)
+    while low < high:
+        middle = (low + high) // 2
+        low, high = (low, middle) if course(file[:middle]).is_final() else (middle + 1, high)
+    return low
+
+
 def tell(file):
     """What the file gives, and the number of its first bytes that settle its end (None where more bytes can change it)."""
     found = course(file)
-    done = bisect.bisect_left(range(len(file)), True, key=lambda n: course(file[:n]).is_final()) if found.is_final() else None
+    done = first_final(file) if found.is_final() else None
     kind, offset, number = found.end
     if found.frame is None:
         return [words("no picture", number if kind == "fault" else ENDED, offset)], done

@@ -10,11 +10,17 @@ LIBRARIES = $(addprefix $(BUILD)/,libjls_salvage.a $(SONAME))
 library: $(LIBRARIES)
 	@rm -f $(BUILD)/libjls_salvage.so
 
-$(BUILD)/libjls_salvage.o: library/memory.c dist/SHA256SUMS $(BUILD)/.how | ready
+# The proved functions get other names, and those of library/processor.c are called in their place
+FUNCTIONS = jls_check jls_join jls_lines jls_partial jls_read jls_write
+OBJCOPY ?= $(or $(shell $(CC) -print-prog-name=objcopy 2> /dev/null),objcopy)
+$(BUILD)/libjls_salvage.o: library/memory.c library/processor.c include/jls_salvage.h dist/SHA256SUMS $(BUILD)/.how | ready
+	@command -v $(OBJCOPY) > /dev/null || { echo 'make: there is no $(OBJCOPY), which Debian has in binutils' >&2; exit 1; }
 	gzip -dc dist/$(PROCESSOR)/libjls_salvage.o.gz > $(BUILD)/.libjls_salvage.o
+	$(OBJCOPY) $(foreach name,$(FUNCTIONS),--redefine-sym $(name)=proved_$(name)) $(BUILD)/.libjls_salvage.o
 	$(CC) $(CFLAGS) -fPIC -fno-lto -c -o $(BUILD)/.memory.o library/memory.c
-	$(CC) -r -nostdlib -o $@ $(BUILD)/.memory.o $(BUILD)/.libjls_salvage.o
-	@rm -f $(BUILD)/.memory.o $(BUILD)/.libjls_salvage.o
+	$(CC) $(CFLAGS) -fPIC -fno-lto -c -o $(BUILD)/.processor.o library/processor.c
+	$(CC) -r -nostdlib -o $@ $(BUILD)/.memory.o $(BUILD)/.processor.o $(BUILD)/.libjls_salvage.o
+	@rm -f $(BUILD)/.memory.o $(BUILD)/.processor.o $(BUILD)/.libjls_salvage.o
 
 $(BUILD)/libjls_salvage.a: $(BUILD)/libjls_salvage.o
 	rm -f $@

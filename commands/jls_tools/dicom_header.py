@@ -42,6 +42,7 @@ class Header:
         self.why = {}
         self.parts = {}  # run: what of it is outside of the frames, (begin, end) each
         self.leaves = [step.element for step in structure.steps if step.kind == "leaf" and step.element]
+        self.begins = [element.value for element in self.leaves]
         self.tables = []  # a Place for each part of an offset table of which no copy has each byte
         self.alone = []  # a Place for each element that one copy alone has, and that nothing else confirms
         for number, run in enumerate(runs.runs):
@@ -75,7 +76,7 @@ class Header:
 
     def is_in_text(self, run):
         """Whether a run lies in a text, and ends before it. In other values, and at the end of one, zeros can be true."""
-        at = bisect.bisect_right(self.leaves, run.begin, key=lambda element: element.value) - 1
+        at = bisect.bisect_right(self.begins, run.begin) - 1
         return at >= 0 and run.end < self.leaves[at].end and self.leaves[at].vr in TEXTS
 
     # What is chosen --------------------------------------------------------------------

@@ -15,7 +15,7 @@ A partial picture is the bytes of a .jlsp file. One that is damaged raises `NoPa
 
     jls_salvage.write(picture.array(), 8)           # a JPEG-LS file
 
-Samples that no such file can have raise `NotWritable`.
+Samples that no such file can have raise `NotWritable`. On a processor below x86-64-v2 each function raises `OldProcessor`.
 """
 import sys
 
@@ -36,6 +36,7 @@ from ._library import (  # noqa: E402
     NoPartial,
     NoPicture,
     NotWritable,
+    OldProcessor,
     Picture,
     Piece,
     ShapesDiffer,
@@ -61,6 +62,7 @@ __all__ = [
     "NoPartial",
     "NoPicture",
     "NotWritable",
+    "OldProcessor",
     "Picture",
     "Piece",
     "ShapesDiffer",

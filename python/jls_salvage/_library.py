@@ -15,7 +15,7 @@ from typing import Any, Callable, List, Optional, Sequence, Union
 Bytes = Union[bytes, bytearray, memoryview]
 
 DONE, OUT_OF_MEMORY, NO_PICTURE, SHORT_ROOM, NO_PARTIAL, NO_SECOND_PARTIAL, SHAPES_DIFFER = range(7)
-BAD_FRAME, LARGE_SAMPLE, LARGE_INTERVAL = range(7, 10)
+BAD_FRAME, LARGE_SAMPLE, LARGE_INTERVAL, OLD_PROCESSOR = range(7, 11)
 
 #: The statuses of a line: it has no reading, one, or several that differ.
 MISSING, SETTLED, DISPUTED = range(3)
@@ -43,6 +43,13 @@ class Error(Exception):
 
 class MissingLibrary(Error, OSError):
     """libjls_salvage.so is not there, or can't be loaded. The variable JLS_SALVAGE_LIBRARY can name it."""
+
+
+class OldProcessor(Error, RuntimeError):
+    """The processor is of x86-64 below level x86-64-v2, for which the library is built."""
+
+    def __init__(self) -> None:
+        super().__init__("this processor is below x86-64-v2: libjls_salvage needs SSE4.2 and POPCNT")
 
 
 class NoPicture(Error, ValueError):
@@ -224,6 +231,8 @@ def _info(found: _Info, pieces: Sequence[Piece] = ()) -> Info:
 
 
 def _judge(answer: int, found: _Info) -> None:
+    if answer == OLD_PROCESSOR:
+        raise OldProcessor
     if answer == OUT_OF_MEMORY:
         raise MemoryError("libjls_salvage: out of memory")
     if answer == NO_PICTURE:
