@@ -1,11 +1,9 @@
 # make            builds bin/jls-salvage and bin/jls-splice from dist/ with a C compiler, and puts the commands of commands/ beside them
 # make install, make uninstall     PREFIX=.. (default /usr/local), DESTDIR=.., and BINDIR=, LIBDIR=, INCLUDEDIR=, DATADIR=, MANDIR=
-# make proved     proves and builds the programs from the sources, and compares them with dist/: this one needs the toolchain (rt)
-# make check      the tests and checks that need no toolchain, on what `make` built
-# make test       the gate
-# make renew      makes dist/ anew from the sources
-# make dist, make deb, make release     archives for each processor, a Debian package for each, and both
+# make clean      removes what was built in bin/
 # make wheel      a Python package with the library in it, for pip, in WHEELS=.. (default out)
+#
+# In the repository, checks/repository.mk has more: check, test, proved, renew, dist, deb and release.
 #
 # CC=.. another compiler, also one for another processor; STATIC=1 programs that need no library of the system; BUILD=.. another folder
 # than bin. docs/GUIDE.md, Installing, says more.
@@ -37,14 +35,15 @@ PROGRAMS = $(addprefix $(BUILD)/,$(NAMES))
 COMMANDS := $(sort $(patsubst commands/%,%,$(shell find commands -maxdepth 1 -type f -perm -100 2> /dev/null)))
 MODULES := $(sort $(patsubst commands/%,%,$(shell find commands -name '*.py' ! -perm -100 2> /dev/null)))
 
-.PHONY: all ready check test proved renew install uninstall dist deb release current clean FORCE
+.PHONY: all ready install uninstall clean FORCE
 .DELETE_ON_ERROR:
 all: $(PROGRAMS) $(addprefix $(BUILD)/,$(COMMANDS) $(MODULES))
 
 # The programs ----------------------------------------------------------------
 
-# In what `make dist` packs there are no sources, and the programs are there: they are linked again only for another folder
-ifneq ($(wildcard crates.txt)$(filter-out bin,$(BUILD)),)
+# In what `make dist` packs the programs are there, and need no compiler: they are linked again for another folder, and after `make clean`
+PACKED := $(filter packed,$(shell cat $(BUILD)/.how 2> /dev/null))
+ifeq ($(PACKED),)
 MACHINE := $(shell $(CC) -dumpmachine 2> /dev/null)
 PROCESSOR = $(patsubst amd64,x86_64,$(patsubst arm64,aarch64,$(firstword $(subst -, ,$(MACHINE)))))
 LINK = $(CC) $(CFLAGS) -fno-lto $(LDFLAGS) $(if $(STATIC),-static) -Wl,--wrap=main
@@ -73,7 +72,7 @@ $(BUILD)/.how: FORCE
 endif
 
 # The library, where dist/ has its object
-ifneq ($(wildcard dist/$(PROCESSOR)/libjls_salvage.o.gz),)
+ifneq ($(PACKED)$(wildcard dist/$(PROCESSOR)/libjls_salvage.o.gz),)
 all: library
 include library/library.mk
 endif
@@ -82,19 +81,6 @@ $(addprefix $(BUILD)/,$(COMMANDS) $(MODULES)): $(BUILD)/%: commands/%
 	@mkdir -p $(@D)
 	cp -p $< $@
 
-proved:
-	checks/prove $(NAMES)
-	checks/dist
-
-renew:
-	checks/renew
-
-check: all
-	@JLS_SALVAGE="$(abspath $(BUILD))/jls-salvage" JLS_SPLICE="$(abspath $(BUILD))/jls-splice" checks/check
-
-test:
-	./test
-
 # Their places ----------------------------------------------------------------
 
 # It builds what isn't there, or is older than dist/: so root needs no compiler
@@ -102,6 +88,8 @@ ifneq ($(filter install,$(MAKECMDGOALS)),)
 OLDER := $(shell for file in $(PROGRAMS) $(LIBRARIES); do \
     test -e $$file && test -z "$$(find dist/SHA256SUMS dist/runtime.c library -newer $$file)" || echo $$file; done)
 endif
+# That of the sources, or of what `make dist` packed
+VERSION := $(shell cat VERSION 2> /dev/null || sed -n 's/.*const VERSION: &str = "\([0-9.]*\).*/\1/p' crates/*/src/*.rt)
 export BUILD VERSION DESTDIR PREFIX BINDIR LIBDIR INCLUDEDIR DATADIR MANDIR SONAME
 
 install: $(if $(OLDER),all)
@@ -110,26 +98,8 @@ install: $(if $(OLDER),all)
 uninstall:
 	@packaging/place remove
 
-# Archives and packages -------------------------------------------------------
-
-PROCESSORS = x86_64 aarch64
-VERSION = $(shell sed -n 's/.*const VERSION: &str = "\([0-9.]*\).*/\1/p' crates/*/src/*.rt)
-
-# Whether dist/ is made of the sources that are here
-current:
-	checks/dist --current
-
-dist: current
-	checks/pack archive $(VERSION) $(PROCESSORS)
-
-deb: current
-	checks/pack deb $(VERSION) $(PROCESSORS)
-
-# What is given out is made of a commit, and CHANGELOG.md has its version
-release:
-	test -z "$$(git status --porcelain)"
-	grep -q '^## $(VERSION) (....-..-..)$$' CHANGELOG.md
-	$(MAKE) dist deb
-
 clean:
 	rm -rf bin out
+
+# What the repository has beyond what `make dist` packs
+-include checks/repository.mk

@@ -10,6 +10,7 @@ LIBRARIES = $(addprefix $(BUILD)/,libjls_salvage.a $(SONAME))
 library: $(LIBRARIES)
 	@rm -f $(BUILD)/libjls_salvage.so
 
+ifeq ($(PACKED),)
 # The proved functions get other names, and those of library/processor.c are called in their place
 FUNCTIONS = jls_check jls_join jls_lines jls_partial jls_read jls_write
 OBJCOPY ?= $(or $(shell $(CC) -print-prog-name=objcopy 2> /dev/null),objcopy)
@@ -29,6 +30,7 @@ $(BUILD)/libjls_salvage.a: $(BUILD)/libjls_salvage.o
 # Its functions are all that the shared object shows, and no text of it is changed when it is loaded
 $(BUILD)/$(SONAME): $(BUILD)/libjls_salvage.o library/symbols.map
 	$(CC) $(CFLAGS) $(LDFLAGS) -shared -Wl,-soname,$(SONAME) -Wl,--version-script=library/symbols.map -Wl,-z,text -Wl,-z,defs -o $@ $<
+endif
 
 # A wheel of the Python package with the library in it, which pip takes where glibc is as new
 WHEELS ?= out
