@@ -219,6 +219,21 @@ fn search_over<'a, E: Sink>(
     Ok(SearchedParts { parts, all })
 }
 
+/// Finer parts of the copies, if these are of one coding, as far as can be told, and their parts can be cut. Of several codings nothing is
+/// alike, so that all would be cut, and a mix of them is no file.
+fn finer_parts<'a>(
+    alloc: Global,
+    copies: &[&'a [u8]],
+    parts: &Parts<'a>,
+) -> Result<Option<Parts<'a>>, AllocError>
+    ensures { IfOk result (λ finer. IfSome finer (AreParts (bytes_of copies.now))) }
+{
+    if !are_of_one_coding(alloc, copies, parts)? {
+        return Ok(None);
+    }
+    find_finer_parts(alloc, copies, parts)
+}
+
 /// Makes all searches over finer parts of the copies, if those before found no file. These count if they find one.
 fn search_finer<'a, E: Sink>(
     alloc: Global,
@@ -239,7 +254,7 @@ fn search_finer<'a, E: Sink>(
     if !before.all.searched.splices.is_empty() {
         return Ok(before);
     }
-    let Some(finer) = find_finer_parts(alloc, copies, &before.parts)? else {
+    let Some(finer) = finer_parts(alloc, copies, &before.parts)? else {
         return Ok(before);
     };
     let new = search_over(alloc, copies, finer, options, faults)?;
