@@ -95,10 +95,10 @@ class Canvas:
     components stand below one another, in the order of the frame.
     """
 
-    def __init__(self, picture, window=None):
+    def __init__(self, picture, window=None, scale=1):
         self.picture = picture
         self.window = window or default(picture)
-        self.bar = max(8, picture.width // 64)
+        self.bar, self.between = max(-(-8 // scale), picture.width // 64), -(-2 // scale)
 
     def row(self, channels, state):
         """A line as pixels: three channels, or none where it is missing; and the bar."""
@@ -111,7 +111,7 @@ class Canvas:
                 pixels[index::3] = channel
             if state == DISPUTED:
                 self.stripe(pixels)
-        return bytes(pixels) + bytes(6) + bytes(COLOURS[state]) * self.bar
+        return bytes(pixels) + bytes(3 * self.between) + bytes(COLOURS[state]) * self.bar
 
     def stripe(self, pixels):
         for begin in range(0, self.picture.width, 2 * STRIPE):
@@ -134,10 +134,18 @@ class Canvas:
                 yield self.row(gray and [gray] * 3, state_of(readings))
 
     def width(self):
-        return self.picture.width + 2 + self.bar
+        return self.picture.width + self.between + self.bar
 
     def height(self):
         return self.picture.height * (1 if len(self.picture.ids) == 3 else len(self.picture.ids))
+
+
+def enlarged(rows, scale):
+    """Each pixel of red, green and blue as so many in both directions."""
+    for row in rows:
+        wide = row if scale == 1 else b"".join(row[at : at + 3] * scale for at in range(0, len(row), 3))
+        for _ in range(scale):
+            yield wide
 
 
 def mask_rows(picture):
