@@ -4,6 +4,8 @@ An object is a whole program as the toolchain compiles it. dist/SOURCES names wh
 for each program the sum of src, specs and proofs of its crates. That sum is of the lines that sha256sum prints for these files, in the
 order of their names.
 """
+from __future__ import annotations
+
 import glob
 import gzip
 import hashlib
@@ -252,7 +254,7 @@ def tested(name):
     return found
 
 
-def program(name):
+def program(name: str) -> str:
     """The same, for a script that can't do without."""
     try:
         return tested(name)

@@ -27,11 +27,11 @@ def other_kinds(paths: list[str], texts: list[bytes]) -> dict[int, str]:
     named = [syntax for syntax in syntaxes if syntax is not None]
     if named and JPEG_LS not in named:
         raise NoKind(f"{paths[0]}: no JPEG-LS lossless: {syntax_name(named[0])}", True)
-    found = {}
+    left_out = {}
     for at, (syntax, text) in enumerate(zip(syntaxes, texts)):
         if syntax is not None and syntax != JPEG_LS and not has_lossless_frame(text):
-            found[at] = f"it has {syntax_name(syntax)}"
-    return found
+            left_out[at] = f"it has {syntax_name(syntax)}"
+    return left_out
 
 
 def has_lossless_frame(text: bytes) -> bool:

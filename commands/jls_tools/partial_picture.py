@@ -3,7 +3,10 @@
 What these scripts show is not proved. They refuse a text that does not end with its last entry. They do not judge the order of its lines
 or the range of its samples. The program does: `jls-salvage show` says what a text holds.
 """
+from __future__ import annotations
+
 import struct
+from typing import Any, Iterable
 
 
 class NotAPartialPicture(Exception):
@@ -15,7 +18,7 @@ class Reading:
 
     __slots__ = ("samples", "sources")
 
-    def __init__(self, samples, sources):
+    def __init__(self, samples: bytes, sources: tuple[int, ...]) -> None:
         self.samples = samples
         self.sources = sources
 
@@ -23,7 +26,13 @@ class Reading:
 class PartialPicture:
     """A shape, and for each (index of a component, line) that has one the list of its readings."""
 
-    def __init__(self, text):
+    readings: dict[tuple[int, int], list[Reading]]
+    precision: int
+    width: int
+    height: int
+    ids: list[int]
+
+    def __init__(self, text: bytes) -> None:
         self.text = text
         self.at = 0
         magic, version = self.take(">4sB")
@@ -41,7 +50,7 @@ class PartialPicture:
             raise NotAPartialPicture(f"bytes after the last entry, from {self.at} on")
         del self.text
 
-    def take(self, form):
+    def take(self, form: str) -> tuple[Any, ...]:
         end = self.at + struct.calcsize(form)
         if end > len(self.text):
             raise NotAPartialPicture(f"cut at {len(self.text)}")
@@ -49,7 +58,7 @@ class PartialPicture:
         self.at = end
         return values
 
-    def take_reading(self):
+    def take_reading(self) -> Reading:
         end = self.at + 2 * self.width
         if end > len(self.text):
             raise NotAPartialPicture(f"cut at {len(self.text)}")
@@ -62,22 +71,22 @@ class PartialPicture:
             raise NotAPartialPicture(f"cut at {len(self.text)}")
         return Reading(samples, self.take(f">{count}I"))
 
-    def of_line(self, component, line):
+    def of_line(self, component: int, line: int) -> list[Reading]:
         return self.readings.get((component, line), [])
 
 
-def read(path):
+def read(path: str) -> PartialPicture:
     """The partial picture in this file. An OSError or NotAPartialPicture says why there is none."""
     with open(path, "rb") as file:
         return PartialPicture(file.read())
 
 
-def ranges(numbers):
+def ranges(numbers: Iterable[int]) -> list[tuple[int, int]]:
     """Ascending numbers as ranges: 1, 2, 3, 7 are (1, 3), (7, 7)."""
-    found = []
+    found: list[list[int]] = []
     for number in numbers:
         if found and found[-1][1] + 1 == number:
             found[-1][1] = number
         else:
             found.append([number, number])
-    return [tuple(pair) for pair in found]
+    return [(first, last) for first, last in found]

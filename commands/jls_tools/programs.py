@@ -1,9 +1,12 @@
 """Finds jls-salvage and jls-splice, calls them, and takes apart what they print (docs/GUIDE.md)."""
+from __future__ import annotations
+
 import os
 import re
 import shutil
 import subprocess
 import sys
+from typing import Sequence
 
 PICTURE = re.compile(r"picture (\d+)x(\d+), (\d+) bits, components (\d+(?:,\d+)*)$")
 FAULT = re.compile(r"^end fault (\d+)|no picture, fault (\d+)", re.M)
@@ -15,7 +18,7 @@ NO_VERDICT = {5, 125, 126, 127}
 class ProgramFailed(Exception):
     """A program could not say anything of a picture: it is not there, had no memory, or was stopped. `status` is what it ended with."""
 
-    def __init__(self, text, status):
+    def __init__(self, text: str, status: int) -> None:
         super().__init__(text)
         self.status = status
 
@@ -23,7 +26,7 @@ class ProgramFailed(Exception):
 class Report:
     """The lines that check, show and jls-splice print. Counts are 0 and the shape is empty if the lines have no report."""
 
-    def __init__(self, text):
+    def __init__(self, text: str) -> None:
         self.lines = text.splitlines()
         self.width = self.height = self.bits = 0
         self.components = []
@@ -69,7 +72,7 @@ class Report:
 class Outcome:
     """How a call ended: its status, what it printed as text and as a report, and its fault lines."""
 
-    def __init__(self, status, printed, faults):
+    def __init__(self, status: int, printed: str, faults: str) -> None:
         self.status = status
         self.printed = printed
         self.faults = faults
@@ -85,7 +88,7 @@ class Outcome:
 class Splice(Outcome):
     """What jls-splice came to. `promises_picture` says whether its mended file is promised to be the picture."""
 
-    def __init__(self, outcome, file_written):
+    def __init__(self, outcome: Outcome, file_written: bool) -> None:
         super().__init__(outcome.status, outcome.printed, outcome.faults)
         self.file_written = file_written
 
@@ -100,7 +103,7 @@ class Splice(Outcome):
         return bool(self.file_written and self.promises)
 
 
-def find(name):
+def find(name: str) -> str:
     """The path of a program: what JLS_SALVAGE or JLS_SPLICE names, the one beside the command, in bin, or on PATH."""
     named = os.environ.get(name.upper().replace("-", "_"))
     if named:
@@ -116,11 +119,11 @@ def find(name):
 class Programs:
     """The two programs. Names of files are taken from `folder`: they have to be UTF-8, and not to begin with a hyphen."""
 
-    def __init__(self):
+    def __init__(self) -> None:
         self.salvage = find("jls-salvage")
         self.splice_program = find("jls-splice")
 
-    def run(self, words, folder=None, given=None):
+    def run(self, words: Sequence[str], folder: str | None = None, given: bytes | None = None) -> Outcome:
         """Runs words, of which the first is a path of a program. A ProgramFailed is raised where it can't say anything of a picture."""
         name = os.path.basename(words[0])
         try:
@@ -145,7 +148,7 @@ class Programs:
     def show(self, name, folder=None):
         return self.run([self.salvage, "show", name], folder)
 
-    def join(self, out, names, folder=None):
+    def join(self, out: str, names: Sequence[str], folder: str | None = None) -> Outcome:
         return self.run([self.salvage, "join", out, *names], folder)
 
     def write_jls(self, out, name, folder=None, by_line=False):
@@ -153,7 +156,9 @@ class Programs:
         ways = ["--ilv", "line"] if by_line else []
         return self.run([self.salvage, "write", "--as", "jls", *ways, out, name], folder)
 
-    def splice(self, out, names, file=None, folder=None, options=()):
+    def splice(
+        self, out: str, names: Sequence[str], file: str | None = None, folder: str | None = None, options: Sequence[str] = ()
+    ) -> Splice:
         """Mends copies: OUT gets the partial picture, and `file` the mended file. Options are further words, such as --tries 100."""
         words = [self.splice_program, *options, *(["--file", file] if file else []), out, *names]
         outcome = self.run(words, folder)

@@ -1,6 +1,11 @@
 """Draws a partial picture: its lines, with marks where they are missing or disputed."""
+from __future__ import annotations
+
 import array
 import sys
+from typing import Iterable, Iterator
+
+from .partial_picture import PartialPicture, Reading
 
 SETTLED, DISPUTED, MISSING = range(3)
 # orange and sky blue of the palette by Okabe and Ito
@@ -11,11 +16,11 @@ STRIPE = 8  # columns
 MAP_COLUMNS = 64
 
 
-def state_of(readings):
+def state_of(readings: list[Reading]) -> int:
     return MISSING if not readings else SETTLED if len(readings) == 1 else DISPUTED
 
 
-def values_of(samples):
+def values_of(samples: bytes) -> array.array[int]:
     """The samples of a reading as numbers."""
     values = array.array("H", samples)
     if sys.byteorder == "little":
@@ -23,7 +28,7 @@ def values_of(samples):
     return values
 
 
-def range_of(picture, signed=False):
+def range_of(picture: PartialPicture, signed: bool = False) -> tuple[int, int] | None:
     """The least and the greatest sample of all settled lines, of all readings if no line is settled; nothing if there are none."""
     settled = [readings[:1] for readings in picture.readings.values() if len(readings) == 1]
     turned = sign_of(picture.precision) if signed else 0
@@ -37,7 +42,7 @@ def range_of(picture, signed=False):
     return None if greatest < 0 else (least - turned, greatest - turned)
 
 
-def sign_of(precision):
+def sign_of(precision: int) -> int:
     """The bit of the sign."""
     return 1 << precision - 1
 
@@ -45,33 +50,33 @@ def sign_of(precision):
 class Window:
     """Which gray each sample has: a table of 2^16 bytes."""
 
-    def __init__(self, grays):
+    def __init__(self, grays: Iterable[int]) -> None:
         self.table = bytes(grays)
 
-    def channel(self, samples):
+    def channel(self, samples: bytes) -> bytes:
         """The grays of a line."""
         return bytes(map(self.table.__getitem__, values_of(samples)))
 
 
-def numbers(precision, signed):
+def numbers(precision: int, signed: bool) -> Iterator[int]:
     """What each of 2^16 samples stands for."""
     sign = sign_of(precision)
     mask = 2 * sign - 1
     return (((value & mask) ^ sign) - sign if signed else value for value in range(1 << 16))
 
 
-def between(picture, lowest, highest, signed=False):
+def between(picture: PartialPicture, lowest: int, highest: int, signed: bool = False) -> Window:
     """The window that shows these two numbers as black and white, and those between in equal steps."""
     span = max(highest - lowest, 1)
     steps = (2 * 255 * (value - lowest) + span for value in numbers(picture.precision, signed))
     return Window(min(max(step // (2 * span), 0), 255) for step in steps)
 
 
-def centred(picture, centre, width, signed=False):
+def centred(picture: PartialPicture, centre: float, width: float, signed: bool = False) -> Window:
     """The window of a centre and a width, as DICOM defines it (PS3.3, C.11.2.1.2)."""
     span = width - 1
 
-    def gray(value):
+    def gray(value: int) -> int:
         if value <= centre - 0.5 - span / 2:
             return 0
         if value > centre - 0.5 + span / 2:
@@ -81,7 +86,7 @@ def centred(picture, centre, width, signed=False):
     return Window(map(gray, numbers(picture.precision, signed)))
 
 
-def default(picture, signed=False):
+def default(picture: PartialPicture, signed: bool = False) -> Window:
     """Up to 8 bits: all that the precision allows. Above: the range of the settled lines."""
     if picture.precision <= 8 and not signed:
         return between(picture, 0, (1 << picture.precision) - 1)
@@ -95,12 +100,12 @@ class Canvas:
     components stand below one another, in the order of the frame.
     """
 
-    def __init__(self, picture, window=None):
+    def __init__(self, picture: PartialPicture, window: Window | None = None, scale: int = 1) -> None:
         self.picture = picture
         self.window = window or default(picture)
-        self.bar = max(8, picture.width // 64)
+        self.bar, self.between = max(-(-8 // scale), picture.width // 64), -(-2 // scale)
 
-    def row(self, channels, state):
+    def row(self, channels: list[bytes] | None, state: int) -> bytes:
         """A line as pixels: three channels, or none where it is missing; and the bar."""
         width = self.picture.width
         if channels is None:
@@ -111,14 +116,14 @@ class Canvas:
                 pixels[index::3] = channel
             if state == DISPUTED:
                 self.stripe(pixels)
-        return bytes(pixels) + bytes(6) + bytes(COLOURS[state]) * self.bar
+        return bytes(pixels) + bytes(3 * self.between) + bytes(COLOURS[state]) * self.bar
 
-    def stripe(self, pixels):
+    def stripe(self, pixels: bytearray) -> None:
         for begin in range(0, self.picture.width, 2 * STRIPE):
             end = min(begin + STRIPE, self.picture.width)
             pixels[3 * begin : 3 * end] = bytes(COLOURS[DISPUTED]) * (end - begin)
 
-    def rows(self):
+    def rows(self) -> Iterator[bytes]:
         picture = self.picture
         if len(picture.ids) == 3:
             for line in range(picture.height):
@@ -129,25 +134,32 @@ class Canvas:
             return
         for component in range(len(picture.ids)):
             for line in range(picture.height):
-                readings = picture.of_line(component, line)
-                gray = self.window.channel(readings[0].samples) if readings else None
-                yield self.row(gray and [gray] * 3, state_of(readings))
+                found = picture.of_line(component, line)
+                yield self.row([self.window.channel(found[0].samples)] * 3 if found else None, state_of(found))
 
-    def width(self):
-        return self.picture.width + 2 + self.bar
+    def width(self) -> int:
+        return self.picture.width + self.between + self.bar
 
-    def height(self):
+    def height(self) -> int:
         return self.picture.height * (1 if len(self.picture.ids) == 3 else len(self.picture.ids))
 
 
-def mask_rows(picture):
+def enlarged(rows: Iterable[bytes], scale: int) -> Iterator[bytes]:
+    """Each pixel of red, green and blue as so many in both directions."""
+    for row in rows:
+        wide = row if scale == 1 else b"".join(row[at : at + 3] * scale for at in range(0, len(row), 3))
+        for _ in range(scale):
+            yield wide
+
+
+def mask_rows(picture: PartialPicture) -> Iterator[bytes]:
     """Of each line a gray."""
     for component in range(len(picture.ids)):
         for line in range(picture.height):
             yield bytes([GRAYS[state_of(picture.of_line(component, line))]]) * picture.width
 
 
-def map_line(picture, component):
+def map_line(picture: PartialPicture, component: int) -> str:
     """One line of text: the worst of each of up to 64 equal stretches of lines."""
     states = [state_of(picture.of_line(component, line)) for line in range(picture.height)]
     columns = min(MAP_COLUMNS, picture.height)

@@ -1,9 +1,8 @@
 """What jls-view draws: the partial picture that a file is, that a copy gives, or that a frame of a DICOM file gives."""
 import os
 
-from . import archive_names, dicom_file, dicom_info, partial_picture
+from . import archive_names, dicom_file, dicom_info, partial_picture, view_splice
 from .programs import Programs
-
 
 PIXEL_REPRESENTATION = 0x00280103  # 1: signed
 
@@ -41,21 +40,37 @@ def read(path, frame, folder):
             return partial_picture.read(path), False
         except partial_picture.NotAPartialPicture as fault:
             raise NoPicture(f"{shown}: {fault}") from fault
-    if is_dicom(path) or path.lower().endswith(".dcm"):
-        return read_frame(path, frame, folder)
-    os.symlink(os.path.abspath(path), os.path.join(folder, "copy"))
-    return given_by("copy", folder, shown), False
+    is_signed, shown = put(path, frame, folder, "copy")
+    return given_by("copy", folder, shown), is_signed
 
 
-def read_frame(path, frame, folder):
-    """A frame of a DICOM file, and whether its header says that samples are signed."""
+def put(path, frame, folder, name):
+    """Puts a copy, or a frame of a DICOM file, into the folder. Answers whether the header of one says that samples are signed, and how the
+    copy is named."""
     shown = archive_names.printable(path)
+    if not (is_dicom(path) or path.lower().endswith(".dcm")):
+        os.symlink(os.path.abspath(path), os.path.join(folder, name))
+        return False, shown
     file = dicom_info.OneFile(path)
     refusal = dicom_info.refusal_of(shown, file)
     if refusal:
         raise NoPicture(refusal)
     if frame >= len(file.frames):
         raise NoPicture(f"{shown}: it has {len(file.frames)} frames, and --frame counts from 0", 2)
-    with open(os.path.join(folder, "frame"), "wb") as out:
+    with open(os.path.join(folder, name), "wb") as out:
         out.write(file.frames[frame][1])
-    return given_by("frame", folder, f"{shown}: frame {frame}"), file.number(PIXEL_REPRESENTATION) == 1
+    return file.number(PIXEL_REPRESENTATION) == 1, f"{shown}: frame {frame}"
+
+
+def read_splice(paths, frame, folder):
+    """(the pictures of several copies and of what came of them, whether samples are signed)."""
+    names = [f"copy-{number}" for number in range(len(paths))]
+    put_in = [put(path, frame, folder, name) for path, name in zip(paths, names)]
+    splice = view_splice.Splice(names, folder)
+    pictures = list(splice.panels())
+    if not pictures:
+        faults = splice.faults or "jls-splice: it gives no picture"
+        for name, (_, shown) in zip(names, put_in):
+            faults = faults.replace(name, shown)
+        raise NoPicture(faults, splice.status)
+    return pictures, any(is_signed for is_signed, _ in put_in)

@@ -5,11 +5,14 @@ import shutil
 import sys
 import tempfile
 
-from . import archive_names, archive_run, partial_picture, png, view_canvas, view_input
+from . import archive_names, archive_run, partial_picture, png, view_canvas, view_input, view_splice
 from .programs import ProgramFailed, Programs
 
 TEXT = """\
 jls-view draws IN as a PNG: a partial picture, a JPEG-LS copy, damaged or not, or a frame of a DICOM file.
+
+Several copies are drawn side by side, and then what jls-splice makes of them. In each copy the lines are orange whose bytes are damaged
+there: other bytes than the mended file has. If no file came of them, each copy is drawn as the lines that it gives by itself.
 
 A line without a reading is orange. A line on which copies disagree is striped with blue, over the first of its readings. The bar on the
 right has the same colours, line by line, and is gray where a line is settled. People who are colour-blind can tell them apart.
@@ -48,19 +51,26 @@ def count(text):
     return int(text)
 
 
+def scale(text):
+    if not text.isascii() or not text.isdigit() or not 1 <= int(text[:9]) <= 64:
+        raise argparse.ArgumentTypeError(f"{text} is no number from 1 to 64")
+    return int(text)
+
+
 def parser():
     made = Parser(
         prog="jls-view",
-        usage="jls-view [OPTIONS] IN OUT.png",
+        usage="jls-view [OPTIONS] IN.. OUT.png",
         description=TEXT,
         formatter_class=argparse.RawDescriptionHelpFormatter,
         allow_abbrev=False,
     )
-    made.add_argument("source", nargs="?", metavar="IN", help="a partial picture, a copy, or a DICOM file")
-    made.add_argument("out", nargs="?", metavar="OUT.png", help="the picture with its holes")
+    what = "a partial picture, copies, or DICOM files; then the picture with its holes"
+    made.add_argument("files", nargs="*", metavar="IN.. OUT.png", help=what)
     made.add_argument("--window", nargs=2, type=number, metavar=("CENTRE", "WIDTH"), help="which samples are shown, as DICOM defines it")
     made.add_argument("--signed", action="store_true", help="samples are signed, as in some DICOM files; the header of one is believed")
     made.add_argument("--frame", type=count, default=0, metavar="N", help="which frame of a DICOM file, counted from 0")
+    made.add_argument("--scale", type=scale, default=1, metavar="N", help="draw each sample as N times N pixels, up to 64")
     made.add_argument("--mask", metavar="MASK.png", help="of each line a gray: 0 settled, 128 disputed, 255 missing")
     made.add_argument("--map", action="store_true", help="print a line of text for each component: . settled, ? disputed, # missing")
     made.add_argument("--version", action="store_true", help="print the version of jls-salvage")
@@ -68,15 +78,17 @@ def parser():
 
 
 def check(words):
-    if words.source is None:
+    """Whether the call can be done. Of the files the last is OUT.png, if there are several."""
+    if not words.files:
         raise Unusable("it takes IN and OUT.png; try jls-view --help", 2)
+    words.sources, words.out = (words.files[:-1], words.files[-1]) if len(words.files) > 1 else (words.files, None)
     if not (words.out or words.mask or words.map):
         raise Unusable("nothing to do: name OUT.png, --mask or --map", 2)
     if words.window and words.window[1] < 1:
         raise Unusable("the WIDTH of --window is 1 or more", 2)
     for place in (words.out, words.mask):
         if place and os.path.exists(place):
-            if os.path.samefile(place, words.source) if os.path.exists(words.source) else False:
+            if any(os.path.exists(source) and os.path.samefile(place, source) for source in words.sources):
                 raise Unusable(f"{archive_names.printable(place)} is IN", 2)
             with open(place, "rb") as file:
                 if file.read(2) in (b"\xff\xd8", b"JL") or view_input.is_dicom(place):
@@ -89,10 +101,14 @@ def window_of(picture, words, is_signed):
     return view_canvas.default(picture, is_signed)
 
 
-def draw(words, picture, is_signed):
+def draw(words, pictures, is_signed):
+    """Draws pictures side by side. The last is the result: it says which samples are black and white, and has the mask and the map."""
+    picture = pictures[-1]
     if words.out:
-        canvas = view_canvas.Canvas(picture, window_of(picture, words, is_signed))
-        png.write(words.out, png.Form(canvas.width(), canvas.height(), 8, png.RGB), canvas.rows())
+        window = window_of(picture, words, is_signed)
+        canvas = view_splice.Canvases([view_canvas.Canvas(each, window, words.scale) for each in pictures], words.scale)
+        form = png.Form(canvas.width() * words.scale, canvas.height() * words.scale, 8, png.RGB)
+        png.write(words.out, form, view_canvas.enlarged(canvas.rows(), words.scale))
     if words.mask:
         form = png.Form(picture.width, picture.height * len(picture.ids), 8, png.GRAY)
         png.write(words.mask, form, view_canvas.mask_rows(picture))
@@ -112,8 +128,12 @@ def run(words):
     folder = None
     try:
         folder = tempfile.mkdtemp(prefix=".jls-view-", dir=beside)
-        picture, is_signed = view_input.read(words.source, words.frame, folder)
-        draw(words, picture, words.signed or is_signed)
+        if len(words.sources) > 1:
+            pictures, is_signed = view_input.read_splice(words.sources, words.frame, folder)
+        else:
+            picture, is_signed = view_input.read(words.sources[0], words.frame, folder)
+            pictures = [picture]
+        draw(words, pictures, words.signed or is_signed)
     finally:
         if folder:
             shutil.rmtree(folder, ignore_errors=True)
@@ -124,7 +144,7 @@ def main():
     archive_run.catch_signals()
     sys.stdout.reconfigure(errors="backslashreplace")
     try:
-        return run(parser().parse_args())
+        return run(parser().parse_intermixed_args())
     except (Unusable, view_input.NoPicture) as fault:
         text, status = str(fault), fault.status
     except partial_picture.NotAPartialPicture as fault:
