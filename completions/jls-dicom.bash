@@ -11,7 +11,7 @@ _jls_dicom() {
     esac
     if [[ $word == -* && $before != --header ]]; then
         local options='--quiet --help'
-        [ "$command" != mend ] || options="--max --tries --header --same --sha256 --with-gaps $options"
+        [ "$command" != mend ] || options="--max --tries --header --same --sha256 --with-gaps --no-names $options"
         mapfile -t COMPREPLY < <(compgen -W "$options" -- "$word")
     else
         mapfile -t COMPREPLY < <(compgen -f -- "$word")

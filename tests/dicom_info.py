@@ -1,4 +1,4 @@
-"""Checks of what `jls-dicom info` says of files that are intact and not supported, and of one that is damaged; and headers of such files."""
+"""Checks of what `jls-dicom info` says of files that are intact and not supported, and of one that is damaged; such files."""
 import os
 
 from dicom_files import HERE, File, called, changed, frame
@@ -54,7 +54,8 @@ def checks_of_unsupported(bench, work, rng):
     near = File([near_of(stream)] * 2, 8, 16, 12).bytes
     other = changed(near, (near.rindex(b"\xff\xd9") - 40, b"abcdef"))
     status, out, _, faults, _ = bench.mend([near, other])
-    yield f"near-lossless frames: refused by name ({status}, {faults})", (status, out) == (3, None) and "not supported: near-lossless" in faults
+    named = "not supported: near-lossless" in faults
+    yield f"near-lossless frames: refused by name ({status}, {faults})", (status, out, named) == (3, None, True)
     mixed = File([stream, near_of(stream)], 8, 16, 12).bytes
     for words in ((), ("--with-gaps", "0")):
         status, out, printed, _, _ = bench.mend([mixed, changed(mixed, (20, b"x"))], *words)

@@ -116,7 +116,7 @@ def checks_of_foreign_frames(bench, made, folder, rng):
     true = with_value(made, b"of a slice " * 300)[0]
     broken = changed(true, (true.index(b"\xe0\x7f\x10\x00OB\0\0\xff\xff\xff\xff"), bytes(30)))
     status, _, printed, _, name = bench.mend([begun[:2048] + broken[2048:], broken])
-    found = {get(f"{name}.frames/{each}").rstrip(b"\0") for each in os.listdir(f"{name}.frames")}
+    found = {get(f"{name}.frames/{each}").rstrip(b"\0") for each in os.listdir(f"{name}.frames") if each.endswith(".jls")}
     yield f"frames of a foreign beginning ({status}, {printed})", (status, found) == (1, set(made.frames))
 
 

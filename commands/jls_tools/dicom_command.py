@@ -8,9 +8,13 @@ from jls_tools.archive_names import printable
 from jls_tools.dicom_header import printed_value
 from jls_tools.dicom_info import frames, info
 from jls_tools.dicom_mend import mend
-from jls_tools.dicom_result import FAILED, USAGE, MendOptions
+from jls_tools.dicom_names import can_have_name
+from jls_tools.dicom_outputs import put_log
+from jls_tools.dicom_result import FAILED, NOT_WHOLE, USAGE, WHOLE, MendOptions
+from jls_tools.dicom_write import USER_MASK
 from jls_tools.programs import ProgramFailed, Programs
 
+LONG_VALUES = (1024, 512)  # bytes of a value in OUT.log, as a text and in hex
 SIGNALS = (signal.SIGINT, signal.SIGTERM, signal.SIGHUP)
 DESCRIPTION = """jls-dicom mends DICOM files whose frames are JPEG-LS lossless, from damaged copies of them.
 It calls jls-salvage and jls-splice, and is tested, not proved."""
@@ -78,6 +82,7 @@ def add_mend(command):
     command.add_argument("--same", action="store_true", help="the copies are of one instance, whatever their UIDs say")
     command.add_argument("--sha256", type=sum_of, metavar="SUM", help="the checksum that the undamaged file had")
     command.add_argument("--with-gaps", type=sample_of, metavar="VALUE", help="write a file with lost lines filled, under new UIDs")
+    command.add_argument("--no-names", action="store_true", help="leave values that can have a name out of lines and OUT.log")
     command.add_argument("--quiet", action="store_true", help="no progress on a terminal, and no lines on places and whole frames")
     command.add_argument("out", metavar="OUT", help="the file to write; it must not be there")
     command.add_argument("copies", metavar="COPY", nargs="+", help="two files or more")
@@ -101,30 +106,28 @@ class Progress:
             self.is_open = False
 
 
-def place_line(place):
+def place_line(place, has_names=True, sizes=()):
+    """A place where copies differ. `sizes` are those of values, as printed_value takes them."""
+    is_told = has_names or not can_have_name(place.tag)
+    shown = [printed_value(value, *sizes) if is_told else f"{len(value)} bytes" for _, value in place.values]
     names = [", ".join(printable(name) for name in holders) or "none" for holders, _ in place.values]
-    values = [f"{name}: {printed_value(value)}" for name, (_, value) in zip(names, place.values)]
-    verdict = "undecided" if not place.is_decided else f"taken: {printed_value(place.values[place.taken][1])} ({place.why})"
+    values = [f"{name}: {value}" for name, value in zip(names, shown)]
+    verdict = "undecided" if not place.is_decided else f"taken: {shown[place.taken]} ({place.why})"
     return f"differ {place.offset} {place.length} {place.tag}, {verdict}; {'; '.join(values)}"
 
 
-def print_mended(result, out, is_quiet):
-    for path, why in result.left_out:
-        print(f"left out {printable(path)}: {why}")
-    for place in result.places:
-        if not (is_quiet and place.is_decided):
-            print(place_line(place))
-    for frame in result.frames:
-        if not (is_quiet and frame.kind == "whole"):
-            print(frame.line())
-    for note in result.notes:
-        print(note)
+def mended_lines(result, out, is_quiet=False, has_names=True, sizes=()):
+    """What a run came to, a line for each copy that was left out, place, frame and note."""
+    yield from (f"left out {printable(path)}: {why}" for path, why in result.left_out)
+    yield from (place_line(place, has_names, sizes) for place in result.places if not (is_quiet and place.is_decided))
+    yield from (frame.line() for frame in result.frames if not (is_quiet and frame.kind == "whole"))
+    yield from map(printable, result.notes)
     if result.written:
         in_place = "header and frames in their places" if result.is_guessed else "each byte in its place"
         how = in_place if result.in_place else "packed anew"
-        print(f"{printable(out)} {how}, sha256 {result.sha256}{', which matched' if result.matched else ''}")
+        yield f"{printable(out)} {how}, sha256 {result.sha256}{', which matched' if result.matched else ''}"
     if result.folder:
-        print(f"frames are in {printable(result.folder)}")
+        yield f"frames are in {printable(result.folder)}"
 
 
 def check_words(words, programs):
@@ -149,9 +152,13 @@ def run_mend(words, programs):
         result = mend(words.copies, words.out, options, programs)
     finally:
         progress.end()
-    print_mended(result, words.out, words.quiet)
+    for line in mended_lines(result, words.out, words.quiet, not words.no_names):
+        print(line)
     if result.refusal:
         say(printable(result.refusal))
+    elif result.status in (WHOLE, NOT_WHOLE):
+        copies = (f"copy {printable(path)}" for path in words.copies)
+        put_log(words.out, [*copies, *mended_lines(result, words.out, False, not words.no_names, LONG_VALUES)], USER_MASK)
     return result.status
 
 

@@ -390,11 +390,11 @@ class Header:
         return data
 
 
-def printed_value(value):
-    """Bytes for a line: as text if they are some, else in hex, the first sixteen."""
+def printed_value(value, letters=24, numbers=16):
+    """Bytes for a line: as text if they are some, else in hex, the first so many of them."""
     if not value:
         return "nothing"
-    short = value[:24]
+    short = value[:letters]
     if re.fullmatch(rb"[\x20-\x5b\x5d-\x7e]+", short):
-        return f"'{short.decode('ascii')}{'..' if len(value) > 24 else ''}'"
-    return f"{value[:16].hex(' ')}{' ..' if len(value) > 16 else ''}"
+        return f"'{short.decode('ascii')}{'..' if len(value) > letters else ''}'"
+    return f"{value[:numbers].hex(' ')}{' ..' if len(value) > numbers else ''}"

@@ -13,6 +13,7 @@ from jls_tools.dicom_instance import Instances, TwoInstances
 from jls_tools.dicom_kinds import NoKind, other_kinds
 from jls_tools.dicom_layout import contradiction, forbidden, has_shape, is_through, laid_out
 from jls_tools.dicom_lost import Lost, equal_in_most, most_of
+from jls_tools.dicom_outputs import put_frames_folder, take_away, why_kept
 from jls_tools.dicom_result import FAILED, NOT_SUPPORTED, NOT_WHOLE, REFUSED, WHOLE, FrameResult, MendOptions, MendResult, Place
 from jls_tools.dicom_sum import BySum
 from jls_tools.dicom_tails import without_tails
@@ -38,7 +39,7 @@ class Unsupported(Refused):
 def mend(paths, out, options=None, programs=None):
     """Writes the file `out` from the copies `paths`, and answers a MendResult. Programs that fail raise a ProgramFailed.
 
-    `out` must not be there, nor a folder of its name with `.frames`. Nothing is printed. The copies are only read.
+    `out` must not be there. A folder `OUT.frames` of an earlier run is made anew. Nothing is printed. The copies are only read.
     """
     result = MendResult()
     try:
@@ -62,9 +63,9 @@ class Mending:
         self.place_of_frames = f"{out}.frames"
 
     def run(self):
-        for path in (self.out, self.place_of_frames):
-            if os.path.lexists(path):
-                raise Refused(f"{path}: it is there already", FAILED)
+        kept = why_kept(self.out)
+        if kept is not None:
+            raise Refused(kept, FAILED)
         if self.options.header is not None and self.options.header not in self.paths:
             raise Refused(f"--header names {self.options.header}, which is none of the copies", 2)
         self.texts = [read(path) for path in self.paths]
@@ -320,6 +321,7 @@ class Mending:
 
     def store(self, data, status):
         store(data, self.out, self.folder)
+        take_away(self.place_of_frames, self.folder)
         self.result.written, self.result.status = True, status
         self.result.sha256 = hashlib.sha256(data).hexdigest()
 
@@ -353,7 +355,7 @@ class Mending:
                     file.write(frame.stream)
             else:
                 shutil.copyfile(frame.partial, f"{name}.jlsp")
-        os.rename(part, self.place_of_frames)
+        put_frames_folder(part, self.place_of_frames, self.folder)
         self.result.folder = self.place_of_frames
 
     def write_filled(self):

@@ -1,0 +1,64 @@
+"""Checks of further runs with one OUT: the frames and the log of an earlier run are made anew, and what is the user's stays."""
+import os
+
+from dicom_files import changed, called, get
+
+
+def checks_of_again(bench, made):
+    true, first, second = made.bytes, made.items[0], made.items[1]
+    both = [changed(true, (first + 70, bytes(40))), changed(true, (first + 75, bytes(30)))]
+    status, out, _, _, name = bench.mend(both)
+    frames, log = f"{name}.frames", f"{name}.log"
+    listed = set(os.listdir(frames))
+    yield f"two damaged copies: frames and a log ({status}, {listed})", (status, out) == (1, None) and "frame-0001.jls" in listed
+    before = get(log)
+    yield "the log has what was printed", before is not None and b"frame 1 whole" in before and b"copy " in before
+    third = f"{bench.folder}/third.dcm"
+    with open(third, "wb") as file:
+        file.write(changed(true, (second + 70, bytes(8))))
+    copies = [f"{bench.folder}/{bench.count}-{at}.dcm" for at in range(2)]
+    status, printed, faults = called("mend", name, *copies)
+    yield f"the same again ({status}, {faults})", status == 1 and set(os.listdir(frames)) == listed and get(log) == before
+    with open(f"{frames}/mine", "w", encoding="ascii") as file:
+        file.write("notes")
+    status, printed, faults = called("mend", name, *copies, third)
+    kept = (status, get(name), get(f"{frames}/mine"), get(log)) == (4, None, b"notes", before)
+    yield f"a file of the user's in the folder: refused, and all stays ({status}, {faults})", kept and "not as jls-dicom made it" in faults
+    os.remove(f"{frames}/mine")
+    with open(f"{frames}/frame-0001.jls", "ab") as file:
+        file.write(b"x")
+    yield "a frame that the user changed: refused", called("mend", name, *copies, third)[0] == 4 and not os.path.exists(name)
+    with open(f"{frames}/frame-0001.jls", "r+b") as file:
+        file.truncate(len(made.frames[1]))
+    os.rename(frames, f"{frames}.moved")
+    os.symlink(f"{frames}.moved", frames)
+    yield "a link in its place: refused", called("mend", name, *copies, third)[0] == 4
+    os.remove(frames)
+    os.rename(f"{frames}.moved", frames)
+    status, printed, faults = called("mend", name, *copies, third)
+    is_gone = not os.path.lexists(frames)
+    yield f"a third copy: whole, and no frames beside it ({status}, {faults})", (status, get(name), is_gone) == (0, true, True)
+    yield "the log is made anew", b"each byte in its place" in get(log)
+    yield "OUT is never replaced", called("mend", name, *copies, third)[0] == 4 and get(name) == true
+    os.remove(name)
+    with open(log, "wb") as file:
+        file.write(b"my notes\n")
+    status, _, faults = called("mend", name, *copies, third)
+    yield f"a log of the user's: refused ({status}, {faults})", (status, get(name), get(log)) == (4, None, b"my notes\n")
+    left = [each for each in os.listdir(bench.folder) if each.startswith(".jls-dicom") or ".part-" in each]
+    yield f"nothing of the work stays: {left}", not left
+
+
+def checks_of_names(bench, made):
+    """--no-names leaves out what can have a name, of lines and of the log."""
+    true = made.bytes
+    copies = [changed(true, (made.name_at, b"E")), changed(true, (true.index(b"PRIVATE"), b"Q"), (true.index(b"20200131"), b"1"))]
+    for words, is_named in (((), True), (("--no-names",), False)):
+        _, _, printed, _, name = bench.mend(copies, *words)
+        log = get(f"{name}.log").decode("ascii")
+        for text in ("'D'", "'E'", "'P'", "'Q'"):
+            yield f"{words}, {text}: {is_named} ({printed})", (text in printed, text in log) == (is_named, is_named)
+        yield f"{words}: a date is told", "'1'" in printed and "'1'" in log
+
+
+AGAIN = [checks_of_again, checks_of_names]
