@@ -226,5 +226,23 @@ def checks_of_no_copy(bench, made, folder, rng):
     yield f"a frame of another shape: not whole ({status}, {printed})", (status, out) == (1, None) and "frame 1 whole" not in printed
 
 
+def checks_of_one_run(bench, made):
+    """Zeros that were written over three places and more in one run were written over those between them too."""
+    inner = bytes(24) + b"\x7a\x3b\x11" + bytes(37)
+    before = [element(0x191000 + at, "OB", bytes(20)) for at in range(4)]
+    more = [element(0x191020 + at, "OB", bytes(20)) for at in range(4)]
+    for pad in range(2, 514, 2):
+        head = [element(0x190010, "LO", "MINE"), element(0x190011, "OB", b"x" * pad), *before]
+        true = put_before(made.bytes, 0x280002, *head, element(0x191010, "OB", inner), *more)
+        place = true.index(inner) + 24
+        if place % 512 == 12:
+            break
+    other = changed(true, (true.index(made.frames[0]) + 70, bytes(8)))
+    zeros = changed(true, (place - 140, bytes(280)))
+    for order in ([zeros, other], [other, zeros]):
+        yield told(bench, "a run of zeros over a place in a private value", order, true)
+
+
 PAIRS = [checks_of_entries, checks_of_losses, checks_of_foreign_files, checks_of_shorter_copies, checks_of_foreign_frames]
 PAIRS += [checks_of_one_copy_alone, checks_of_beginnings, checks_of_samples, checks_of_whole_sectors, checks_of_zeros, checks_of_no_copy]
+PAIRS += [checks_of_one_run]

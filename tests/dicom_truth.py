@@ -8,6 +8,7 @@ import struct
 
 from dicom_files import CLASS, UID, File, changed, element
 from dicom_rules import put_before
+from jls_tools.dicom_finished import faults_of
 from jls_tools.programs import Programs
 
 NEIGHBOUR = UID[:-1] + "8"
@@ -55,7 +56,7 @@ def checks_of_chimeras(bench, made):
     true, other = slice_of(made, UID, "a"), slice_of(made, NEIGHBOUR, "b")
     chimera, noise = other[:4096] + true[4096:], random.Random(3).randbytes(40)
     item_at = true.index(made.frames[1]) - 8
-    third, second = slice_of(made, "1.2.3.9.9", "c"), made.bytes.rindex(UID.encode(), 0, made.name_at) + 4
+    third, second = slice_of(made, "1.2.3.9.9", "c"), made.bytes.rindex(UID.encode(), 0, made.name_at) + len(UID) - 4
     twice = made.bytes.replace(UID.encode(), NEIGHBOUR.encode())
     for name, copies in {
         "a chimera": [true, chimera],
@@ -134,6 +135,7 @@ def checks_of_tails(bench, made, neighbour):
         "zeros behind two of three": [true + zeros, true + zeros + bytes(4096), true],
         "zeros behind one of three": [damaged(made), damaged(made, 1), true + noise],
         "zeros behind one without a header of an item": [true, changed(true, (made.items[1], bytes(8))) + zeros],
+        "a header of an item is gone in each": [changed(true, (made.items[2], bytes(8))), changed(true, (made.items[1], bytes(8))) + zeros],
     }.items():
         yield case(bench, f"a tail: {name}", copies, 0, true, "they were cut from")
     both = [true + zeros, damaged(made) + zeros]
@@ -148,6 +150,8 @@ def checks_of_tails(bench, made, neighbour):
     yield case(bench, "two tails that differ", [true + zeros, true + noise], 1, b"", "what stands behind the last element")
     padding = changed(true, (len(true) - 42, b"\x13\x57\x9b\xdf"))
     yield case(bench, "the last element's tag is damaged", [padding, damaged(made)], 0, true)
+    both = [changed(true, (len(true) - 38, b"z")), changed(true, (len(true) - 36, b"\x07"))]
+    yield case(bench, "the last element's header is damaged in each copy", both, 0, true)
     yield case(bench, "a tail, and a letter of a name", [true, flipped + zeros], 1, b"", "(0010,0010), undecided")
 
 
@@ -171,8 +175,10 @@ def decoding_flips(bench, made, most):
 def checks_of_most(bench, made):
     """Two equal copies against one decide. A copy alone does not outvote two by what VRs forbid; an empty value may be the true one."""
     true, first = made.bytes, made.items[0]
-    for flipped in decoding_flips(bench, made, 3):
+    flips = decoding_flips(bench, made, 3)
+    for flipped in flips:
         yield case(bench, "two equal copies, and one with a flipped bit that decodes", [true, flipped, true], 0, true)
+    yield case(bench, "two copies of one damaged copy, and one with damage of its own", [flips[0], flips[0], flips[2]], 1, b"", "disputed")
     named = changed(true, (made.name_at, b"E"))
     apart = [changed(true, (made.items[1] + 70, bytes(8))), changed(true, (made.items[2] + 70, bytes(8)))]
     twice = changed(true, *((first + 60 + at, bytes([true[first + 60 + at] ^ 4])) for at in (0, 9)))
@@ -187,6 +193,9 @@ def checks_of_most(bench, made):
             yield case(bench, f"{name} in two of three", order, 0, short)
     yield case(bench, "an empty value and a longer one", [empty, longer], 1, b"", "undecided")
     yield case(bench, "a longer value and an empty one", [longer, empty], 1, b"", "undecided")
+    lost = changed(true, (true.index(b"ORIGINAL"), bytes(12)))
+    both = [lost, changed(lost, (made.items[1] + 70, bytes(8)))]
+    yield case(bench, "zeros in a text of two of three", [*both, changed(true, (first + 70, bytes(8)))], 0, true)
     prefix = changed(true, (128, bytes(4)))
     yield case(bench, "four zeros in the place of DICM", [prefix, damaged(made)], 0, true, "each DICOM file has it")
     yield case(bench, "the same in two of three", [prefix, changed(prefix, (first + 70, bytes(8))), true], 0, true)
@@ -217,4 +226,26 @@ def checks_of_syntaxes(bench, made):
     yield case(bench, "a bit that says JPEG 2000", [changed(true, (at, b"9")), damaged(made)], 0, true, "the frames are JPEG-LS")
 
 
+def checks_of_read_anew(made):
+    """What one walk over a file that is written anew says of it, where no mending would make such a file."""
+    true, count = made.bytes, len(made.frames)
+    yield "nothing is wrong in a whole file", faults_of(true, count) == []
+    begin = true.index(element(0x280010, "US", 8)) - 8  # the item in the icon's sequence
+    (size,) = struct.unpack_from("<I", true, begin + 4)
+    for name, data, words in (
+        ("bytes behind the end", true + b"\0", "1 bytes stand behind"),
+        ("an element that is cut", true[:-1], "is cut"),
+        ("a header that is cut", true[:-37], "5 bytes stand behind"),
+        ("an item that goes on behind its sequence", changed(true, (begin + 4, struct.pack("<I", size + 2))), "is cut"),
+        ("an item that ends within an element", changed(true, (begin + 4, struct.pack("<I", size - 2))), "is cut"),
+        ("four zeros in the place of DICM", changed(true, (128, bytes(4))), "DICM does not stand"),
+        ("items that lead nowhere", changed(true, (made.items[1], bytes(8))), "no item begins"),
+        ("another number of frames", true, f"are of {count} frames"),
+    ):
+        found = faults_of(data, count + (data == true))
+        told = any(words in fault.text and not fault.can_be_writers for fault in found)
+        yield f"read anew: {name} ({[fault.text for fault in found]})", told
+
+
 TRUTH = [checks_of_chimeras, checks_of_finished, checks_of_cuts, checks_of_tails, checks_of_most, checks_of_syntaxes]
+TRUTH += [checks_of_read_anew]

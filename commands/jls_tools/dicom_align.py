@@ -6,12 +6,12 @@ copies have one length then, and where they differ each has a byte of its own.
 import re
 from dataclasses import dataclass, field
 
+from jls_tools.dicom_media import MOST_LOST
 from jls_tools.dicom_sectors import is_noise
 
 ANCHOR = 32  # so many bytes that are equal, and not all alike, show how two copies lie to each other
 ANCHOR_KINDS = 8
 STEPS = (0, 16, 48, 128, 256, 512, 768, 1024, 2048, 4096, 6144, 8192, 16384, 32768, 65536)
-REACH = 1 << 20  # no more bytes than that are lost in one place
 BLOCK = 1 << 16
 WINDOW = 256
 LEAST_GAIN = 8  # so many bytes of a window differ, at least, where bytes before it are lost
@@ -104,10 +104,10 @@ def meetings(one, other, at, beside, step):
     if near is not None and near == far:
         yield back(one, other, at, beside, at + step, beside + step)
         return
-    found = other.find(near, beside, beside + step + REACH) if near is not None else -1
+    found = other.find(near, beside, beside + step + MOST_LOST) if near is not None else -1
     if found >= 0:
         yield back(one, other, at, beside, at + step, found)
-    found = one.find(far, at, at + step + REACH) if far is not None else -1
+    found = one.find(far, at, at + step + MOST_LOST) if far is not None else -1
     if found >= 0:
         yield back(one, other, at, beside, found, beside + step)
 

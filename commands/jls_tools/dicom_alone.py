@@ -10,8 +10,9 @@ from dataclasses import dataclass
 from jls_tools.dicom_align import may_stand_elsewhere, merged
 from jls_tools.dicom_csa import is_chain
 from jls_tools.dicom_file import PIXEL_DATA, tag_name, text_of
+from jls_tools.dicom_media import SECTOR
 from jls_tools.dicom_result import Place
-from jls_tools.dicom_sectors import BESIDE, SECTOR, has_noise_within, is_noise, is_plain
+from jls_tools.dicom_sectors import BESIDE, has_noise_within, is_noise, is_plain
 from jls_tools.dicom_values import DIGITS_AND_DOTS, TEXTS, allows, is_doubtful, strangeness
 
 PADDING = 0xFFFCFFFC
@@ -26,7 +27,6 @@ KINDS = 8  # of so many different bytes, at least, the end of a copy that is cut
 WRONG_VR = 4  # the strangeness of a known element with another VR
 ZEROS = bytes(8)
 ZERO_BEFORE, LONG_BEGIN = re.compile(rb"\.0\d"), 16
-LONG = 512  # damage by sectors can lie within a value that is longer
 ALIKE = 0.9  # such a share of bytes is of the values that stand behind a border, where a value goes on
 NEAR = 1024  # so many bytes before the end of a foreign beginning can be of the copy itself
 
@@ -118,7 +118,7 @@ def differs_before(header, begin, end):
 
 def is_across(element, border):
     """Whether a foreign beginning may end elsewhere than at this border: in a value across it in which a text is not seen to be wrong."""
-    return element.value < border < element.end and (element.vr not in TEXTS or element.length > LONG)
+    return element.value < border < element.end and (element.vr not in TEXTS or element.length > SECTOR)
 
 
 def ends_clearly(copy):

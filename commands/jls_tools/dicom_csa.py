@@ -7,6 +7,7 @@ import re
 import struct
 
 from jls_tools.dicom_file import LONG_VRS, SHORT_VRS
+from jls_tools.dicom_media import SECTOR, SECTORS
 from jls_tools.dicom_values import NOT_IN_TEXT
 
 BEGIN = b"SV10\4\3\2\1"
@@ -16,7 +17,7 @@ TAG, ITEM = struct.Struct("<64sI4sIII"), struct.Struct("<4I")
 NAME = re.compile(rb"[A-Za-z][\x20-\x7e]*\0")
 VRS = LONG_VRS | SHORT_VRS
 # Open places nearer than that are first taken together, but not across borders of sectors of this size, where there is one
-TOGETHER = ((128, None), (128, 4096), (128, 512), (16, 512), (0, 512))
+TOGETHER = ((128, None), *((128, sector) for sector in SECTORS), (16, SECTOR), (0, SECTOR))
 MOST_GROUPS = 8
 
 

@@ -1,9 +1,9 @@
 """Takes what one copy has at open places where another copy lost sectors, or has noise: dicom_sectors says where that is so."""
 import itertools
 
-from jls_tools.dicom_sectors import BESIDE, IS_NOISE, NEAR, SECTOR, Pair, is_noise_alone
+from jls_tools.dicom_media import NEAR_PLACES, SECTOR
+from jls_tools.dicom_sectors import BESIDE, IS_NOISE, NEAR, Pair, is_noise_alone
 
-REACH = 128  # so near have places to be that go with others of one run
 DECIDED = 3  # so many places of a range were decided, at least, where others go with them
 IS_COMPANY = "the places around it in its sector are of that copy"
 IS_PATCH = "others are noise, and what stands around them is none"
@@ -123,7 +123,7 @@ class Decider:
                 continue
             numbers = [each for each in self.runs.touching(*around) if each in self.header.left]
             against = [each for each in numbers if self.is_for(each, other, own)]
-            near = [each for each in against if self.distance(each, run) <= REACH]
+            near = [each for each in against if self.distance(each, run) <= NEAR_PLACES]
             is_between = any(each < number for each in near) and any(each > number for each in near)
             if is_between and len(against) >= DECIDED and not any(self.is_for(each, own, other) for each in numbers):
                 self.drop(own, other, run.begin, run.end, IS_ONE_RUN)

@@ -7,13 +7,13 @@ from dataclasses import dataclass
 
 from jls_tools.dicom_align import Copy, differing
 from jls_tools.dicom_file import PIXEL_DATA, UNDEFINED, instance_of, walk
+from jls_tools.dicom_media import BEFORE_BORDER, SECTOR
 from jls_tools.dicom_runs import Runs
 from jls_tools.dicom_structure import FIRST, Walk
 
 BLOCK = 128
-STRETCH, SHORT, STEP, REACH = 256, 64, 16, 1024
+STRETCH, SHORT, STEP = 256, 64, 16
 DENSE = 8  # one byte in so many differs where another file's beginning was written
-SECTOR = 512
 ITEM_BYTES, END_BYTES = b"\xfe\xff\x00\xe0", b"\xfe\xff\xdd\xe0\0\0\0\0"
 INSTANCE = 0x00080018
 LARGEST_BEGINNING = 1 << 16  # bytes of a foreign beginning whose end is sought at borders of sectors
@@ -73,7 +73,7 @@ def equal_from(one, other):
 def border_of(data, other, place):
     """Where two files that are equal from a place on begin to be so, if a smaller damage of one stands before the place."""
     found = place
-    for at in range(place - STEP, max(place - REACH, 0), -STEP):
+    for at in range(place - STEP, max(place - BEFORE_BORDER, 0), -STEP):
         stretch = data[at : at + SHORT]
         if stretch == other[at : at + SHORT] and stretch != stretch[:1] * SHORT:
             found = at

@@ -7,10 +7,10 @@ import itertools
 from collections import Counter
 
 from jls_tools.dicom_align import differing
+from jls_tools.dicom_media import SECTORS
 from jls_tools.dicom_structure import PIXELS
 from jls_tools.mending import shares_little
 
-SECTORS = (4096, 512)
 SHARE = 0.9  # of the bytes of a lost sector so many differ, at least
 
 

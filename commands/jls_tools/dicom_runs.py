@@ -3,10 +3,10 @@ import bisect
 from dataclasses import dataclass
 
 from jls_tools.dicom_align import differing
+from jls_tools.dicom_media import SECTOR
 
 GAP = 8  # ranges nearer than that are one run, where most of it differs
 LEAST = 8  # so many bytes have to differ in a run of several ranges
-SECTOR = 512  # no run goes across such a border: damage often ends there
 ZEROS = 8
 FINEST = 20000  # so many bytes may differ where each of them is made a run of its own
 
@@ -65,6 +65,7 @@ def clusters(ranges):
 
 
 def cut_at_sectors(begin, end):
+    """The parts of a range between borders of sectors: damage often ends there."""
     while begin < end:
         border = min(end, (begin // SECTOR + 1) * SECTOR)
         yield begin, border

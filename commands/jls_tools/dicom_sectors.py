@@ -6,7 +6,8 @@ lost too: then nothing is decided.
 """
 import math
 
-SECTOR = 512
+from jls_tools.dicom_media import MOST_LOST, SECTOR
+
 NEAR = 3  # so many bytes of the one value can stand before a border of sectors by chance
 LEAST = 16  # so many bytes of a sector differ, at least, where one copy has one value alone
 BESIDE = 64
@@ -15,7 +16,6 @@ CONTEXT = 256
 PLAIN = bytes([0, 9, 10, 13, *range(0x20, 0x7F)])  # what texts, and fields that are not full, are made of
 SHARE = len(PLAIN) / 256
 FITS, STRANGE, LEAST_MORE, MOST_BITS = 1.0, 2.0, 3.0, 5.0  # bits a byte
-MOST = 1 << 20  # bytes of sectors next to each other that are looked at
 LOST_VALUES = (b"\0", b"\xff")  # what stands where bytes were lost
 IS_VALUE, IS_NOISE = "others are one value, from border to border of sectors", "others are noise"
 IS_STRANGE = "others are of another kind, from border to border of sectors"
@@ -202,9 +202,9 @@ class Pair:
         first, last = border, min(border + SECTOR, self.total)
         value = self.own[first : first + 1]
         if value in LOST_VALUES and not self.own[first:last].strip(value):
-            while first > 0 and not self.own[first - SECTOR : first].strip(value) and last - first < MOST:
+            while first > 0 and not self.own[first - SECTOR : first].strip(value) and last - first < MOST_LOST:
                 first -= SECTOR
-            while last < self.total and not self.own[last : last + SECTOR].strip(value) and last - first < MOST:
+            while last < self.total and not self.own[last : last + SECTOR].strip(value) and last - first < MOST_LOST:
                 last = min(last + SECTOR, self.total)
         return first, last
 
@@ -283,11 +283,11 @@ def apart(one, other, places):
     for place in places:
         begin = place // SECTOR * SECTOR
         end = begin
-        while end < len(one) and one[end : end + SECTOR] != other[end : end + SECTOR] and end - begin < MOST:
+        while end < len(one) and one[end : end + SECTOR] != other[end : end + SECTOR] and end - begin < MOST_LOST:
             end += SECTOR
-        while begin > until and one[begin - SECTOR : begin] != other[begin - SECTOR : begin] and end - begin < MOST:
+        while begin > until and one[begin - SECTOR : begin] != other[begin - SECTOR : begin] and end - begin < MOST_LOST:
             begin -= SECTOR
-        if begin >= until and begin < end < begin + MOST:
+        if begin >= until and begin < end < begin + MOST_LOST:
             found.append((begin, min(end, len(one))))
             until = end
     return found

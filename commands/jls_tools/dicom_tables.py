@@ -1,9 +1,9 @@
 """Offset tables of Pixel Data (PS3.5, A.4): what the frames say that they have, and what no table can have."""
 from jls_tools.dicom_file import PIXEL_DATA
 from jls_tools.dicom_frames import EXTENDED_TABLE
+from jls_tools.dicom_media import BESIDE_TABLE
 from jls_tools.dicom_result import Place
 
-REACH = 16  # bytes beside an offset table that are lost with it
 FRAMES_BEGIN = "there the frames begin"
 WITHIN = "others lead beyond the file"
 FIRST_FRAME = "the first frame begins there, and others count from nowhere"
@@ -98,7 +98,7 @@ class Tables:
         run = self.runs.runs[number]
         if run.ways[way].strip(b"\0"):
             return False
-        beside = self.runs.touching(run.begin - REACH, run.end + REACH)
+        beside = self.runs.touching(run.begin - BESIDE_TABLE, run.end + BESIDE_TABLE)
         decided = [each for each in beside if each != number and len(self.left.get(each, ())) == 1]
         return any(not self.header.holders(each) & set(run.holders[way]) for each in decided)
 

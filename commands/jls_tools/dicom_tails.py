@@ -9,7 +9,9 @@ from collections import Counter
 from dataclasses import dataclass, field
 from typing import Optional
 
+from jls_tools.dicom_file import UNDEFINED, walk
 from jls_tools.dicom_finished import Reading
+from jls_tools.dicom_frames import DELIMITER
 
 BESIDE = 64  # so many bytes before the end of a whole copy are equal in one that goes on behind it
 
@@ -33,7 +35,8 @@ def end_of(text: bytes) -> Optional[int]:
 def without_tails(texts: list[bytes]) -> Tails:
     """Cuts the tails that can be told."""
     ends = [end_of(text) for text in texts]
-    borders = [border_of(texts, ends, at) for at in range(len(texts))]
+    likely = [end if end is not None else end_behind(text) for text, end in zip(texts, ends)]
+    borders = [border_of(texts, ends, at, likely[at]) for at in range(len(texts))]
     found = Tails([text if border is None else text[:border] for text, border in zip(texts, borders)])
     found.cut = [at for at, border in enumerate(borders) if border is not None]
     if found.cut:
@@ -61,15 +64,24 @@ def are_of_one_element(tails: list[bytes]) -> bool:
     return len(sizes) == 1 and apart * 2 < max(sizes)
 
 
-def border_of(texts: list[bytes], ends: list[Optional[int]], at: int) -> Optional[int]:
-    """Where the tail of a copy begins that others say is none of the file; nothing if they don't."""
-    text, own = texts[at], ends[at]
+def end_behind(text: bytes) -> Optional[int]:
+    """Where the elements end that follow the last delimiter of a sequence, as those behind Pixel Data do."""
+    at = text.rfind(DELIMITER)
+    elements = list(walk(text, at + len(DELIMITER))) if at >= 0 else []
+    if elements and elements[-1].length != UNDEFINED:
+        return elements[-1].end
+    return at + len(DELIMITER) if at >= 0 and not elements else None
+
+
+def border_of(texts: list[bytes], ends: list[Optional[int]], at: int, own: Optional[int]) -> Optional[int]:
+    """Where the tail of a copy begins that others say is none of the file; nothing if they don't. `own` is where its elements may end."""
+    text = texts[at]
     sizes = Counter(len(other) for number, other in enumerate(texts) if number != at)
     for number, (other, end) in enumerate(zip(texts, ends)):
         size = len(other)
         if number == at or size >= len(text) or own == len(text):
             continue
-        is_end = own == size or own is None and ends_alike(text, other)
+        is_end = own == size or ends[at] is None and ends_alike(text, other) or text[:size] == other
         if is_end and (end == size or own == size or sizes[size] * 2 > len(texts)):
             return size
     return None

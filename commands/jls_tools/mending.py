@@ -8,6 +8,7 @@ from dataclasses import dataclass, field
 
 from jls_tools.dicom_align import differing
 from jls_tools.dicom_frames import has_usual_parameters, shape_of
+from jls_tools.dicom_media import SECTORS
 from jls_tools.dicom_result import FAILED, FrameResult
 from jls_tools.programs import ProgramFailed
 from jls_tools.unsupported import NOT_SUPPORTED, unsupported
@@ -17,7 +18,6 @@ HEADERS, LEAST_SHARED, LEAST_SPLICED = 64, 128, 16
 MOST_HEADERS = 1024
 SOI = b"\xff\xd8\xff"  # and the first byte of the next marker
 LEAST_EQUAL, MOST_EQUAL = 2, 64  # equal bytes between two places that jls-splice can take for one
-SECTORS = (4096, 512)
 MOST_CROSSED, MOST_SECTORS = 40, 5
 SAME_RUN, SAME_KINDS, REST_KINDS = re.compile(rb"\0{8,}"), 6, 24
 ZERO_RUN = re.compile(rb"\0{8,}")
