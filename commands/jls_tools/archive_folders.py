@@ -110,12 +110,17 @@ class Folders:
             rows[0].say(f"{other} other files")
         return rows
 
+    def is_done(self, name):
+        """The row of a folder that needs no work: nothing has changed since, and what was written is there."""
+        row = self.store.of(name)
+        if row and row.inputs == inputs_of(self.desk, os.path.join(self.source, name)) and all(map(self.places.has, row.outputs)):
+            return row
+        return None
+
     def do(self, name, folder):
         """Settles a folder in a worker: its rows are kept when all files are there, its own row last."""
         source = os.path.join(self.source, name)
         row, inputs = self.store.of(name), inputs_of(self.desk, source)
-        if row and row.inputs == inputs and all(map(self.places.has, row.outputs)):
-            return row
         self.store.remove(name)
         for output in row.outputs if row else []:
             self.places.drop(output)

@@ -9,6 +9,8 @@ from . import archive_claim, archive_folders, archive_item, archive_names, archi
 from . import archive_words, report_page
 from .archive_desk import Desk
 from .archive_places import Refused
+from .archive_progress import Progress
+from .archive_signals import Stopped, Watch
 from .programs import ProgramFailed, Programs
 
 
@@ -65,9 +67,6 @@ class Trees:
 
     def do(self, item, folder):
         """Settles an item in a worker: the row is kept when all files are there."""
-        row = self.is_done(item)
-        if row:
-            return row
         before = self.store.of(item.path)
         self.store.remove(item.path)
         for output in before.outputs if before else []:
@@ -86,20 +85,32 @@ def write_report(job):
     return rows
 
 
-def go_through(job, options):
-    """Does the work of this call, and answers its rows."""
-    items, rows = job.items(), []
+def pending(job, items, progress, watch):
+    """The items that need work. Those that an earlier run has done are counted."""
+    for item in items:
+        watch.end()
+        row = job.is_done(item)
+        if row:
+            progress.pass_over(row)
+        else:
+            yield item
+
+
+def go_through(job, options, watch):
+    """Does the work of this call, and answers whether all is whole."""
+    items = job.items()
     work = archive_places.Work(job.places)
-    progress = archive_run.Progress(len(items), options.quiet)
+    progress = Progress(len(items), options.quiet)
     try:
-        with contextlib.closing(archive_run.run(items, job.do, work.folder, options.jobs)) as done:
-            for _, row in done:
-                rows.append(row)
-                progress.step(row)
+        with watch.held():
+            waiting = pending(job, items, progress, watch)
+            with contextlib.closing(archive_run.run(waiting, job.do, work.folder, options.jobs, watch)) as done:
+                for _, row in done:
+                    progress.step(row)
     finally:
         progress.end()
         work.remove()
-    return rows
+    return not progress.not_whole
 
 
 def share(options):
@@ -119,38 +130,51 @@ def share(options):
     numbers = "".join(f"{number}\n" for number in range(1, parts + 1))
     done = subprocess.run([*words, *bar, *command, "--", *places], input=numbers, text=True)
     if done.returncode:
-        raise archive_run.Stopped("the work was stopped on a machine", done.returncode)
+        raise Stopped("the work was stopped on a machine", done.returncode)
 
 
-def run(options):
+def work_and_report(job, options, watch):
+    """(whether all is whole, all rows). The table and the page are written too where the work ends early."""
+    try:
+        if options.ssh:
+            share(options)
+            rows = write_report(job)
+            return not any(row.status for row in rows), rows
+        is_whole = go_through(job, options, watch)
+        watch.end()
+        return is_whole, [] if options.shared else write_report(job)
+    except (Stopped, ProgramFailed, OSError):
+        if not options.shared:
+            with contextlib.suppress(OSError):
+                write_report(job)
+        raise
+
+
+def run(options, watch):
     programs = Programs()
     if options.version:
         print(programs.run([programs.salvage, "--version"]).printed, end="")
         return 0
     job = (archive_folders.Folders if options.folders else Trees)(options, programs)
-    if options.ssh:
-        share(options)
-        rows = job.store.all()
-    else:
-        rows = go_through(job, options)
+    is_whole, rows = work_and_report(job, options, watch)
     if options.shared:
         return 0
-    everything = write_report(job)
     if not options.quiet:
         named = options.out.rstrip("/") or options.out
-        print(report_page.summary(everything, named if options.folders else f"{named}.report"), end="")
-    return 1 if any(row.status for row in rows) else 0
+        print(report_page.summary(rows, named if options.folders else f"{named}.report"), end="")
+    return 0 if is_whole else 1
 
 
 def main():
-    archive_run.catch_signals()
+    watch = Watch()
+    watch.catch()
     sys.stdout.reconfigure(errors="backslashreplace")
     try:
-        return run(archive_words.read(sys.argv[1:]))
+        return run(archive_words.read(sys.argv[1:]), watch)
     except Refused as fault:
         say(fault)
         return fault.status
-    except (archive_run.Stopped, ProgramFailed) as fault:
+    except (Stopped, ProgramFailed) as fault:
         say(f"{fault}; the same call goes on from here")
         return fault.status
     except OSError as fault:

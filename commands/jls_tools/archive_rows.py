@@ -1,6 +1,7 @@
 """The rows of pictures.csv: one for each path, each kept in a file of its own as soon as it is known, so that a stopped run goes on."""
 from __future__ import annotations
 
+import contextlib
 import csv
 import dataclasses
 import hashlib
@@ -81,7 +82,8 @@ def write_whole(path, data):
         os.chmod(part, 0o666 & ~mask)
         os.replace(part, path)
     except BaseException:
-        os.unlink(part)
+        with contextlib.suppress(FileNotFoundError):  # a signal came when it had its name already
+            os.unlink(part)
         raise
 
 

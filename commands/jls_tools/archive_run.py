@@ -4,47 +4,24 @@ import multiprocessing
 import os
 import shutil
 import signal
-import sys
-import time
 import traceback
 from multiprocessing import connection
 
+from . import archive_signals
+from .archive_signals import Stopped
 from .programs import ProgramFailed
 
 PARENT_DIED = 1  # PR_SET_PDEATHSIG of prctl
-SIGNALS = (signal.SIGINT, signal.SIGTERM, signal.SIGHUP)
-
-
-class Stopped(Exception):
-    """The run can't go on: the text is for the person, and `status` for the shell."""
-
-    def __init__(self, text, status):
-        super().__init__(text)
-        self.status = status
-
-
-def leave(number, _):
-    for each in SIGNALS:
-        signal.signal(each, signal.SIG_IGN)
-    raise SystemExit(128 + number)
-
-
-def catch_signals():
-    """Lets a signal end this process as an exception does, so that what isn't complete is removed."""
-    for number in SIGNALS:
-        signal.signal(number, leave)
 
 
 def prepare_worker():
-    """A worker ends if the process that started it does. A key on the terminal is for that one."""
-    signal.signal(signal.SIGTERM, leave)
-    signal.signal(signal.SIGHUP, signal.SIG_IGN)
-    signal.signal(signal.SIGINT, signal.SIG_IGN)
+    """A worker ends if the process that started it does."""
     try:
         ctypes.CDLL(None).prctl(PARENT_DIED, signal.SIGTERM)
     except (OSError, AttributeError):
         pass  # it ends at its next item
     os.umask(0o077)
+    archive_signals.prepare_worker()
 
 
 def fault_of(fault):
@@ -85,7 +62,8 @@ class Worker:
         self.pipe, theirs = multiprocessing.Pipe()
         self.item = None
         self.process = multiprocessing.get_context("fork").Process(target=self.begin, args=(theirs, do, folder, others))
-        self.process.start()
+        with archive_signals.blocked():
+            self.process.start()
         theirs.close()
 
     def begin(self, theirs, do, folder, others):
@@ -100,6 +78,14 @@ class Worker:
         self.item = item
         self.pipe.send(item)
 
+    def answered(self):
+        """(item, row) of the item that it had. A Stopped says why there is no row."""
+        row, fault = self.take()
+        item, self.item = self.item, None
+        if fault:
+            raise Stopped(*fault)
+        return item, row
+
     def take(self):
         """The answer. A worker that is gone was stopped from outside."""
         try:
@@ -109,31 +95,49 @@ class Worker:
             return None, ("a process of this run was stopped from outside", 137)
 
 
-def run(items, do, folder, jobs):
+def run(items, do, folder, jobs, watch):
     """Yields (item, row) as items are done. `do` takes an item and a folder for what isn't complete. A Stopped says why it ended early."""
-    waiting, workers = iter(items), []
+    workers = []
     try:
-        for number in range(jobs):
-            item = next(waiting, None)
-            if item is None:
-                break
-            workers.append(Worker(do, os.path.join(folder, str(number)), [worker.pipe for worker in workers]))
-            workers[-1].give(item)
-        busy = {worker.pipe: worker for worker in workers}
-        while busy:
-            for pipe in connection.wait(list(busy)):
-                worker = busy[pipe]
-                row, fault = worker.take()
-                if fault:
-                    raise Stopped(*fault)
-                done, item = worker.item, next(waiting, None)
-                if item is None:
-                    del busy[pipe]
-                else:
-                    worker.give(item)
-                yield done, row
+        yield from give_all(iter(items), workers, (do, folder, jobs), watch)
+    except Stopped:
+        end(workers)
+        yield from answers_of(workers)
+        raise
     finally:
         end(workers)
+
+
+def give_all(waiting, workers, how, watch):
+    """Starts the workers, and gives each an item whenever it has none."""
+    do, folder, jobs = how
+    for number in range(jobs):
+        item = next(waiting, None)
+        if item is None:
+            break
+        workers.append(Worker(do, os.path.join(folder, str(number)), [worker.pipe for worker in workers]))
+        workers[-1].give(item)
+    busy = {worker.pipe: worker for worker in workers}
+    while busy:
+        for pipe in connection.wait([*busy, watch.reader]):
+            watch.end()
+            worker = busy[pipe]
+            done, row = worker.answered()
+            yield done, row
+            item = next(waiting, None)
+            if item is None:
+                del busy[pipe]
+            else:
+                worker.give(item)
+
+
+def answers_of(workers):
+    """What workers had done when they were ended."""
+    for worker in workers:
+        if worker.item is not None and worker.pipe.poll():
+            row, _ = worker.take()
+            if row:
+                yield worker.item, row
 
 
 def end(workers):
@@ -145,33 +149,3 @@ def end(workers):
         if worker.process.is_alive():
             worker.process.kill()
             worker.process.join()
-
-
-class Progress:
-    """A line on the terminal that says how far the run is; nothing where there is no terminal."""
-
-    def __init__(self, total, is_quiet):
-        self.total = total
-        self.done = self.not_whole = 0
-        self.begun = self.shown = time.monotonic()
-        self.is_on = not is_quiet and sys.stderr.isatty()
-
-    def step(self, row):
-        self.done += 1
-        self.not_whole += row.status != 0
-        now = time.monotonic()
-        if self.is_on and (now - self.shown > 0.2 or self.done == self.total):
-            self.shown = now
-            left = (now - self.begun) * (self.total - self.done) / self.done
-            text = f"{self.done} of {self.total}, {self.not_whole} not whole, about {self.clock(left)} left"
-            sys.stderr.write(f"\r{text}\x1b[K")
-            sys.stderr.flush()
-
-    @staticmethod
-    def clock(seconds):
-        return f"{int(seconds) // 3600}:{int(seconds) // 60 % 60:02}:{int(seconds) % 60:02}"
-
-    def end(self):
-        if self.is_on:
-            sys.stderr.write("\r\x1b[K")
-            sys.stderr.flush()

@@ -1,0 +1,132 @@
+"""Checks of tests/commands_archive on runs that end early, go on, or meet another run.
+
+A program of our own stands for jls-splice. It says where it is, and sleeps, so that a run is at a known path when it is ended.
+"""
+from __future__ import annotations
+
+import csv
+import os
+import signal
+import subprocess
+import sys
+import time
+from typing import Any, Callable, Dict, Iterator, List, Tuple
+
+from archive_cases import ARCHIVE, PROGRAMS, TOP, get, put
+
+sys.path.insert(0, os.path.join(TOP, "commands"))
+
+from jls_tools.archive_progress import Progress
+
+Check = Tuple[str, bool]
+PATIENCE = 60  # seconds after which what a check waits for doesn't come
+
+
+def waited(is_there: Callable[[], bool]) -> bool:
+    """Whether it comes to be so."""
+    end = time.monotonic() + PATIENCE
+    while not is_there():
+        if time.monotonic() > end:
+            return False
+        time.sleep(0.02)
+    return True
+
+
+def rows_of(report: str) -> Dict[str, Dict[str, str]]:
+    """The rows of the table in a folder, by their paths."""
+    with open(f"{report}/pictures.csv", newline="", encoding="utf-8", errors="surrogateescape") as file:
+        return {row["path"]: row for row in csv.DictReader(file)}
+
+
+def sleeper(work: str) -> Dict[str, str]:
+    """The variables for a jls-splice that writes its number to `work`/asleep, and sleeps."""
+    text = f"#!/bin/sh\necho $$ > '{work}/asleep.new' && mv '{work}/asleep.new' '{work}/asleep'\nexec sleep 300\n"
+    program = put(f"{work}/sleeper", text.encode())
+    os.chmod(program, 0o755)
+    return {**PROGRAMS, "JLS_SPLICE": program}
+
+
+def is_alive(number: int) -> bool:
+    try:
+        os.kill(number, 0)
+    except ProcessLookupError:
+        return False
+    return True
+
+
+def trees_for(work: str) -> List[str]:
+    """Two trees: ten equal notes, and a picture behind them that differs."""
+    for tree in "ab":
+        for number in range(10):
+            put(f"{work}/{tree}/note {number}", b"a note")
+        put(f"{work}/{tree}/z.jls", b"\xff\xd8 " + tree.encode())
+    return [f"{work}/a", f"{work}/b"]
+
+
+def begun(work: str, words: List[str], **more: Any) -> subprocess.Popen[str]:
+    """A run that has come to the picture, in whose program it sleeps, and has done all notes."""
+    for name in ("asleep", "asleep.new"):
+        if os.path.exists(f"{work}/{name}"):
+            os.remove(f"{work}/{name}")
+    pipes: Dict[str, Any] = {"stdout": subprocess.PIPE, "stderr": subprocess.PIPE, "text": True, **more}
+    run: subprocess.Popen[str] = subprocess.Popen([ARCHIVE, *words], env=sleeper(work), **pipes)
+    waited(lambda: os.path.exists(f"{work}/asleep"))
+    return run
+
+
+def asleep(work: str) -> int:
+    """The number of the process that sleeps."""
+    return int(get(f"{work}/asleep"))
+
+
+def left_over(report: str) -> List[str]:
+    return [name for name in os.listdir(report) if name.startswith((".work", ".part"))]
+
+
+def checks_of_signals(work: str) -> Iterator[Check]:
+    """A run that a signal ends has a table and a page of what was done, and says how it goes on."""
+    work = f"{work}/signals"
+    trees = trees_for(work)
+    for number, status in ((signal.SIGINT, 130), (signal.SIGTERM, 143)):
+        name, out = number.name, f"{work}/{number.name}"
+        run = begun(work, ["--jobs", "1", out, *trees], start_new_session=True)
+        os.killpg(run.pid, number) if number == signal.SIGINT else run.send_signal(number)
+        time.sleep(0.05)
+        if run.poll() is None:
+            run.send_signal(number)
+        printed, faults = run.communicate()
+        yield f"{name}: the status is {status}", run.returncode == status
+        yield f"{name}: a line says how it goes on", faults == f"jls-archive: ended by {name}; the same call goes on from here\n"
+        rows = rows_of(f"{out}.report") if os.path.exists(f"{out}.report/pictures.csv") else {}
+        yield f"{name}: the table has what was done", sorted(rows) == [f"note {number}" for number in range(10)] and printed == ""
+        yield f"{name}: so has the page", os.path.exists(f"{out}.report/report.html")
+        yield f"{name}: the program is ended, and nothing of the work stays", not is_alive(asleep(work)) and not left_over(f"{out}.report")
+    kept = begun(work, ["--quiet", "--jobs", "1", f"{work}/kept", *trees], preexec_fn=lambda: signal.signal(signal.SIGHUP, signal.SIG_IGN))
+    kept.send_signal(signal.SIGHUP)
+    time.sleep(0.3)
+    yield "a signal that is ignored, as under nohup, ends nothing", kept.poll() is None
+    kept.terminate()
+    kept.communicate()
+
+
+class Ended:
+    def __init__(self, status: int) -> None:
+        self.status = status
+
+
+def checks_of_progress(work: str) -> Iterator[Check]:
+    """Time left counts what this run did: 900 rows of an earlier one, passed over in 2 seconds, say nothing of the 100 that remain."""
+    now = [0.0]
+    progress = Progress(1000, True, lambda: now[0])
+    yield "progress: no time is told before a path was done", progress.text() == "0 of 1000, 0 not whole"
+    for _ in range(900):
+        now[0] += 2 / 900
+        progress.pass_over(Ended(0))
+    yield "progress: nor from rows of an earlier run", progress.text() == "900 of 1000, 0 not whole"
+    for _ in range(10):
+        now[0] += 60
+        progress.step(Ended(1))
+    yield "progress: ten in ten minutes, so ninety minutes are left", progress.text() == "910 of 1000, 10 not whole, about 1:30:00 left"
+
+
+CHECKS = (checks_of_signals, checks_of_progress)
