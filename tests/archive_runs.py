@@ -109,6 +109,37 @@ def checks_of_signals(work: str) -> Iterator[Check]:
     kept.communicate()
 
 
+def report_of(out: str) -> Tuple[int, str, str]:
+    done = subprocess.run([ARCHIVE, "--report", out], capture_output=True, text=True, env={**PROGRAMS, "JLS_SALVAGE": "/nowhere"})
+    return done.returncode, done.stdout, done.stderr
+
+
+def checks_of_report(work: str) -> Iterator[Check]:
+    """The table and the page of a run that goes on, and of one that was killed."""
+    work = f"{work}/report"
+    out, trees = f"{work}/out", trees_for(work)
+    run = begun(work, ["--quiet", "--jobs", "1", out, *trees])
+    waited(lambda: report_of(out)[1].startswith("10 paths"))
+    status, printed, faults = report_of(out)
+    is_told = printed.startswith("10 paths, 0 of them pictures; 10 whole, 0 not\n") and printed.endswith(f"see {out}.report/report.html\n")
+    yield "report: of a run that goes on it tells what is done", (status, is_told, faults) == (0, True, "")
+    yield "report: the table and the page are there", len(rows_of(f"{out}.report")) == 10 and os.path.exists(f"{out}.report/report.html")
+    yield "report: the run goes on", run.poll() is None
+    os.kill(run.pid, signal.SIGKILL)
+    run.communicate()
+    os.remove(f"{out}.report/pictures.csv")
+    put(f"{work}/folders/-one/copy.jls", b"nothing")
+    subprocess.run([ARCHIVE, "--quiet", "--folders", f"{work}/folders", f"{work}/taken"], env=PROGRAMS)
+    for path in (out + "/", f"{work}/taken"):
+        status, _, faults = report_of(path)
+        report = f"{work}/taken" if path.endswith("taken") else f"{out}.report"
+        wanted = 1 if path.endswith("taken") else 0
+        yield f"report: of {os.path.basename(report)} when it ended", (status, faults, bool(rows_of(report))) == (wanted, "", True)
+    for word, reason in ((trees[0], "no run of jls-archive made"), (f"{work}/nowhere", "no run of jls-archive made")):
+        status, printed, faults = report_of(word)
+        yield f"report: {os.path.basename(word)} is refused", (status, printed, reason in faults) == (2, "", True)
+
+
 class Ended:
     def __init__(self, status: int) -> None:
         self.status = status
@@ -129,4 +160,4 @@ def checks_of_progress(work: str) -> Iterator[Check]:
     yield "progress: ten in ten minutes, so ninety minutes are left", progress.text() == "910 of 1000, 10 not whole, about 1:30:00 left"
 
 
-CHECKS = (checks_of_signals, checks_of_progress)
+CHECKS = (checks_of_signals, checks_of_report, checks_of_progress)

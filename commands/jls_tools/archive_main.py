@@ -5,8 +5,8 @@ import shutil
 import subprocess
 import sys
 
-from . import archive_claim, archive_folders, archive_item, archive_names, archive_places, archive_rows, archive_run, archive_trees
-from . import archive_words, report_page
+from . import archive_claim, archive_folders, archive_item, archive_names, archive_places, archive_report, archive_rows, archive_run
+from . import archive_trees, archive_words
 from .archive_desk import Desk
 from .archive_places import Refused
 from .archive_progress import Progress
@@ -77,14 +77,6 @@ class Trees:
         return row
 
 
-def write_report(job):
-    """The table and the page, of all rows that are there."""
-    rows = job.store.all()
-    archive_rows.write_whole(os.path.join(job.places.report, "pictures.csv"), archive_rows.table(rows))
-    archive_rows.write_whole(os.path.join(job.places.report, "report.html"), report_page.page(rows, job.places.out))
-    return rows
-
-
 def pending(job, items, progress, watch):
     """The items that need work. Those that an earlier run has done are counted."""
     for item in items:
@@ -138,19 +130,21 @@ def work_and_report(job, options, watch):
     try:
         if options.ssh:
             share(options)
-            rows = write_report(job)
+            rows = archive_report.write(job.places, job.store)
             return not any(row.status for row in rows), rows
         is_whole = go_through(job, options, watch)
         watch.end()
-        return is_whole, [] if options.shared else write_report(job)
+        return is_whole, [] if options.shared else archive_report.write(job.places, job.store)
     except (Stopped, ProgramFailed, OSError):
         if not options.shared:
             with contextlib.suppress(OSError):
-                write_report(job)
+                archive_report.write(job.places, job.store)
         raise
 
 
 def run(options, watch):
+    if options.report:
+        return archive_report.anew(options)
     programs = Programs()
     if options.version:
         print(programs.run([programs.salvage, "--version"]).printed, end="")
@@ -160,8 +154,7 @@ def run(options, watch):
     if options.shared:
         return 0
     if not options.quiet:
-        named = options.out.rstrip("/") or options.out
-        print(report_page.summary(rows, named if options.folders else f"{named}.report"), end="")
+        archive_report.print_summary(rows, options.out, job.places)
     return 0 if is_whole else 1
 
 
