@@ -47,11 +47,11 @@ def sleeper(work: str) -> Dict[str, str]:
 
 
 def is_alive(number: int) -> bool:
+    """Whether a process runs: one that waits for its end to be noticed doesn't."""
     try:
-        os.kill(number, 0)
-    except ProcessLookupError:
+        return get(f"/proc/{number}/stat").rpartition(b")")[2].split()[0] not in (b"Z", b"X")
+    except FileNotFoundError:
         return False
-    return True
 
 
 def trees_for(work: str) -> List[str]:
@@ -140,6 +140,35 @@ def checks_of_report(work: str) -> Iterator[Check]:
         yield f"report: {os.path.basename(word)} is refused", (status, printed, reason in faults) == (2, "", True)
 
 
+def checks_of_seconds(work: str) -> Iterator[Check]:
+    """A limit of time for a path is a result: its copies stand aside or are copied through, and the run goes on."""
+    work = f"{work}/seconds"
+    out, trees = f"{work}/out", trees_for(work)
+    for tree in trees:
+        put(f"{tree}/y.jls", b"\xff\xd8 equal")
+    asleep_in = sleeper(work)
+    words = [ARCHIVE, "--quiet", "--jobs", "2", "--seconds", "1", out, *trees]
+    slow = {**asleep_in, "JLS_SALVAGE": asleep_in["JLS_SPLICE"]}
+    for name, variables in (("first", slow), ("again", {**PROGRAMS, "JLS_SPLICE": "/nowhere"})):
+        done = subprocess.run(words, env=variables, capture_output=True, text=True, timeout=PATIENCE)
+        rows = rows_of(f"{out}.report")
+        yield f"seconds, {name}: the run comes to its end", (done.returncode, done.stderr, len(rows)) == (1, "", 12)
+        said = {(rows[path]["result"], rows[path]["status"], rows[path]["note"]) for path in ("y.jls", "z.jls") if path in rows}
+        yield f"seconds, {name}: the rows say that it took too long", said == {("took too long", "1", "its work was ended after 1 s")}
+        yield f"seconds, {name}: equal copies are copied", get(f"{out}/y.jls") == b"\xff\xd8 equal"
+        aside = [get(f"{out}.differ/{tree}/z.jls") for tree in "ab"] == [b"\xff\xd8 a", b"\xff\xd8 b"]
+        yield f"seconds, {name}: those that differ stand aside", aside and not os.path.exists(f"{out}/z.jls")
+        yield f"seconds, {name}: the program is ended, and nothing stays", not is_alive(asleep(work)) and not left_over(f"{out}.report")
+    subprocess.run([*words[:-4], "600", out, *trees], env=PROGRAMS, timeout=PATIENCE)
+    rows = rows_of(f"{out}.report")
+    yield "seconds: with more of them it is done anew", {rows[path]["result"] for path in ("y.jls", "z.jls")} == {"does not read"}
+    put(f"{work}/folders/one/a.jls", b"\xff\xd8 a")
+    words = [ARCHIVE, "--quiet", "--folders", "--seconds", "1", f"{work}/folders", f"{work}/taken"]
+    done = subprocess.run(words, env=slow, capture_output=True, text=True, timeout=PATIENCE)
+    rows = rows_of(f"{work}/taken")
+    yield "seconds: so it is with a folder", (done.returncode, done.stderr, rows["one"]["result"]) == (1, "", "took too long")
+
+
 class Ended:
     def __init__(self, status: int) -> None:
         self.status = status
@@ -160,4 +189,4 @@ def checks_of_progress(work: str) -> Iterator[Check]:
     yield "progress: ten in ten minutes, so ninety minutes are left", progress.text() == "910 of 1000, 10 not whole, about 1:30:00 left"
 
 
-CHECKS = (checks_of_signals, checks_of_report, checks_of_progress)
+CHECKS = (checks_of_signals, checks_of_report, checks_of_seconds, checks_of_progress)

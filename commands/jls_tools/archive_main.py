@@ -61,17 +61,18 @@ class Trees:
     def is_done(self, item):
         """The row of an item that needs no work: nothing has changed since, and what was written is there."""
         row = self.store.of(item.path)
-        if row and row.inputs == archive_item.inputs_of(self.desk, item) and all(map(self.places.has, row.outputs)):
-            return row
-        return None
+        return row if row and self.desk.is_of(row, archive_item.inputs_of(self.desk, item)) else None
 
-    def do(self, item, folder):
+    def undo(self):
+        self.places.undo()
+
+    def do(self, item, folder, is_late):
         """Settles an item in a worker: the row is kept when all files are there."""
         before = self.store.of(item.path)
         self.store.remove(item.path)
         for output in before.outputs if before else []:
             self.places.drop(output)
-        self.desk.begin(folder)
+        self.desk.begin(folder, is_late)
         row = archive_item.settle(self.desk, item)
         self.store.save(row)
         return row
@@ -96,7 +97,7 @@ def go_through(job, options, watch):
     try:
         with watch.held():
             waiting = pending(job, items, progress, watch)
-            with contextlib.closing(archive_run.run(waiting, job.do, work.folder, options.jobs, watch)) as done:
+            with contextlib.closing(archive_run.Run(job, work.folder, options, watch).go(waiting)) as done:
                 for _, row in done:
                     progress.step(row)
     finally:
@@ -111,7 +112,8 @@ def share(options):
     if not tool:
         raise Refused("--ssh wants GNU parallel, and there is none", 127)
     parts = 16 * len(options.ssh.split(","))
-    command = [os.path.realpath(sys.argv[0]), "--shared", "--jobs", "1", "--tries", str(options.tries), "--part", f"{{}}/{parts}"]
+    command = [os.path.realpath(sys.argv[0]), "--shared", "--jobs", "1", "--tries", str(options.tries)]
+    command += ["--seconds", str(options.seconds), "--part", f"{{}}/{parts}"]
     command += ["--folders"] if options.folders else []
     for file in options.sums:
         command += ["--sums", os.path.realpath(file)]

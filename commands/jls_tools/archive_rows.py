@@ -13,6 +13,7 @@ from .dicom_result import NOT_SUPPORTED
 
 COLUMNS = ("path", "kind", "copies", "frames", "settled", "missing", "disputed", "before", "sum", "status", "result", "shape", "note")
 PICTURES = ("dicom", "jls", "jlsp")
+TOOK_TOO_LONG = "took too long"
 PART = ".part-"  # begins the name of a file that isn't complete; eight letters or digits follow
 
 
@@ -61,7 +62,7 @@ class Row:
     @property
     def loss(self):
         """Which share of a picture's lines is missing or disputed, all if nothing could be made of it; nothing if that isn't known."""
-        if self.kind not in PICTURES or self.result == NOT_SUPPORTED:
+        if self.kind not in PICTURES or self.result in (NOT_SUPPORTED, TOOK_TOO_LONG):
             return None
         if self.lines:
             return ((self.missing or 0) + (self.disputed or 0)) / self.lines

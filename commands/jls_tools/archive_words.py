@@ -58,6 +58,7 @@ def parser():
     add("--sums", action="append", default=[], metavar="FILE", help="lines of sha256sum, md5sum or BagIt: is each file the one?")
     add("--jobs", type=number, default=len(os.sched_getaffinity(0)), metavar="N", help="how many at once; all processors unless told")
     add("--tries", type=number, default=4096, metavar="N", help="how much jls-splice tries for a picture; 4096 unless told")
+    add("--seconds", type=number, default=60, metavar="N", help="how long the work on a path may take; 60 seconds unless told")
     add("--part", type=part, default=(1, 1), metavar="K/N", help="only the Kth of N parts of the paths, for a job array")
     add("--ssh", metavar="HOST,..", help="share the work with these machines, by GNU parallel")
     add("--report", action="store_true", help="make the table and the page of OUT anew, also while a run goes on")
