@@ -3,11 +3,11 @@ _jls_archive() {
     local word=${COMP_WORDS[COMP_CWORD]} before=${COMP_WORDS[COMP_CWORD - 1]}
     COMPREPLY=()
     case "$before" in
-        --jobs | --tries | --part) return ;;
+        --jobs | --tries | --seconds | --part) return ;;
         --ssh) mapfile -t COMPREPLY < <(compgen -A hostname -- "$word"); return ;;
     esac
     if [[ $word == -* && $before != --sums ]]; then
-        mapfile -t COMPREPLY < <(compgen -W '--folders --sums --jobs --tries --part --ssh --quiet --help --version' -- "$word")
+        mapfile -t COMPREPLY < <(compgen -W '--folders --sums --jobs --tries --seconds --part --ssh --report --quiet --help --version' -- "$word")
     elif [ "$before" = --sums ]; then
         mapfile -t COMPREPLY < <(compgen -f -- "$word")
         compopt -o filenames 2> /dev/null

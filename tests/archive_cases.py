@@ -16,14 +16,14 @@ VIEW = os.path.join(TOP, "commands", "jls-view")
 WIDTH, HEIGHT = 24, 16
 
 
-def put(path, data):
+def put(path: str, data: bytes) -> str:
     os.makedirs(os.path.dirname(path), exist_ok=True)
     with open(path, "wb") as file:
         file.write(data)
     return path
 
 
-def get(path):
+def get(path: str) -> bytes:
     with open(path, "rb") as file:
         return file.read()
 

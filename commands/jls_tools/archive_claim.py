@@ -33,6 +33,10 @@ def check_places(out, trees):
                 raise Refused(f"{shown(tree)} and {shown(other)} lie in one another")
 
 
+def mark_of(places):
+    return os.path.join(places.report, f".{MARK}")
+
+
 def made_for(mark):
     """What the runs are for that made a folder, by its mark. None if there is no mark, or one that a killed run didn't complete."""
     try:
@@ -44,7 +48,7 @@ def made_for(mark):
 
 def claim(places, what):
     """Makes OUT and the folder of the report. What is there already has to be of an earlier run, or empty."""
-    mark, shown = os.path.join(places.report, f".{MARK}"), archive_names.printable(places.out)
+    mark, shown = mark_of(places), archive_names.printable(places.out)
     if os.path.ismount(places.out):
         raise Refused(f"{shown} is where a disk begins: name a folder on it")
     if not os.path.isfile(mark):

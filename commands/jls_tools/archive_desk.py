@@ -3,6 +3,7 @@ import os
 import shutil
 
 from . import archive_names, partial_picture, sums, view_thumbnail
+from .archive_rows import TOOK_TOO_LONG
 
 
 def shown(path):
@@ -30,10 +31,25 @@ class Desk:
         self.sums = options.sums_read
         self.folder = None
         self.made = 0
+        self.is_late = False  # the time for the path ran out: its copies are compared, and neither read as pictures nor mended
 
-    def begin(self, folder):
+    def begin(self, folder, is_late):
         """Takes an empty folder for the next path. Names in it begin anew, so that logs are the same in each run."""
-        self.folder, self.made = folder, 0
+        self.folder, self.made, self.is_late = folder, 0, is_late
+        self.places.put_there = []
+
+    def late(self, row):
+        """The row of a picture for which the time ran out."""
+        return row.end(TOOK_TOO_LONG, 1, f"its work was ended after {self.options.seconds} s")
+
+    def inputs(self, inputs):
+        """What a row was made of: also the time that the path had, if that ran out."""
+        return f"{inputs}\nended after {self.options.seconds} s" if self.is_late else inputs
+
+    def is_of(self, row, inputs):
+        """Whether a row was made of this, and its files are there. One whose time ran out is of its limit too."""
+        known = row.inputs in (inputs, f"{inputs}\nended after {self.options.seconds} s")
+        return known and all(map(self.places.has, row.outputs))
 
     def name(self, what="file"):
         """The name of a new file in the folder for what isn't complete."""

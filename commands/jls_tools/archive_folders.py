@@ -101,6 +101,8 @@ class Folders:
 
     def rows_of(self, name, folder):
         pictures, dicom, other = sorts_of(folder)
+        if self.desk.is_late:
+            return [self.desk.late(Row(name, "jls" if pictures or not dicom else "dicom", len(pictures) + len(dicom)))]
         rows = [dicom_row(self.desk, name, dicom)] if dicom else []
         if pictures or not rows:
             rows = [*picture_rows(self.desk, name, pictures), *rows]
@@ -110,18 +112,24 @@ class Folders:
             rows[0].say(f"{other} other files")
         return rows
 
-    def do(self, name, folder):
+    def is_done(self, name):
+        """The row of a folder that needs no work: nothing has changed since, and what was written is there."""
+        row = self.store.of(name)
+        return row if row and self.desk.is_of(row, inputs_of(self.desk, os.path.join(self.source, name))) else None
+
+    def undo(self):
+        self.places.undo()
+
+    def do(self, name, folder, is_late):
         """Settles a folder in a worker: its rows are kept when all files are there, its own row last."""
         source = os.path.join(self.source, name)
         row, inputs = self.store.of(name), inputs_of(self.desk, source)
-        if row and row.inputs == inputs and all(map(self.places.has, row.outputs)):
-            return row
         self.store.remove(name)
         for output in row.outputs if row else []:
             self.places.drop(output)
-        self.desk.begin(folder)
+        self.desk.begin(folder, is_late)
         rows = self.rows_of(name, source)
         for row in reversed(rows):
-            row.inputs = inputs
+            row.inputs = self.desk.inputs(inputs)
             self.store.save(row)
         return max(rows, key=lambda row: row.status)

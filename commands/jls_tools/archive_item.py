@@ -83,6 +83,8 @@ def files(desk, item, row):
             first = desk.name()
             shutil.copyfile(desk.place(name), desk.place(first))
             return copy_through(desk, row, copy, first)
+    if desk.is_late and row.kind != OTHER:
+        return desk.late(desk.set_aside(row, copies))
     mends = {DICOM: archive_dicom.mend, PICTURE: archive_pictures.mend, PARTIAL: archive_pictures.join, OTHER: desk.set_aside}
     return mends[row.kind](*([desk] if row.kind != OTHER else []), row, copies)
 
@@ -91,7 +93,9 @@ def copy_through(desk, row, copy, name):
     """The file that all copies are, or that the sum names: it goes to OUT as it is, and the row says whether it reads."""
     if sums.agree(desk.expected(row), copy.digests):
         row.sum = "matches"
-    if row.kind == DICOM:
+    if desk.is_late and row.kind != OTHER:
+        desk.late(row)
+    elif row.kind == DICOM:
         archive_dicom.look(desk, row, copy)
     elif row.kind in (PICTURE, PARTIAL):
         archive_pictures.look(desk, row, copy)
@@ -142,7 +146,7 @@ def mixed(desk, item, row):
 
 def settle(desk, item):
     """The row of a path, with its files written."""
-    row = Row(item.path, inputs=inputs_of(desk, item))
+    row = Row(item.path, inputs=desk.inputs(inputs_of(desk, item)))
     kinds = set(item.kinds.values())
     if item.faults:
         row.kind, said = "folder", [f"{archive_names.printable(desk.labels[tree])} cannot be read: {text}" for tree, text in item.faults]

@@ -5,10 +5,12 @@ import shutil
 import subprocess
 import sys
 
-from . import archive_claim, archive_folders, archive_item, archive_names, archive_places, archive_rows, archive_run, archive_trees
-from . import archive_words, report_page
+from . import archive_claim, archive_folders, archive_item, archive_names, archive_places, archive_report, archive_rows, archive_run
+from . import archive_trees, archive_words
 from .archive_desk import Desk
 from .archive_places import Refused
+from .archive_progress import Progress
+from .archive_signals import Stopped, Watch
 from .programs import ProgramFailed, Programs
 
 
@@ -59,47 +61,49 @@ class Trees:
     def is_done(self, item):
         """The row of an item that needs no work: nothing has changed since, and what was written is there."""
         row = self.store.of(item.path)
-        if row and row.inputs == archive_item.inputs_of(self.desk, item) and all(map(self.places.has, row.outputs)):
-            return row
-        return None
+        return row if row and self.desk.is_of(row, archive_item.inputs_of(self.desk, item)) else None
 
-    def do(self, item, folder):
+    def undo(self):
+        self.places.undo()
+
+    def do(self, item, folder, is_late):
         """Settles an item in a worker: the row is kept when all files are there."""
-        row = self.is_done(item)
-        if row:
-            return row
         before = self.store.of(item.path)
         self.store.remove(item.path)
         for output in before.outputs if before else []:
             self.places.drop(output)
-        self.desk.begin(folder)
+        self.desk.begin(folder, is_late)
         row = archive_item.settle(self.desk, item)
         self.store.save(row)
         return row
 
 
-def write_report(job):
-    """The table and the page, of all rows that are there."""
-    rows = job.store.all()
-    archive_rows.write_whole(os.path.join(job.places.report, "pictures.csv"), archive_rows.table(rows))
-    archive_rows.write_whole(os.path.join(job.places.report, "report.html"), report_page.page(rows, job.places.out))
-    return rows
+def pending(job, items, progress, watch):
+    """The items that need work. Those that an earlier run has done are counted."""
+    for item in items:
+        watch.end()
+        row = job.is_done(item)
+        if row:
+            progress.pass_over(row)
+        else:
+            yield item
 
 
-def go_through(job, options):
-    """Does the work of this call, and answers its rows."""
-    items, rows = job.items(), []
+def go_through(job, options, watch):
+    """Does the work of this call, and answers whether all is whole."""
+    items = job.items()
     work = archive_places.Work(job.places)
-    progress = archive_run.Progress(len(items), options.quiet)
+    progress = Progress(len(items), options.quiet)
     try:
-        with contextlib.closing(archive_run.run(items, job.do, work.folder, options.jobs)) as done:
-            for _, row in done:
-                rows.append(row)
-                progress.step(row)
+        with watch.held():
+            waiting = pending(job, items, progress, watch)
+            with contextlib.closing(archive_run.Run(job, work.folder, options, watch).go(waiting)) as done:
+                for _, row in done:
+                    progress.step(row)
     finally:
         progress.end()
         work.remove()
-    return rows
+    return not progress.not_whole
 
 
 def share(options):
@@ -108,7 +112,8 @@ def share(options):
     if not tool:
         raise Refused("--ssh wants GNU parallel, and there is none", 127)
     parts = 16 * len(options.ssh.split(","))
-    command = [os.path.realpath(sys.argv[0]), "--shared", "--jobs", "1", "--tries", str(options.tries), "--part", f"{{}}/{parts}"]
+    command = [os.path.realpath(sys.argv[0]), "--shared", "--jobs", "1", "--tries", str(options.tries)]
+    command += ["--seconds", str(options.seconds), "--part", f"{{}}/{parts}"]
     command += ["--folders"] if options.folders else []
     for file in options.sums:
         command += ["--sums", os.path.realpath(file)]
@@ -119,38 +124,52 @@ def share(options):
     numbers = "".join(f"{number}\n" for number in range(1, parts + 1))
     done = subprocess.run([*words, *bar, *command, "--", *places], input=numbers, text=True)
     if done.returncode:
-        raise archive_run.Stopped("the work was stopped on a machine", done.returncode)
+        raise Stopped("the work was stopped on a machine", done.returncode)
 
 
-def run(options):
+def work_and_report(job, options, watch):
+    """(whether all is whole, all rows). The table and the page are written too where the work ends early."""
+    try:
+        if options.ssh:
+            share(options)
+            rows = archive_report.write(job.places, job.store)
+            return not any(row.status for row in rows), rows
+        is_whole = go_through(job, options, watch)
+        watch.end()
+        return is_whole, [] if options.shared else archive_report.write(job.places, job.store)
+    except (Stopped, ProgramFailed, OSError):
+        if not options.shared:
+            with contextlib.suppress(OSError):
+                archive_report.write(job.places, job.store)
+        raise
+
+
+def run(options, watch):
+    if options.report:
+        return archive_report.anew(options)
     programs = Programs()
     if options.version:
         print(programs.run([programs.salvage, "--version"]).printed, end="")
         return 0
     job = (archive_folders.Folders if options.folders else Trees)(options, programs)
-    if options.ssh:
-        share(options)
-        rows = job.store.all()
-    else:
-        rows = go_through(job, options)
+    is_whole, rows = work_and_report(job, options, watch)
     if options.shared:
         return 0
-    everything = write_report(job)
     if not options.quiet:
-        named = options.out.rstrip("/") or options.out
-        print(report_page.summary(everything, named if options.folders else f"{named}.report"), end="")
-    return 1 if any(row.status for row in rows) else 0
+        archive_report.print_summary(rows, options.out, job.places)
+    return 0 if is_whole else 1
 
 
 def main():
-    archive_run.catch_signals()
+    watch = Watch()
+    watch.catch()
     sys.stdout.reconfigure(errors="backslashreplace")
     try:
-        return run(archive_words.read(sys.argv[1:]))
+        return run(archive_words.read(sys.argv[1:]), watch)
     except Refused as fault:
         say(fault)
         return fault.status
-    except (archive_run.Stopped, ProgramFailed) as fault:
+    except (Stopped, ProgramFailed) as fault:
         say(f"{fault}; the same call goes on from here")
         return fault.status
     except OSError as fault:

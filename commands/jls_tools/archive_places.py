@@ -60,6 +60,7 @@ class Places:
         self.out = out
         self.report = report or f"{out}.report"
         self.roots = {"out": out, "differ": f"{out}.differ", "partial": f"{out}.partial"}
+        self.put_there = []  # of the path that is worked on
         self.works = os.path.join(self.report, ".work")
         self.mask = os.umask(0)  # what the person lets others do
         os.umask(self.mask)
@@ -81,6 +82,7 @@ class Places:
             if model:
                 make_like(made, model, times)
             store(made)
+        self.put_there.append([root, name])
         os.replace(made, place)
         return [root, name]
 
@@ -113,6 +115,12 @@ class Places:
             except OSError:
                 return
             folder = os.path.dirname(folder)
+
+    def undo(self):
+        """Removes what was put there of a path whose work did not come to its end."""
+        for output in self.put_there:
+            self.drop(output)
+        self.put_there = []
 
 
 class Work:

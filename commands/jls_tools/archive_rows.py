@@ -1,6 +1,7 @@
 """The rows of pictures.csv: one for each path, each kept in a file of its own as soon as it is known, so that a stopped run goes on."""
 from __future__ import annotations
 
+import contextlib
 import csv
 import dataclasses
 import hashlib
@@ -12,6 +13,7 @@ from .dicom_result import NOT_SUPPORTED
 
 COLUMNS = ("path", "kind", "copies", "frames", "settled", "missing", "disputed", "before", "sum", "status", "result", "shape", "note")
 PICTURES = ("dicom", "jls", "jlsp")
+TOOK_TOO_LONG = "took too long"
 PART = ".part-"  # begins the name of a file that isn't complete; eight letters or digits follow
 
 
@@ -60,7 +62,7 @@ class Row:
     @property
     def loss(self):
         """Which share of a picture's lines is missing or disputed, all if nothing could be made of it; nothing if that isn't known."""
-        if self.kind not in PICTURES or self.result == NOT_SUPPORTED:
+        if self.kind not in PICTURES or self.result in (NOT_SUPPORTED, TOOK_TOO_LONG):
             return None
         if self.lines:
             return ((self.missing or 0) + (self.disputed or 0)) / self.lines
@@ -81,7 +83,8 @@ def write_whole(path, data):
         os.chmod(part, 0o666 & ~mask)
         os.replace(part, path)
     except BaseException:
-        os.unlink(part)
+        with contextlib.suppress(FileNotFoundError):  # a signal came when it had its name already
+            os.unlink(part)
         raise
 
 

@@ -4,47 +4,26 @@ import multiprocessing
 import os
 import shutil
 import signal
-import sys
 import time
 import traceback
 from multiprocessing import connection
 
+from . import archive_signals
+from .archive_signals import Stopped
 from .programs import ProgramFailed
 
 PARENT_DIED = 1  # PR_SET_PDEATHSIG of prctl
-SIGNALS = (signal.SIGINT, signal.SIGTERM, signal.SIGHUP)
-
-
-class Stopped(Exception):
-    """The run can't go on: the text is for the person, and `status` for the shell."""
-
-    def __init__(self, text, status):
-        super().__init__(text)
-        self.status = status
-
-
-def leave(number, _):
-    for each in SIGNALS:
-        signal.signal(each, signal.SIG_IGN)
-    raise SystemExit(128 + number)
-
-
-def catch_signals():
-    """Lets a signal end this process as an exception does, so that what isn't complete is removed."""
-    for number in SIGNALS:
-        signal.signal(number, leave)
 
 
 def prepare_worker():
-    """A worker ends if the process that started it does. A key on the terminal is for that one."""
-    signal.signal(signal.SIGTERM, leave)
-    signal.signal(signal.SIGHUP, signal.SIG_IGN)
-    signal.signal(signal.SIGINT, signal.SIG_IGN)
+    """A worker ends if the process that started it does. The programs that it calls are of its group, and end with it."""
+    os.setpgid(0, 0)
     try:
         ctypes.CDLL(None).prctl(PARENT_DIED, signal.SIGTERM)
     except (OSError, AttributeError):
         pass  # it ends at its next item
     os.umask(0o077)
+    archive_signals.prepare_worker()
 
 
 def fault_of(fault):
@@ -58,20 +37,16 @@ def fault_of(fault):
     return "".join(traceback.format_exception(fault)), 70
 
 
-def work(pipe, do, folder):
+def work(pipe, job, folder):
     """A worker: takes items from the pipe, and answers (row, nothing) or (nothing, fault)."""
     prepare_worker()
     try:
         while True:
             try:
-                item = pipe.recv()
+                item, is_late = pipe.recv()
             except EOFError:
                 return
-            os.makedirs(folder, exist_ok=True)
-            try:
-                answer = do(item, folder), None
-            except Exception as fault:
-                answer = None, fault_of(fault)
+            answer = answer_of(job, item, is_late, folder)
             shutil.rmtree(folder, ignore_errors=True)
             pipe.send(answer)
     except BrokenPipeError:
@@ -80,25 +55,59 @@ def work(pipe, do, folder):
         shutil.rmtree(folder, ignore_errors=True)
 
 
+def answer_of(job, item, is_late, folder):
+    """What comes of an item. What was written of it goes if the work doesn't come to its end."""
+    os.makedirs(folder, exist_ok=True)
+    try:
+        return job.do(item, folder, is_late), None
+    except Exception as fault:
+        job.undo()
+        return None, fault_of(fault)
+    except SystemExit:
+        job.undo()
+        raise
+
+
 class Worker:
-    def __init__(self, do, folder, others):
+    """A process that has one item at a time. It ends by itself if the one that made it does."""
+
+    def __init__(self, job, folder, others):
         self.pipe, theirs = multiprocessing.Pipe()
-        self.item = None
-        self.process = multiprocessing.get_context("fork").Process(target=self.begin, args=(theirs, do, folder, others))
-        self.process.start()
+        self.folder = folder
+        self.item = self.due = None
+        self.process = multiprocessing.get_context("fork").Process(target=self.begin, args=(theirs, job, folder, others))
+        with archive_signals.blocked():
+            self.process.start()
         theirs.close()
 
-    def begin(self, theirs, do, folder, others):
+    def begin(self, theirs, job, folder, others):
         for pipe in (self.pipe, *others):
             pipe.close()
         try:
-            work(theirs, do, folder)
+            work(theirs, job, folder)
         except SystemExit:
-            pass
+            os.killpg(0, signal.SIGKILL)  # also a program that was only just begun
 
-    def give(self, item):
+    def give(self, item, seconds=None):
+        """Gives it an item, and so many seconds for it. Without a limit the item is one whose time ran out before."""
         self.item = item
-        self.pipe.send(item)
+        self.due = None if seconds is None else time.monotonic() + seconds
+        self.pipe.send((item, seconds is None))
+
+    def end(self):
+        """Ends it, waits until it has removed what isn't complete, and answers what it was at."""
+        end([self])
+        self.pipe.close()
+        shutil.rmtree(self.folder, ignore_errors=True)
+        return self.item
+
+    def answered(self):
+        """(item, row) of the item that it had. A Stopped says why there is no row."""
+        row, fault = self.take()
+        item, self.item = self.item, None
+        if fault:
+            raise Stopped(*fault)
+        return item, row
 
     def take(self):
         """The answer. A worker that is gone was stopped from outside."""
@@ -109,31 +118,70 @@ class Worker:
             return None, ("a process of this run was stopped from outside", 137)
 
 
-def run(items, do, folder, jobs):
-    """Yields (item, row) as items are done. `do` takes an item and a folder for what isn't complete. A Stopped says why it ended early."""
-    waiting, workers = iter(items), []
-    try:
-        for number in range(jobs):
+class Run:
+    """The work on items by several workers. `job` does an item in a folder for what isn't complete, and undoes what it wrote of one."""
+
+    def __init__(self, job, folder, options, watch):
+        self.job = job
+        self.folder = folder
+        self.jobs = options.jobs
+        self.seconds = options.seconds
+        self.watch = watch
+        self.workers = []
+
+    def go(self, items):
+        """Yields (item, row) as items are done. A Stopped says why it ended early."""
+        try:
+            yield from self.give_all(iter(items))
+        except Stopped:
+            end(self.workers)
+            yield from answers_of(self.workers)
+            raise
+        finally:
+            end(self.workers)
+
+    def start(self, folder):
+        """A new worker."""
+        self.workers.append(Worker(self.job, folder, [worker.pipe for worker in self.workers]))
+        return self.workers[-1]
+
+    def give_all(self, waiting):
+        """Starts the workers, and gives each an item whenever it has none."""
+        for number in range(self.jobs):
             item = next(waiting, None)
             if item is None:
                 break
-            workers.append(Worker(do, os.path.join(folder, str(number)), [worker.pipe for worker in workers]))
-            workers[-1].give(item)
-        busy = {worker.pipe: worker for worker in workers}
-        while busy:
-            for pipe in connection.wait(list(busy)):
-                worker = busy[pipe]
-                row, fault = worker.take()
-                if fault:
-                    raise Stopped(*fault)
-                done, item = worker.item, next(waiting, None)
-                if item is None:
-                    del busy[pipe]
-                else:
-                    worker.give(item)
+            self.start(os.path.join(self.folder, str(number))).give(item, self.seconds)
+        while any(worker.item is not None for worker in self.workers):
+            for worker in self.ready():
+                done, row = worker.answered()
                 yield done, row
-    finally:
-        end(workers)
+                item = next(waiting, None)
+                if item is not None:
+                    worker.give(item, self.seconds)
+
+    def ready(self):
+        """Workers that have an answer. Those whose time ran out before one came are ended: a new one takes the item without its work."""
+        busy = {worker.pipe: worker for worker in self.workers if worker.item is not None}
+        limits = [worker.due for worker in busy.values() if worker.due is not None]
+        wait = max(0, min(limits) - time.monotonic()) if limits else None
+        found = connection.wait([*busy, self.watch.reader], wait)
+        self.watch.end()
+        for worker in [] if found else list(busy.values()):
+            if worker.due is not None and worker.due <= time.monotonic():
+                self.workers.remove(worker)
+                item = worker.end()
+                self.start(worker.folder).give(item)
+        return [busy[pipe] for pipe in found]
+
+
+def answers_of(workers):
+    """What workers had done when they were ended."""
+    for worker in workers:
+        if worker.item is not None and worker.pipe.poll():
+            row, _ = worker.take()
+            if row:
+                yield worker.item, row
 
 
 def end(workers):
@@ -143,35 +191,5 @@ def end(workers):
     for worker in workers:
         worker.process.join(10)
         if worker.process.is_alive():
-            worker.process.kill()
+            os.killpg(worker.process.pid, signal.SIGKILL)
             worker.process.join()
-
-
-class Progress:
-    """A line on the terminal that says how far the run is; nothing where there is no terminal."""
-
-    def __init__(self, total, is_quiet):
-        self.total = total
-        self.done = self.not_whole = 0
-        self.begun = self.shown = time.monotonic()
-        self.is_on = not is_quiet and sys.stderr.isatty()
-
-    def step(self, row):
-        self.done += 1
-        self.not_whole += row.status != 0
-        now = time.monotonic()
-        if self.is_on and (now - self.shown > 0.2 or self.done == self.total):
-            self.shown = now
-            left = (now - self.begun) * (self.total - self.done) / self.done
-            text = f"{self.done} of {self.total}, {self.not_whole} not whole, about {self.clock(left)} left"
-            sys.stderr.write(f"\r{text}\x1b[K")
-            sys.stderr.flush()
-
-    @staticmethod
-    def clock(seconds):
-        return f"{int(seconds) // 3600}:{int(seconds) // 60 % 60:02}:{int(seconds) % 60:02}"
-
-    def end(self):
-        if self.is_on:
-            sys.stderr.write("\r\x1b[K")
-            sys.stderr.flush()

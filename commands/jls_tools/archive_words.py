@@ -17,8 +17,10 @@ Beside OUT stand:
 
 With --folders, each folder of IN has copies of one picture, and OUT gets a picture for each folder.
 
-A run that was stopped goes on if it is called again. The status is 0 if all is whole, and 1 if some path isn't; 2: the words are wrong;
-4: something can't be read or written; 5, 125, 127 and above: a program could not do its work, and the run stopped.
+A run that was stopped goes on if it is called again. --report makes its table and its page, also while it goes on.
+
+The status is 0 if all is whole, and 1 if some path isn't; 2: the words are wrong; 4: something can't be read or written; 130, 143: it was
+ended by a signal; 5, 125, 127 and above: a program could not do its work, and the run stopped.
 """
 
 
@@ -45,7 +47,7 @@ def part(text):
 def parser():
     made = Parser(
         prog="jls-archive",
-        usage="jls-archive [OPTIONS] OUT TREE TREE..\n       jls-archive --folders [OPTIONS] IN OUT",
+        usage="jls-archive [OPTIONS] OUT TREE TREE..\n       jls-archive --folders [OPTIONS] IN OUT\n       jls-archive --report OUT",
         description=TEXT,
         formatter_class=argparse.RawDescriptionHelpFormatter,
         allow_abbrev=False,
@@ -56,8 +58,10 @@ def parser():
     add("--sums", action="append", default=[], metavar="FILE", help="lines of sha256sum, md5sum or BagIt: is each file the one?")
     add("--jobs", type=number, default=len(os.sched_getaffinity(0)), metavar="N", help="how many at once; all processors unless told")
     add("--tries", type=number, default=4096, metavar="N", help="how much jls-splice tries for a picture; 4096 unless told")
+    add("--seconds", type=number, default=60, metavar="N", help="how long the work on a path may take; 60 seconds unless told")
     add("--part", type=part, default=(1, 1), metavar="K/N", help="only the Kth of N parts of the paths, for a job array")
     add("--ssh", metavar="HOST,..", help="share the work with these machines, by GNU parallel")
+    add("--report", action="store_true", help="make the table and the page of OUT anew, also while a run goes on")
     add("--quiet", action="store_true", help="no progress on the terminal, and no summary")
     add("--version", action="store_true", help="print the version of jls-salvage")
     # a part that --ssh gave away: no table, and status 0 when the part is done
@@ -70,6 +74,11 @@ def read(words):
     options = parser().parse_args(words)
     options.sums_read = sums.Sums()
     if options.version:
+        return options
+    if options.report:
+        if len(options.words) != 1 or options.folders or options.sums or options.ssh:
+            raise archive_places.Refused("--report takes OUT alone")
+        options.out = options.words[0]
         return options
     if options.folders:
         if len(options.words) != 2:

@@ -1,0 +1,192 @@
+"""Checks of tests/commands_archive on runs that end early, go on, or meet another run.
+
+A program of our own stands for jls-splice. It says where it is, and sleeps, so that a run is at a known path when it is ended.
+"""
+from __future__ import annotations
+
+import csv
+import os
+import signal
+import subprocess
+import sys
+import time
+from typing import Any, Callable, Dict, Iterator, List, Tuple
+
+from archive_cases import ARCHIVE, PROGRAMS, TOP, get, put
+
+sys.path.insert(0, os.path.join(TOP, "commands"))
+
+from jls_tools.archive_progress import Progress
+
+Check = Tuple[str, bool]
+PATIENCE = 60  # seconds after which what a check waits for doesn't come
+
+
+def waited(is_there: Callable[[], bool]) -> bool:
+    """Whether it comes to be so."""
+    end = time.monotonic() + PATIENCE
+    while not is_there():
+        if time.monotonic() > end:
+            return False
+        time.sleep(0.02)
+    return True
+
+
+def rows_of(report: str) -> Dict[str, Dict[str, str]]:
+    """The rows of the table in a folder, by their paths."""
+    with open(f"{report}/pictures.csv", newline="", encoding="utf-8", errors="surrogateescape") as file:
+        return {row["path"]: row for row in csv.DictReader(file)}
+
+
+def sleeper(work: str) -> Dict[str, str]:
+    """The variables for a jls-splice that writes its number to `work`/asleep, and sleeps."""
+    text = f"#!/bin/sh\necho $$ > '{work}/asleep.new' && mv '{work}/asleep.new' '{work}/asleep'\nexec sleep 300\n"
+    program = put(f"{work}/sleeper", text.encode())
+    os.chmod(program, 0o755)
+    return {**PROGRAMS, "JLS_SPLICE": program}
+
+
+def is_alive(number: int) -> bool:
+    """Whether a process runs: one that waits for its end to be noticed doesn't."""
+    try:
+        return get(f"/proc/{number}/stat").rpartition(b")")[2].split()[0] not in (b"Z", b"X")
+    except FileNotFoundError:
+        return False
+
+
+def trees_for(work: str) -> List[str]:
+    """Two trees: ten equal notes, and a picture behind them that differs."""
+    for tree in "ab":
+        for number in range(10):
+            put(f"{work}/{tree}/note {number}", b"a note")
+        put(f"{work}/{tree}/z.jls", b"\xff\xd8 " + tree.encode())
+    return [f"{work}/a", f"{work}/b"]
+
+
+def begun(work: str, words: List[str], **more: Any) -> subprocess.Popen[str]:
+    """A run that has come to the picture, in whose program it sleeps, and has done all notes."""
+    for name in ("asleep", "asleep.new"):
+        if os.path.exists(f"{work}/{name}"):
+            os.remove(f"{work}/{name}")
+    pipes: Dict[str, Any] = {"stdout": subprocess.PIPE, "stderr": subprocess.PIPE, "text": True, **more}
+    run: subprocess.Popen[str] = subprocess.Popen([ARCHIVE, *words], env=sleeper(work), **pipes)
+    waited(lambda: os.path.exists(f"{work}/asleep"))
+    return run
+
+
+def asleep(work: str) -> int:
+    """The number of the process that sleeps."""
+    return int(get(f"{work}/asleep"))
+
+
+def left_over(report: str) -> List[str]:
+    return [name for name in os.listdir(report) if name.startswith((".work", ".part"))]
+
+
+def checks_of_signals(work: str) -> Iterator[Check]:
+    """A run that a signal ends has a table and a page of what was done, and says how it goes on."""
+    work = f"{work}/signals"
+    trees = trees_for(work)
+    for number, status in ((signal.SIGINT, 130), (signal.SIGTERM, 143)):
+        name, out = number.name, f"{work}/{number.name}"
+        run = begun(work, ["--jobs", "1", out, *trees], start_new_session=True)
+        os.killpg(run.pid, number) if number == signal.SIGINT else run.send_signal(number)
+        time.sleep(0.05)
+        if run.poll() is None:
+            run.send_signal(number)
+        printed, faults = run.communicate()
+        yield f"{name}: the status is {status}", run.returncode == status
+        yield f"{name}: a line says how it goes on", faults == f"jls-archive: ended by {name}; the same call goes on from here\n"
+        rows = rows_of(f"{out}.report") if os.path.exists(f"{out}.report/pictures.csv") else {}
+        yield f"{name}: the table has what was done", sorted(rows) == [f"note {number}" for number in range(10)] and printed == ""
+        yield f"{name}: so has the page", os.path.exists(f"{out}.report/report.html")
+        yield f"{name}: the program is ended, and nothing of the work stays", not is_alive(asleep(work)) and not left_over(f"{out}.report")
+    kept = begun(work, ["--quiet", "--jobs", "1", f"{work}/kept", *trees], preexec_fn=lambda: signal.signal(signal.SIGHUP, signal.SIG_IGN))
+    kept.send_signal(signal.SIGHUP)
+    time.sleep(0.3)
+    yield "a signal that is ignored, as under nohup, ends nothing", kept.poll() is None
+    kept.terminate()
+    kept.communicate()
+
+
+def report_of(out: str) -> Tuple[int, str, str]:
+    done = subprocess.run([ARCHIVE, "--report", out], capture_output=True, text=True, env={**PROGRAMS, "JLS_SALVAGE": "/nowhere"})
+    return done.returncode, done.stdout, done.stderr
+
+
+def checks_of_report(work: str) -> Iterator[Check]:
+    """The table and the page of a run that goes on, and of one that was killed."""
+    work = f"{work}/report"
+    out, trees = f"{work}/out", trees_for(work)
+    run = begun(work, ["--quiet", "--jobs", "1", out, *trees])
+    waited(lambda: report_of(out)[1].startswith("10 paths"))
+    status, printed, faults = report_of(out)
+    is_told = printed.startswith("10 paths, 0 of them pictures; 10 whole, 0 not\n") and printed.endswith(f"see {out}.report/report.html\n")
+    yield "report: of a run that goes on it tells what is done", (status, is_told, faults) == (0, True, "")
+    yield "report: the table and the page are there", len(rows_of(f"{out}.report")) == 10 and os.path.exists(f"{out}.report/report.html")
+    yield "report: the run goes on", run.poll() is None
+    os.kill(run.pid, signal.SIGKILL)
+    run.communicate()
+    os.remove(f"{out}.report/pictures.csv")
+    put(f"{work}/folders/-one/copy.jls", b"nothing")
+    subprocess.run([ARCHIVE, "--quiet", "--folders", f"{work}/folders", f"{work}/taken"], env=PROGRAMS)
+    for path in (out + "/", f"{work}/taken"):
+        status, _, faults = report_of(path)
+        report = f"{work}/taken" if path.endswith("taken") else f"{out}.report"
+        wanted = 1 if path.endswith("taken") else 0
+        yield f"report: of {os.path.basename(report)} when it ended", (status, faults, bool(rows_of(report))) == (wanted, "", True)
+    for word, reason in ((trees[0], "no run of jls-archive made"), (f"{work}/nowhere", "no run of jls-archive made")):
+        status, printed, faults = report_of(word)
+        yield f"report: {os.path.basename(word)} is refused", (status, printed, reason in faults) == (2, "", True)
+
+
+def checks_of_seconds(work: str) -> Iterator[Check]:
+    """A limit of time for a path is a result: its copies stand aside or are copied through, and the run goes on."""
+    work = f"{work}/seconds"
+    out, trees = f"{work}/out", trees_for(work)
+    for tree in trees:
+        put(f"{tree}/y.jls", b"\xff\xd8 equal")
+    asleep_in = sleeper(work)
+    words = [ARCHIVE, "--quiet", "--jobs", "2", "--seconds", "1", out, *trees]
+    slow = {**asleep_in, "JLS_SALVAGE": asleep_in["JLS_SPLICE"]}
+    for name, variables in (("first", slow), ("again", {**PROGRAMS, "JLS_SPLICE": "/nowhere"})):
+        done = subprocess.run(words, env=variables, capture_output=True, text=True, timeout=PATIENCE)
+        rows = rows_of(f"{out}.report")
+        yield f"seconds, {name}: the run comes to its end", (done.returncode, done.stderr, len(rows)) == (1, "", 12)
+        said = {(rows[path]["result"], rows[path]["status"], rows[path]["note"]) for path in ("y.jls", "z.jls") if path in rows}
+        yield f"seconds, {name}: the rows say that it took too long", said == {("took too long", "1", "its work was ended after 1 s")}
+        yield f"seconds, {name}: equal copies are copied", get(f"{out}/y.jls") == b"\xff\xd8 equal"
+        aside = [get(f"{out}.differ/{tree}/z.jls") for tree in "ab"] == [b"\xff\xd8 a", b"\xff\xd8 b"]
+        yield f"seconds, {name}: those that differ stand aside", aside and not os.path.exists(f"{out}/z.jls")
+        yield f"seconds, {name}: the program is ended, and nothing stays", not is_alive(asleep(work)) and not left_over(f"{out}.report")
+    subprocess.run([*words[:-4], "600", out, *trees], env=PROGRAMS, timeout=PATIENCE)
+    rows = rows_of(f"{out}.report")
+    yield "seconds: with more of them it is done anew", {rows[path]["result"] for path in ("y.jls", "z.jls")} == {"does not read"}
+    put(f"{work}/folders/one/a.jls", b"\xff\xd8 a")
+    words = [ARCHIVE, "--quiet", "--folders", "--seconds", "1", f"{work}/folders", f"{work}/taken"]
+    done = subprocess.run(words, env=slow, capture_output=True, text=True, timeout=PATIENCE)
+    rows = rows_of(f"{work}/taken")
+    yield "seconds: so it is with a folder", (done.returncode, done.stderr, rows["one"]["result"]) == (1, "", "took too long")
+
+
+class Ended:
+    def __init__(self, status: int) -> None:
+        self.status = status
+
+
+def checks_of_progress(work: str) -> Iterator[Check]:
+    """Time left counts what this run did: 900 rows of an earlier one, passed over in 2 seconds, say nothing of the 100 that remain."""
+    now = [0.0]
+    progress = Progress(1000, True, lambda: now[0])
+    yield "progress: no time is told before a path was done", progress.text() == "0 of 1000, 0 not whole"
+    for _ in range(900):
+        now[0] += 2 / 900
+        progress.pass_over(Ended(0))
+    yield "progress: nor from rows of an earlier run", progress.text() == "900 of 1000, 0 not whole"
+    for _ in range(10):
+        now[0] += 60
+        progress.step(Ended(1))
+    yield "progress: ten in ten minutes, so ninety minutes are left", progress.text() == "910 of 1000, 10 not whole, about 1:30:00 left"
+
+
+CHECKS = (checks_of_signals, checks_of_report, checks_of_seconds, checks_of_progress)
