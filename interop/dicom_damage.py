@@ -8,7 +8,23 @@ KINDS = [
     *("sectors 4096 zeroed", "sectors 4096 other data", "sectors 4096 of another file"),
     *("header zeroed", "header other data", "item headers", "offset table", "frames zeroed", "frames other data"),
     *("flipped bits in frames", "flipped bits", "lost bytes", "cut", "foreign beginning", "three copies"),
+    *("padding behind the end", "neighbour's beginning", "transfer syntax of a third copy"),
 ]
+INSTANCE = re.compile(rb"\x02\0\x03\0UI(.)\0", re.S)
+NUMBER = re.compile(rb"(?:DS|IS|TM)(.)\0([0-9.]{2,16})", re.S)
+BLOCKS = (4096, 2048, 1024, 512)
+
+
+def neighbour(rng, data):
+    """Another slice of the series: the same elements at the same places, with another instance UID and other numbers."""
+    found, uid = bytearray(data), INSTANCE.search(data)
+    for number in NUMBER.finditer(data):
+        at = number.end(2) - 1
+        if 0x30 <= data[at] <= 0x39 and rng.random() < 0.5:
+            found[at] = rng.choice(b"0123456789")
+    old = data[uid.end() : uid.end() + uid.group(1)[0]].rstrip(b"\0")
+    new = old[:-1] + (b"7" if old[-1:] != b"7" else b"3")
+    return bytes(found).replace(old, new)
 
 
 class Copy:
@@ -113,6 +129,25 @@ class Damage:
             self.used.append((at, len(self.true)))
             copy.lose(at, len(self.true))
 
+    def padding(self, copy, kind):
+        """Zeros to the end of a block of a tape behind one copy; damage in frames of the other."""
+        if self.used:
+            self.frames(copy, "zeroed")
+        else:
+            copy.data += bytes(-len(copy.data) % 4096 or 4096)
+            self.used.append((len(self.true), len(self.true)))
+
+    def chimera(self, copy, kind):
+        """The first block of another slice, whole and consistent, over one copy; damage behind it, or in frames, of the other."""
+        size = next((size for size in BLOCKS if size <= self.pixels), BLOCKS[-1])
+        if not self.used:
+            copy.overwrite(0, neighbour(self.rng, self.true)[:size], self.true)
+            self.used.append((0, size))
+        elif self.rng.random() < 0.5:
+            copy.overwrite(size, self.fill(self.rng.choice(("zeroed", "other")), size, size), self.true)
+        else:
+            self.frames(copy, "zeroed")
+
     def beginning(self, copy, kind):
         size = self.rng.choice((512, 4096, 8192))
         if self.used:
@@ -123,6 +158,7 @@ class Damage:
     def copies(self, kind):
         ways = {"sectors": self.sectors, "header": self.header, "item": self.items, "offset": self.table, "frames": self.frames}
         ways |= {"flipped": self.flips, "lost": self.lost, "cut": self.cut, "foreign": self.beginning, "three": self.sectors}
+        ways |= {"padding": self.padding, "neighbour's": self.chimera, "transfer": self.frames}
         found = [Copy(self.true) for _ in range(3 if kind == "three copies" else 2)]
         for copy in found:
             each = self.rng.choice(KINDS[:6]) if kind == "three copies" else kind

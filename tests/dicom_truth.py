@@ -144,10 +144,10 @@ def checks_of_tails(bench, made, neighbour):
     sums = ["--sha256", hashlib.sha256(true + noise).hexdigest()]
     yield case(bench, "a tail that one copy lacks, and a sum with it", [true, damaged(made) + noise], 0, true + noise, "matched", sums)
     alone = [true[: len(true) // 2], true + noise]
-    yield case(bench, "a tail, and the other copy is cut", alone, 1, b"", "what stands behind the last element")
+    yield case(bench, "a tail, and the other copy is cut", alone, 1, b"", "what stands after the last element")
     sums = ["--sha256", hashlib.sha256(true).hexdigest()]
     yield case(bench, "the same, and a sum without it", alone, 0, true, "matched", sums)
-    yield case(bench, "two tails that differ", [true + zeros, true + noise], 1, b"", "what stands behind the last element")
+    yield case(bench, "two tails that differ", [true + zeros, true + noise], 1, b"", "what stands after the last element")
     padding = changed(true, (len(true) - 42, b"\x13\x57\x9b\xdf"))
     yield case(bench, "the last element's tag is damaged", [padding, damaged(made)], 0, true)
     both = [changed(true, (len(true) - 38, b"z")), changed(true, (len(true) - 36, b"\x07"))]
@@ -233,9 +233,9 @@ def checks_of_read_anew(made):
     begin = true.index(element(0x280010, "US", 8)) - 8  # the item in the icon's sequence
     (size,) = struct.unpack_from("<I", true, begin + 4)
     for name, data, words in (
-        ("bytes behind the end", true + b"\0", "1 bytes stand behind"),
+        ("bytes behind the end", true + b"\0", "1 bytes stand after"),
         ("an element that is cut", true[:-1], "is cut"),
-        ("a header that is cut", true[:-37], "5 bytes stand behind"),
+        ("a header that is cut", true[:-37], "5 bytes stand after"),
         ("an item that goes on behind its sequence", changed(true, (begin + 4, struct.pack("<I", size + 2))), "is cut"),
         ("an item that ends within an element", changed(true, (begin + 4, struct.pack("<I", size - 2))), "is cut"),
         ("four zeros in the place of DICM", changed(true, (128, bytes(4))), "DICM does not stand"),

@@ -170,7 +170,7 @@ def faults_of(data: bytes, frames: int) -> list[Fault]:
     if not reading.has_pixels:
         return [*faults, Fault("the elements don't lead to Pixel Data", ((FIRST, len(data)),))]
     if not reading.is_broken and reading.end < len(data):
-        faults.append(Fault(f"{len(data) - reading.end} bytes stand behind the last element", ((reading.end, len(data)),)))
+        faults.append(Fault(f"{len(data) - reading.end} bytes stand after the last element", ((reading.end, len(data)),)))
     faults += [*of_meta(reading), *of_uids(reading)]
     return faults if reading.is_broken else [*faults, *of_frames(reading, frames)]
 

@@ -261,7 +261,7 @@ class Mending:
         if self.layout.structure.is_cut:
             return "the file ends before its last element does"
         if not self.tails.is_decided:
-            return "what stands behind the last element is not in all copies, and no copy that reads whole lacks it"
+            return "what stands after the last element is not in all copies, and no copy that reads whole lacks it"
         odd = next((frame.result for frame in self.mended if frame.result.kind == NOT_SUPPORTED), None)
         if odd is not None:
             return f"frame {odd.number} is {NOT_SUPPORTED}: {odd.note}"
@@ -278,7 +278,7 @@ class Mending:
     def without_sum(self):
         if self.tails.cut:
             names = ", ".join(self.paths[at] for at in self.tails.cut)
-            self.result.notes.append(f"bytes behind the last element are no part of the file: they were cut from {names}")
+            self.result.notes.append(f"bytes after the last element are no part of the file: they were cut from {names}")
         fault = self.can_write()
         if fault is None and self.all_whole():
             self.write_whole([frame.stream for frame in self.mended])
@@ -310,7 +310,7 @@ class Mending:
                 return fault.text
             self.result.notes.append(f"{fault.text}: every copy has it so")
         if self.tails.ways[0]:
-            self.result.notes.append(f"{len(self.tails.ways[0])} bytes stand behind the last element: every copy has them")
+            self.result.notes.append(f"{len(self.tails.ways[0])} bytes stand after the last element: every copy has them")
         return None
 
     def is_in_all(self, begin, end, moved):

@@ -1,4 +1,4 @@
-"""Bytes behind the last element of a copy: the rest of a sector, of a block of a tape, or of an older file.
+"""Bytes after the last element of a copy: the rest of a sector, of a block of a tape, or of an older file.
 
 A tail is cut where a copy that reads whole lacks it, where most copies lack it, or where another copy ends just where the elements do. One
 that all copies have stays. Another one is undecided: then a SHA-256 alone can say which file is true.
