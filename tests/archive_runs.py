@@ -10,13 +10,18 @@ import signal
 import subprocess
 import sys
 import time
+import types
 from typing import Any, Callable, Dict, Iterator, List, Tuple
 
 from archive_cases import ARCHIVE, PROGRAMS, TOP, get, put
 
 sys.path.insert(0, os.path.join(TOP, "commands"))
 
+from jls_tools.archive_ledger import Ledger
+from jls_tools.archive_main import Trees
+from jls_tools.archive_places import Places
 from jls_tools.archive_progress import Progress
+from jls_tools.archive_rows import Row, Store
 
 Check = Tuple[str, bool]
 PATIENCE = 60  # seconds after which what a check waits for doesn't come
@@ -169,6 +174,85 @@ def checks_of_seconds(work: str) -> Iterator[Check]:
     yield "seconds: so it is with a folder", (done.returncode, done.stderr, rows["one"]["result"]) == (1, "", "took too long")
 
 
+def files_of_rows(out: str) -> Dict[str, bytes]:
+    folder = f"{out}.report/rows"
+    return {name: get(f"{folder}/{name}") for name in sorted(os.listdir(folder))}
+
+
+def order_of(store: Callable[[], None]) -> List[str]:
+    """What is done to the disk, in order: the names of files that are waited for, and a word for each write."""
+    order: List[str] = []
+    write, wait = os.write, os.fsync
+
+    def noted_write(handle: int, data: Any) -> int:
+        order.append("write")
+        return write(handle, data)
+
+    def noted_wait(handle: int) -> None:
+        order.append(os.path.basename(os.readlink(f"/proc/self/fd/{handle}")))
+        wait(handle)
+
+    os.write, os.fsync = noted_write, noted_wait  # type: ignore[assignment]
+    try:
+        store()
+    finally:
+        os.write, os.fsync = write, wait
+    return order
+
+
+def checks_of_rows(work: str) -> Iterator[Check]:
+    """Rows are lines of one file for each part. A line without its end goes, and so do the files of rows of version 1.1.0."""
+    work = f"{work}/rows"
+    out, trees = f"{work}/out", trees_for(work)
+    words = [ARCHIVE, "--quiet", out, *trees]
+    done = [subprocess.run(words, env=PROGRAMS).returncode]
+    before, table = files_of_rows(out), get(f"{out}.report/pictures.csv")
+    yield "rows: one file has a line for each path", [len(data.splitlines()) for data in before.values()] == [11]
+    with open(f"{out}.report/rows/{next(iter(before))}", "ab") as file:
+        file.write(b'[9, "note 3", {"path": "note 3", "res')
+    os.remove(f"{out}.report/pictures.csv")
+    yield "rows: a line without its end is no row for --report", report_of(out)[0] == 1 and get(f"{out}.report/pictures.csv") == table
+    done.append(subprocess.run(words, env={**PROGRAMS, "JLS_SPLICE": "/nowhere"}).returncode)
+    yield "rows: the next run takes it away, and does nothing anew", (done, files_of_rows(out)) == ([1, 1], before)
+    rows, old = Ledger(f"{out}.report/rows"), Store(f"{work}/old")
+    rows.begin((1, 1))
+    for row in filter(None, map(rows.of, rows.paths())):
+        old.save(row)
+    for name in before:
+        os.remove(f"{out}.report/rows/{name}")
+    os.rmdir(f"{out}.report/rows")
+    os.rename(f"{work}/old", f"{out}.report/rows")
+    yield "rows: --report reads those of version 1.1.0", report_of(out)[0] == 1 and get(f"{out}.report/pictures.csv") == table
+    done.append(subprocess.run(words, env={**PROGRAMS, "JLS_SPLICE": "/nowhere"}).returncode)
+    kept = [len(data.splitlines()) for data in files_of_rows(out).values()]
+    yield "rows: the next run takes them over", (done[2], kept, get(f"{out}.report/pictures.csv")) == (1, [11], table)
+    for index in (2, 1):
+        done.append(subprocess.run([ARCHIVE, "--quiet", "--part", f"{index}/2", f"{work}/parts", *trees], env=PROGRAMS).returncode)
+    yield "rows: parts have a file each", (sorted(done[3:]), len(files_of_rows(f"{work}/parts"))) == ([0, 1], 2)
+    put(f"{trees[0]}/note 1", b"another note")
+    done.append(subprocess.run([ARCHIVE, "--quiet", f"{work}/parts", *trees], env=PROGRAMS).returncode)
+    done.append(subprocess.run([ARCHIVE, "--quiet", "--part", "1/2", f"{work}/parts", *trees], env=PROGRAMS).returncode)
+    said = {path: row["result"] for path, row in rows_of(f"{work}/parts.report").items()}
+    yield "rows: of the files of several parts the latest line counts", (said["note 1"], len(said)) == ("differs", 11)
+
+
+def checks_of_batches(work: str) -> Iterator[Check]:
+    """Rows are written when the files that they name are on the disk, and wait for the disk together."""
+    places, ledger = Places(f"{work}/batch"), Ledger(f"{work}/batch.report/rows")
+    ledger.begin((1, 1))
+    names = [f"file {number}" for number in range(5)]
+    rows = [Row(name, outputs=[["out", name]]) for name in [*names, "gone"]]
+    for name in names:
+        put(f"{work}/batch/{name}", b"text")
+
+    job: Any = types.SimpleNamespace(places=places, store=ledger)
+    order = order_of(lambda: Trees.keep(job, rows))
+    yield "batches: all files, then all rows", order == [*names, "write", "1-of-1.rows"]
+    again = Ledger(f"{work}/batch.report/rows")
+    again.begin((1, 1))
+    yield "batches: the rows are there", sorted(again.paths()) == sorted([*names, "gone"])
+
+
 class Ended:
     def __init__(self, status: int) -> None:
         self.status = status
@@ -189,4 +273,4 @@ def checks_of_progress(work: str) -> Iterator[Check]:
     yield "progress: ten in ten minutes, so ninety minutes are left", progress.text() == "910 of 1000, 10 not whole, about 1:30:00 left"
 
 
-CHECKS = (checks_of_signals, checks_of_report, checks_of_seconds, checks_of_progress)
+CHECKS = (checks_of_signals, checks_of_report, checks_of_seconds, checks_of_rows, checks_of_batches, checks_of_progress)

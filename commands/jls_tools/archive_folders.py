@@ -94,7 +94,8 @@ class Folders:
         self.store = FolderStore(self.out)
         self.desk = Desk([self.source], self.places, programs, options)
 
-    def items(self):
+    def begin(self):
+        """The folders of this part."""
         names = [entry.name for entry in os.scandir(self.source) if entry.is_dir(follow_symlinks=False)]
         index, parts = self.options.part
         return sorted(names, key=os.fsencode)[index - 1 :: parts]
@@ -117,6 +118,12 @@ class Folders:
         row = self.store.of(name)
         return row if row and self.desk.is_of(row, inputs_of(self.desk, os.path.join(self.source, name))) else None
 
+    def forget(self, name):
+        """Nothing: `do` takes the rows away itself."""
+
+    def keep(self, rows):
+        """Nothing: `do` has kept them."""
+
     def undo(self):
         self.places.undo()
 
@@ -129,6 +136,7 @@ class Folders:
             self.places.drop(output)
         self.desk.begin(folder, is_late)
         rows = self.rows_of(name, source)
+        self.places.store([output for row in rows for output in row.outputs])
         for row in reversed(rows):
             row.inputs = self.desk.inputs(inputs)
             self.store.save(row)

@@ -8,6 +8,7 @@ import socket
 import stat
 import tempfile
 import time
+from typing import Iterable, Optional, Sequence
 
 from .archive_rows import PART
 
@@ -22,13 +23,16 @@ class Refused(Exception):
         self.status = status
 
 
+def begin_to_store(path):
+    """Lets the system begin to write the file's bytes to the disk, and goes on."""
+    with open(path, "rb") as file, contextlib.suppress(OSError):
+        os.posix_fadvise(file.fileno(), 0, 0, os.POSIX_FADV_DONTNEED)
+
+
 def store(path):
-    """Asks the system to put the file's bytes on the disk."""
-    handle = os.open(path, os.O_RDONLY)
-    try:
-        os.fsync(handle)
-    finally:
-        os.close(handle)
+    """Waits until the file's bytes are on the disk."""
+    with open(path, "rb") as file:
+        os.fsync(file.fileno())
 
 
 def make_like(path, model, times=True):
@@ -56,7 +60,7 @@ def remove(path):
 class Places:
     """OUT, OUT.differ, OUT.partial and OUT.report. Work is done in a folder of its own in OUT.report, which the owner alone can read."""
 
-    def __init__(self, out, report=None):
+    def __init__(self, out: str, report: Optional[str] = None) -> None:
         self.out = out
         self.report = report or f"{out}.report"
         self.roots = {"out": out, "differ": f"{out}.differ", "partial": f"{out}.partial"}
@@ -81,7 +85,7 @@ class Places:
             os.chmod(made, 0o666 & ~self.mask)
             if model:
                 make_like(made, model, times)
-            store(made)
+            begin_to_store(made)
         self.put_there.append([root, name])
         os.replace(made, place)
         return [root, name]
@@ -98,8 +102,17 @@ class Places:
         """Gives a folder and the files in it the permissions that the person's mask leaves."""
         for entry in os.scandir(path):
             os.chmod(entry.path, 0o666 & ~self.mask)
-            store(entry.path)
+            begin_to_store(entry.path)
         os.chmod(path, 0o777 & ~self.mask)
+
+    def store(self, outputs: Iterable[Sequence[str]]) -> None:
+        """Waits until these files are on the disk. One that somebody took away meanwhile is done anew by the next run."""
+        for place in (self.path(*output) for output in outputs):
+            if os.path.islink(place):
+                continue
+            for path in [entry.path for entry in os.scandir(place)] if os.path.isdir(place) else [place]:
+                with contextlib.suppress(FileNotFoundError):
+                    store(path)
 
     def has(self, output):
         return os.path.lexists(self.path(*output))

@@ -4,6 +4,7 @@ import fcntl
 import os
 
 from . import archive_claim, archive_folders, archive_names, archive_places, archive_rows, report_page
+from .archive_ledger import Ledger
 from .archive_places import Refused
 
 
@@ -36,7 +37,7 @@ def made_before(out):
     true = os.path.realpath(out)
     of_trees, of_folders = archive_places.Places(true), archive_places.Places(true, report=true)
     if os.path.isfile(archive_claim.mark_of(of_trees)):
-        return of_trees, archive_rows.Store(os.path.join(of_trees.report, "rows"))
+        return of_trees, Ledger(os.path.join(of_trees.report, "rows"))
     if os.path.isfile(archive_claim.mark_of(of_folders)):
         return of_folders, archive_folders.FolderStore(true)
     raise Refused(f"no run of jls-archive made {archive_names.printable(out)}")

@@ -6,14 +6,18 @@ FILE, LINK, FOLDER, SPECIAL = "file", "link", "folder", "special"
 
 
 class Item:
-    """A relative path, and for each tree (by its index) that has it what stands there. `faults` names trees that could not be read."""
+    """A relative path, and for each tree (by its index) that has it what stands there. `faults` names trees that could not be read.
 
-    __slots__ = ("path", "kinds", "faults")
+    `before` are the files that an earlier run wrote of it, and that go.
+    """
+
+    __slots__ = ("path", "kinds", "faults", "before")
 
     def __init__(self, path, kinds, faults=()):
         self.path = path
         self.kinds = kinds
         self.faults = list(faults)
+        self.before = []
 
     def trees_with(self, kind):
         return [tree for tree, found in sorted(self.kinds.items()) if found == kind]
