@@ -253,6 +253,44 @@ def checks_of_batches(work: str) -> Iterator[Check]:
     yield "batches: the rows are there", sorted(again.paths()) == sorted([*names, "gone"])
 
 
+def together(calls: List[List[str]]) -> List[Tuple[int, str]]:
+    """(status, fault lines) of calls that are made at once."""
+    runs = [subprocess.Popen(words, env=PROGRAMS, stderr=subprocess.PIPE, text=True) for words in calls]
+    return [(run.returncode, faults) for run, (_, faults) in [(run, run.communicate()) for run in runs]]
+
+
+def checks_of_locks(work: str) -> Iterator[Check]:
+    """Of two runs into one OUT that have paths in common the second is refused, and others are not. A run that was killed refuses none."""
+    work = f"{work}/locks"
+    out, trees = f"{work}/out", trees_for(work)
+
+    def words(*part: str) -> List[str]:
+        return [ARCHIVE, "--quiet", *(["--part", *part] if part else []), out, *trees]
+
+    cases: List[Tuple[List[str], List[List[str]], List[List[str]]]] = [
+        ([], [[], ["1/2"]], []),
+        (["1/2"], [[], ["1/2"], ["3/4"], ["2/3"]], [["2/2"], ["2/4"]]),
+    ]
+    for part, refused, taken in cases:
+        run = begun(work, words(*part)[1:])
+        waited(lambda: sum(map(len, files_of_rows(out).values())) > 0)
+        before = files_of_rows(out)
+        name = "".join(part) or "all"
+        for of, (status, faults) in zip(refused, together([words(*of) for of in refused])):
+            said = f"jls-archive: a run works there already: process {run.pid} on "
+            yield f"locks: beside {name}, {of} is refused", status == 4 and faults.startswith(said) and faults.count("\n") == 1
+        yield f"locks: beside {name}, what is refused changes no row", files_of_rows(out) == before and run.poll() is None
+        for of in taken:
+            ((status, faults),) = together([words(*of)])
+            yield f"locks: beside {name}, {of} is done", (status, faults) == (0, "")
+        os.kill(run.pid, signal.SIGKILL)
+        (ended,) = together([words()])
+        yield f"locks: {name} that was killed refuses none", ended == (1, "")
+        yield f"locks: {name} that was killed leaves nothing", not left_over(f"{out}.report") and not is_alive(asleep(work))
+        run.communicate()
+        subprocess.run(["rm", "-r", out, f"{out}.differ", f"{out}.partial", f"{out}.report"])
+
+
 class Ended:
     def __init__(self, status: int) -> None:
         self.status = status
@@ -273,4 +311,4 @@ def checks_of_progress(work: str) -> Iterator[Check]:
     yield "progress: ten in ten minutes, so ninety minutes are left", progress.text() == "910 of 1000, 10 not whole, about 1:30:00 left"
 
 
-CHECKS = (checks_of_signals, checks_of_report, checks_of_seconds, checks_of_rows, checks_of_batches, checks_of_progress)
+CHECKS = (checks_of_signals, checks_of_report, checks_of_seconds, checks_of_rows, checks_of_batches, checks_of_locks, checks_of_progress)

@@ -131,14 +131,13 @@ def pending(job, items, progress, watch):
 
 def go_through(job, options, watch):
     """Does the work of this call, and answers whether all is whole."""
-    items = job.begin()
-    work = archive_places.Work(job.places)
-    progress = Progress(len(items), options.quiet)
+    work = archive_places.Work(job.places, options.part)
     try:
+        items = job.begin()
+        progress = Progress(len(items), options.quiet)
         with watch.held():
             do_all(job, archive_run.Run(job, work.folder, options, watch), pending(job, items, progress, watch), progress)
     finally:
-        progress.end()
         work.remove()
     return not progress.not_whole
 
@@ -155,6 +154,7 @@ def do_all(job, run, waiting, progress):
                 if batch.is_due():
                     batch.keep()
     finally:
+        progress.end()
         batch.keep()
 
 
