@@ -22,6 +22,7 @@ from jls_tools.archive_main import Trees
 from jls_tools.archive_places import Places
 from jls_tools.archive_progress import Progress
 from jls_tools.archive_rows import Row, Store
+from jls_tools.archive_trees import kind_of
 
 Check = Tuple[str, bool]
 PATIENCE = 60  # seconds after which what a check waits for doesn't come
@@ -291,6 +292,34 @@ def checks_of_locks(work: str) -> Iterator[Check]:
         subprocess.run(["rm", "-r", out, f"{out}.differ", f"{out}.partial", f"{out}.report"])
 
 
+def checks_of_changes(work: str) -> Iterator[Check]:
+    """A tree that changes while it is read: a row says so, and the run goes on."""
+    work = f"{work}/changes"
+    trees = trees_for(work)
+    for tree in trees:
+        put(f"{tree}/zz", b"the last")
+    program = put(f"{work}/taker", f"#!/bin/sh\nrm -f '{trees[1]}/z.jls' '{trees[1]}/zz'\nexit 4\n".encode())
+    os.chmod(program, 0o755)
+    words = [ARCHIVE, "--quiet", "--jobs", "1", f"{work}/out", *trees]
+    done = subprocess.run(words, env={**PROGRAMS, "JLS_SPLICE": program}, capture_output=True, text=True)
+    rows = rows_of(f"{work}/out.report")
+    yield "changes: the run comes to its end", (done.returncode, done.stderr, len(rows)) == (1, "", 12)
+    for path in ("z.jls", "zz"):
+        row = rows.get(path, {})
+        is_said = row.get("status") == "4" and "b cannot be read: No such file or directory" in row.get("note", "")
+        yield f"changes: the row of {path} says that a copy went away", is_said
+    yield "changes: nothing stands aside of a path that can't be read", not os.path.exists(f"{work}/out.differ/a/z.jls")
+    put(f"{work}/taker", f"#!/bin/sh\nrm -r '{work}/folders/one'\nexit 4\n".encode())
+    put(f"{work}/folders/one/copy.jls", b"\xff\xd8 one")
+    words = [ARCHIVE, "--quiet", "--jobs", "1", "--folders", f"{work}/folders", f"{work}/taken"]
+    done = subprocess.run(words, env={**PROGRAMS, "JLS_SALVAGE": program}, capture_output=True, text=True)
+    said = {row["result"] for row in rows_of(f"{work}/taken").values()} if done.returncode == 1 else set()
+    yield "changes: so it is with a folder", said == {"cannot be read"} and done.stderr == ""
+    entries = list(os.scandir(trees[0]))
+    subprocess.run(["rm", "-r", trees[0]])
+    yield "changes: nor is the rest of a folder lost", {kind_of(entry) for entry in entries} == {"file"}
+
+
 class Ended:
     def __init__(self, status: int) -> None:
         self.status = status
@@ -311,4 +340,5 @@ def checks_of_progress(work: str) -> Iterator[Check]:
     yield "progress: ten in ten minutes, so ninety minutes are left", progress.text() == "910 of 1000, 10 not whole, about 1:30:00 left"
 
 
-CHECKS = (checks_of_signals, checks_of_report, checks_of_seconds, checks_of_rows, checks_of_batches, checks_of_locks, checks_of_progress)
+OF_RUNS = (checks_of_signals, checks_of_report, checks_of_seconds, checks_of_locks, checks_of_changes)
+CHECKS = (*OF_RUNS, checks_of_rows, checks_of_batches, checks_of_progress)
