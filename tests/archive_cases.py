@@ -1,5 +1,6 @@
 """Makes trees of backups for tests/commands_archive and tests/archive: small pictures, with damage of a known outcome."""
 import hashlib
+import json
 import os
 import random
 import struct
@@ -170,14 +171,26 @@ def state_of(folder):
     return found
 
 
+def kept_rows(out):
+    """{path: row} of a run, as the files of its rows have them, whose lines stand in the order of the work."""
+    found = {}
+    folder = f"{out}.report/rows"
+    for name in os.listdir(folder):
+        for line in get(f"{folder}/{name}").splitlines():
+            run, path, row = json.loads(line)
+            if path not in found or found[path][0] <= run:
+                found[path] = run, row
+    return {path: row for path, (_, row) in found.items() if row}
+
+
 def results_of(out):
     """All that a run made, but for the page, which names OUT."""
     found = {}
     for root in ("", ".differ", ".partial", ".report"):
         for path, value in state_of(out + root).items():
-            if path != "report.html":
+            if path != "report.html" and not (root == ".report" and path.startswith("rows/")):
                 found[root, path] = value
-    return found
+    return found, kept_rows(out)
 
 
 random_of = random.Random

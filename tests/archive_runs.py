@@ -10,13 +10,19 @@ import signal
 import subprocess
 import sys
 import time
+import types
 from typing import Any, Callable, Dict, Iterator, List, Tuple
 
 from archive_cases import ARCHIVE, PROGRAMS, TOP, get, put
 
 sys.path.insert(0, os.path.join(TOP, "commands"))
 
+from jls_tools.archive_ledger import Ledger
+from jls_tools.archive_main import Trees
+from jls_tools.archive_places import Places
 from jls_tools.archive_progress import Progress
+from jls_tools.archive_rows import Row, Store
+from jls_tools.archive_trees import kind_of
 
 Check = Tuple[str, bool]
 PATIENCE = 60  # seconds after which what a check waits for doesn't come
@@ -169,6 +175,151 @@ def checks_of_seconds(work: str) -> Iterator[Check]:
     yield "seconds: so it is with a folder", (done.returncode, done.stderr, rows["one"]["result"]) == (1, "", "took too long")
 
 
+def files_of_rows(out: str) -> Dict[str, bytes]:
+    folder = f"{out}.report/rows"
+    return {name: get(f"{folder}/{name}") for name in sorted(os.listdir(folder))}
+
+
+def order_of(store: Callable[[], None]) -> List[str]:
+    """What is done to the disk, in order: the names of files that are waited for, and a word for each write."""
+    order: List[str] = []
+    write, wait = os.write, os.fsync
+
+    def noted_write(handle: int, data: Any) -> int:
+        order.append("write")
+        return write(handle, data)
+
+    def noted_wait(handle: int) -> None:
+        order.append(os.path.basename(os.readlink(f"/proc/self/fd/{handle}")))
+        wait(handle)
+
+    os.write, os.fsync = noted_write, noted_wait  # type: ignore[assignment]
+    try:
+        store()
+    finally:
+        os.write, os.fsync = write, wait
+    return order
+
+
+def checks_of_rows(work: str) -> Iterator[Check]:
+    """Rows are lines of one file for each part. A line without its end goes, and so do the files of rows of version 1.1.0."""
+    work = f"{work}/rows"
+    out, trees = f"{work}/out", trees_for(work)
+    words = [ARCHIVE, "--quiet", out, *trees]
+    done = [subprocess.run(words, env=PROGRAMS).returncode]
+    before, table = files_of_rows(out), get(f"{out}.report/pictures.csv")
+    yield "rows: one file has a line for each path", [len(data.splitlines()) for data in before.values()] == [11]
+    with open(f"{out}.report/rows/{next(iter(before))}", "ab") as file:
+        file.write(b'[9, "note 3", {"path": "note 3", "res')
+    os.remove(f"{out}.report/pictures.csv")
+    yield "rows: a line without its end is no row for --report", report_of(out)[0] == 1 and get(f"{out}.report/pictures.csv") == table
+    done.append(subprocess.run(words, env={**PROGRAMS, "JLS_SPLICE": "/nowhere"}).returncode)
+    yield "rows: the next run takes it away, and does nothing anew", (done, files_of_rows(out)) == ([1, 1], before)
+    rows, old = Ledger(f"{out}.report/rows"), Store(f"{work}/old")
+    rows.begin((1, 1))
+    for row in filter(None, map(rows.of, rows.paths())):
+        old.save(row)
+    for name in before:
+        os.remove(f"{out}.report/rows/{name}")
+    os.rmdir(f"{out}.report/rows")
+    os.rename(f"{work}/old", f"{out}.report/rows")
+    yield "rows: --report reads those of version 1.1.0", report_of(out)[0] == 1 and get(f"{out}.report/pictures.csv") == table
+    done.append(subprocess.run(words, env={**PROGRAMS, "JLS_SPLICE": "/nowhere"}).returncode)
+    kept = [len(data.splitlines()) for data in files_of_rows(out).values()]
+    yield "rows: the next run takes them over", (done[2], kept, get(f"{out}.report/pictures.csv")) == (1, [11], table)
+    for index in (2, 1):
+        done.append(subprocess.run([ARCHIVE, "--quiet", "--part", f"{index}/2", f"{work}/parts", *trees], env=PROGRAMS).returncode)
+    yield "rows: parts have a file each", (sorted(done[3:]), len(files_of_rows(f"{work}/parts"))) == ([0, 1], 2)
+    put(f"{trees[0]}/note 1", b"another note")
+    done.append(subprocess.run([ARCHIVE, "--quiet", f"{work}/parts", *trees], env=PROGRAMS).returncode)
+    done.append(subprocess.run([ARCHIVE, "--quiet", "--part", "1/2", f"{work}/parts", *trees], env=PROGRAMS).returncode)
+    said = {path: row["result"] for path, row in rows_of(f"{work}/parts.report").items()}
+    yield "rows: of the files of several parts the latest line counts", (said["note 1"], len(said)) == ("differs", 11)
+
+
+def checks_of_batches(work: str) -> Iterator[Check]:
+    """Rows are written when the files that they name are on the disk, and wait for the disk together."""
+    places, ledger = Places(f"{work}/batch"), Ledger(f"{work}/batch.report/rows")
+    ledger.begin((1, 1))
+    names = [f"file {number}" for number in range(5)]
+    rows = [Row(name, outputs=[["out", name]]) for name in [*names, "gone"]]
+    for name in names:
+        put(f"{work}/batch/{name}", b"text")
+
+    job: Any = types.SimpleNamespace(places=places, store=ledger)
+    order = order_of(lambda: Trees.keep(job, rows))
+    yield "batches: all files, then all rows", order == [*names, "write", "1-of-1.rows"]
+    again = Ledger(f"{work}/batch.report/rows")
+    again.begin((1, 1))
+    yield "batches: the rows are there", sorted(again.paths()) == sorted([*names, "gone"])
+
+
+def together(calls: List[List[str]]) -> List[Tuple[int, str]]:
+    """(status, fault lines) of calls that are made at once."""
+    runs = [subprocess.Popen(words, env=PROGRAMS, stderr=subprocess.PIPE, text=True) for words in calls]
+    return [(run.returncode, faults) for run, (_, faults) in [(run, run.communicate()) for run in runs]]
+
+
+def checks_of_locks(work: str) -> Iterator[Check]:
+    """Of two runs into one OUT that have paths in common the second is refused, and others are not. A run that was killed refuses none."""
+    work = f"{work}/locks"
+    out, trees = f"{work}/out", trees_for(work)
+
+    def words(*part: str) -> List[str]:
+        return [ARCHIVE, "--quiet", *(["--part", *part] if part else []), out, *trees]
+
+    cases: List[Tuple[List[str], List[List[str]], List[List[str]]]] = [
+        ([], [[], ["1/2"]], []),
+        (["1/2"], [[], ["1/2"], ["3/4"], ["2/3"]], [["2/2"], ["2/4"]]),
+    ]
+    for part, refused, taken in cases:
+        run = begun(work, words(*part)[1:])
+        waited(lambda: sum(map(len, files_of_rows(out).values())) > 0)
+        before = files_of_rows(out)
+        name = "".join(part) or "all"
+        for of, (status, faults) in zip(refused, together([words(*of) for of in refused])):
+            said = f"jls-archive: a run works there already: process {run.pid} on "
+            yield f"locks: beside {name}, {of} is refused", status == 4 and faults.startswith(said) and faults.count("\n") == 1
+        yield f"locks: beside {name}, what is refused changes no row", files_of_rows(out) == before and run.poll() is None
+        for of in taken:
+            ((status, faults),) = together([words(*of)])
+            yield f"locks: beside {name}, {of} is done", (status, faults) == (0, "")
+        os.kill(run.pid, signal.SIGKILL)
+        (ended,) = together([words()])
+        yield f"locks: {name} that was killed refuses none", ended == (1, "")
+        yield f"locks: {name} that was killed leaves nothing", not left_over(f"{out}.report") and not is_alive(asleep(work))
+        run.communicate()
+        subprocess.run(["rm", "-r", out, f"{out}.differ", f"{out}.partial", f"{out}.report"])
+
+
+def checks_of_changes(work: str) -> Iterator[Check]:
+    """A tree that changes while it is read: a row says so, and the run goes on."""
+    work = f"{work}/changes"
+    trees = trees_for(work)
+    for tree in trees:
+        put(f"{tree}/zz", b"the last")
+    program = put(f"{work}/taker", f"#!/bin/sh\nrm -f '{trees[1]}/z.jls' '{trees[1]}/zz'\nexit 4\n".encode())
+    os.chmod(program, 0o755)
+    words = [ARCHIVE, "--quiet", "--jobs", "1", f"{work}/out", *trees]
+    done = subprocess.run(words, env={**PROGRAMS, "JLS_SPLICE": program}, capture_output=True, text=True)
+    rows = rows_of(f"{work}/out.report")
+    yield "changes: the run comes to its end", (done.returncode, done.stderr, len(rows)) == (1, "", 12)
+    for path in ("z.jls", "zz"):
+        row = rows.get(path, {})
+        is_said = row.get("status") == "4" and "b cannot be read: No such file or directory" in row.get("note", "")
+        yield f"changes: the row of {path} says that a copy went away", is_said
+    yield "changes: nothing stands aside of a path that can't be read", not os.path.exists(f"{work}/out.differ/a/z.jls")
+    put(f"{work}/taker", f"#!/bin/sh\nrm -r '{work}/folders/one'\nexit 4\n".encode())
+    put(f"{work}/folders/one/copy.jls", b"\xff\xd8 one")
+    words = [ARCHIVE, "--quiet", "--jobs", "1", "--folders", f"{work}/folders", f"{work}/taken"]
+    done = subprocess.run(words, env={**PROGRAMS, "JLS_SALVAGE": program}, capture_output=True, text=True)
+    said = {row["result"] for row in rows_of(f"{work}/taken").values()} if done.returncode == 1 else set()
+    yield "changes: so it is with a folder", said == {"cannot be read"} and done.stderr == ""
+    entries = list(os.scandir(trees[0]))
+    subprocess.run(["rm", "-r", trees[0]])
+    yield "changes: nor is the rest of a folder lost", {kind_of(entry) for entry in entries} == {"file"}
+
+
 class Ended:
     def __init__(self, status: int) -> None:
         self.status = status
@@ -189,4 +340,5 @@ def checks_of_progress(work: str) -> Iterator[Check]:
     yield "progress: ten in ten minutes, so ninety minutes are left", progress.text() == "910 of 1000, 10 not whole, about 1:30:00 left"
 
 
-CHECKS = (checks_of_signals, checks_of_report, checks_of_seconds, checks_of_progress)
+OF_RUNS = (checks_of_signals, checks_of_report, checks_of_seconds, checks_of_locks, checks_of_changes)
+CHECKS = (*OF_RUNS, checks_of_rows, checks_of_batches, checks_of_progress)

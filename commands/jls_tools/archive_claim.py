@@ -3,9 +3,7 @@ import json
 import os
 
 from . import archive_names
-from .archive_places import Refused
-
-MARK = "run.json"  # says that jls-archive made the folder
+from .archive_places import MARK, Refused
 
 
 def folder_named(path):
@@ -34,7 +32,7 @@ def check_places(out, trees):
 
 
 def mark_of(places):
-    return os.path.join(places.report, f".{MARK}")
+    return os.path.join(places.report, MARK)
 
 
 def made_for(mark):

@@ -5,6 +5,7 @@ from . import archive_claim, archive_dicom, archive_places, archive_rows, dicom_
 from .archive_desk import Copy, Desk
 from .archive_joining import Joining
 from .archive_rows import Row
+from .programs import ProgramFailed
 
 ENDINGS = (".jls", ".jlsp")
 
@@ -94,7 +95,8 @@ class Folders:
         self.store = FolderStore(self.out)
         self.desk = Desk([self.source], self.places, programs, options)
 
-    def items(self):
+    def begin(self):
+        """The folders of this part."""
         names = [entry.name for entry in os.scandir(self.source) if entry.is_dir(follow_symlinks=False)]
         index, parts = self.options.part
         return sorted(names, key=os.fsencode)[index - 1 :: parts]
@@ -115,21 +117,48 @@ class Folders:
     def is_done(self, name):
         """The row of a folder that needs no work: nothing has changed since, and what was written is there."""
         row = self.store.of(name)
-        return row if row and self.desk.is_of(row, inputs_of(self.desk, os.path.join(self.source, name))) else None
+        try:
+            return row if row and self.desk.is_of(row, inputs_of(self.desk, os.path.join(self.source, name))) else None
+        except OSError:
+            return None  # it went away meanwhile: `do` says so
+
+    def forget(self, name):
+        """Nothing: `do` takes the rows away itself."""
+
+    def keep(self, rows):
+        """Nothing: `do` has kept them."""
 
     def undo(self):
         self.places.undo()
 
     def do(self, name, folder, is_late):
         """Settles a folder in a worker: its rows are kept when all files are there, its own row last."""
-        source = os.path.join(self.source, name)
-        row, inputs = self.store.of(name), inputs_of(self.desk, source)
+        row = self.store.of(name)
         self.store.remove(name)
         for output in row.outputs if row else []:
             self.places.drop(output)
         self.desk.begin(folder, is_late)
-        rows = self.rows_of(name, source)
+        inputs, rows = self.settle(name, os.path.join(self.source, name))
+        self.places.store([output for row in rows for output in row.outputs])
         for row in reversed(rows):
             row.inputs = self.desk.inputs(inputs)
             self.store.save(row)
         return max(rows, key=lambda row: row.status)
+
+    def settle(self, name, source):
+        """(what the rows of a folder are made of, the rows). One that changed meanwhile is a result, and doesn't end the run."""
+        inputs = self.inputs_now(source)
+        try:
+            return inputs, self.rows_of(name, source)
+        except (OSError, ProgramFailed):
+            if self.inputs_now(source) == inputs and inputs:
+                raise
+            self.places.undo()
+            return "", [Row(name).end("cannot be read", 4, "the folder changed while it was read")]
+
+    def inputs_now(self, source):
+        """What the rows of a folder are made of; nothing if it can't be read."""
+        try:
+            return inputs_of(self.desk, source)
+        except OSError:
+            return ""

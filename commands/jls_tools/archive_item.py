@@ -6,6 +6,7 @@ from . import archive_dicom, archive_names, archive_pictures, archive_trees, dic
 from .archive_desk import Copy
 from .archive_rows import Row
 from .archive_trees import Item
+from .programs import ProgramFailed
 
 DICOM, PICTURE, PARTIAL, OTHER = "dicom", "jls", "jlsp", "other"
 
@@ -144,9 +145,36 @@ def mixed(desk, item, row):
     return row.end("differs", 1, "it is " + ", and ".join(said))
 
 
+def gone(desk, item):
+    """A text for each tree whose file or link of a path can't be read any more."""
+    said = []
+    for tree, kind in sorted(item.kinds.items()):
+        path = os.path.join(desk.trees[tree], item.path)
+        try:
+            if kind == archive_trees.FILE:
+                open(path, "rb").close()
+            elif kind == archive_trees.LINK:
+                os.readlink(path)
+        except OSError as fault:
+            said.append(f"{archive_names.printable(desk.labels[tree])} cannot be read: {fault.strerror}")
+    return said
+
+
 def settle(desk, item):
-    """The row of a path, with its files written."""
+    """The row of a path, with its files written. A copy that went away meanwhile is a result, and doesn't end the run."""
     row = Row(item.path, inputs=desk.inputs(inputs_of(desk, item)))
+    try:
+        return settle_as_it_is(desk, item, row)
+    except (OSError, ProgramFailed):
+        said = gone(desk, item)
+        if not said:
+            raise
+        desk.places.undo()
+        return Row(item.path, row.kind, len(item.kinds), inputs=row.inputs).end("cannot be read", 4, "; ".join(said))
+
+
+def settle_as_it_is(desk, item, row):
+    """The row of a path whose copies stay as they are meanwhile."""
     kinds = set(item.kinds.values())
     if item.faults:
         row.kind, said = "folder", [f"{archive_names.printable(desk.labels[tree])} cannot be read: {text}" for tree, text in item.faults]

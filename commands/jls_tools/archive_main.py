@@ -4,14 +4,21 @@ import os
 import shutil
 import subprocess
 import sys
+import time
+from typing import List
 
-from . import archive_claim, archive_folders, archive_item, archive_names, archive_places, archive_report, archive_rows, archive_run
+from . import archive_claim, archive_folders, archive_item, archive_names, archive_places, archive_report, archive_run
 from . import archive_trees, archive_words
 from .archive_desk import Desk
+from .archive_ledger import Ledger
 from .archive_places import Refused
 from .archive_progress import Progress
+from .archive_rows import Row
 from .archive_signals import Stopped, Watch
 from .programs import ProgramFailed, Programs
+
+MOST_AT_ONCE = 64  # rows that wait for the disk together
+LONGEST = 1.0  # seconds that a row waits for others
 
 
 def say(text):
@@ -28,11 +35,12 @@ class Trees:
         archive_claim.check_places(self.out, self.trees)
         self.places = archive_places.Places(self.out)
         archive_claim.claim(self.places, "trees")
-        self.store = archive_rows.Store(os.path.join(self.places.report, "rows"))
+        self.store = Ledger(os.path.join(self.places.report, "rows"))
         self.desk = Desk(self.trees, self.places, programs, options)
 
-    def items(self):
-        """The paths of this part. Folders without files are made at once."""
+    def begin(self):
+        """Opens the rows of this part, and answers its paths. Folders without files are made at once."""
+        self.store.begin(self.options.part)
         items = list(archive_trees.walk(self.trees))
         paths = [item.path for item in items]
         sums = self.desk.sums
@@ -52,30 +60,61 @@ class Trees:
         if self.options.part != (1, 1):
             return
         known = {*paths, *self.desk.sums.of}
-        for row in self.store.all():
-            if row.path not in known:
-                for output in row.outputs:
-                    self.places.drop(output)
-                self.store.remove(row.path)
+        for path in self.store.paths():
+            row = self.store.of(path) if path not in known else None
+            for output in row.outputs if row else []:
+                self.places.drop(output)
+            if path not in known:
+                self.store.remove(path)
 
     def is_done(self, item):
         """The row of an item that needs no work: nothing has changed since, and what was written is there."""
         row = self.store.of(item.path)
         return row if row and self.desk.is_of(row, archive_item.inputs_of(self.desk, item)) else None
 
+    def forget(self, item):
+        """Takes the row of an item away that is about to be done anew."""
+        row = self.store.of(item.path)
+        if row:
+            item.before = row.outputs
+            self.store.remove(item.path)
+
+    def do(self, item, folder, is_late):
+        """Settles an item in a worker."""
+        for output in item.before:
+            self.places.drop(output)
+        self.desk.begin(folder, is_late)
+        return archive_item.settle(self.desk, item)
+
     def undo(self):
         self.places.undo()
 
-    def do(self, item, folder, is_late):
-        """Settles an item in a worker: the row is kept when all files are there."""
-        before = self.store.of(item.path)
-        self.store.remove(item.path)
-        for output in before.outputs if before else []:
-            self.places.drop(output)
-        self.desk.begin(folder, is_late)
-        row = archive_item.settle(self.desk, item)
-        self.store.save(row)
-        return row
+    def keep(self, rows: List[Row]) -> None:
+        """Keeps rows of items when all their files are on the disk."""
+        self.places.store([output for row in rows for output in row.outputs])
+        self.store.append(rows)
+
+
+class Batch:
+    """Rows that are kept together, since to wait for the disk takes as long for many as for one."""
+
+    def __init__(self, job):
+        self.job = job
+        self.rows = []
+        self.begun = 0.0
+
+    def add(self, row):
+        if not self.rows:
+            self.begun = time.monotonic()
+        self.rows.append(row)
+
+    def is_due(self):
+        return len(self.rows) >= MOST_AT_ONCE or bool(self.rows) and time.monotonic() - self.begun > LONGEST
+
+    def keep(self):
+        if self.rows:
+            self.job.keep(self.rows)
+            self.rows = []
 
 
 def pending(job, items, progress, watch):
@@ -86,24 +125,37 @@ def pending(job, items, progress, watch):
         if row:
             progress.pass_over(row)
         else:
+            job.forget(item)
             yield item
 
 
 def go_through(job, options, watch):
     """Does the work of this call, and answers whether all is whole."""
-    items = job.items()
-    work = archive_places.Work(job.places)
-    progress = Progress(len(items), options.quiet)
+    work = archive_places.Work(job.places, options.part)
     try:
+        items = job.begin()
+        progress = Progress(len(items), options.quiet)
         with watch.held():
-            waiting = pending(job, items, progress, watch)
-            with contextlib.closing(archive_run.Run(job, work.folder, options, watch).go(waiting)) as done:
-                for _, row in done:
-                    progress.step(row)
+            do_all(job, archive_run.Run(job, work.folder, options, watch), pending(job, items, progress, watch), progress)
     finally:
-        progress.end()
         work.remove()
     return not progress.not_whole
+
+
+def do_all(job, run, waiting, progress):
+    """Does the items that wait, and keeps their rows; also of those that were done when the run ended early."""
+    batch = Batch(job)
+    try:
+        with contextlib.closing(run.go(waiting)) as done:
+            for row in done:
+                if row:
+                    batch.add(row)
+                    progress.step(row)
+                if batch.is_due():
+                    batch.keep()
+    finally:
+        progress.end()
+        batch.keep()
 
 
 def share(options):

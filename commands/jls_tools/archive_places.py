@@ -1,6 +1,7 @@
 """Where results stand: OUT and the folders beside it. Every file gets its name when it is complete."""
 import contextlib
 import fcntl
+import math
 import os
 import re
 import shutil
@@ -8,9 +9,13 @@ import socket
 import stat
 import tempfile
 import time
+from typing import Iterable, Optional, Sequence
 
 from .archive_rows import PART
 
+MARK = ".run.json"  # says that jls-archive made the folder
+LOCK = "lock"
+PATIENCE = 3.0  # seconds in which the processes of a run that was killed are gone
 IS_PART = re.compile(re.escape(PART) + "[a-z0-9_]{8}")
 
 
@@ -22,13 +27,16 @@ class Refused(Exception):
         self.status = status
 
 
+def begin_to_store(path):
+    """Lets the system begin to write the file's bytes to the disk, and goes on."""
+    with open(path, "rb") as file, contextlib.suppress(OSError):
+        os.posix_fadvise(file.fileno(), 0, 0, os.POSIX_FADV_DONTNEED)
+
+
 def store(path):
-    """Asks the system to put the file's bytes on the disk."""
-    handle = os.open(path, os.O_RDONLY)
-    try:
-        os.fsync(handle)
-    finally:
-        os.close(handle)
+    """Waits until the file's bytes are on the disk."""
+    with open(path, "rb") as file:
+        os.fsync(file.fileno())
 
 
 def make_like(path, model, times=True):
@@ -56,7 +64,7 @@ def remove(path):
 class Places:
     """OUT, OUT.differ, OUT.partial and OUT.report. Work is done in a folder of its own in OUT.report, which the owner alone can read."""
 
-    def __init__(self, out, report=None):
+    def __init__(self, out: str, report: Optional[str] = None) -> None:
         self.out = out
         self.report = report or f"{out}.report"
         self.roots = {"out": out, "differ": f"{out}.differ", "partial": f"{out}.partial"}
@@ -81,7 +89,7 @@ class Places:
             os.chmod(made, 0o666 & ~self.mask)
             if model:
                 make_like(made, model, times)
-            store(made)
+            begin_to_store(made)
         self.put_there.append([root, name])
         os.replace(made, place)
         return [root, name]
@@ -98,8 +106,17 @@ class Places:
         """Gives a folder and the files in it the permissions that the person's mask leaves."""
         for entry in os.scandir(path):
             os.chmod(entry.path, 0o666 & ~self.mask)
-            store(entry.path)
+            begin_to_store(entry.path)
         os.chmod(path, 0o777 & ~self.mask)
+
+    def store(self, outputs: Iterable[Sequence[str]]) -> None:
+        """Waits until these files are on the disk. One that somebody took away meanwhile is done anew by the next run."""
+        for place in (self.path(*output) for output in outputs):
+            if os.path.islink(place):
+                continue
+            for path in [entry.path for entry in os.scandir(place)] if os.path.isdir(place) else [place]:
+                with contextlib.suppress(FileNotFoundError):
+                    store(path)
 
     def has(self, output):
         return os.path.lexists(self.path(*output))
@@ -124,15 +141,35 @@ class Places:
 
 
 class Work:
-    """The folder of one run for what isn't complete. A lock on a file in it says that the run is alive."""
+    """The folder of one run for what isn't complete. A lock on a file in it says that the run is alive, and the file says of which part.
 
-    def __init__(self, places):
-        os.makedirs(places.works, mode=0o700, exist_ok=True)
+    The workers have the lock too, so that it is free when the last of them has ended. The system frees it however they end.
+    """
+
+    def __init__(self, places, part):
         self.places = places
-        tidy(places)
-        self.folder = tempfile.mkdtemp(prefix=f"{socket.gethostname()[:40]}-{os.getpid()}-", dir=places.works)
-        self.lock = open(os.path.join(self.folder, "lock"), "wb")
-        lock(self.lock)
+        refusal = self.begin(part)
+        end = time.monotonic() + PATIENCE
+        while refusal and time.monotonic() < end:
+            time.sleep(0.1)
+            refusal = self.begin(part)
+        if refusal:
+            raise Refused(refusal, 4)
+
+    def begin(self, part):
+        """Makes the folder, or answers why it can't be: another run is alive that has paths of this part."""
+        os.makedirs(self.places.works, mode=0o700, exist_ok=True)
+        with alone(self.places):
+            tidy(self.places)
+            for name, other in runs_in(self.places):
+                if share_paths(part, other):
+                    host, number, _ = name.rsplit("-", 2)
+                    return f"a run works there already: process {number} on {host}, part {other[0]}/{other[1]}"
+            self.folder = tempfile.mkdtemp(prefix=f"{socket.gethostname()[:40]}-{os.getpid()}-", dir=self.places.works)
+            self.lock = open(os.path.join(self.folder, LOCK), "wb", buffering=0)
+            lock(self.lock)
+            self.lock.write(f"{part[0]}/{part[1]}".encode("ascii"))
+        return None
 
     def remove(self):
         begun = os.fstat(self.lock.fileno()).st_mtime
@@ -154,20 +191,31 @@ def remove_parts(report, begun):
                     os.unlink(os.path.join(folder, name))
 
 
+@contextlib.contextmanager
+def alone(places):
+    """Lets one process of all runs at a time do what stands inside. Disks without locks do without."""
+    with open(os.path.join(places.report, MARK), "rb") as mark:
+        with contextlib.suppress(OSError):
+            fcntl.flock(mark, fcntl.LOCK_EX)
+        yield
+
+
 def lock(file):
-    """Whether the lock on a file could be had. A disk that has no locks answers no."""
+    """Whether the lock on a file could be had; nothing on a disk that has no locks."""
     try:
         fcntl.flock(file, fcntl.LOCK_EX | fcntl.LOCK_NB)
         return True
-    except OSError:
+    except BlockingIOError:
         return False
+    except OSError:
+        return None
 
 
 def is_gone(name):
-    """Whether the folder of this name is of a process of this machine that is no more."""
+    """Whether the folder of this name is of a process of this machine that is no more; nothing if it is of another machine."""
     host, number, _ = name.rsplit("-", 2)
     if host != socket.gethostname()[:40]:
-        return False
+        return None
     try:
         os.kill(int(number), 0)
     except ProcessLookupError:
@@ -177,15 +225,46 @@ def is_gone(name):
     return False
 
 
+def is_alive(entry):
+    """Whether a run works in a folder. Nothing if that can't be known."""
+    try:
+        with open(os.path.join(entry.path, LOCK), "r+b") as file:
+            is_free = lock(file)
+    except FileNotFoundError:
+        # killed before it had a lock, or about to have one
+        is_free = None if entry.stat().st_mtime > time.time() - 60 else True
+    if is_free is not None:
+        return not is_free
+    gone = is_gone(entry.name)
+    return None if gone is None else not gone
+
+
 def tidy(places):
     """Removes what runs left that were killed."""
     for entry in os.scandir(places.works):
-        try:
-            with open(os.path.join(entry.path, "lock"), "r+b") as file:
-                if not lock(file):
-                    continue
-        except OSError:
-            # killed before it had a lock, or about to have one
-            if entry.stat().st_mtime > time.time() - 60 and not is_gone(entry.name):
-                continue
-        shutil.rmtree(entry.path, ignore_errors=True)
+        with contextlib.suppress(OSError):
+            if is_alive(entry) is False:
+                shutil.rmtree(entry.path, ignore_errors=True)
+
+
+def runs_in(places):
+    """(name, part) of the runs that are alive."""
+    for entry in os.scandir(places.works):
+        with contextlib.suppress(OSError):
+            if is_alive(entry):
+                yield entry.name, part_in(entry)
+
+
+def part_in(entry):
+    """The part of a run. One that doesn't say it has all."""
+    try:
+        with open(os.path.join(entry.path, LOCK), encoding="ascii") as file:
+            index, parts = map(int, file.read().split("/"))
+            return index, parts
+    except ValueError:
+        return 1, 1
+
+
+def share_paths(one, other):
+    """Whether two parts K/N have a path in common."""
+    return (one[0] - other[0]) % math.gcd(one[1], other[1]) == 0

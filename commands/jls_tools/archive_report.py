@@ -1,28 +1,19 @@
 """The table and the page: of a run that ended, and of one that goes on."""
-import contextlib
-import fcntl
 import os
 
 from . import archive_claim, archive_folders, archive_names, archive_places, archive_rows, report_page
+from .archive_ledger import Ledger
 from .archive_places import Refused
 
 
 def write(places, store):
     """Writes the table and the page of all rows that are there, and answers these."""
-    with alone(places):
+    # one at a time, so that no older table comes last
+    with archive_places.alone(places):
         rows = store.all()
         archive_rows.write_whole(os.path.join(places.report, "pictures.csv"), archive_rows.table(rows))
         archive_rows.write_whole(os.path.join(places.report, "report.html"), report_page.page(rows, places.out))
     return rows
-
-
-@contextlib.contextmanager
-def alone(places):
-    """Lets one process at a time read the rows and write of them, so that no older table comes last. Disks without locks do without."""
-    with open(archive_claim.mark_of(places), "rb") as mark:
-        with contextlib.suppress(OSError):
-            fcntl.flock(mark, fcntl.LOCK_EX)
-        yield
 
 
 def print_summary(rows, out, places):
@@ -36,7 +27,7 @@ def made_before(out):
     true = os.path.realpath(out)
     of_trees, of_folders = archive_places.Places(true), archive_places.Places(true, report=true)
     if os.path.isfile(archive_claim.mark_of(of_trees)):
-        return of_trees, archive_rows.Store(os.path.join(of_trees.report, "rows"))
+        return of_trees, Ledger(os.path.join(of_trees.report, "rows"))
     if os.path.isfile(archive_claim.mark_of(of_folders)):
         return of_folders, archive_folders.FolderStore(true)
     raise Refused(f"no run of jls-archive made {archive_names.printable(out)}")

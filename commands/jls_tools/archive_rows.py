@@ -8,6 +8,7 @@ import hashlib
 import json
 import os
 import tempfile
+from typing import Iterator
 
 from .dicom_result import NOT_SUPPORTED
 
@@ -69,7 +70,7 @@ class Row:
         return 1.0 if self.status else 0.0
 
 
-def write_whole(path, data):
+def write_whole(path: str, data: bytes) -> None:
     """Writes a file whole or not at all, with the permissions that the umask leaves."""
     folder = os.path.dirname(path)
     mask = os.umask(0)
@@ -91,14 +92,14 @@ def write_whole(path, data):
 class Store:
     """The rows in a folder, each in a file whose name follows from its path."""
 
-    def __init__(self, folder):
+    def __init__(self, folder: str) -> None:
         self.folder = folder
 
-    def file_of(self, path):
+    def file_of(self, path: str) -> str:
         name = hashlib.sha256(os.fsencode(path)).hexdigest()[:40]
         return os.path.join(self.folder, name[:2], f"{name[2:]}.row")
 
-    def load(self, file):
+    def load(self, file: str) -> Row | None:
         """The row in a file, or nothing where there is none that can be used."""
         try:
             with open(file, encoding="ascii") as opened:
@@ -106,25 +107,25 @@ class Store:
         except (OSError, ValueError, TypeError):
             return None
 
-    def of(self, path):
+    def of(self, path: str) -> Row | None:
         return self.load(self.file_of(path))
 
-    def save(self, row):
+    def save(self, row: Row) -> None:
         file = self.file_of(row.path)
         os.makedirs(os.path.dirname(file), exist_ok=True)
         write_whole(file, json.dumps(dataclasses.asdict(row)).encode("ascii"))
 
-    def remove(self, path):
+    def remove(self, path: str) -> None:
         try:
             os.unlink(self.file_of(path))
         except FileNotFoundError:
             pass
 
-    def files(self):
+    def files(self) -> Iterator[str]:
         for folder, _, names in os.walk(self.folder):
             yield from (os.path.join(folder, name) for name in names if name.endswith(".row"))
 
-    def all(self):
+    def all(self) -> list[Row]:
         """All rows, by path."""
         rows = [row for row in map(self.load, self.files()) if row]
         return sorted(rows, key=lambda row: os.fsencode(row.path))

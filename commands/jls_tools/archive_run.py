@@ -13,6 +13,7 @@ from .archive_signals import Stopped
 from .programs import ProgramFailed
 
 PARENT_DIED = 1  # PR_SET_PDEATHSIG of prctl
+AT_MOST = 1.0  # seconds after which the one that asks for rows is asked what it wants to do
 
 
 def prepare_worker():
@@ -102,12 +103,12 @@ class Worker:
         return self.item
 
     def answered(self):
-        """(item, row) of the item that it had. A Stopped says why there is no row."""
+        """The row of the item that it had. A Stopped says why there is none."""
         row, fault = self.take()
-        item, self.item = self.item, None
+        self.item = None
         if fault:
             raise Stopped(*fault)
-        return item, row
+        return row
 
     def take(self):
         """The answer. A worker that is gone was stopped from outside."""
@@ -130,7 +131,7 @@ class Run:
         self.workers = []
 
     def go(self, items):
-        """Yields (item, row) as items are done. A Stopped says why it ended early."""
+        """Yields rows as items are done, and nothing once in a while. A Stopped says why it ended early."""
         try:
             yield from self.give_all(iter(items))
         except Stopped:
@@ -153,9 +154,11 @@ class Run:
                 break
             self.start(os.path.join(self.folder, str(number))).give(item, self.seconds)
         while any(worker.item is not None for worker in self.workers):
-            for worker in self.ready():
-                done, row = worker.answered()
-                yield done, row
+            ready = self.ready()
+            if not ready:
+                yield None
+            for worker in ready:
+                yield worker.answered()
                 item = next(waiting, None)
                 if item is not None:
                     worker.give(item, self.seconds)
@@ -163,8 +166,8 @@ class Run:
     def ready(self):
         """Workers that have an answer. Those whose time ran out before one came are ended: a new one takes the item without its work."""
         busy = {worker.pipe: worker for worker in self.workers if worker.item is not None}
-        limits = [worker.due for worker in busy.values() if worker.due is not None]
-        wait = max(0, min(limits) - time.monotonic()) if limits else None
+        limits = [worker.due - time.monotonic() for worker in busy.values() if worker.due is not None]
+        wait = max(0, min([AT_MOST, *limits]))
         found = connection.wait([*busy, self.watch.reader], wait)
         self.watch.end()
         for worker in [] if found else list(busy.values()):
@@ -181,7 +184,7 @@ def answers_of(workers):
         if worker.item is not None and worker.pipe.poll():
             row, _ = worker.take()
             if row:
-                yield worker.item, row
+                yield row
 
 
 def end(workers):

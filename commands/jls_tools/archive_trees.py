@@ -1,4 +1,6 @@
 """Walks several trees at once: every relative path that any of them has, with what stands there in each."""
+from __future__ import annotations
+
 import os
 import stat
 
@@ -6,14 +8,18 @@ FILE, LINK, FOLDER, SPECIAL = "file", "link", "folder", "special"
 
 
 class Item:
-    """A relative path, and for each tree (by its index) that has it what stands there. `faults` names trees that could not be read."""
+    """A relative path, and for each tree (by its index) that has it what stands there. `faults` names trees that could not be read.
 
-    __slots__ = ("path", "kinds", "faults")
+    `before` are the files that an earlier run wrote of it, and that go.
+    """
+
+    __slots__ = ("path", "kinds", "faults", "before")
 
     def __init__(self, path, kinds, faults=()):
         self.path = path
         self.kinds = kinds
         self.faults = list(faults)
+        self.before = []
 
     def trees_with(self, kind):
         return [tree for tree, found in sorted(self.kinds.items()) if found == kind]
@@ -23,12 +29,16 @@ class Item:
         return bool(self.kinds) and not self.faults and all(kind == FOLDER for kind in self.kinds.values())
 
 
-def kind_of(entry):
+def kind_of(entry: os.DirEntry[str]) -> str:
+    """What an entry of a folder is. One that is gone meanwhile counts as a file: its row says that it can't be read."""
     if entry.is_symlink():
         return LINK
     if entry.is_dir(follow_symlinks=False):
         return FOLDER
-    return FILE if stat.S_ISREG(entry.stat(follow_symlinks=False).st_mode) else SPECIAL
+    try:
+        return FILE if stat.S_ISREG(entry.stat(follow_symlinks=False).st_mode) else SPECIAL
+    except FileNotFoundError:
+        return FILE
 
 
 def read_folder(trees, path, of):
