@@ -61,6 +61,12 @@ def leave(number: int, _: Optional[FrameType]) -> None:
     raise SystemExit(128 + number)
 
 
+def catch_signals() -> None:
+    """Lets a signal end this process as an exception does, so that what isn't complete is removed."""
+    for number in SIGNALS:
+        signal.signal(number, leave)
+
+
 @contextlib.contextmanager
 def blocked() -> Iterator[None]:
     """Lets signals wait: a process that is made here gets none before it is prepared."""

@@ -5,7 +5,7 @@ import shutil
 import sys
 import tempfile
 
-from . import archive_names, archive_run, partial_picture, png, view_canvas, view_input, view_splice
+from . import archive_names, archive_signals, partial_picture, png, view_canvas, view_input, view_splice
 from .programs import ProgramFailed, Programs
 
 TEXT = """\
@@ -141,7 +141,7 @@ def run(words):
 
 
 def main():
-    archive_run.catch_signals()
+    archive_signals.catch_signals()
     sys.stdout.reconfigure(errors="backslashreplace")
     try:
         return run(parser().parse_intermixed_args())
