@@ -7,6 +7,7 @@ use jls_host::{
 use std::alloc::Global;
 use std::io;
 use std::io::Write;
+use std::process::Abort;
 use std::test::Fail;
 
 /// A file that takes everything.
@@ -269,8 +270,8 @@ const NOT_LINKED: &str = "link OUT.jls-salvage-1\n";
 /// What stands at OUT and what fails, why the output does not get its name, and what the machine is asked, in parts.
 type Row = (Manners, Option<Why>, [&'static str; 7]);
 
-/// Runs whose outputs are kept.
-const ROWS: [Row; 22] = [
+/// Runs whose outputs are kept, where no older partial picture is.
+const ROWS: [Row; 9] = [
     (GOOD, None, [MADE, SYNCED, NAMED, "", "", "", ""]),
     (
         ABSENT,
@@ -303,7 +304,6 @@ const ROWS: [Row; 22] = [
             "",
         ],
     ),
-    (FOLDER_UNSYNCED, None, [MADE, SYNCED, NAMED, "", "", "", ""]),
     (LINK, None, ["create OUT\n", "", "", "", "", "", ""]),
     (
         READ_ONLY,
@@ -336,6 +336,11 @@ const ROWS: [Row; 22] = [
             "",
         ],
     ),
+    (FOLDER_UNSYNCED, None, [MADE, SYNCED, NAMED, "", "", "", ""]),
+];
+
+/// And where OUT is an older one.
+const OLDER_ROWS: [Row; 9] = [
     (
         OLDER,
         None,
@@ -423,6 +428,10 @@ const ROWS: [Row; 22] = [
         None,
         [MADE, SYNCED, COMPARED, NAMED, "", "", ""],
     ),
+];
+
+/// And where OUT is a link to one.
+const OLDER_ROWS_BY_LINK: [Row; 4] = [
     (
         OLDER_BY_LINK,
         None,
@@ -481,16 +490,39 @@ fn asked(
     Ok((why, calls))
 }
 
+/// A run whose output is kept.
+fn check_row(rt: &impl Abort, alloc: Global, row: &Row) -> Result<(), Fail> {
+    let (manners, why, parts) = *row;
+    let (found_why, found) = asked(alloc, manners, Guard::Jpeg, Ending::Keep)?;
+    let mut calls = String::new(alloc);
+    for part in parts {
+        calls.push_str(part)?;
+    }
+    assert_eq!(rt; found.as_str(), calls.as_str());
+    assert_eq!(rt; found_why, why);
+    Ok(())
+}
+
 #[test]
 fn outputs_are_whole_or_not_at_all(rt: HostRuntime) -> Result<(), Fail> {
-    for &(manners, why, parts) in &ROWS {
-        let (found_why, found) = asked(rt.alloc(), manners, Guard::Jpeg, Ending::Keep)?;
-        let mut calls = String::new(rt.alloc());
-        for part in parts {
-            calls.push_str(part)?;
-        }
-        assert_eq!(rt; found.as_str(), calls.as_str());
-        assert_eq!(rt; found_why, why);
+    for row in ROWS.iter() {
+        check_row(&rt, rt.alloc(), row)?;
+    }
+    Ok(())
+}
+
+#[test]
+fn older_outputs_are_kept(rt: HostRuntime) -> Result<(), Fail> {
+    for row in OLDER_ROWS.iter() {
+        check_row(&rt, rt.alloc(), row)?;
+    }
+    Ok(())
+}
+
+#[test]
+fn older_outputs_by_a_link_are_kept(rt: HostRuntime) -> Result<(), Fail> {
+    for row in OLDER_ROWS_BY_LINK.iter() {
+        check_row(&rt, rt.alloc(), row)?;
     }
     Ok(())
 }
