@@ -191,10 +191,15 @@ class Header:
         ones = [reading for reading in self.readings(one.value, one.end) if allows(b"UI", reading[0])]
         twos = [reading for reading in self.readings(two.value, two.end) if allows(b"UI", reading[0])]
         both = {text_of(value) for value, _ in ones} & {text_of(value) for value, _ in twos}
-        if both and not are_denied(self.copies, both, (one, two)):
+        if both and not are_denied(self.copies, both, (one, two), self.is_against):
             why = f"{tag_name(first)} and {tag_name(second)} are equal so"
             self.keep_readings([reading for reading in ones if text_of(reading[0]) in both], why)
             self.keep_readings([reading for reading in twos if text_of(reading[0]) in both], why)
+
+    def is_against(self, copy, element):
+        """Whether a part of an element was decided against a copy."""
+        numbers = self.runs.touching(element.start, element.end)
+        return any(len(self.left.get(number, ())) == 1 and copy not in self.holders(number) for number in numbers)
 
     def by_frames(self, shape, frame_count):
         """Leaves what agrees with the codestreams."""

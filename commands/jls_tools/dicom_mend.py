@@ -13,6 +13,7 @@ from jls_tools.dicom_instance import Instances, TwoInstances
 from jls_tools.dicom_kinds import NoKind, other_kinds
 from jls_tools.dicom_layout import contradiction, forbidden, has_shape, is_through, laid_out
 from jls_tools.dicom_lost import Lost, equal_in_most, most_of
+from jls_tools.dicom_most import whole_and_shorter
 from jls_tools.dicom_outputs import put_frames_folder, take_away, why_kept
 from jls_tools.dicom_result import FAILED, NOT_SUPPORTED, NOT_WHOLE, REFUSED, WHOLE, FrameResult, MendOptions, MendResult, Place
 from jls_tools.dicom_sum import BySum
@@ -249,9 +250,11 @@ class Mending:
 
     def can_write(self):
         """Whether the header is decided and reads; why not, else."""
-        doubts = [why for at, why in self.doubts.items() if self.options.header != self.paths[at]]
-        if doubts:
-            return doubts[0]
+        for doubt in (why for at, why in self.doubts.items() if self.options.header != self.paths[at]):
+            return doubt
+        shorter = whole_and_shorter(self.copies)
+        if shorter and self.options.header is None and self.layout.agreed is None:
+            return f"the header of {shorter[0].path} reads whole, and is shorter than that of another copy: each can be the file's"
         if not self.layout.has_header:
             return "no copy has a header that leads to Pixel Data"
         if self.header.is_open:
@@ -262,8 +265,7 @@ class Mending:
             return "the file ends before its last element does"
         if not self.tails.is_decided:
             return "what stands after the last element is not in all copies, and no copy that reads whole lacks it"
-        odd = next((frame.result for frame in self.mended if frame.result.kind == NOT_SUPPORTED), None)
-        if odd is not None:
+        for odd in (frame.result for frame in self.mended if frame.result.kind == NOT_SUPPORTED):
             return f"frame {odd.number} is {NOT_SUPPORTED}: {odd.note}"
         fault = contradiction(self.header, self.shape, len(self.mended))
         return fault if fault or self.options.header is not None else forbidden(self.header)
@@ -309,8 +311,8 @@ class Mending:
             if not (fault.can_be_writers and all(self.is_in_all(*part, moved) for part in fault.ranges)):
                 return fault.text
             self.result.notes.append(f"{fault.text}: every copy has it so")
-        if self.tails.ways[0]:
-            self.result.notes.append(f"{len(self.tails.ways[0])} bytes stand after the last element: every copy has them")
+        if tail := self.tails.ways[0]:
+            self.result.notes.append(f"{len(tail)} bytes stand after the last element: every copy has them")
         return None
 
     def is_in_all(self, begin, end, moved):

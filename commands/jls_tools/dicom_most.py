@@ -55,3 +55,65 @@ def header_end(data: bytes, ranges: list[tuple[int, int]]) -> Optional[int]:
 
 def looks_damaged(leaf: Element, value: bytes) -> bool:
     return is_doubtful(leaf.vr, value) or leaf.vr in TEXTS and LOST_TEXT in value
+
+
+# Headers of other lengths ------------------------------------------------------------------------
+
+
+def own_header(copy: Copy) -> Optional[bytes]:
+    """The header of a copy as it has it itself, if elements lead to Pixel Data and none looks damaged."""
+    data = copy.has_only(0, len(copy.data))
+    until = None if copy.foreign else header_end(data, [(0, len(data))])
+    return None if until is None else data[FIRST:until]
+
+
+def lost_in_header(copy: Copy, header: bytes) -> tuple[tuple[int, int], ...]:
+    """The ranges of the axis that are taken to be lost in this header of a copy."""
+    found, until = [], FIRST + len(header)
+    for begin, end in copy.absent:
+        if begin < until:
+            found.append((begin, end))
+            until += end - begin
+    return tuple(found)
+
+
+def tags_of(copy: Copy) -> list[tuple[int, bytes]]:
+    """The elements of the top level of a copy as it has them itself."""
+    return [(element.tag, element.vr) for element in Reading(copy.has_only(0, len(copy.data))).top]
+
+
+def whole_and_shorter(copies: Sequence[Copy]) -> list[Copy]:
+    """Copies whose header has the same elements as another one's, and reads whole, though it has fewer bytes: values of it are shorter.
+
+    Lost bytes make no such header: an element is gone then, or has swallowed the next one.
+    """
+    headers = [(copy, own_header(copy)) for copy in copies]
+    shorter = [copy for copy, header in headers if header is not None and copy.absent and lost_in_header(copy, header)]
+    others = [tags_of(copy) for copy, header in headers if header is not None and copy not in shorter] if shorter else []
+    return [copy for copy in shorter if tags_of(copy) in others]
+
+
+def without_more(copies: Sequence[Copy]) -> list[Copy]:
+    """The copies on the axis without bytes of a header that most copies lack, if their headers are equal and read whole."""
+    if len(copies) < 3 or not whole_and_shorter(copies):
+        return list(copies)
+    headers = [own_header(copy) for copy in copies]
+    for header in headers:
+        alike = [copy for copy, own in zip(copies, headers) if own == header]
+        if header is None or len(alike) * 2 <= len(copies):
+            continue
+        lost = [lost_in_header(copy, header) for copy in alike]  # where bytes repeat, the same loss can stand at several places
+        cut = [cut_out(copy, lost_in_header(copy, header) if own == header else lost[0]) for copy, own in zip(copies, headers)]
+        return cut if len({len(copy.data) for copy in cut}) == 1 else list(copies)
+    return list(copies)
+
+
+def cut_out(copy: Copy, ranges: tuple[tuple[int, int], ...]) -> Copy:
+    """A copy without these ranges of the axis."""
+    data, absent = copy.data, list(copy.absent)
+    for begin, end in reversed(ranges):
+        size = end - begin
+        data = data[:begin] + data[end:]
+        moved = [(first - size * (first >= end), last - size * (last >= end)) for first, last in absent if (first, last) != (begin, end)]
+        absent = [(min(first, begin) if begin < first < end else first, last) for first, last in moved]
+    return Copy(copy.path, data, absent, copy.foreign)

@@ -1,22 +1,26 @@
 """Which of two UIDs that should be equal a file has: what denies one that two elements of a copy agree on."""
 from __future__ import annotations
 
-from collections.abc import Sequence
+from collections.abc import Callable, Sequence
 
 from jls_tools.dicom_align import Copy
 from jls_tools.dicom_file import Element, text_of
 from jls_tools.dicom_values import is_uid
 
 
-def are_denied(copies: Sequence[Copy], uids: set[str], elements: tuple[Element, Element]) -> bool:
-    """Whether each can be the file's: as many copies have another UID at one of two elements, by no flipped bit, as have these at both."""
+def are_denied(copies: Sequence[Copy], uids: set[str], elements: Sequence[Element], is_lost: Callable[[int, Element], bool]) -> bool:
+    """Whether each can be the file's: of three elements of copies that read, one or more have another UID, and by no flipped bit.
+
+    `is_lost` says of a copy and an element that a part of it there was decided against this copy.
+    """
     agreeing = denying = 0
-    for copy in copies:
-        values = [each.bytes_of(copy.data) for each in elements if not copy.lacks(each.value, each.end)]
-        agreeing += len(values) > 1 and {text_of(value) for value in values} <= uids
+    for number, copy in enumerate(copies):
+        own = [each for each in elements if not copy.lacks(each.value, each.end)]
+        agreeing += sum(text_of(each.bytes_of(copy.data)) in uids for each in own)
+        values = [each.bytes_of(copy.data) for each in own if not is_lost(number, each)]
         others = [text_of(value) for value in values if is_uid(value) and text_of(value) not in uids]
-        denying += any(not any(is_flip(other, uid) for uid in uids) for other in others)
-    return denying >= agreeing
+        denying += sum(not any(is_flip(other, uid) for uid in uids) for other in others)
+    return denying * 2 >= agreeing
 
 
 def is_flip(one: str, other: str) -> bool:
