@@ -3,7 +3,11 @@
    Each function reads whole buffers of the caller's, and answers a number of `enum jls_answer`. A buffer is a pointer and the number of
    its elements; at 0 elements the pointer may be NULL. Buffers that a function writes must not overlap another one. The library keeps
    nothing between two calls, so threads may call it at once, on buffers of their own. It takes memory by malloc and gives all back.
-   Each function can answer JLS_PROCESSOR too, and on such a processor answers nothing else. */
+
+   A structure that begins with `size` can grow in a later version under the same soname. The caller sets `size` to the structure's size, as
+   JLS_INFO and JLS_HEADER do, and the library writes no more bytes than that.
+
+   Each function can answer JLS_PROCESSOR and JLS_BAD_SIZE too. On such a processor it answers nothing but the first. */
 #ifndef JLS_SALVAGE_H
 #define JLS_SALVAGE_H
 
@@ -13,6 +17,12 @@
 #ifdef __cplusplus
 extern "C" {
 #endif
+
+/* The version of this header, as a number whose order is that of versions: jls_version answers that of the library. */
+#define JLS_VERSION_MAJOR 1
+#define JLS_VERSION_MINOR 2
+#define JLS_VERSION_PATCH 0
+#define JLS_VERSION (10000 * JLS_VERSION_MAJOR + 100 * JLS_VERSION_MINOR + JLS_VERSION_PATCH)
 
 /* What the functions answer. */
 enum jls_answer {
@@ -26,7 +36,23 @@ enum jls_answer {
     JLS_BAD_FRAME = 7,         /* no picture has such a frame, or so many samples: nothing was written */
     JLS_LARGE_SAMPLE = 8,      /* a sample has more bits than the precision: nothing was written */
     JLS_LARGE_INTERVAL = 9,    /* a restart interval would have more than 2^28 samples: nothing was written */
-    JLS_PROCESSOR = 10         /* x86-64: the processor is below x86-64-v2, which has SSE4.2 and POPCNT: nothing was written */
+    JLS_PROCESSOR = 10,        /* x86-64: the processor is below x86-64-v2, which has SSE4.2 and POPCNT: nothing was written */
+    JLS_UNSUPPORTED = 11,      /* the coding ends what can be read: `unsupported` says why. All is written as at JLS_DONE */
+    JLS_BAD_SIZE = 12,         /* `size` of a structure is less than that of its first version: nothing was written */
+    JLS_BAD_LAYOUT = 13        /* there is no such jls_layout: nothing was written */
+};
+
+/* What a copy has that this library doesn't read. A damaged header can say it too. */
+enum jls_unsupported {
+    JLS_SUPPORTED = 0,
+    JLS_NEAR_LOSSLESS = 1,
+    JLS_BY_SAMPLE = 2,       /* components interleaved by sample */
+    JLS_NOT_INTERLEAVED = 3, /* several components in a scan that doesn't interleave them */
+    JLS_SUBSAMPLED = 4,
+    JLS_MAPPING_TABLE = 5,
+    JLS_POINT_TRANSFORM = 6,
+    JLS_LONG_INTERVAL = 7, /* a restart interval of more than 2^28 samples */
+    JLS_MANY_SCANS = 8     /* more than 16 scans */
 };
 
 /* How much is known of a line: it has no reading, one, or several that differ. */
@@ -73,6 +99,8 @@ enum jls_kind { JLS_BROKEN = 0, JLS_LONG = 1, JLS_BEYOND = 2 };
 
 /* What a copy says of its picture, how many lines it gives, and how it ended. Of a partial picture the same is told, but no end. */
 typedef struct jls_info {
+    uint32_t size;          /* what the caller sets: sizeof(jls_info) */
+    uint32_t unsupported;   /* enum jls_unsupported */
     uint64_t samples;       /* width * height * components: the numbers that jls_read and jls_lines write */
     uint64_t bytes;         /* of the partial picture that jls_partial or jls_join writes; otherwise 0 */
     uint64_t faulty_pieces; /* how many pieces of scan data didn't read as the lines of their intervals */
@@ -87,6 +115,42 @@ typedef struct jls_info {
     uint8_t end;   /* enum jls_end */
     uint8_t fault; /* enum jls_fault */
 } jls_info;
+
+/* What the headers of a copy say, up to its first scan. */
+typedef struct jls_header {
+    uint32_t size;             /* what the caller sets: sizeof(jls_header) */
+    uint32_t unsupported;      /* enum jls_unsupported */
+    uint64_t samples;          /* width * height * components: the numbers that jls_read writes */
+    uint64_t lines;            /* height * components */
+    uint64_t end_offset;       /* where a fault of the headers is, in bytes; otherwise where the first scan's data begin */
+    uint32_t restart_interval; /* in lines, or 0 for none */
+    uint16_t width, height;
+    uint8_t precision; /* bits of a sample, from 2 to 16 */
+    uint8_t components;
+    uint8_t interleave;  /* of the first scan: 0 for a component, 1 by line, 2 by sample */
+    uint8_t near_lossless; /* NEAR of the first scan: 0 is lossless */
+    uint8_t fault;       /* enum jls_fault */
+} jls_header;
+
+/* How samples stand in a buffer. Those of a line follow one another, by component or by pixel. */
+typedef struct jls_layout {
+    uint32_t size;       /* what the caller sets: sizeof(jls_layout) */
+    uint8_t bytes;       /* of a sample: 1, or 2 in the order of the processor */
+    uint8_t interleaved; /* whether the components of a pixel stand beside each other; otherwise the lines of a component follow those of
+                            the one before */
+    uint64_t stride;     /* from the first sample of a line to the first of the next, in samples, or 0 for no gap */
+} jls_layout;
+
+/* Structures whose size is set, as in `jls_info info = JLS_INFO;`. */
+#ifdef __cplusplus
+#define JLS_INFO {sizeof(jls_info)}
+#define JLS_HEADER {sizeof(jls_header)}
+#define JLS_LAYOUT {sizeof(jls_layout)}
+#else
+#define JLS_INFO {.size = sizeof(jls_info)}
+#define JLS_HEADER {.size = sizeof(jls_header)}
+#define JLS_LAYOUT {.size = sizeof(jls_layout)}
+#endif
 
 /* A piece of scan data that didn't read as the lines of its interval. */
 typedef struct jls_piece {
@@ -111,20 +175,40 @@ typedef struct jls_frame {
     uint8_t interleaved;       /* whether all components stand in one scan, line by line; otherwise each has a scan of its own */
 } jls_frame;
 
+/* The version of the library: JLS_VERSION of the header that it was built with. */
+uint32_t jls_version(void);
+
+/* An answer in words, in English, without a newline. It is never NULL, and stays there. jls_fault_text tells a fault, and
+   jls_unsupported_text what isn't supported. */
+const char *jls_text(uint32_t answer);
+const char *jls_fault_text(uint32_t fault);
+const char *jls_unsupported_text(uint32_t unsupported);
+
+/* Tells what the headers of a copy say, up to the first scan. No scan data are read, so it is quick, and `copy` may end with the headers.
+   Answers JLS_DONE, JLS_UNSUPPORTED, JLS_NO_PICTURE or JLS_OUT_OF_MEMORY. At JLS_NO_PICTURE `fault` and `end_offset` say why. */
+uint32_t jls_read_header(const uint8_t *copy, size_t size, jls_header *header);
+
 /* Tells what a copy, which may be damaged, says of its picture, how many of its lines it gives, and how it ended. `pieces` takes the
    first faulty pieces, as many as there is room for and at most 4096; `faulty_pieces` of `info` counts all.
-   Answers JLS_DONE, JLS_NO_PICTURE or JLS_OUT_OF_MEMORY. */
+   Answers JLS_DONE, JLS_UNSUPPORTED, JLS_NO_PICTURE or JLS_OUT_OF_MEMORY. */
 uint32_t jls_check(const uint8_t *copy, size_t size, jls_info *info, jls_piece *pieces, size_t piece_room);
 
 /* Reads a copy, which may be damaged. Line y of component c has its status in statuses[c * height + y], and its samples from
    samples[(c * height + y) * width] on. A line that is missing or disputed has zeros. What lies behind the last line stays as it was.
-   Answers JLS_DONE, JLS_SHORT_ROOM, JLS_NO_PICTURE or JLS_OUT_OF_MEMORY. At JLS_SHORT_ROOM and JLS_NO_PICTURE only `info` is written. */
+   Answers JLS_DONE, JLS_UNSUPPORTED, JLS_SHORT_ROOM, JLS_NO_PICTURE or JLS_OUT_OF_MEMORY. At JLS_SHORT_ROOM and JLS_NO_PICTURE only `info`
+   is written. */
 uint32_t jls_read(const uint8_t *copy, size_t size, jls_info *info, uint16_t *samples, size_t sample_room, uint8_t *statuses,
                   size_t status_room);
 
+/* Reads a copy as jls_read does, and puts its samples as `layout` says. What stands between lines stays as it was.
+   Answers what jls_read answers, JLS_BAD_LAYOUT, or JLS_LARGE_SAMPLE where samples of more than 8 bits don't fit into a byte. */
+uint32_t jls_read_as(const uint8_t *copy, size_t size, jls_info *info, const jls_layout *layout, void *samples, size_t sample_room,
+                     uint8_t *statuses, size_t status_room);
+
 /* Reads a copy, which may be damaged, and writes what it gives as a partial picture: the bytes that `jls-salvage join` would write of it
    under this source, which is a number for the copy. `info` tells of the copy, and `bytes` how many bytes the partial picture has.
-   Answers JLS_DONE, JLS_SHORT_ROOM, JLS_NO_PICTURE or JLS_OUT_OF_MEMORY. At JLS_SHORT_ROOM and JLS_NO_PICTURE only `info` is written. */
+   Answers JLS_DONE, JLS_UNSUPPORTED, JLS_SHORT_ROOM, JLS_NO_PICTURE or JLS_OUT_OF_MEMORY. At JLS_SHORT_ROOM and JLS_NO_PICTURE only `info`
+   is written. */
 uint32_t jls_partial(const uint8_t *copy, size_t size, uint32_t source, jls_info *info, uint8_t *partial, size_t room);
 
 /* Joins two partial pictures of one shape: writes the one that has the readings of both, with their sources. The order doesn't matter,
@@ -146,6 +230,11 @@ uint32_t jls_lines(const uint8_t *partial, size_t size, jls_info *info, uint16_t
    Answers JLS_DONE, JLS_SHORT_ROOM, JLS_BAD_FRAME, JLS_LARGE_SAMPLE, JLS_LARGE_INTERVAL or JLS_OUT_OF_MEMORY. At JLS_SHORT_ROOM only
    *file_size is written. */
 uint32_t jls_write(const jls_frame *frame, const uint16_t *samples, size_t count, uint8_t *file, size_t room, uint64_t *file_size);
+
+/* Writes samples that stand as `layout` says. `count` is how many samples the buffer has, those between lines among them.
+   Answers what jls_write answers, or JLS_BAD_LAYOUT. At JLS_BAD_FRAME the buffer may be too short for the frame. */
+uint32_t jls_write_as(const jls_frame *frame, const jls_layout *layout, const void *samples, size_t count, uint8_t *file, size_t room,
+                      uint64_t *file_size);
 
 #ifdef __cplusplus
 }

@@ -1,8 +1,8 @@
-# The library, for the Makefile: libjls_salvage.a and libjls_salvage.so.1, from its object in dist/ with a C compiler. Where dist/ has
+# The library, for the Makefile: libjls_salvage.a and libjls_salvage.so.2, from its object in dist/ with a C compiler. Where dist/ has
 # no such object, it is left out.
 
 AR ?= ar
-SONAME = libjls_salvage.so.1
+SONAME = libjls_salvage.so.2
 LIBRARIES = $(addprefix $(BUILD)/,libjls_salvage.a $(SONAME))
 
 .PHONY: library
@@ -11,17 +11,17 @@ library: $(LIBRARIES)
 	@rm -f $(BUILD)/libjls_salvage.so
 
 ifeq ($(PACKED),)
-# The proved functions get other names, and those of library/processor.c are called in their place
+# The proved functions get other names, and those of library/calls.c are called in their place
 FUNCTIONS = jls_check jls_join jls_lines jls_partial jls_read jls_write
 OBJCOPY ?= $(or $(shell $(CC) -print-prog-name=objcopy 2> /dev/null),objcopy)
-$(BUILD)/libjls_salvage.o: library/memory.c library/processor.c include/jls_salvage.h dist/SHA256SUMS $(BUILD)/.how | ready
+PARTS = memory calls layouts texts
+$(BUILD)/libjls_salvage.o: $(PARTS:%=library/%.c) library/processor.h include/jls_salvage.h dist/SHA256SUMS $(BUILD)/.how | ready
 	@command -v $(OBJCOPY) > /dev/null || { echo 'make: there is no $(OBJCOPY), which Debian has in binutils' >&2; exit 1; }
 	gzip -dc dist/$(PROCESSOR)/libjls_salvage.o.gz > $(BUILD)/.libjls_salvage.o
 	$(OBJCOPY) $(foreach name,$(FUNCTIONS),--redefine-sym $(name)=proved_$(name)) $(BUILD)/.libjls_salvage.o
-	$(CC) $(CFLAGS) -fPIC -fno-lto -c -o $(BUILD)/.memory.o library/memory.c
-	$(CC) $(CFLAGS) -fPIC -fno-lto -c -o $(BUILD)/.processor.o library/processor.c
-	$(CC) -r -nostdlib -o $@ $(BUILD)/.memory.o $(BUILD)/.processor.o $(BUILD)/.libjls_salvage.o
-	@rm -f $(BUILD)/.memory.o $(BUILD)/.processor.o $(BUILD)/.libjls_salvage.o
+	for part in $(PARTS); do $(CC) $(CFLAGS) -fPIC -fno-lto -c -o $(BUILD)/.$$part.o library/$$part.c || exit 1; done
+	$(CC) -r -nostdlib -o $@ $(PARTS:%=$(BUILD)/.%.o) $(BUILD)/.libjls_salvage.o
+	@rm -f $(PARTS:%=$(BUILD)/.%.o) $(BUILD)/.libjls_salvage.o
 
 $(BUILD)/libjls_salvage.a: $(BUILD)/libjls_salvage.o
 	rm -f $@

@@ -3,6 +3,9 @@
 The expected values are the program's: the counts of its report, the line that says where a copy ends, the whole picture it writes, and
 the partial pictures that it makes of one copy and of several. Those of `rows` are written by hand from docs/FORMAT.md.
 """
+import array
+import dataclasses
+import mmap
 import os
 import re
 import subprocess
@@ -28,6 +31,14 @@ def samples_of(pnm):
     return list(data) if int(fields[3]) < 256 else [data[at] << 8 | data[at + 1] for at in range(0, len(data), 2)]
 
 
+def read(copy):
+    """What could be read of a copy, also if it has a coding that isn't read."""
+    try:
+        return jls_salvage.read(copy)
+    except jls_salvage.Unsupported as why:
+        return why.picture
+
+
 def compare(program, name):
     with open(name, "rb") as file:
         copy = file.read()
@@ -35,12 +46,12 @@ def compare(program, name):
     counts = re.search(r"^settled (\d+), missing (\d+), disputed (\d+)$", report, re.M)
     if not counts:
         try:
-            jls_salvage.read(copy)
+            read(copy)
         except jls_salvage.NoPicture:
             return
         print(f"{name}: a picture, and the program has none")
         return
-    info, picture = jls_salvage.check(copy), jls_salvage.read(copy)
+    info, picture = jls_salvage.check(copy), read(copy)
     wanted = [int(it) for it in counts.groups()]
     differ(name, "counts", [info.settled, info.missing, info.disputed], wanted)
     kinds = (jls_salvage.SETTLED, jls_salvage.MISSING, jls_salvage.DISPUTED)
@@ -87,6 +98,8 @@ def compare_joins(program, names):
         try:
             parts = jls_salvage.partial(content(first), 1), jls_salvage.partial(content(second), 4000000000)
             found, turned = jls_salvage.join(*parts), jls_salvage.join(*reversed(parts))
+        except jls_salvage.Unsupported:
+            continue
         except (jls_salvage.NoPicture, jls_salvage.ShapesDiffer) as why:
             differ(f"{first} and {second}", f"{why}, and a partial picture", wanted is None, True)
             continue
@@ -115,7 +128,7 @@ def compare_writes(program, name):
     """What is read of a whole file is written again, interleaved or not, with and without restart markers: it reads alike, and is what the
     program writes."""
     try:
-        picture = jls_salvage.read(content(name))
+        picture = read(content(name))
     except jls_salvage.NoPicture:
         return
     info = picture.info
@@ -147,12 +160,73 @@ def rows():
             jls_salvage.join(one, bytes_)
             print(f"{bytes_}: a partial picture")
         except jls_salvage.NoPartial as why:
-            differ("rows", "fault", (why.fault, why.offset), (fault or "no partial picture, or of an unknown version", offset))
+            differ("rows", "fault", (str(why.fault), why.offset), (fault or "no partial picture, or of an unknown version", offset))
     try:
         jls_salvage.join(one, bytes.fromhex("4A4C5350010800010001020102 00000000"))
         print("a join of two shapes")
     except jls_salvage.ShapesDiffer:
         pass
+
+
+BY_SAMPLE = "FFD8 FFF70011 0C 0002 0003 03 011100 021100 031100 FFDA000C 03 0100 0200 0300 00 02 00 1234"
+GREY = "FFD8 FFF7000B 08 0002 0003 01 011100 FFDA0008 01 0100 00 00 00"
+
+
+def headers():
+    """What the headers say without scan data, and codings that aren't read."""
+    told = jls_salvage.header(bytes.fromhex(GREY))
+    differ("headers", "sizes", (told.width, told.height, told.components, told.precision), (3, 2, 1, 8))
+    differ("headers", "coding", jls_salvage.header(bytes.fromhex(BY_SAMPLE)).coding, jls_salvage.Coding.BY_SAMPLE)
+    for call in (jls_salvage.read, lambda copy: jls_salvage.partial(copy, 1)):
+        try:
+            call(bytes.fromhex(BY_SAMPLE))
+            print("headers: colour by sample is read")
+        except jls_salvage.Unsupported as why:
+            differ("headers", "coding", (why.coding, why.offset), (jls_salvage.Coding.BY_SAMPLE, 21))
+
+
+def buffers(name):
+    """The same of each kind of buffer, and a path is refused."""
+    copy = content(name)
+    wanted = jls_salvage.check(copy)
+    with open(name, "rb") as file, mmap.mmap(file.fileno(), 0, access=mmap.ACCESS_READ) as mapped:
+        every_other = memoryview(bytes(byte for pair in zip(copy, copy) for byte in pair))[::2]
+        for buffer in (bytearray(copy), memoryview(copy), memoryview(bytearray(copy)), array.array("B", copy), mapped, every_other):
+            differ(name, f"of a buffer that is {type(buffer).__name__}:", jls_salvage.check(buffer), wanted)
+    differ(name, "as a file", str(jls_salvage.read_file(name).info if wanted.coding == 0 else wanted), str(replaced(wanted)))
+    try:
+        jls_salvage.read(name)
+        print("a path is read as bytes")
+    except TypeError as why:
+        differ("a path", "refusal", "read_file" in str(why), True)
+
+
+def replaced(info):
+    """Without pieces, as `read` tells it."""
+    return info if info.coding else dataclasses.replace(info, pieces=())
+
+
+def not_written():
+    """Lines that are lost, and numbers that are none of samples, are never written."""
+    cut = bytes.fromhex(GREY) + b"\x80"
+    lost = read(cut)
+    calls = [lambda: jls_salvage.write(lost, 8)] if lost.info.settled < lost.info.lines else []
+    try:
+        import numpy
+    except ImportError:
+        numpy = None
+    if numpy is not None:
+        arrays = [numpy.ones((2, 2)), numpy.full((2, 2), 1j), numpy.full((2, 2), numpy.nan)]
+        arrays += [numpy.ones((2, 2), bool), -numpy.ones((2, 2), int)]
+        arrays += [numpy.full((2, 2), 256), numpy.zeros((2, 2, 5), int), numpy.zeros((1, 2, 2, 2), int), lost.array()]
+        arrays += [numpy.ma.masked_array(numpy.ones((2, 2), int), [[0, 1], [0, 0]])]
+        calls += [lambda it=it: jls_salvage.write(it, 8) for it in arrays]
+    for number, call in enumerate(calls):
+        try:
+            call()
+            print(f"not_written: number {number} is written")
+        except jls_salvage.NotWritable:
+            pass
 
 
 def refusals():
@@ -161,7 +235,7 @@ def refusals():
             jls_salvage.read(bytes_)
             print(f"{bytes_}: a picture")
         except jls_salvage.NoPicture as why:
-            differ(bytes_, "fault", why.fault, fault)
+            differ(bytes_, "fault", str(why.fault), fault)
 
 
 def main():
@@ -171,6 +245,9 @@ def main():
         compare_writes(program, name)
     compare_joins(program, names)
     rows()
+    headers()
+    buffers(names[0])
+    not_written()
     refusals()
 
 

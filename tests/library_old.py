@@ -8,6 +8,7 @@ import jls_salvage
 
 CALLS: dict[str, Callable[[], object]] = {
     "check": lambda: jls_salvage.check(b"copy"),
+    "header": lambda: jls_salvage.header(b"copy"),
     "read": lambda: jls_salvage.read(b"copy"),
     "partial": lambda: jls_salvage.partial(b"copy", 1),
     "join": lambda: jls_salvage.join(b"one", b"two"),

@@ -20,7 +20,7 @@ static uint8_t *content(const char *name, size_t *size) {
 int main(int count, char **words) {
     size_t size = 0;
     uint8_t *copy = count > 1 ? content(words[1], &size) : NULL;
-    jls_info info;
+    jls_info info = JLS_INFO;
     if (copy == NULL || jls_check(copy, size, &info, NULL, 0) != JLS_DONE) return puts("no picture"), free(copy), 2;
     uint16_t *samples = calloc(info.samples, sizeof *samples);
     uint8_t *statuses = calloc(info.lines, 1);

@@ -4,9 +4,10 @@
     picture = jls_salvage.read(open("damaged.jls", "rb").read())
     picture.info.missing            # how many lines can't be read
     picture.line(0, 17)             # the samples of a line, or None
-    picture.array()                 # numpy: (height, width), or (height, width, components)
+    picture.array()                 # numpy: (height, width), or (height, width, components); lost lines are masked
 
-`check` tells the same without the samples. A copy without a frame raises `NoPicture`.
+`check` tells the same without the samples, and `header` without reading any. A copy without a frame raises `NoPicture`, and one of a coding
+that isn't read raises `Unsupported`.
 
     first, second = jls_salvage.partial(one, 1), jls_salvage.partial(other, 2)
     jls_salvage.lines(jls_salvage.join(first, second))   # what both copies give together
@@ -15,22 +16,29 @@ A partial picture is the bytes of a .jlsp file. One that is damaged raises `NoPa
 
     jls_salvage.write(picture.array(), 8)           # a JPEG-LS file
 
-Samples that no such file can have raise `NotWritable`. On a processor below x86-64-v2 each function raises `OldProcessor`.
+Samples that no such file can have raise `NotWritable`, and so do lines that are missing or disputed. On a processor below x86-64-v2 each
+function raises `OldProcessor`.
 """
 import sys
 
 if sys.version_info < (3, 9):  # here, before a module that an older Python can't read
     raise ImportError("Python 3.9 or later is needed, and this is %d.%d" % tuple(sys.version_info[:2]))
 
-from ._library import (  # noqa: E402
+from ._reading import check, header, join, lines, partial, read, read_file  # noqa: E402
+from ._types import (  # noqa: E402
     BEYOND,
     BROKEN,
     DISPUTED,
     LONG,
     MISSING,
     SETTLED,
+    Answer,
+    Coding,
     End,
     Error,
+    Fault,
+    Faulty,
+    Header,
     Info,
     MissingLibrary,
     NoPartial,
@@ -40,13 +48,11 @@ from ._library import (  # noqa: E402
     Picture,
     Piece,
     ShapesDiffer,
-    check,
-    join,
-    lines,
-    partial,
-    read,
-    write,
+    Unsupported,
 )
+from ._writing import write  # noqa: E402
+
+__version__ = "1.2.0"
 
 __all__ = [
     "BEYOND",
@@ -55,8 +61,13 @@ __all__ = [
     "LONG",
     "MISSING",
     "SETTLED",
+    "Answer",
+    "Coding",
     "End",
     "Error",
+    "Fault",
+    "Faulty",
+    "Header",
     "Info",
     "MissingLibrary",
     "NoPartial",
@@ -66,10 +77,13 @@ __all__ = [
     "Picture",
     "Piece",
     "ShapesDiffer",
+    "Unsupported",
     "check",
+    "header",
     "join",
     "lines",
     "partial",
     "read",
+    "read_file",
     "write",
 ]

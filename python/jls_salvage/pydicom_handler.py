@@ -8,9 +8,11 @@
 """
 from __future__ import annotations
 
-from typing import Any, Iterator, List
+from typing import Any, Iterator, Sequence, Tuple
 
 import jls_salvage
+
+from ._types import numpy_module
 
 HANDLER_NAME = "jls_salvage"
 DEPENDENCIES = {"numpy": ("https://numpy.org", "NumPy")}
@@ -21,7 +23,7 @@ class DamagedFrame(jls_salvage.Error, ValueError):
     """A frame of a data set has lines that can't be read. `frame` is its number from 0, and `lines` has the component and the line of
     each of them."""
 
-    def __init__(self, frame: int, lines: List[tuple]) -> None:
+    def __init__(self, frame: int, lines: Sequence[Tuple[int, int]]) -> None:
         named = ", ".join(f"{line} of component {component}" for component, line in lines[:8])
         more = f" and {len(lines) - 8} more" if len(lines) > 8 else ""
         super().__init__(f"frame {frame} is damaged: no samples of line {named}{more}")
@@ -35,7 +37,7 @@ def is_available() -> bool:
 
         from . import _library
 
-        _library._library()
+        _library.library()
     except (ImportError, jls_salvage.MissingLibrary):
         return False
     return True
@@ -56,16 +58,22 @@ def should_change_PhotometricInterpretation_to_RGB(dataset: Any) -> bool:  # noq
     return False
 
 
+def _refuse_shape(dataset: Any, frame: bytes) -> None:
+    """Refuses a frame whose headers say another shape than the data set, before room is taken for it, and samples that don't fit."""
+    found = jls_salvage.header(frame)
+    wanted = (dataset.Rows, dataset.Columns, dataset.SamplesPerPixel)
+    if (found.height, found.width, found.components) != wanted:
+        raise jls_salvage.Error(f"the frame has the shape {(found.height, found.width, found.components)}, and the data set {wanted}")
+    if found.precision > dataset.BitsAllocated or dataset.BitsAllocated not in (8, 16):
+        raise jls_salvage.Error(f"samples of {found.precision} bits don't fit into Bits Allocated {dataset.BitsAllocated}")
+
+
 def _pictures(dataset: Any) -> Iterator[jls_salvage.Picture]:
     from pydicom.encaps import generate_pixel_data_frame
 
     for frame in generate_pixel_data_frame(dataset.PixelData, int(getattr(dataset, "NumberOfFrames", 1) or 1)):
-        picture = jls_salvage.read(frame)
-        info = picture.info
-        wanted = (dataset.Rows, dataset.Columns, dataset.SamplesPerPixel)
-        if (info.height, info.width, info.components) != wanted:
-            raise jls_salvage.Error(f"the frame has the shape {(info.height, info.width, info.components)}, and the data set {wanted}")
-        yield picture
+        _refuse_shape(dataset, frame)
+        yield jls_salvage.read(frame)
 
 
 def _type_of(dataset: Any) -> Any:
@@ -76,9 +84,8 @@ def _type_of(dataset: Any) -> Any:
 
 def _typed(dataset: Any, picture: jls_salvage.Picture) -> Any:
     """The samples of a frame in the type of the data set. A signed sample of few bits has its sign repeated above them."""
-    import numpy
-
-    kind, samples = _type_of(dataset), picture.array()
+    numpy = numpy_module()
+    kind, samples = _type_of(dataset), numpy.ma.getdata(picture.array())
     if kind.kind == "i":
         above = 16 - picture.info.precision
         samples = (samples << above).astype(numpy.uint16).view(numpy.int16) >> above
@@ -100,8 +107,7 @@ def get_pixeldata(dataset: Any) -> Any:
 
 def masked_array(dataset: Any) -> Any:
     """The array that `pixel_array` would give, with the samples of missing and disputed lines masked."""
-    import numpy
-
+    numpy = numpy_module()
     pictures = list(_pictures(dataset))
     data = numpy.stack([_typed(dataset, picture) for picture in pictures])
     mask = numpy.stack([picture.mask() for picture in pictures])

@@ -24,7 +24,7 @@ static void rooms(const uint8_t *copy, size_t size, const jls_info *told) {
             size_t count = (size_t)((int64_t)told->samples + samples), rows = (size_t)((int64_t)told->lines + lines);
             uint16_t *out = malloc(2 * count);
             uint8_t *statuses = malloc(rows);
-            jls_info info;
+            jls_info info = JLS_INFO;
             memset(out, 0xA5, 2 * count);
             memset(statuses, 0xA5, rows);
             uint32_t answer = jls_read(copy, size, &info, out, count, statuses, rows);
@@ -40,7 +40,7 @@ static void rooms(const uint8_t *copy, size_t size, const jls_info *told) {
 
 /* Copies without a picture. */
 static void nothing(const char *bytes, size_t size, int fault) {
-    jls_info info;
+    jls_info info = JLS_INFO;
     uint16_t sample = 7;
     uint8_t status = 7;
     jls_piece piece;
@@ -58,7 +58,7 @@ int main(int count, char **words) {
     if (file == NULL) return 99;
     size_t size = fread(copy, 1, sizeof copy, file);
     fclose(file);
-    jls_info info;
+    jls_info info = JLS_INFO;
     want("no check", jls_check(copy, size, &info, NULL, 0) == JLS_DONE);
     want("other counts", info.missing + info.settled + info.disputed == info.lines);
     want("another size", info.samples == (uint64_t)info.width * info.height * info.components);

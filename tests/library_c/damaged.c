@@ -60,22 +60,55 @@ static struct bytes damaged(struct bytes from) {
     return fit;
 }
 
+/* Whether a copy was read. */
+static int is_read(uint32_t answer) { return answer == JLS_DONE || answer == JLS_UNSUPPORTED; }
+
+/* The headers of a copy, and its samples by pixel and with a gap between lines: what jls_read says must agree. */
+static void laid_out(struct bytes copy, const jls_info *read, const uint16_t *samples) {
+    jls_header header = JLS_HEADER;
+    uint32_t answer = jls_read_header(copy.at, copy.size, &header);
+    calls++;
+    want("no headers", is_read(answer));
+    want("another size", header.samples == read->samples && header.lines == read->lines && header.width == read->width);
+    jls_layout layout = JLS_LAYOUT;
+    layout.bytes = read->precision > 8 || chance() % 2 == 0 ? 2 : 1;
+    layout.interleaved = chance() % 2;
+    uint64_t line = (uint64_t)read->width * (layout.interleaved ? read->components : 1), lines = read->lines;
+    if (layout.interleaved) lines = read->height;
+    layout.stride = chance() % 2 == 0 ? 0 : line + chance() % 5;
+    uint64_t stride = layout.stride == 0 ? line : layout.stride, count = (lines - 1) * stride + line;
+    uint8_t *out = fenced(layout.bytes * count), *statuses = fenced(read->lines);
+    jls_info info = JLS_INFO;
+    want("room that is short", jls_read_as(copy.at, copy.size, &info, &layout, out, count - 1, statuses, read->lines) == JLS_SHORT_ROOM);
+    answer = jls_read_as(copy.at, copy.size, &info, &layout, out, count, statuses, read->lines);
+    want("no samples as they are laid out", is_read(answer) && memcmp(&info, read, sizeof info) == 0);
+    for (uint64_t component = 0; component < read->components; component++)
+        for (uint64_t y = 0; y < read->height; y++)
+            for (uint64_t x = 0; x < read->width; x++) {
+                uint64_t at = layout.interleaved ? y * stride + x * read->components + component : (component * read->height + y) * stride + x;
+                uint16_t sample = layout.bytes == 1 ? out[at] : ((uint16_t *)(void *)out)[at];
+                if (sample != *samples++) want("another sample", 0);
+            }
+    release(out, layout.bytes * count);
+    release(statuses, read->lines);
+}
+
 /* What a copy gives as a partial picture, in just the room that it needs. */
 static struct bytes partial_of(struct bytes copy, uint32_t source) {
     struct bytes partial = {NULL, 0};
-    jls_info info;
+    jls_info info = JLS_INFO;
     uint32_t answer = jls_partial(copy.at, copy.size, source, &info, NULL, 0);
     calls++;
     if (answer != JLS_SHORT_ROOM) return partial;
     partial = (struct bytes){fenced(info.bytes), info.bytes};
-    want("no partial picture", jls_partial(copy.at, copy.size, source, &info, partial.at, partial.size) == JLS_DONE);
+    want("no partial picture", is_read(jls_partial(copy.at, copy.size, source, &info, partial.at, partial.size)));
     return partial;
 }
 
 /* Both partial pictures as one; no bytes where they don't join. */
 static struct bytes joined(struct bytes first, struct bytes second) {
     struct bytes both = {NULL, 0};
-    jls_info info;
+    jls_info info = JLS_INFO;
     uint32_t answer = jls_join(first.at, first.size, second.at, second.size, &info, NULL, 0);
     calls++;
     if (answer != JLS_SHORT_ROOM) return both;
@@ -90,7 +123,7 @@ static int same(struct bytes one, struct bytes other) {
 
 /* The lines of a partial picture have to be those that were read, if any were. */
 static void shown(struct bytes partial, const jls_info *read, const uint16_t *samples, const uint8_t *statuses) {
-    jls_info info;
+    jls_info info = JLS_INFO;
     uint32_t answer = jls_lines(partial.at, partial.size, &info, NULL, 0, NULL, 0);
     calls++;
     want("another answer about lines", answer == JLS_SHORT_ROOM || answer == JLS_NO_PARTIAL);
@@ -110,22 +143,21 @@ static void shown(struct bytes partial, const jls_info *read, const uint16_t *sa
 
 /* A copy: what is checked, read, and made of it. */
 static struct bytes tried(struct bytes copy) {
-    jls_info info, read;
+    jls_info info = JLS_INFO, read = JLS_INFO;
     jls_piece pieces[3];
     struct bytes partial = {NULL, 0};
-    memset(&info, 0, sizeof info);
-    memset(&read, 0, sizeof read);
     uint32_t answer = jls_check(copy.at, copy.size, &info, pieces, chance() % 4);
     calls++;
-    int agrees = answer == JLS_DONE || jls_read(copy.at, copy.size, &read, NULL, 0, NULL, 0) == answer;
+    int agrees = is_read(answer) || jls_read(copy.at, copy.size, &read, NULL, 0, NULL, 0) == answer;
     want("no picture, but one", agrees);
-    if (answer != JLS_DONE) return partial;
+    if (!is_read(answer)) return partial;
     want("other counts", info.missing + info.settled + info.disputed == info.lines && info.bytes == 0);
     if (info.samples > 1u << 22) return partial;
     uint16_t *samples = fenced(2 * info.samples);
     uint8_t *statuses = fenced(info.lines);
-    want("no lines of a copy", jls_read(copy.at, copy.size, &read, samples, info.samples, statuses, info.lines) == JLS_DONE);
+    want("no lines of a copy", is_read(jls_read(copy.at, copy.size, &read, samples, info.samples, statuses, info.lines)));
     want("another info", memcmp(&info, &read, sizeof info) == 0);
+    laid_out(copy, &read, samples);
     partial = partial_of(copy, (uint32_t)chance());
     shown(partial, &read, samples, statuses);
     release(samples, 2 * info.samples);

@@ -37,7 +37,7 @@ static void wants(const char *what, const struct bytes *first, const struct byte
     struct bytes wanted = hex(wanted_text);
     for (size_t room = 0; room < wanted.size + 3; room++) {
         uint8_t *out = malloc(room + 1);
-        jls_info info;
+        jls_info info = JLS_INFO;
         memset(out, 0xA5, room + 1);
         memset(&info, 0xA5, sizeof info);
         uint32_t answer = second != NULL ? jls_join(first->at, first->size, second->at, second->size, &info, out, room)
@@ -56,7 +56,7 @@ static void refused(const struct bytes *bytes, const struct bytes *good, int fau
     uint16_t sample = 7;
     jls_line line;
     uint8_t out[128];
-    jls_info info;
+    jls_info info = JLS_INFO;
     memset(&line, 0xA5, sizeof line);
     memset(out, 0xA5, sizeof out);
     uint32_t answers[3] = {JLS_NO_PARTIAL, JLS_NO_PARTIAL, JLS_NO_SECOND_PARTIAL};
@@ -77,7 +77,7 @@ static void shown(const char *what, const struct bytes *partial, int status, uin
         for (size_t lines = 0; lines < 4; lines++) {
             uint16_t samples[4] = {7, 7, 7, 7};
             jls_line told[4];
-            jls_info info;
+            jls_info info = JLS_INFO;
             memset(told, 0xA5, sizeof told);
             uint32_t answer = jls_lines(partial->at, partial->size, &info, samples, room, told, lines);
             want(what, answer == (room < info.samples || lines < info.lines ? JLS_SHORT_ROOM : JLS_DONE));
@@ -127,7 +127,7 @@ int main(void) {
     shown("a settled line", &p, JLS_SETTLED, 1, 3);
     shown("a missing line", &none, JLS_MISSING, 0, 0);
     shown("two missing lines", &other, JLS_MISSING, 0, 0);
-    jls_info info;
+    jls_info info = JLS_INFO;
     uint8_t out[64];
     memset(&info, 0xA5, sizeof info);
     memset(out, 0xA5, sizeof out);

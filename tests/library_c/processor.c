@@ -8,8 +8,9 @@
 
 int main(void) {
     static const uint8_t copy[64] = {0xff, 0xd8, 0xff, 0xf7};
+    static const jls_layout layout = {.size = sizeof layout, .bytes = 2};
     static const jls_frame frame = {.width = 2, .height = 2, .precision = 8, .components = 1};
-    static struct { jls_info info; jls_piece pieces[4]; jls_line lines[4]; uint16_t samples[8]; uint8_t bytes[64]; uint64_t size; } out, before;
+    static struct { jls_info info; jls_header header; jls_piece pieces[4]; jls_line lines[4]; uint16_t samples[8]; uint8_t bytes[64]; uint64_t size; } out, before;
     memset(&out, 0x5a, sizeof out);
     before = out;
     const uint32_t answers[] = {
@@ -19,6 +20,9 @@ int main(void) {
         jls_join(copy, sizeof copy, copy, sizeof copy, &out.info, out.bytes, COUNT(out.bytes)),
         jls_lines(copy, sizeof copy, &out.info, out.samples, COUNT(out.samples), out.lines, COUNT(out.lines)),
         jls_write(&frame, out.samples, 4, out.bytes, COUNT(out.bytes), &out.size),
+        jls_read_header(copy, sizeof copy, &out.header),
+        jls_read_as(copy, sizeof copy, &out.info, &layout, out.samples, COUNT(out.samples), out.bytes, COUNT(out.bytes)),
+        jls_write_as(&frame, &layout, out.samples, 4, out.bytes, COUNT(out.bytes), &out.size),
     };
     int status = 0;
     for (size_t at = 0; at < COUNT(answers); at++) {

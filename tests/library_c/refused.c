@@ -29,6 +29,7 @@ static jls_line lines[4096];
 static size_t size, partial_size, other_size;
 static jls_info info;
 static jls_frame frame;
+static const jls_layout layout = {.size = sizeof layout, .bytes = 2};
 static uint16_t picture[ROOM];
 
 static uint32_t call(int which) {
@@ -38,6 +39,8 @@ static uint32_t call(int which) {
     case 2: return jls_partial(copy, size, 7, &info, out, ROOM);
     case 3: return jls_join(partial, partial_size, other, other_size, &info, out, ROOM);
     case 4: return jls_lines(partial, partial_size, &info, samples, ROOM, lines, 4096);
+    case 5: return jls_read_as(copy, size, &info, &layout, samples, ROOM, out, ROOM);
+    case 6: return jls_write_as(&frame, &layout, picture, (size_t)frame.width * frame.height, out, ROOM, &info.bytes);
     default: return jls_write(&frame, picture, (size_t)frame.width * frame.height, out, ROOM, &info.bytes);
     }
 }
@@ -78,7 +81,7 @@ int main(int count, char **names) {
         other_size = info.bytes;
         frame = (jls_frame){(uint16_t)(3 + 7 * at), (uint16_t)(9 + at), (uint16_t)(at % 3), 16, 1, 0};
         for (size_t sample = 0; sample < 4096; sample++) picture[sample] = (uint16_t)(sample * sample * 40503u >> 7);
-        for (int which = 0; which < 6; which++) refuse(which), all++;
+        for (int which = 0; which < 8; which++) refuse(which), all++;
     }
     return printf("%ld calls, %d differ\n", all, differ), differ != 0;
 }

@@ -12,12 +12,13 @@ static int count;
 static long turns = 100;
 
 static uint64_t sum_of(const uint8_t *copy, size_t size) {
-    jls_info info;
+    jls_info info = JLS_INFO;
     if (jls_read(copy, size, &info, NULL, 0, NULL, 0) != JLS_SHORT_ROOM) return 1 + info.fault;
     uint16_t *samples = malloc(2 * info.samples + 1);
     uint8_t *statuses = malloc(info.lines + 1);
     uint64_t sum = 0xCBF29CE484222325u;
-    if (jls_read(copy, size, &info, samples, info.samples, statuses, info.lines) != JLS_DONE) sum = 0;
+    uint32_t answer = jls_read(copy, size, &info, samples, info.samples, statuses, info.lines);
+    if (answer != JLS_DONE && answer != JLS_UNSUPPORTED) sum = 0;
     for (size_t at = 0; at < info.samples && sum != 0; at++) sum = (sum ^ samples[at]) * 0x100000001B3u;
     for (size_t at = 0; at < info.lines && sum != 0; at++) sum = (sum ^ statuses[at]) * 0x100000001B3u;
     free(samples);

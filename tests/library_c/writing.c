@@ -35,7 +35,7 @@ static void wants(const char *what, jls_frame frame, const uint16_t *samples, si
         want(what, memcmp(out, wanted, written) == 0 && is_all(out + written, room + 1 - written, 0xA5));
         free(out);
     }
-    jls_info info;
+    jls_info info = JLS_INFO;
     uint16_t read[16];
     uint8_t statuses[16];
     want(what, jls_read(wanted, size, &info, read, 16, statuses, 16) == JLS_DONE && info.settled == info.lines && info.samples == count);

@@ -1,0 +1,90 @@
+/* Samples as callers hold them: of one byte or two, with a stride, by component or by pixel. They go through a buffer that stands as
+   jls_read and jls_write have it. No proof covers this file. */
+#include "../include/jls_salvage.h"
+#include "processor.h"
+#include <stdlib.h>
+
+typedef struct place {
+    uint64_t width, height, components;
+    uint64_t stride;   /* from the first sample of a line to that of the next */
+    uint64_t plane;    /* from the first sample of a component to that of the next */
+    uint64_t step;     /* from a sample to the next of its line */
+    uint64_t room;     /* all samples of the buffer that are used, or skipped */
+} place;
+
+/* Where samples of such a picture stand in a layout; false where there is no such layout. */
+static bool place_of(const jls_layout *layout, uint64_t width, uint64_t height, uint64_t components, place *found) {
+    uint64_t line = layout->interleaved ? width * components : width, stride = layout->stride != 0 ? layout->stride : line;
+    uint64_t lines = layout->interleaved ? height : height * components;
+    if ((layout->bytes != 1 && layout->bytes != 2) || stride < line || width == 0 || lines == 0) return false;
+    if (lines > 1 && stride > (UINT64_MAX / 4 - line) / (lines - 1)) return false;
+    *found = (place){width, height, components, stride, layout->interleaved ? 1 : height * stride, layout->interleaved ? components : 1,
+                     (lines - 1) * stride + line};
+    return true;
+}
+
+static uint64_t index_of(const place *at, uint64_t component, uint64_t line, uint64_t column) {
+    return component * at->plane + line * at->stride + column * at->step;
+}
+
+static void spread(const uint16_t *from, const place *at, void *to, uint8_t bytes) {
+    for (uint64_t component = 0; component < at->components; component++)
+        for (uint64_t line = 0; line < at->height; line++)
+            for (uint64_t column = 0; column < at->width; column++, from++) {
+                uint64_t index = index_of(at, component, line, column);
+                if (bytes == 1) ((uint8_t *)to)[index] = (uint8_t)*from;
+                else ((uint16_t *)to)[index] = *from;
+            }
+}
+
+static void gather(const void *from, const place *at, uint16_t *to, uint8_t bytes) {
+    for (uint64_t component = 0; component < at->components; component++)
+        for (uint64_t line = 0; line < at->height; line++)
+            for (uint64_t column = 0; column < at->width; column++, to++) {
+                uint64_t index = index_of(at, component, line, column);
+                *to = bytes == 1 ? ((const uint8_t *)from)[index] : ((const uint16_t *)from)[index];
+            }
+}
+
+/* Room for samples; NULL where there is none, or they can't be so many. */
+static uint16_t *room_for(uint64_t count) { return count > SIZE_MAX / 2 ? NULL : malloc(count != 0 ? 2 * (size_t)count : 1); }
+
+uint32_t jls_read_as(const uint8_t *copy, size_t size, jls_info *info, const jls_layout *layout, void *samples, size_t sample_room,
+                     uint8_t *statuses, size_t status_room) {
+    jls_header header = JLS_HEADER;
+    uint16_t *planes;
+    place at;
+    if (!runs_here()) return JLS_PROCESSOR;
+    if (layout->size < sizeof *layout || info->size < sizeof *info) return JLS_BAD_SIZE;
+    uint32_t answer = jls_read_header(copy, size, &header);
+    if (answer == JLS_OUT_OF_MEMORY) return answer;
+    if (answer == JLS_NO_PICTURE) return jls_check(copy, size, info, NULL, 0);
+    if (!place_of(layout, header.width, header.height, header.components, &at)) return JLS_BAD_LAYOUT;
+    if (layout->bytes == 1 && header.precision > 8) return JLS_LARGE_SAMPLE;
+    if (at.room > sample_room) {
+        answer = jls_check(copy, size, info, NULL, 0);
+        return answer == JLS_DONE || answer == JLS_UNSUPPORTED ? JLS_SHORT_ROOM : answer;
+    }
+    planes = room_for(header.samples);
+    if (planes == NULL) return JLS_OUT_OF_MEMORY;
+    answer = jls_read(copy, size, info, planes, (size_t)header.samples, statuses, status_room);
+    if (answer == JLS_DONE || answer == JLS_UNSUPPORTED) spread(planes, &at, samples, layout->bytes);
+    free(planes);
+    return answer;
+}
+
+uint32_t jls_write_as(const jls_frame *frame, const jls_layout *layout, const void *samples, size_t count, uint8_t *file, size_t room,
+                      uint64_t *file_size) {
+    place at;
+    if (!runs_here()) return JLS_PROCESSOR;
+    if (layout->size < sizeof *layout) return JLS_BAD_SIZE;
+    if (!place_of(layout, frame->width, frame->height, frame->components, &at)) return JLS_BAD_LAYOUT;
+    if (at.room > count || frame->components > 4) return JLS_BAD_FRAME;
+    uint64_t all = at.width * at.height * at.components;
+    uint16_t *planes = room_for(all);
+    if (planes == NULL) return JLS_OUT_OF_MEMORY;
+    gather(samples, &at, planes, layout->bytes);
+    uint32_t answer = jls_write(frame, planes, (size_t)all, file, room, file_size);
+    free(planes);
+    return answer;
+}

@@ -1,0 +1,135 @@
+/* headers: small files whose headers are written by hand, each with what jls_read_header has to say of it, and layouts that there are or
+   aren't. It prints each difference, and answers how many there are. */
+#include <jls_salvage.h>
+#include <stdio.h>
+#include <stdlib.h>
+#include <string.h>
+
+static int differ;
+
+static void want(const char *what, int holds) {
+    if (!holds) differ++, printf("%s\n", what);
+}
+
+typedef struct bytes { uint8_t at[256]; size_t size; } bytes;
+
+static bytes hex(const char *text) {
+    bytes found = {{0}, 0};
+    char *end;
+    for (unsigned long byte = strtoul(text, &end, 16); end != text; byte = strtoul(text, &end, 16)) found.at[found.size++] = (uint8_t)byte, text = end;
+    return found;
+}
+
+/* What a header has to say: the answer, the fault and its place, the shape and the coding. */
+static void wants(const char *what, const char *text, jls_header wanted, uint32_t answer) {
+    bytes copy = hex(text);
+    jls_header found = JLS_HEADER;
+    want(what, jls_read_header(copy.at, copy.size, &found) == answer);
+    wanted.size = sizeof wanted;
+    int same = found.unsupported == wanted.unsupported && found.samples == wanted.samples && found.lines == wanted.lines
+               && found.end_offset == wanted.end_offset && found.restart_interval == wanted.restart_interval && found.width == wanted.width
+               && found.height == wanted.height && found.precision == wanted.precision && found.components == wanted.components
+               && found.interleave == wanted.interleave && found.near_lossless == wanted.near_lossless && found.fault == wanted.fault;
+    want(what, same);
+    if (!same)
+        printf("  %u %u, %u x %u, end %u, %u, interval %u, %u %u\n", found.unsupported, found.fault, found.width, found.height,
+               (unsigned)found.end_offset, found.precision, (unsigned)found.restart_interval, found.interleave, found.near_lossless);
+}
+
+#define GREY "FF F7 00 0B 08 00 02 00 03 01 01 11 00 "
+#define RED_GREEN_BLUE "FF F7 00 11 0C 00 02 00 03 03 01 11 00 02 11 00 03 11 00 "
+#define SCAN "FF DA 00 08 01 01 00 00 00 00 "
+
+static void of_headers(void) {
+    jls_header grey = {.samples = 6, .lines = 2, .width = 3, .height = 2, .precision = 8, .components = 1, .end_offset = 25};
+    jls_header colour = {.samples = 18, .lines = 6, .width = 3, .height = 2, .precision = 12, .components = 3, .end_offset = 35};
+    wants("one component", "FF D8 " GREY SCAN "12 34", grey, JLS_DONE);
+    wants("headers alone", "FF D8 " GREY SCAN, grey, JLS_DONE);
+    jls_header other = grey;
+    other.end_offset = 31, other.restart_interval = 258;
+    wants("a restart interval", "FF D8 FF DD 00 04 01 02 " GREY SCAN, other, JLS_DONE);
+    other.end_offset = 33, other.restart_interval = 65538;
+    wants("a restart interval of four bytes", "FF D8 FF DD 00 06 00 01 00 02 " GREY SCAN, other, JLS_DONE);
+    other = grey, other.end_offset = 34;
+    wants("fill bytes, and a comment", "FF D8 FF FF FF FE 00 05 41 42 43 " GREY SCAN, other, JLS_DONE);
+    other = colour, other.interleave = 1;
+    wants("by line", "FF D8 " RED_GREEN_BLUE "FF DA 00 0C 03 01 00 02 00 03 00 00 01 00", other, JLS_DONE);
+    other.interleave = 2, other.unsupported = JLS_BY_SAMPLE, other.fault = JLS_FAULT_INTERLEAVE, other.end_offset = 21;
+    wants("by sample", "FF D8 " RED_GREEN_BLUE "FF DA 00 0C 03 01 00 02 00 03 00 00 02 00", other, JLS_UNSUPPORTED);
+    other.interleave = 0, other.unsupported = JLS_NOT_INTERLEAVED;
+    wants("not interleaved", "FF D8 " RED_GREEN_BLUE "FF DA 00 0C 03 01 00 02 00 03 00 00 00 00", other, JLS_UNSUPPORTED);
+    other = grey, other.near_lossless = 2, other.unsupported = JLS_NEAR_LOSSLESS, other.fault = JLS_FAULT_LOSSY, other.end_offset = 15;
+    wants("near-lossless", "FF D8 " GREY "FF DA 00 08 01 01 00 02 00 00", other, JLS_UNSUPPORTED);
+    other.near_lossless = 0, other.unsupported = JLS_MAPPING_TABLE, other.fault = JLS_FAULT_MAPPING_TABLE;
+    wants("a mapping table", "FF D8 " GREY "FF DA 00 08 01 01 01 00 00 00", other, JLS_UNSUPPORTED);
+    other.unsupported = JLS_POINT_TRANSFORM, other.fault = JLS_FAULT_POINT_TRANSFORM;
+    wants("a point transform", "FF D8 " GREY "FF DA 00 08 01 01 00 00 00 01", other, JLS_UNSUPPORTED);
+    wants("no frame", "FF D8 FF D9", (jls_header){.fault = JLS_FAULT_NO_FRAME, .end_offset = 2}, JLS_NO_PICTURE);
+    wants("no start", "12 34", (jls_header){.fault = JLS_FAULT_NO_SOI, .end_offset = 0}, JLS_NO_PICTURE);
+    wants("nothing", "", (jls_header){.fault = JLS_FAULT_ENDED, .end_offset = 0}, JLS_NO_PICTURE);
+    other = (jls_header){.fault = JLS_FAULT_SAMPLING, .unsupported = JLS_SUBSAMPLED, .end_offset = 2};
+    wants("subsampled", "FF D8 FF F7 00 0B 08 00 02 00 03 01 01 21 00 " SCAN, other, JLS_NO_PICTURE);
+    other = grey, other.fault = JLS_FAULT_ENDED, other.end_offset = 20;
+    wants("a header that is cut off", "FF D8 " GREY "FF DA 00 08 01", other, JLS_DONE);
+}
+
+/* A buffer of 3 x 2 pixels of two components, 8 bits, each sample another: written and read in each layout. */
+static void of_layouts(void) {
+    const jls_frame frame = {.width = 3, .height = 2, .precision = 8, .components = 2};
+    const uint8_t pixels[14] = {10, 20, 11, 21, 12, 22, 99, 13, 23, 14, 24, 15, 25, 99}; /* the stride is 7 */
+    const uint16_t planes[12] = {10, 11, 12, 13, 14, 15, 20, 21, 22, 23, 24, 25};
+    uint8_t file[256], other[256];
+    uint64_t size = 0, other_size = 0;
+    jls_layout layout = JLS_LAYOUT;
+    want("samples are not written", jls_write(&frame, planes, 12, file, sizeof file, &size) == JLS_DONE);
+    layout.bytes = 1, layout.interleaved = 1, layout.stride = 7;
+    want("pixels are not written", jls_write_as(&frame, &layout, pixels, 13, other, sizeof other, &other_size) == JLS_DONE);
+    want("another file", size == other_size && memcmp(file, other, size) == 0);
+    want("too few pixels", jls_write_as(&frame, &layout, pixels, 12, other, sizeof other, &other_size) == JLS_BAD_FRAME);
+    uint8_t out[14], statuses[4];
+    memset(out, 99, sizeof out);
+    jls_info info = JLS_INFO;
+    want("pixels are not read", jls_read_as(file, size, &info, &layout, out, 13, statuses, 4) == JLS_DONE && info.settled == 4);
+    want("other pixels", memcmp(out, pixels, sizeof out) == 0);
+    want("room for the statuses", jls_read_as(file, size, &info, &layout, out, 13, statuses, 3) == JLS_SHORT_ROOM);
+    uint16_t wide[12];
+    layout = (jls_layout){.size = sizeof layout, .bytes = 2};
+    want("samples are not read", jls_read_as(file, size, &info, &layout, wide, 12, statuses, 4) == JLS_DONE);
+    want("other samples", memcmp(wide, planes, sizeof wide) == 0);
+    jls_layout bad[] = {{.size = sizeof layout, .bytes = 0}, {.size = sizeof layout, .bytes = 3}, {.size = sizeof layout, .bytes = 2, .stride = 2},
+                        {.size = sizeof layout, .bytes = 1, .interleaved = 1, .stride = 5}, {.size = sizeof layout, .bytes = 1, .stride = UINT64_MAX}};
+    for (size_t at = 0; at < sizeof bad / sizeof *bad; at++) {
+        want("a layout that there isn't", jls_read_as(file, size, &info, &bad[at], wide, 12, statuses, 4) == JLS_BAD_LAYOUT);
+        want("it was written", jls_write_as(&frame, &bad[at], planes, 12, other, sizeof other, &other_size) == JLS_BAD_LAYOUT);
+    }
+    layout.size = 8;
+    want("a short layout", jls_read_as(file, size, &info, &layout, wide, 12, statuses, 4) == JLS_BAD_SIZE);
+    const jls_frame deep = {.width = 1, .height = 1, .precision = 9, .components = 1};
+    want("a deep sample", jls_write(&deep, planes, 1, file, sizeof file, &size) == JLS_DONE);
+    layout = (jls_layout){.size = sizeof layout, .bytes = 1};
+    want("it is put into a byte", jls_read_as(file, size, &info, &layout, out, 1, statuses, 1) == JLS_LARGE_SAMPLE);
+}
+
+/* A structure without its size is refused, and a longer one keeps what lies behind. */
+static void of_sizes(void) {
+    bytes copy = hex("FF D8 " GREY SCAN);
+    struct { jls_info info; uint64_t behind; } longer = {.info = {.size = sizeof longer}, .behind = 7};
+    jls_info unset;
+    jls_header header;
+    memset(&unset, 0, sizeof unset), memset(&header, 0, sizeof header);
+    want("no size", jls_check(copy.at, copy.size, &unset, NULL, 0) == JLS_BAD_SIZE && unset.width == 0);
+    want("no size of a header", jls_read_header(copy.at, copy.size, &header) == JLS_BAD_SIZE && header.width == 0);
+    want("a longer one", jls_check(copy.at, copy.size, &longer.info, NULL, 0) == JLS_DONE && longer.info.size == sizeof longer);
+    want("what lies behind", longer.behind == 7 && longer.info.width == 3);
+}
+
+int main(void) {
+    of_headers();
+    of_layouts();
+    of_sizes();
+    want("another version", jls_version() == JLS_VERSION);
+    for (uint32_t number = 0; number < 64; number++)
+        want("no text", jls_text(number)[0] != 0 && jls_fault_text(number)[0] != 0 && jls_unsupported_text(number)[0] != 0);
+    want("a last text", strcmp(jls_text(JLS_BAD_LAYOUT), "no such layout") == 0 && strcmp(jls_text(JLS_BAD_LAYOUT + 1), "unknown") == 0);
+    return differ;
+}
