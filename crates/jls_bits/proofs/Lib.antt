@@ -6,6 +6,7 @@ pub mod CodeSteps
 pub mod Codes
 pub mod CodesBegun
 pub mod DataBits
+pub mod Fronts
 pub mod GolombReading
 pub mod Markers
 pub mod NumberBits

@@ -1,8 +1,9 @@
 -- The definitions of specs/ computed on small examples.
-use Rattle.std.proofs.Common.{◌≡◌, true, false, [], ◌∷◌, ◌++◌, replicate, refl}
+use Rattle.std.proofs.Common.{◌≡◌, true, false, [], ◌∷◌, ◌++◌, replicate, refl, lit<}
 use Rattle.jls_bits.specs.Bits.{bits, value_of_bits, width_after, ends_data, bits_read_after, is_whole_after, bits_read, is_whole}
 use Rattle.jls_bits.specs.Golomb.{golomb, has_golomb}
 use Rattle.jls_bits.specs.Pad.{pad_after, pad}
+use Rattle.jls_bits.specs.Front.{IsFront}
 
 -- the low bits of numbers, and back
 bits_of_five : bits 4 5 ≡ false ∷ true ∷ false ∷ true ∷ []
@@ -112,3 +113,16 @@ code_of_65537 = refl
 golomb_of_1 : golomb 0 3 1 1 ≡ false ∷ true ∷ false ∷ []
 unfolding bits golomb
 golomb_of_1 = refl
+
+-- 9 ones fill 0xFF, and one is over; 15 ones fill 0xFF 0x7F. 7 ones fill no byte
+front_of_9 : IsFront (replicate 9 true) (255 ∷ [])
+unfolding bits width_after ends_data bits_read_after is_whole_after
+front_of_9 = record { filled = record { are_bytes = (lit< tt, tt); whole = refl }; over = true ∷ []; given_is = refl; few = lit< tt }
+
+front_of_15 : IsFront (replicate 15 true) (255 ∷ 127 ∷ [])
+unfolding bits width_after ends_data bits_read_after is_whole_after
+front_of_15 = record { filled = record { are_bytes = (lit< tt, (lit< tt, tt)); whole = refl }; over = []; given_is = refl; few = lit< tt }
+
+front_of_7 : IsFront (replicate 7 true) []
+unfolding bits width_after ends_data bits_read_after is_whole_after
+front_of_7 = record { filled = record { are_bytes = tt; whole = refl }; over = replicate 7 true; given_is = refl; few = lit< tt }

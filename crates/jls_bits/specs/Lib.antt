@@ -2,6 +2,7 @@ pub mod Appending
 pub mod Bits
 pub mod Chunk
 pub mod CodeState
+pub mod Front
 pub mod Golomb
 pub mod GolombBits
 pub mod GolombReading

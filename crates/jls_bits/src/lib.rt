@@ -13,7 +13,7 @@
 //! A decoder of an interval keeps a `CodeState`, and computes k, g and qbpp anew. `of_short` finds the state of an incomplete short code
 //! from all its bits at once, and `fed` gives these bits back.
 //!
-//! Definitions: `Bits`, `Pad`, `Golomb`, `CodeState`, `Chunk`, `Unread`, `GolombBits`. Inside the crate: `Packing`, `Appending`,
+//! Definitions: `Bits`, `Pad`, `Front` (the bytes that bits fill), `Golomb`, `CodeState`, `Chunk`, `Unread`, `GolombBits`. Inside the crate: `Packing`, `Appending`,
 //! `Unstuffing`, `GolombReading`.
 #![tactic(auto)]
 
@@ -37,4 +37,4 @@ pub use golomb_reader::{GolombReader, GolombStep};
 pub use pushed::PushedBytes;
 pub use reader::{BitReader, data_bits_end_at_a_marker};
 pub use unstuffer::Unstuffer;
-pub use writer::{BitWriter, bits_have_one_pad};
+pub use writer::{BitPlace, BitWriter, bits_have_one_pad, fronts_begin};

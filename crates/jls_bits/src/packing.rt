@@ -6,8 +6,10 @@ ghost use Rattle.jls_bits.specs.Bits;
 ghost use Rattle.jls_bits.specs.Bits.{bits};
 ghost use Rattle.jls_bits.specs.Pad.{IsPad};
 ghost use Rattle.jls_bits.specs.Packing.{IsPacking, bits_put};
+ghost use Rattle.jls_bits.specs.Front.{IsFront, EndsAt};
 
 use crate::stuffing::width_after;
+use crate::writer::BitPlace;
 use std::alloc::{AllocError, Global};
 
 /// Bits that are packed into bytes as they come. Up to 63 of them wait in a number, so that most calls put no byte. Only `reserve` and
@@ -152,13 +154,46 @@ impl Packing {
         Ok(bytes)
     }
 
+    /// Puts the bytes that the bits fill. Fewer bits wait after them than the next byte carries.
+    pub(crate) fn fill(&mut self) -> Result<(), AllocError>
+        requires { IsPacking self.old }
+        ensures packing { IsPacking self.new }
+        ensures bits { bits_put self.new ≡ bits_put self.old }
+        ensures few { OnOk result (self.new.count < Bits.width_after self.new.last) }
+    {
+        self.reserve(0)?;
+        self.put_bytes();
+        Ok(())
+    }
+
     /// The bytes of the bits, filled up with zeros, and without 0xFF at the end.
     pub(crate) fn finish(mut self) -> Result<Vec<u8>, AllocError>
         requires { IsPacking self }
         ensures { IfOk result (λ v. IsPad (bits_put self) v.items) }
     {
-        self.reserve(0)?;
-        self.put_bytes();
+        self.fill()?;
         self.padded()
+    }
+
+    /// Where the bits end, where fewer wait than fill a byte.
+    pub(crate) fn place(&self) -> BitPlace
+        requires packing { IsPacking self.now }
+        requires few { self.now.count < Bits.width_after self.now.last }
+        ensures { EndsAt (bits_put self.now) result }
+    {
+        BitPlace {
+            bytes: self.bytes.len(),
+            bits: self.count,
+        }
+    }
+
+    /// The bytes that the bits fill, where fewer bits wait than fill another.
+    pub(crate) fn into_front(self) -> Vec<u8>
+        requires packing { IsPacking self }
+        requires few { self.count < Bits.width_after self.last }
+        ensures { IsFront (bits_put self) result.items }
+    {
+        let Packing { bytes, .. } = self;
+        bytes
     }
 }

@@ -3,10 +3,18 @@
 ghost use Rattle.std.specs.Prelude.{◌≡◌, ℕ, Bool, List, ◌^◌, ◌<◌, ◌≤◌, false, [], ◌∷◌, ◌++◌, replicate, IfOk, OnOk, OnErr};
 ghost use Rattle.jls_bits.specs.Bits.{bits};
 ghost use Rattle.jls_bits.specs.Pad.{IsPad, pad};
+ghost use Rattle.jls_bits.specs.Front.{IsFront, EndsAt, FrontsBeginBytes, FrontsGrow, FrontsAreOne};
 
 use crate::packing::Packing;
 use std::alloc::{AllocError, Global};
 use std::marker::Model;
+
+/// A place in the data bits of bytes: after so many whole bytes, and so many data bits of the next one.
+#[derive(Clone, Copy, Debug, PartialEq, Eq, Drop)]
+pub struct BitPlace {
+    pub bytes: usize,
+    pub bits: u8,
+}
 
 /// Collects the bits of an interval, the most significant bit of each byte first. A bit 0 is stuffed after each byte 0xFF (ITU-T T.87,
 /// A.1). A contract sees the list of the bits so far.
@@ -98,10 +106,36 @@ impl BitWriter {
     {
         self.packing.finish()
     }
+
+    /// Where the bits end: after the bytes that they fill, and fewer bits than the next byte carries. The only refusal is out of
+    /// memory.
+    pub fn place(&mut self) -> Result<BitPlace, AllocError>
+        ensures same { self.new ≡ self.old }
+        ensures place { IfOk result (λ place. EndsAt self.old place) }
+    {
+        self.packing.fill()?;
+        Ok(self.packing.place())
+    }
+
+    /// The bytes that the bits fill. The bits after them, fewer than the next byte carries, are left out. Out of memory gives the bits
+    /// up.
+    pub fn into_front(mut self) -> Result<Vec<u8>, AllocError>
+        ensures { IfOk result (λ v. IsFront self v.items) }
+    {
+        self.packing.fill()?;
+        Ok(self.packing.into_front())
+    }
 }
 
 /// A law: bits have exactly one pad, and the definition `pad` computes it.
 pub fn bits_have_one_pad()
     ensures computed { (given : List Bool) → IsPad given (pad given) }
     ensures only { (given : List Bool) (bytes : List ℕ) → IsPad given bytes → bytes ≡ pad given }
+{}
+
+/// A law: bytes begin with the front of their first data bits, and so does the front of more bits. Bits have one front.
+pub fn fronts_begin()
+    ensures bytes { FrontsBeginBytes }
+    ensures grow { FrontsGrow }
+    ensures one { FrontsAreOne }
 {}

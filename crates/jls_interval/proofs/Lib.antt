@@ -13,6 +13,7 @@ pub mod BlocksTaken
 pub mod CutEvents
 pub mod SamplesRead
 pub mod FoldedEvents
+pub mod Fronts
 pub mod RunEvents
 pub mod RunExamples
 pub mod GrowthEnds
@@ -21,6 +22,7 @@ pub mod PiecesReadOnce
 pub mod NeighboursAgree
 pub mod PartedOnce
 pub mod WorkedExamples
+mod FrontExamples
 pub mod RunPrefixes
 pub mod CutEventCases
 mod HeadExamples

@@ -18,6 +18,7 @@ pub mod After
 pub mod Place
 pub mod Encoding
 pub mod ReadBack
+pub mod Fronts
 pub mod RunChunks
 pub mod SampleSteps
 pub mod OpenEvents

@@ -1,7 +1,9 @@
 //! Writing an interval.
 
-ghost use Rattle.std.specs.Prelude.{◌≡◌, [], get_or, map, IfOk, OnOk};
+ghost use Rattle.std.specs.Prelude.{◌≡◌, ◌+◌, ◌<◌, ◌≤◌, [], get_or, length, map, IfOk, OnOk};
+ghost use Rattle.std.specs.List.{AllByRecursion};
 ghost use Rattle.jls_bits.specs.Pad.{IsPad};
+ghost use Rattle.jls_interval.specs.Lines.{IsLine};
 ghost use Rattle.jls_interval.specs.Fits.{FitsInterval};
 ghost use Rattle.jls_interval.specs.Code.{code};
 ghost use Rattle.jls_interval.specs.Encoding.{AreWritten, written_by};
@@ -26,6 +28,29 @@ fn line_at<'a>(lines: &[&'a [u16]], j: usize) -> &'a [u16]
     }
 }
 
+/// Writes line j, where the lines before it were written.
+pub(crate) fn write_next_line(
+    encoder: &mut Encoder,
+    width: u16,
+    components: u8,
+    lines: &[&[u16]],
+    j: usize,
+) -> Result<(), AllocError>
+    requires components_at_least { 1 ≤ components }
+    requires components_at_most { components ≤ 4 }
+    requires each { AllByRecursion (IsLine encoder.old.coder.cells.parameters width) (map (λ l. l.now) lines.now) }
+    requires within { j < length lines.now }
+    requires before { AreWritten encoder.old.coder.cells.parameters width components (map
+        (λ l. l.now) lines.now) j (written_by encoder.old) }
+    ensures written { OnOk result (AreWritten encoder.old.coder.cells.parameters width components (map
+        (λ l. l.now) lines.now) (j + 1) (written_by encoder.new)) }
+    ensures parameters { encoder.new.coder.cells.parameters ≡ encoder.old.coder.cells.parameters }
+{
+    let place = Place::after(&lines[..j], usize::from(components));
+    write_line(encoder, &place, line_at(lines, j))?;
+    Ok(())
+}
+
 /// Writes the bits of the lines, one line after another.
 fn write_lines(
     encoder: &mut Encoder,
@@ -39,8 +64,7 @@ fn write_lines(
     ensures { OnOk result (encoder.new.writer ≡ code encoder.old.coder.cells.parameters width components (map (λ l. l.now) lines.now)) }
 {
     for j in 0..lines.len() {
-        let place = Place::after(&lines[..j], usize::from(components));
-        write_line(encoder, &place, line_at(lines, j))?;
+        write_next_line(encoder, width, components, lines, j)?;
     }
     Ok(())
 }

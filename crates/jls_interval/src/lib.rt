@@ -3,6 +3,7 @@
 //! - `coder`: what both ways carry from event to event: the contexts, the lengths of codes (`code_lengths`), and RUNindex of each component
 //! - `place`, `neighbours`, `run_index`: a component with the two lines above. The neighbours of a sample. J and the blocks of a run
 //! - `encode`, `encode_line`: writing: the lines of an interval, and the stretches of columns of a line
+//! - `front`: the same for the first lines of an interval: the bytes that they fill, and where each line ends
 //! - `encode_run`, `encode_sample`, `encode_samples`: write the bits of a run, of a sample, and of consecutive samples of regular mode, by
 //!   an `encoder`
 //! - `interval_decoder`: the public decoder. It makes chunks of the data bits of its bytes, and keeps no bytes
@@ -23,7 +24,7 @@
 //! Definitions: `Lines` (L(y, x) and neighbours), `Events` (stretches of columns, then the same computed), `Cells` and `Runs` (the state
 //! before an event), `Code` (bits), `Reads` (which bytes read, are too long, are broken), `Fits`. For laws and decoders: `Stepwise` (codes
 //! that are read step by step, without JPEG-LS), `Growth` (the interval as such a code), `Laws`, `ReadBack`, `Heads` and `CutEvents` (where
-//! bits break off). `PieceFaults` says what an answer says of a piece, except `NoLines`. `CutEnds` says the same at the input's end. The
+//! bits break off). `Fronts`: first lines, the bytes that they fill. `PieceFaults` says what an answer says of a piece, except `NoLines`. `CutEnds` says the same at the input's end. The
 //! record `IntervalBytes` is what contracts see of a decoder. The other files are needed inside the crate only.
 //!
 //! Not proved:
@@ -88,6 +89,7 @@ mod encode_run;
 mod encode_sample;
 mod encode_samples;
 mod encoder;
+mod front;
 mod heads;
 mod interval_decoder;
 mod interval_reader;
@@ -105,6 +107,7 @@ mod run_reader;
 pub use cut_end::CutEnd;
 pub use decode_piece::{PieceFault, decode_interval};
 pub use encode::{encode_interval, packed_lines_read_back};
+pub use front::{Front, encode_front, fronts_begin_pieces};
 pub use heads::{
     cut_events_go_on, heads_are_finished_lines, heads_are_one, read_pieces_have_no_head,
 };
