@@ -1,7 +1,7 @@
 use Rattle.std.proofs.Common.{◌≡◌, ℕ, ◌≤◌, true, false, List, sym, subst, ◌∙◌}
 use Rattle.std.specs.List.{AllByRecursion}
 use Rattle.jls_values.specs.Params.{CodingParameters}
-use Rattle.jls_interval.specs.Events.{Above, above}
+use Rattle.jls_interval.specs.Events.{Above}
 use Rattle.jls_interval.specs.Place.{above_of}
 use Rattle.jls_interval.proofs.EventsApart.{small_back}
 use Rattle.jls_interval.proofs.IntervalReading.{working}

@@ -1,4 +1,4 @@
-use Rattle.std.proofs.Common.{◌≡◌, ℕ, ◌%◌, ◌≤◌, true, false, List, Bool, ◌++◌, Vec, Global, length, refl, ◌∙◌, ap, sym, subst, arith}
+use Rattle.std.proofs.Common.{◌≡◌, ℕ, ◌%◌, ◌≤◌, true, false, List, Bool, ◌++◌, length, refl, ◌∙◌, sym, subst, arith}
 use Rattle.jls_values.specs.Params.{CodingParameters}
 use Rattle.jls_interval.specs.Events.{Above, above}
 use Rattle.jls_interval.specs.Decoding.{IsReading, TakesFirst, TakesEvent}
