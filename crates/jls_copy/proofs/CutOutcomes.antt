@@ -1,10 +1,8 @@
 -- What the piece adds that the input's end closes, from what its decoder answered.
-use Rattle.std.proofs.Common.{◌≡◌, ℕ, ◌+◌, ◌*◌, ◌<◌, ◌≤◌, List, [], ◌∷◌, map, length, Some, refl, sym, ap, ◌∙◌, subst, arith, inl, inr}
+use Rattle.std.proofs.Common.{◌≡◌, ℕ, ◌+◌, ◌*◌, ◌<◌, ◌≤◌, List, [], ◌∷◌, length, Some, refl, sym, ap, ◌∙◌, subst, arith, inl, inr}
 use Rattle.std.proofs.Common.{length-append}
 use Rattle.std.specs.Prelude.{IfSome, min}
 use Rattle.std.proofs.lemmas.List.{append-nil}
-use Rattle.std.specs.declared.vec.Vec.{Vec}
-use Rattle.std.specs.declared.alloc.Global.{Global}
 use Rattle.jls_values.specs.Shape.{PictureShape}
 use Rattle.jls_values.specs.Params.{CodingParameters, AreCodingParameters}
 use Rattle.jls_bits.specs.Bits.{bits_read}
@@ -35,9 +33,6 @@ use Rattle.jls_copy.proofs.Outcomes.{decoding_with, decoding_is}
 -- what `finish_cut` says of a decoder
 abbrev pub CutFinishes : IntervalBytes → CutEnd → Type 0
 CutFinishes d end = IfSome d.bytes (λ bytes. CutEndIs (interval_asked d) bytes end)
-
-abbrev items : Vec (Vec ℕ Global) Global → List (List ℕ)
-items lines = map (λ line. line.items) lines.items
 
 -- a piece that reads has no head
 no_head : (p : CodingParameters) (w c n : ℕ) (bytes : List ℕ) (lines : List (List ℕ)) → AreCodingParameters p → 0 < w
@@ -98,45 +93,45 @@ module _ (s : Scan) (k : ℕ) (d : IntervalBytes) (piece : OpenPiece) (is : piec
   pub cut_interval : k < intervals s
   cut_interval = open_is.within
 
-  pub whole_lines : (lines : Vec (Vec ℕ Global) Global) → CutFinishes d (Whole lines)
-      → (n : ℕ) × (n ≤ count) × AreLines s.params s.width n (items lines)
+  pub whole_lines : (lines : List (List ℕ)) → CutFinishes d (Whole lines)
+      → (n : ℕ) × (n ≤ count) × AreLines s.params s.width n lines
   whole_lines lines h = (count, omega arith, (said (Whole lines) h).begins.are_lines)
 
-  pub not_memory : (head : Vec (Vec ℕ Global) Global) (fault : PieceFault) → CutFinishes d (Head head fault)
+  pub not_memory : (head : List (List ℕ)) (fault : PieceFault) → CutFinishes d (Head head fault)
       → fault ≡ piece_fault.OutOfMemory → ⊥
   not_memory head fault h e = said (Head head piece_fault.OutOfMemory) (subst (λ f. CutFinishes d (Head head f)) e h)
 
-  its_head : (head : Vec (Vec ℕ Global) Global) (fault : PieceFault) → CutFinishes d (Head head fault)
-      → IsHeadOfPiece (interval_shape s.params s.width (length s.components) count) fed_bytes (items head)
+  its_head : (head : List (List ℕ)) (fault : PieceFault) → CutFinishes d (Head head fault)
+      → IsHeadOfPiece (interval_shape s.params s.width (length s.components) count) fed_bytes head
   its_head head piece_fault.Long h = (said (Head head piece_fault.Long) h).1
   its_head head piece_fault.Broken h = (said (Head head piece_fault.Broken) h).1
   its_head head piece_fault.OutOfMemory h = absurd (said (Head head piece_fault.OutOfMemory) h)
 
-  its_fault : (head : Vec (Vec ℕ Global) Global) (fault : PieceFault) (f : PieceKind) → CutFinishes d (Head head fault) → IsKindOf fault f
+  its_fault : (head : List (List ℕ)) (fault : PieceFault) (f : PieceKind) → CutFinishes d (Head head fault) → IsKindOf fault f
       → IsOutcomeAt s (Interval k) fed_bytes (Fault f)
   its_fault head piece_fault.Long f h e = rw e ((said (Head head piece_fault.Long) h).0)
   its_fault head piece_fault.Broken f h e = rw e ((said (Head head piece_fault.Broken) h).0)
   its_fault head piece_fault.OutOfMemory f h e = absurd e
 
-  pub cut_lines : (head : Vec (Vec ℕ Global) Global) (fault : PieceFault) → CutFinishes d (Head head fault)
-      → (n : ℕ) × (n ≤ count) × AreLines s.params s.width n (items head)
-  cut_lines head fault h = head_lines s.params s.width (length s.components) count fed_bytes (items head) (its_head head fault h)
+  pub cut_lines : (head : List (List ℕ)) (fault : PieceFault) → CutFinishes d (Head head fault)
+      → (n : ℕ) × (n ≤ count) × AreLines s.params s.width n head
+  cut_lines head fault h = head_lines s.params s.width (length s.components) count fed_bytes head (its_head head fault h)
 
   module _ (ok : IsScan s) (shape : PictureShape) (index offset : ℕ) (old new : Findings) where
-    pub whole_adds : (lines : Vec (Vec ℕ Global) Global) → CutFinishes d (Whole lines)
-        → new.partial ≡ Some (with_readings (picture_of shape old.partial) (placed s.components (first_row s k) 0 (items lines)))
+    pub whole_adds : (lines : List (List ℕ)) → CutFinishes d (Whole lines)
+        → new.partial ≡ Some (with_readings (picture_of shape old.partial) (placed s.components (first_row s k) 0 lines))
         → new.records.items ≡ old.records.items → new.record_count ≡ old.record_count
         → AddsCut (Some shape) (piece_found index s offset piece ∷ []) old new
     whole_adds lines h p r c =
-        let now : Reads (interval_shape s.params s.width (length s.components) count) fed_bytes (items lines) = said (Whole lines) h in
-        let none = no_head s.params s.width (length s.components) count fed_bytes (items lines) ok.params
+        let now : Reads (interval_shape s.params s.width (length s.components) count) fed_bytes lines = said (Whole lines) h in
+        let none = no_head s.params s.width (length s.components) count fed_bytes lines ok.params
         (let w = ok.width_at_least in omega arith) now in
-        let found = placed s.components (first_row s k) 0 (items lines) in
+        let found = placed s.components (first_row s k) 0 lines in
         rw whole (
           shape,
           refl,
           record {
-            outcome = Lines (items lines);
+            outcome = Lines lines;
             is_outcome = now;
             head = [];
             is_head = none;
@@ -146,9 +141,9 @@ module _ (s : Scan) (k : ℕ) (d : IntervalBytes) (piece : OpenPiece) (is : piec
           },
         )
 
-    pub head_adds : (head : Vec (Vec ℕ Global) Global) (fault : PieceFault) (f : PieceKind) → CutFinishes d (Head head fault)
+    pub head_adds : (head : List (List ℕ)) (fault : PieceFault) (f : PieceKind) → CutFinishes d (Head head fault)
         → IsKindOf fault f
-        → new.partial ≡ Some (with_readings (picture_of shape old.partial) (placed s.components (first_row s k) 0 (items head)))
+        → new.partial ≡ Some (with_readings (picture_of shape old.partial) (placed s.components (first_row s k) 0 head))
         → new.records.items ≡ kept_with old.records.items (record { scan = index; interval = k; offset = offset; kind = f } ∷ [])
         → new.record_count ≡ old.record_count + 1
         → AddsCut (Some shape) (piece_found index s offset piece ∷ []) old new
@@ -159,7 +154,7 @@ module _ (s : Scan) (k : ℕ) (d : IntervalBytes) (piece : OpenPiece) (is : piec
           record {
             outcome = Fault f;
             is_outcome = its_fault head fault f h e;
-            head = items head;
+            head = head;
             is_head = its_head head fault h;
             picture_is = ap (picture_of shape) p;
             records_are = r;

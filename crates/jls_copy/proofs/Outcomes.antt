@@ -1,9 +1,7 @@
 -- What a whole piece adds, from what its decoder answered.
-use Rattle.std.proofs.Common.{◌≡◌, ℕ, ◌+◌, List, [], ◌∷◌, ◌++◌, map, length, Option, Some, Result, Ok, Err, refl, sym, ap, ◌∙◌, subst}
+use Rattle.std.proofs.Common.{◌≡◌, ℕ, ◌+◌, List, [], ◌∷◌, ◌++◌, length, Option, Some, Result, Ok, Err, refl, sym, ap, ◌∙◌, subst}
 use Rattle.std.proofs.Common.{add-zero}
 use Rattle.std.specs.Prelude.{OnOk, MatchOption}
-use Rattle.std.specs.declared.vec.Vec.{Vec}
-use Rattle.std.specs.declared.alloc.Global.{Global}
 use Rattle.jls_values.specs.Shape.{PictureShape}
 use Rattle.jls_values.specs.Params.{CodingParameters}
 use Rattle.jls_interval.specs.Reads.{Reads}
@@ -50,7 +48,7 @@ decoding_is s k d i = same_decoding d s.params s.width (length s.components) (ro
     i.components_are i.rows_are i.bytes_are
 
 -- what `finish` says of a decoder
-abbrev pub Finishes : IntervalBytes → Result (Vec (Vec ℕ Global) Global) PieceFault → Type 0
+abbrev pub Finishes : IntervalBytes → Result (List (List ℕ)) PieceFault → Type 0
 Finishes d r = MatchOption d.bytes (r ≡ Err piece_fault.OutOfMemory) (λ bytes. OutcomeIs (interval_asked d) bytes r)
 
 module _ (shape : PictureShape) (index : ℕ) (s : Scan) (offset k : ℕ) (old new : Findings) where
@@ -84,18 +82,18 @@ module _ (shape : PictureShape) (index : ℕ) (s : Scan) (offset k : ℕ) (old n
     fault_adds fault f h e p r c =
         rw whole (shape, refl, Fault f, is_fault fault f h e, record { picture_is = rw p refl; records_are = r; count_is = c })
 
-    pub lines_add : (lines : Vec (Vec ℕ Global) Global) → Finishes d (Ok lines)
+    pub lines_add : (lines : List (List ℕ)) → Finishes d (Ok lines)
         → new.partial ≡ Some (with_readings (picture_of shape old.partial)
-        (placed s.components (first_row s k) 0 (map (λ line. line.items) lines.items)))
+        (placed s.components (first_row s k) 0 lines))
         → new.records.items ≡ old.records.items → new.record_count ≡ old.record_count
         → Adds (Some shape) (piece_found index s offset piece ∷ []) old new
     lines_add lines h p r c =
-        let now : Reads (interval_of s k) fed_bytes (map (λ line. line.items) lines.items) =
+        let now : Reads (interval_of s k) fed_bytes lines =
         subst (λ x. Finishes x (Ok lines)) (decoding_is s k d open_is) h in
         rw whole (
           shape,
           refl,
-          Lines (map (λ line. line.items) lines.items),
+          Lines lines,
           now,
           record { picture_is = rw p refl; records_are = r; count_is = rw add-zero c },
         )

@@ -12,7 +12,7 @@ ghost use Rattle.jls_copy.specs.ReaderState.{piece_found};
 ghost use Rattle.jls_copy.specs.Sound.{IsOpenPiece};
 
 use crate::piece::{FedPiece, OpenPiece, PieceKind, PieceRecord};
-use jls_interval::{CutEnd, PieceFault};
+use jls_interval::{CutEnd, FinishedLines, PieceFault};
 use jls_marker::ScanPlan;
 use jls_partial::{InsertFault, Partial};
 use jls_values::{Merge, MergeFault, Shape};
@@ -27,6 +27,8 @@ pub(crate) struct Findings {
     pub(crate) partial: Option<Partial>,
     pub(crate) records: Vec<PieceRecord>,
     pub(crate) record_count: u64,
+    /// How many samples the taken lines had, for a strategy only.
+    pub(crate) samples: u64,
 }
 
 /// A second picture with the same readings.
@@ -104,6 +106,7 @@ impl Findings {
             partial,
             records: Vec::from_slice(alloc, &self.records)?,
             record_count: self.record_count,
+            samples: self.samples,
         })
     }
 
@@ -128,15 +131,15 @@ impl Findings {
         shape: &Shape,
         plan: &ScanPlan,
         interval: u32,
-        lines: Vec<Vec<u16>>,
+        lines: FinishedLines,
     ) -> Result<(), AllocError>
         requires interval { interval < intervals plan.now }
         requires scan { IsScanOf shape.now plan.now }
         requires lines { (count : ℕ) × (count ≤ row_count plan.now interval * length plan.now.components)
-            × AreLines plan.now.params plan.now.width count (map (λ line. line.items) lines.items) }
+            × AreLines plan.now.params plan.now.width count lines }
         requires held { HoldsShape self.old.partial shape.now }
         ensures picture { OnOk result (self.new.partial ≡ Some (with_readings (picture_of shape.now self.old.partial)
-            (placed plan.now.components (first_row plan.now interval) 0 (map (λ line. line.items) lines.items)))) }
+            (placed plan.now.components (first_row plan.now interval) 0 lines))) }
         ensures records { OnOk result (self.new.records.items ≡ self.old.records.items) }
         ensures count { OnOk result (self.new.record_count ≡ self.old.record_count) }
     {
@@ -147,8 +150,15 @@ impl Findings {
         };
         // The lines are held already, so this asks for no more than what the bytes gave.
         partial.reserve(lines.len() as u32)?;
-        take_lines(&mut partial, plan.components(), first_row, lines)?;
+        let samples = (lines.len() as u64).saturating_mul(u64::from(plan.width()));
+        take_lines(
+            &mut partial,
+            plan.components(),
+            first_row,
+            lines.into_vecs()?,
+        )?;
         self.partial = Some(partial);
+        self.samples = self.samples.saturating_add(samples);
         Ok(())
     }
 
@@ -197,17 +207,17 @@ impl Findings {
         alloc: Global,
         shape: &Shape,
         plan: &ScanPlan,
-        head: Vec<Vec<u16>>,
+        head: FinishedLines,
         entry: PieceRecord,
     ) -> Result<(), AllocError>
         requires count { self.old.record_count < 2 ^ 63 }
         requires interval { entry.interval < intervals plan.now }
         requires scan { IsScanOf shape.now plan.now }
         requires lines { (count : ℕ) × (count ≤ row_count plan.now entry.interval * length plan.now.components)
-            × AreLines plan.now.params plan.now.width count (map (λ line. line.items) head.items) }
+            × AreLines plan.now.params plan.now.width count head }
         requires held { HoldsShape self.old.partial shape.now }
         ensures picture { OnOk result (self.new.partial ≡ Some (with_readings (picture_of shape.now self.old.partial)
-            (placed plan.now.components (first_row plan.now entry.interval) 0 (map (λ line. line.items) head.items)))) }
+            (placed plan.now.components (first_row plan.now entry.interval) 0 head))) }
         ensures records { OnOk result (self.new.records.items ≡ kept_with self.old.records.items (entry ∷ [])) }
         ensures count { OnOk result (self.new.record_count ≡ self.old.record_count + 1) }
     {

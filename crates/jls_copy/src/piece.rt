@@ -106,6 +106,14 @@ impl OpenPiece {
         }
     }
 
+    /// How many samples were read so far. Nothing is promised of the number.
+    pub(crate) fn samples_read(&self) -> u64 {
+        match self {
+            OpenPiece::Within(_, decoder) => decoder.samples_read(),
+            OpenPiece::Beyond(_) => 0,
+        }
+    }
+
     /// Whether it is known to read as no lines, whatever follows. `false` says nothing.
     pub(crate) fn reads_no_more(&self) -> bool
         ensures { result ≡ true → OpenReadsNoMore self.now }

@@ -10,7 +10,7 @@ ghost use Rattle.jls_copy.specs.PieceDecoder.{unfed};
 ghost use Rattle.jls_copy.specs.ReaderState.{with_bytes};
 
 use crate::interval_shape::IntervalShape;
-use jls_interval::{CutEnd, IntervalDecoder, PieceFault};
+use jls_interval::{CutEnd, FinishedLines, IntervalDecoder, PieceFault};
 use std::alloc::{AllocError, Global};
 use std::marker::Model;
 
@@ -124,8 +124,16 @@ impl PieceDecoder {
         }
     }
 
+    /// How many samples were read so far. Nothing is promised of the number.
+    pub(crate) fn samples_read(&self) -> u64 {
+        match &self.made {
+            Some(decoder) => decoder.samples_read(),
+            None => 0,
+        }
+    }
+
     /// The lines of the piece, or why it has none.
-    pub(crate) fn finish(self) -> Result<Vec<Vec<u16>>, PieceFault>
+    pub(crate) fn finish(self) -> Result<FinishedLines, PieceFault>
         ensures outcome { MatchOption self.bytes (result ≡ Err PieceFault.OutOfMemory)
             (λ bytes. OutcomeIs (interval_asked self) bytes result) }
     {

@@ -142,6 +142,7 @@ impl CopyReader {
                     partial: None,
                     records: Vec::new(alloc),
                     record_count: 0,
+                    samples: 0,
                 },
             },
             failed: false,
@@ -171,6 +172,13 @@ impl CopyReader {
         ensures { IfSome self.now (λ bytes. result ≡ length bytes) }
     {
         self.machine.count
+    }
+
+    /// How many samples were read so far: those of the taken lines of finished pieces, and those of the piece in hand. This is for
+    /// strategies that compare readers, and nothing is promised of the number. It takes no memory.
+    pub fn samples_read(&self) -> u64 {
+        let in_hand = self.machine.place.samples_read();
+        self.machine.findings.samples.saturating_add(in_hand)
     }
 
     /// Takes the next slice of the copy, which may be empty. All slices together may have 2^63 - 1 bytes at most. Bytes after the
@@ -303,6 +311,7 @@ fn conclude(machine: Machine, ended: End) -> Result<CopyRead, CopyFault>
         partial,
         records,
         record_count,
+        ..
     } = findings;
     match headers.shape() {
         None => Err(no_picture(ended)),

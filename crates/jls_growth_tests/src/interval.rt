@@ -4,7 +4,9 @@ ghost use Rattle.std.specs.Prelude.{◌*◌, ◌^◌, ◌≤◌};
 
 use crate::four::{FOUR_LINES, FOUR_LINES_CODE};
 use crate::met::{Met, Stopped, Tally};
-use jls_interval::{CutEnd, IntervalDecoder, PieceFault, decode_interval, encode_interval, fits};
+use jls_interval::{
+    CutEnd, FinishedLines, IntervalDecoder, PieceFault, decode_interval, encode_interval, fits,
+};
 use jls_values::Params;
 use std::alloc::{AllocError, Global};
 use std::process::Abort;
@@ -141,10 +143,18 @@ fn check_refused(rt: &impl Abort, mut decoder: IntervalDecoder) {
     }
 }
 
+/// Compares lines that no clone shares with those of the interval. That takes no memory, since they are few.
+fn check_vecs(rt: &impl Abort, lines: FinishedLines, interval: &Interval) {
+    match lines.into_vecs() {
+        Ok(lines) => assert!(rt; are_lines(&lines, interval.lines)),
+        Err(AllocError) => panic!(rt; "no line is shared"),
+    }
+}
+
 /// Asks a decoder for its lines that took the whole piece.
 fn check_lines(rt: &impl Abort, decoder: IntervalDecoder, interval: &Interval) {
     match decoder.finish() {
-        Ok(lines) => assert!(rt; are_lines(&lines, interval.lines)),
+        Ok(lines) => check_vecs(rt, lines, interval),
         Err(fault) => panic!(rt; "{fault:?}"),
     }
 }
@@ -211,7 +221,7 @@ fn cut_one(rt: &impl Abort, alloc: Global, interval: &Interval) -> Result<Met, S
         }
     }
     match decoder.finish_cut() {
-        Ok(CutEnd::Whole(lines)) => assert!(rt; are_lines(&lines, interval.lines)),
+        Ok(CutEnd::Whole(lines)) => check_vecs(rt, lines, interval),
         Ok(CutEnd::Head(_, fault)) => panic!(rt; "{fault:?}"),
         Err(AllocError) => panic!(rt; "no memory is taken"),
     }

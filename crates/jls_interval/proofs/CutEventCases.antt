@@ -19,7 +19,7 @@ use Rattle.jls_context.specs.Interruption.{run_k, interruption_mapped}
 use Rattle.jls_context.proofs.Samples.{error_range, sample_same, restored}
 use Rattle.jls_interval.specs.Events.{Event, regular, run_to_end, interrupted_run, Above, above}
 use Rattle.jls_interval.specs.Cells.{is_same, cell_before, run_cell_before, regular_prediction, interruption_error}
-use Rattle.jls_interval.specs.Runs.{run_order, run_index_raised, block_columns, full_blocks, Blocks, blocks, run_index_before}
+use Rattle.jls_interval.specs.Runs.{run_order, run_index_raised, block_columns, Blocks, blocks, run_index_before}
 use Rattle.jls_interval.specs.Code.{event_bits, run_to_end_bits, interrupting_bits}
 use Rattle.jls_interval.specs.Growth.{Position, here, IsNext, HasSamples}
 use Rattle.jls_interval.specs.CutEvents.{IsProperPrefix, CutsNextEvent, CutsSample, CutsBlocks, CutsCount, after_run, CutsInterruption}

@@ -23,7 +23,7 @@ use Rattle.jls_interval.proofs.CodesApart.{codes_apart}
 use Rattle.jls_interval.proofs.Decoding.{working_refused}
 use Rattle.jls_interval.proofs.HeadLines.{head_is}
 use Rattle.jls_interval.proofs.CutEvents.{event_some}
-use Rattle.jls_interval.proofs.IntervalReading.{items, working, in_range}
+use Rattle.jls_interval.proofs.IntervalReading.{working, in_range}
 
 module _ (p : CodingParameters) (ok : AreCodingParameters p) (w c n : ℕ) (some : 0 < w) (given : List Bool) where
   -- bits that begin no lines' code, whatever comes
@@ -86,7 +86,7 @@ module _ (p : CodingParameters) (d : IntervalReader) (given : List Bool) (h : Is
   open d use {components as n, reader.{width as w, line.{items as line}, coder.{cells, run_indices as ri}}}
 
   abbrev lines : List (List ℕ)
-  lines = items d.lines.items
+  lines = d.lines
 
   pub reading_idle : (d.state ≡ Working → ⊥) → IsHead (interval_shape p w n d.count) given []
   reading_idle none =

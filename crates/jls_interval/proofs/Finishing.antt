@@ -1,5 +1,5 @@
 -- What a decoder holds at the end of its bytes.
-use Rattle.std.proofs.Common.{◌≡◌, ℕ, ◌*◌, ◌^◌, ◌<◌, ◌≤◌, Bool, true, false, List, [], ◌∷◌, ◌++◌, length, get_or, suc, map, Vec, Global}
+use Rattle.std.proofs.Common.{◌≡◌, ℕ, ◌*◌, ◌^◌, ◌<◌, ◌≤◌, Bool, true, false, List, [], ◌∷◌, ◌++◌, length, get_or, suc, Vec, Global}
 use Rattle.std.proofs.Common.{Result, Ok, Err, sym, ap, ◌∙◌, subst, arith, inl, inr, append_assoc, length-append}
 use Rattle.std.specs.Prelude.{not, Option, Some, None, MatchOption, IfSome, MatchResult}
 use Rattle.std.proofs.lemmas.List.{append-nil}
@@ -19,7 +19,7 @@ use Rattle.jls_interval.specs.declared.decode_piece.PieceFault.{PieceFault}
 use Rattle.jls_interval.specs.declared.decode_piece.PieceFault.TheVariants.{Long, Broken, OutOfMemory}
 use Rattle.jls_interval.specs.declared.interval_reader.State.TheVariants.{Working, NoCode}
 use Rattle.jls_interval.proofs.Decoding.{working_ends}
-use Rattle.jls_interval.proofs.IntervalReading.{items, state_of, working, in_range}
+use Rattle.jls_interval.proofs.IntervalReading.{state_of, working, in_range}
 use Rattle.jls_interval.proofs.PiecesReadOnce.{reads_once, read_not_long}
 
 -- The bytes so far ---------------------------------------------------------------------------
@@ -88,10 +88,10 @@ module _ (p : CodingParameters) (w c n : ℕ) (bytes : List ℕ) where
     }
 
   -- a piece that reads is answered by its lines
-  pub outcome_read : AreCodingParameters p → 0 < w → (result : Result (Vec (Vec ℕ Global) Global) PieceFault)
+  pub outcome_read : AreCodingParameters p → 0 < w → (result : Result (List (List ℕ)) PieceFault)
       → OutcomeIs (interval_shape p w c n) bytes result → (lines : List (List ℕ)) → Reads (interval_shape p w c n) bytes lines
-      → MatchResult result (λ v. map (λ v. v.items) v.items ≡ lines) (λ fault. ⊥)
-  outcome_read ok some (Ok v) h lines r = reads_once p ok w c n some bytes (map (λ v. v.items) v.items) lines h r
+      → MatchResult result (λ found. found ≡ lines) (λ fault. ⊥)
+  outcome_read ok some (Ok found) h lines r = reads_once p ok w c n some bytes found lines h r
   outcome_read ok some (Err Long) h lines r = read_not_long p ok w c n some bytes lines r h
   outcome_read ok some (Err Broken) h lines r = h.not_read lines r
   outcome_read ok some (Err OutOfMemory) h lines r = h
@@ -102,7 +102,7 @@ module _ (p : CodingParameters) (d : IntervalReader) (bytes : List ℕ) (reading
   working_breaks is =
       broken_bits p d.reader.width d.components d.count bytes
       (working_ends p (in_range p d (bits_read bytes) reading is) d.reader.width d.components d.count reading.width_at_least
-      (bits_read bytes) (items d.lines.items) d.reader.line.items d.reader.coder.cells d.reader.coder.run_indices d.reader.open_event
+      (bits_read bytes) d.lines d.reader.line.items d.reader.coder.cells d.reader.coder.run_indices d.reader.open_event
       (working p d (bits_read bytes) reading is))
 
   pub stopped_breaks : d.state ≡ NoCode → IsBroken (interval_shape p d.reader.width d.components d.count) bytes
@@ -110,10 +110,10 @@ module _ (p : CodingParameters) (d : IntervalReader) (bytes : List ℕ) (reading
       no_code_breaks p d.reader.width d.components d.count bytes (state_of p d (bits_read bytes) reading NoCode is)
 
 pub read_of : (p : CodingParameters) (w c n : ℕ) → AreCodingParameters p → 0 < w
-    → (result : Result (Vec (Vec ℕ Global) Global) PieceFault) (Q : Type 0) (o : Option (List ℕ))
+    → (result : Result (List (List ℕ)) PieceFault) (Q : Type 0) (o : Option (List ℕ))
     → MatchOption o Q (λ bytes. OutcomeIs (interval_shape p w c n) bytes result)
     → IfSome o (λ bytes. (lines : List (List ℕ)) → Reads (interval_shape p w c n) bytes lines
-    → MatchResult result (λ v. map (λ v. v.items) v.items ≡ lines) (λ fault. ⊥))
+    → MatchResult result (λ found. found ≡ lines) (λ fault. ⊥))
 read_of p w c n ok some result Q None h = tt
 read_of p w c n ok some result Q (Some bytes) h = outcome_read p w c n bytes ok some result h
 
@@ -187,11 +187,11 @@ pub lengths_same : (bytes : List ℕ) (d d' : IntervalReader) → KeepsShape d d
     → HasLengths bytes d
     → HasLengths bytes d'
 lengths_same bytes d d' s e h = record {
-  lines_paid = (let a = h.lines_paid in let q = ap (λ (v : Vec (Vec ℕ Global) Global). length v.items) e.0 in omega arith);
-  lines_at_most = (let a = h.lines_at_most in let q = ap (λ (v : Vec (Vec ℕ Global) Global). length v.items) e.0 in let n = s.count in
+  lines_paid = (let a = h.lines_paid in let q = ap length e.0 in omega arith);
+  lines_at_most = (let a = h.lines_at_most in let q = ap length e.0 in let n = s.count in
       omega arith);
-  lines_wide = subst (λ z. HaveWidth z (items d'.lines.items)) (sym s.width)
-      (subst (λ (v : Vec (Vec ℕ Global) Global). HaveWidth d.reader.width (items v.items)) (sym e.0) h.lines_wide);
+  lines_wide = subst (λ z. HaveWidth z d'.lines) (sym s.width)
+      (subst (HaveWidth d.reader.width) (sym e.0) h.lines_wide);
   line_at_most = (let a = h.line_at_most in let q = ap (λ (v : Vec ℕ Global). length v.items) e.1 in let n = s.width in omega arith);
 }
 

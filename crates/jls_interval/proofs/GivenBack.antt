@@ -1,7 +1,7 @@
 -- Bits of an event that isn't whole, given back to be taken once more.
-use Rattle.std.proofs.Common.{◌≡◌, ℕ, ◌+◌, ◌%◌, ◌^◌, ◌<◌, ◌≤◌, Bool, List, [], ◌∷◌, ◌++◌, length, get_or, refl, sym, ap, ◌∙◌, subst, Vec}
-use Rattle.std.proofs.Common.{Global, arith, inl, inr, length-append}
-use Rattle.std.proofs.lemmas.List.{append-nil, length-map}
+use Rattle.std.proofs.Common.{◌≡◌, ℕ, ◌+◌, ◌%◌, ◌^◌, ◌<◌, ◌≤◌, Bool, List, [], ◌∷◌, ◌++◌, length, get_or, refl, sym, ap, ◌∙◌, subst}
+use Rattle.std.proofs.Common.{arith, inl, inr, length-append}
+use Rattle.std.proofs.lemmas.List.{append-nil}
 use Rattle.std.proofs.lemmas.Bool.{cases_lt}
 use Rattle.jls_values.specs.Params.{CodingParameters, limit, qbpp}
 use Rattle.jls_context.specs.Variables.{Variables}
@@ -19,7 +19,7 @@ use Rattle.jls_interval.specs.declared.interval_reader.IntervalReader.{IntervalR
 use Rattle.jls_interval.proofs.GrownLines.{added_fits, grown_full, grown_part}
 use Rattle.jls_interval.proofs.DecodedBits.{moved_open}
 use Rattle.jls_interval.proofs.CutEvents.{event_some}
-use Rattle.jls_interval.proofs.IntervalReading.{items, working}
+use Rattle.jls_interval.proofs.IntervalReading.{working}
 
 module _ (p : CodingParameters) (w c n : ℕ) (some : 0 < w) where
   -- an event finishes one line at most
@@ -51,7 +51,7 @@ module _ (p : CodingParameters) (w c n : ℕ) (some : 0 < w) where
 module _ (p : CodingParameters) (given : List Bool) (d : IntervalReader) (h : IsReading p given d) (is : d.state ≡ Working) where
   pub sample_open : (code : CodeState) → d.reader.open_event ≡ Sample code → (k : ℕ) × IsOpen k (limit p) (qbpp p) code
   sample_open code open_event =
-      let x = working p d given h is in let L = items d.lines.items in
+      let x = working p d given h is in let L = d.lines in
       let at = subst (λ z. OpenEventAt p d.reader.width (above d.components L) d.reader.line.items d.reader.coder.cells
       (get_or d.reader.coder.run_indices (length L % d.components) 0) z x.fed) open_event x.open_event_at in (_, at.1)
 
@@ -60,7 +60,7 @@ module _ (p : CodingParameters) (given : List Bool) (d : IntervalReader) (h : Is
       → (short : d.reader.width < 2 ^ 16)
       → GivenBack p given (record d { reader = record d.reader { open_event = NotBegun; width_below = short } }) chunk
   sample_back code open_event chunk is_fed short =
-      let w : ℕ = d.reader.width in let k : ℕ = d.components in let L = items d.lines.items in let line : List ℕ = d.reader.line.items in
+      let w : ℕ = d.reader.width in let k : ℕ = d.components in let L = d.lines in let line : List ℕ = d.reader.line.items in
       let cells : Variables = d.reader.coder.cells in let ri : List ℕ = d.reader.coder.run_indices in
       let x = working p d given h is in let m = interval_steps p w k d.count in let before = bits_of_steps m start x.earlier in
       let at = subst (λ z. OpenEventAt p w (above k L) line cells (get_or ri (length L % k) 0) z x.fed) open_event x.open_event_at in
@@ -75,7 +75,7 @@ module _ (p : CodingParameters) (given : List Bool) (d : IntervalReader) (h : Is
           components_at_least = h.components_at_least;
           components_at_most = h.components_at_most;
           lines_at_most = h.lines_at_most;
-          lines_paid = (let e = length-map d.lines.items (λ (v : Vec ℕ Global). v.items) in omega arith);
+          lines_paid = omega arith;
           lines_wide = h.lines_wide;
           line_at_most = h.line_at_most;
           state_is = subst (λ s. StateIs p w k d.count before L line cells ri NotBegun s) (sym is)

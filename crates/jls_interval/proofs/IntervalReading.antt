@@ -1,5 +1,5 @@
 -- What a reader of an interval keeps, from what an event made of its line.
-use Rattle.std.proofs.Common.{◌≡◌, ℕ, ◌<◌, ◌≤◌, Bool, true, List, [], ◌∷◌, ◌++◌, length, get_or, map, Vec, Global, ◌%◌, refl, sym, ap, ◌∙◌}
+use Rattle.std.proofs.Common.{◌≡◌, ℕ, ◌<◌, ◌≤◌, Bool, true, List, [], ◌∷◌, ◌++◌, length, get_or, ◌%◌, refl, sym, ap, ◌∙◌}
 use Rattle.std.proofs.Common.{subst, arith, append_assoc, length-append}
 use Rattle.std.proofs.lemmas.List.{append-nil}
 use Rattle.jls_values.specs.Params.{CodingParameters}
@@ -71,9 +71,6 @@ taking_fewer old new chunk unread t p given h =
 
 -- One event ------------------------------------------------------------------------------------
 
-abbrev pub items : List (Vec ℕ Global) → List (List ℕ)
-items vs = map (λ v. v.items) vs
-
 -- the lines have a width, which is given in two ways
 pub wide_same : (w w' : ℕ) (lines : List (List ℕ)) → w' ≡ w → HaveWidth w lines → HaveWidth w' lines
 wide_same w w' lines e h = subst (λ z. HaveWidth z lines) (sym e) h
@@ -103,17 +100,17 @@ module _ (p : CodingParameters) (n count : ℕ) (lines : List (List ℕ)) (s : S
 
 -- what the state says of the bits
 pub state_of : (p : CodingParameters) (d : IntervalReader) (given : List Bool) → IsReading p given d → (s : State) → d.state ≡ s
-    → StateIs p d.reader.width d.components d.count given (items d.lines.items) d.reader.line.items d.reader.coder.cells
+    → StateIs p d.reader.width d.components d.count given d.lines d.reader.line.items d.reader.coder.cells
     d.reader.coder.run_indices d.reader.open_event s
 state_of p d given h s is =
-    subst (λ s. StateIs p d.reader.width d.components d.count given (items d.lines.items) d.reader.line.items d.reader.coder.cells
+    subst (λ s. StateIs p d.reader.width d.components d.count given d.lines d.reader.line.items d.reader.coder.cells
     d.reader.coder.run_indices d.reader.open_event s) is h.state_is
 
 module _ (p : CodingParameters) (d : IntervalReader) (given : List Bool) (h : IsReading p given d) (is : d.state ≡ Working) where
   open d use {components as n, reader.{width as w, line.{items as line}, coder.{cells, run_indices}}}
 
   abbrev lines : List (List ℕ)
-  lines = items d.lines.items
+  lines = d.lines
 
   abbrev component : ℕ
   component = length lines % n

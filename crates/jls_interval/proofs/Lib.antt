@@ -47,3 +47,4 @@ pub mod EncodedEvents
 pub mod EncodedStretches
 pub mod EncodedLines
 pub mod NoMore
+pub mod LinesInBlocks

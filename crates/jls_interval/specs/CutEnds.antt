@@ -1,5 +1,5 @@
 -- What a decoder answers of a piece whose end is cut off.
-use Rattle.std.specs.Prelude.{ℕ, List, map}
+use Rattle.std.specs.Prelude.{ℕ, List}
 use Rattle.jls_interval.specs.Lines.{IntervalShape}
 use Rattle.jls_interval.specs.Reads.{Reads, IsLong, IsBroken}
 use Rattle.jls_interval.specs.Heads.{IsHeadOfPiece}
@@ -9,7 +9,7 @@ use Rattle.jls_interval.specs.declared.decode_piece.PieceFault.TheVariants.{Long
 
 -- what the answer of `finish_cut` says of bytes: lines as which they read. Or that they are too long or broken, and the lines of their head
 abbrev pub CutEndIs : IntervalShape → List ℕ → CutEnd → Type 0
-CutEndIs i piece (Whole lines) = Reads i piece (map (λ v. v.items) lines.items)
-CutEndIs i piece (Head lines Long) = IsLong i piece × IsHeadOfPiece i piece (map (λ v. v.items) lines.items)
-CutEndIs i piece (Head lines Broken) = IsBroken i piece × IsHeadOfPiece i piece (map (λ v. v.items) lines.items)
+CutEndIs i piece (Whole lines) = Reads i piece lines
+CutEndIs i piece (Head lines Long) = IsLong i piece × IsHeadOfPiece i piece lines
+CutEndIs i piece (Head lines Broken) = IsBroken i piece × IsHeadOfPiece i piece lines
 CutEndIs i piece (Head lines OutOfMemory) = ⊥

@@ -1,5 +1,5 @@
 -- What a decoder that is given a few bits at a time keeps.
-use Rattle.std.specs.Prelude.{◌≡◌, ℕ, ◌%◌, ◌<◌, ◌≤◌, Bool, true, false, List, ◌++◌, length, get_or, map, min}
+use Rattle.std.specs.Prelude.{◌≡◌, ℕ, ◌%◌, ◌<◌, ◌≤◌, Bool, true, false, List, ◌++◌, length, get_or, min}
 use Rattle.std.specs.List.{AllByRecursion}
 use Rattle.jls_values.specs.Params.{CodingParameters}
 use Rattle.jls_context.specs.Variables.{Variables}
@@ -58,12 +58,11 @@ pub record IsReading (p : CodingParameters) (given : List Bool) (d : IntervalRea
   pub width_at_least : 0 < d.reader.width
   pub components_at_least : 0 < d.components
   pub components_at_most : d.components ≤ 4
-  pub lines_at_most : length d.lines.items ≤ d.count
-  pub lines_paid : length d.lines.items ≤ length given
-  pub lines_wide : HaveWidth d.reader.width (map (λ v. v.items) d.lines.items)
+  pub lines_at_most : length d.lines ≤ d.count
+  pub lines_paid : length d.lines ≤ length given
+  pub lines_wide : HaveWidth d.reader.width d.lines
   pub line_at_most : length d.reader.line.items ≤ d.reader.width
-  pub state_is : StateIs p d.reader.width d.components d.count given (map
-      (λ v. v.items) d.lines.items) d.reader.line.items d.reader.coder.cells d.reader.coder.run_indices d.reader.open_event d.state
+  pub state_is : StateIs p d.reader.width d.components d.count given d.lines d.reader.line.items d.reader.coder.cells d.reader.coder.run_indices d.reader.open_event d.state
 
 -- all bits of a chunk were taken
 abbrev pub TakesAllBits : IntervalReader → IntervalReader → List Bool → Type 0

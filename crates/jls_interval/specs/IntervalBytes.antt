@@ -1,5 +1,5 @@
 -- What a contract sees of a decoder that is given bytes, and what its fields say of them.
-use Rattle.std.specs.Prelude.{◌≡◌, ℕ, ◌*◌, ◌<◌, ◌≤◌, ◌^◌, Bool, true, false, List, ◌++◌, length, map, Option, Some, None}
+use Rattle.std.specs.Prelude.{◌≡◌, ℕ, ◌*◌, ◌<◌, ◌≤◌, ◌^◌, Bool, true, false, List, ◌++◌, length, Option, Some, None}
 use Rattle.std.specs.List.{AllByRecursion}
 use Rattle.jls_values.specs.Params.{CodingParameters, AreCodingParameters}
 use Rattle.jls_bits.specs.Bits.{bits_read, is_whole}
@@ -32,9 +32,9 @@ IsReadingOf p bytes d = is_whole bytes ≡ true → IsReading p (bits_read bytes
 -- How much a reader holds: at most eight finished lines for each byte, no more than the interval has, and each of its width; beside them
 -- a line in work
 pub record HasLengths (bytes : List ℕ) (d : IntervalReader) : Type 0 where
-  pub lines_paid : length d.lines.items ≤ 8 * length bytes
-  pub lines_at_most : length d.lines.items ≤ d.count
-  pub lines_wide : HaveWidth d.reader.width (map (λ v. v.items) d.lines.items)
+  pub lines_paid : length d.lines ≤ 8 * length bytes
+  pub lines_at_most : length d.lines ≤ d.count
+  pub lines_wide : HaveWidth d.reader.width d.lines
   pub line_at_most : length d.reader.line.items ≤ d.reader.width
 
 -- The first bits of the bytes were given to a reader, and the others are those of the chunk
@@ -53,9 +53,9 @@ pub record IsDecoding (p : CodingParameters) (rows : ℕ) (bytes : List ℕ) (en
   pub ended_is : ended ≡ true → is_whole bytes ≡ false
   pub whole : ended ≡ false → is_whole bytes ≡ true
   pub reading : ended ≡ false → IsReading p (bits_read bytes) d
-  pub lines_paid : length d.lines.items ≤ 8 * length bytes
-  pub lines_at_most : length d.lines.items ≤ rows * d.components
-  pub lines_wide : HaveWidth d.reader.width (map (λ v. v.items) d.lines.items)
+  pub lines_paid : length d.lines ≤ 8 * length bytes
+  pub lines_at_most : length d.lines ≤ rows * d.components
+  pub lines_wide : HaveWidth d.reader.width d.lines
   pub line_at_most : length d.reader.line.items ≤ d.reader.width
 
 -- the same, where memory may have been refused. An interval has at most 2^28 samples

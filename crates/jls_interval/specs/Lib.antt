@@ -16,6 +16,7 @@ pub mod RunState
 pub mod PieceFaults
 pub mod After
 pub mod Place
+pub mod FinishedLines
 pub mod Encoding
 pub mod ReadBack
 pub mod Fronts

@@ -1,7 +1,5 @@
 -- Why a piece gives no lines.
-use Rattle.std.specs.Prelude.{◌≡◌, ℕ, Bool, List, ◌++◌, map, Result, Ok, Err}
-use Rattle.std.specs.declared.vec.Vec.{Vec}
-use Rattle.std.specs.declared.alloc.Global.{Global}
+use Rattle.std.specs.Prelude.{◌≡◌, ℕ, Bool, List, ◌++◌, Result, Ok, Err}
 use Rattle.jls_values.specs.Params.{CodingParameters}
 use Rattle.jls_interval.specs.Lines.{IntervalShape, AreLines}
 use Rattle.jls_interval.specs.Code.{code}
@@ -16,8 +14,8 @@ FaultIs Broken i piece = IsBroken i piece
 FaultIs OutOfMemory i piece = Unit {0}
 
 -- what the answer says of bytes that were all decoded: lines as which they read, that they are too long, or that they are broken
-abbrev pub OutcomeIs : IntervalShape → List ℕ → Result (Vec (Vec ℕ Global) Global) PieceFault → Type 0
-OutcomeIs i piece (Ok lines) = Reads i piece (map (λ v. v.items) lines.items)
+abbrev pub OutcomeIs : IntervalShape → List ℕ → Result (List (List ℕ)) PieceFault → Type 0
+OutcomeIs i piece (Ok lines) = Reads i piece lines
 OutcomeIs i piece (Err Long) = IsLong i piece
 OutcomeIs i piece (Err Broken) = IsBroken i piece
 OutcomeIs i piece (Err OutOfMemory) = ⊥

@@ -50,6 +50,12 @@ pub fn decode_interval(
     let mut decoder = IntervalDecoder::new(alloc, params, width, components, rows);
     match decoder.push_all(piece) {
         Err(AllocError) => Err(PieceFault::OutOfMemory),
-        Ok(()) => decoder.finish(),
+        Ok(()) => match decoder.finish() {
+            Err(fault) => Err(fault),
+            Ok(lines) => match lines.into_vecs() {
+                Err(AllocError) => Err(PieceFault::OutOfMemory),
+                Ok(lines) => Ok(lines),
+            },
+        },
     }
 }

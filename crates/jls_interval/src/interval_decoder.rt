@@ -1,7 +1,7 @@
 //! The lines of an interval, from bytes that come a few at a time.
 
 ghost use Rattle.std.specs.Prelude.{◌≡◌, ℕ, ◌*◌, ◌^◌, ◌<◌, ◌≤◌, ◌++◌, ◌+◌, true, false, [], ◌∷◌, Bool, List, length, Some, None, IsSome};
-ghost use Rattle.std.specs.Prelude.{IsErr, map, OnOk, OnErr, IfOk, IfSome, IfNone, MatchOption, MatchResult};
+ghost use Rattle.std.specs.Prelude.{IsErr, OnOk, OnErr, IfOk, IfSome, IfNone, MatchOption, MatchResult};
 ghost use Rattle.std.specs.Option.{option_map};
 ghost use Rattle.jls_bits.specs.Bits.{bits_read, is_whole};
 ghost use Rattle.std.specs.List.{AllByRecursion};
@@ -15,6 +15,7 @@ ghost use Rattle.jls_interval.specs.IntervalBytes.{IsReadingOf, ReadsBefore, Has
 use crate::coder::Coder;
 use crate::cut_end::CutEnd;
 use crate::decode_piece::PieceFault;
+use crate::finished_lines::FinishedLines;
 use crate::interval_reader::{IntervalReader, State};
 use crate::line_reader::{LineReader, OpenEvent};
 use jls_bits::{Chunk, Unstuffer};
@@ -111,6 +112,7 @@ fn push_bytes(
             chunk = Chunk::new();
         }
     }
+    reader.share_lines()?;
     Ok(whole)
 }
 
@@ -180,7 +182,7 @@ impl IntervalDecoder {
                 },
                 components: usize::from(components),
                 count: rows as usize * usize::from(components),
-                lines: Vec::new(alloc),
+                lines: FinishedLines::new(alloc),
                 state: State::Working,
             },
             ended: false,
@@ -237,6 +239,14 @@ impl IntervalDecoder {
         }
     }
 
+    /// How many samples were read so far: those of the finished lines, and those of the line in work. This is for strategies that
+    /// compare decoders, and nothing is promised of the number. It takes no memory.
+    pub fn samples_read(&self) -> u64 {
+        let reader = &self.reader.reader;
+        let finished = (self.reader.lines.len() as u64).saturating_mul(reader.width as u64);
+        finished.saturating_add(reader.line.len() as u64)
+    }
+
     /// Whether the bytes so far are known to read as no lines, whatever follows. `false` says nothing. No memory is taken.
     pub fn reads_no_more(&self) -> bool
         ensures { result ≡ true → IfSome self.now.bytes
@@ -256,7 +266,7 @@ impl IntervalDecoder {
     }
 
     /// The lines that the bytes read as, or why there are none.
-    fn outcome(self) -> Result<Vec<Vec<u16>>, PieceFault>
+    fn outcome(self) -> Result<FinishedLines, PieceFault>
         ensures in_range { AreCodingParameters self.parameters }
         ensures width { 0 < self.width }
         ensures outcome { MatchOption self.bytes (result ≡ Err PieceFault.OutOfMemory)
@@ -286,12 +296,11 @@ impl IntervalDecoder {
     /// The lines that the bytes read as, or why there are none. If a push was refused the answer is out of memory, and otherwise it
     /// never is. The whole piece is judged, also after its last line. At most seven bits may follow the code, of any value, which is
     /// this profile's choice. A byte of 0x80 or more after 0xFF makes the piece broken, wherever it is (ITU-T T.87, A.1).
-    pub fn finish(self) -> Result<Vec<Vec<u16>>, PieceFault>
+    pub fn finish(self) -> Result<FinishedLines, PieceFault>
         ensures outcome { MatchOption self.bytes (result ≡ Err PieceFault.OutOfMemory)
             (λ bytes. OutcomeIs (interval_asked self) bytes result) }
         ensures read { IfSome self.bytes (λ bytes. (lines : List (List ℕ))
-            → Reads (interval_asked self) bytes lines → MatchResult result (λ v. map
-            (λ v. v.items) v.items ≡ lines) (λ fault. ⊥)) }
+            → Reads (interval_asked self) bytes lines → MatchResult result (λ found. found ≡ lines) (λ fault. ⊥)) }
     {
         self.outcome()
     }
@@ -309,7 +318,7 @@ impl IntervalDecoder {
         }
         let IntervalDecoder { ended, reader, .. } = self;
         if ended {
-            let none = Vec::new(reader.alloc);
+            let none = FinishedLines::new(reader.alloc);
             return Ok(CutEnd::Head(none, PieceFault::Broken));
         }
         match reader.state {

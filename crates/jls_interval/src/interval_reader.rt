@@ -1,11 +1,11 @@
 //! The lines of an interval, from a few bits at a time.
 
-ghost use Rattle.std.specs.Prelude.{◌≡◌, ◌↔◌, ◌-◌, ◌≤◌, ℕ, List, Bool, length, map, IsTrue, IfOk, OnOk};
+ghost use Rattle.std.specs.Prelude.{◌≡◌, ◌↔◌, ◌-◌, ◌≤◌, ℕ, List, Bool, length, IsTrue, IfOk, OnOk};
 ghost use Rattle.jls_values.specs.Params.{CodingParameters};
 
+use crate::finished_lines::FinishedLines;
 use crate::line_reader::{EventStep, LineReader, OpenEvent};
 use crate::line_samples::take_samples;
-use crate::place::Place;
 use crate::push_event::push_to_event;
 use jls_bits::Chunk;
 use std::alloc::{AllocError, Global};
@@ -32,24 +32,13 @@ pub(crate) struct IntervalReader {
     /// How many lines there are to be.
     pub count: usize,
     /// The finished lines.
-    pub lines: Vec<Vec<u16>>,
+    pub lines: FinishedLines,
     pub state: State,
 }
 
 /// As long as a chunk has so many bits, a sample is taken from it while others wait for more bytes. Most codes of smooth pictures have no
 /// more. If a code isn't whole, its bits stay until there are more.
 const LOOKED_FOR: u8 = 15;
-
-/// The same lines once more.
-fn cloned_lines(alloc: Global, lines: &[Vec<u16>]) -> Result<Vec<Vec<u16>>, AllocError>
-    ensures { IfOk result (λ clones. map (λ v. v.items) clones.items ≡ map (λ v. v.items) lines.now) }
-{
-    let mut clones = Vec::with_capacity(alloc, lines.len())?;
-    for line in lines {
-        clones.push(Vec::from_slice(alloc, line)?)?;
-    }
-    Ok(clones)
-}
 
 impl IntervalReader {
     ghost use Rattle.jls_interval.specs.Decoding.{IsReading, TakesAllBits, TakesFirst, TakesEvent, GivesBack, KeepsShape};
@@ -62,13 +51,12 @@ impl IntervalReader {
         ensures bits { IfOk result
             (λ clone. (p : CodingParameters) (given : List Bool) → IsReading p given self.now → IsReading p given clone) }
     {
-        let lines = cloned_lines(self.alloc, &self.lines)?;
         Ok(IntervalReader {
             alloc: self.alloc,
             reader: self.reader.try_clone(self.alloc)?,
             components: self.components,
             count: self.count,
-            lines,
+            lines: self.lines.try_clone()?,
             state: self.state,
         })
     }
@@ -82,7 +70,7 @@ impl IntervalReader {
         ensures shape { KeepsShape self.old self.new }
         ensures bits { IfOk result (TakesEvent self.old self.new chunk.old chunk.new) }
     {
-        let place = Place::after(&self.lines, self.components);
+        let place = self.lines.next_place(self.components);
         match push_to_event(&mut self.reader, &place, chunk)? {
             EventStep::More => Ok(false),
             EventStep::Refused => {
@@ -127,6 +115,14 @@ impl IntervalReader {
         }
     }
 
+    /// Lets the clones to come share the finished lines.
+    pub(crate) fn share_lines(&mut self) -> Result<(), AllocError>
+        ensures shape { KeepsShape self.old self.new }
+        ensures same { OnOk result (self.new ≡ self.old) }
+    {
+        self.lines.share(self.reader.width)
+    }
+
     /// Counts the bits that come after the lines' code.
     fn count_bits(&mut self, chunk: &Chunk)
         ensures shape { KeepsShape self.old self.new }
@@ -155,7 +151,7 @@ impl IntervalReader {
     {
         let fewest = waiting.max(1);
         'events: while self.is_working() {
-            let place = Place::after(&self.lines, self.components);
+            let place = self.lines.next_place(self.components);
             take_samples(&mut self.reader, &place, fewest.min(LOOKED_FOR), chunk)?;
             if chunk.len() < fewest {
                 return Ok(());

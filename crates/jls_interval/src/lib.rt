@@ -89,6 +89,7 @@ mod encode_run;
 mod encode_sample;
 mod encode_samples;
 mod encoder;
+mod finished_lines;
 mod front;
 mod heads;
 mod interval_decoder;
@@ -107,6 +108,7 @@ mod run_reader;
 pub use cut_end::CutEnd;
 pub use decode_piece::{PieceFault, decode_interval};
 pub use encode::{encode_interval, packed_lines_read_back};
+pub use finished_lines::FinishedLines;
 pub use front::{Front, encode_front, fronts_begin_pieces};
 pub use heads::{
     cut_events_go_on, heads_are_finished_lines, heads_are_one, read_pieces_have_no_head,

@@ -7,12 +7,19 @@ use jls_values::Params;
 use std::alloc::Global;
 use std::test::Fail;
 
-/// What the bytes of an interval of 8 bits give where the input ends after them.
-fn cut(alloc: Global, size: &Size, piece: &[u8]) -> Result<CutEnd, Fail> {
+/// What the bytes of an interval of 8 bits give where the input ends after them: lines, and a fault if these are those of a head.
+fn cut(
+    alloc: Global,
+    size: &Size,
+    piece: &[u8],
+) -> Result<(Vec<Vec<u16>>, Option<PieceFault>), Fail> {
     let params = Params::new(8, 0, 0, 0, 0, 0)?;
     let mut decoder = size.decoder(alloc, &params);
     decoder.push_all(piece)?;
-    Ok(decoder.finish_cut()?)
+    match decoder.finish_cut()? {
+        CutEnd::Whole(lines) => Ok((lines.into_vecs()?, None)),
+        CutEnd::Head(lines, fault) => Ok((lines.into_vecs()?, Some(fault))),
+    }
 }
 
 /// Whether they give these lines and this fault.
@@ -27,7 +34,8 @@ fn has_head(
     for line in lines {
         head.push(line.to_vec(alloc)?)?;
     }
-    Ok(cut(alloc, size, piece)? == CutEnd::Head(head, fault))
+    let (found, met) = cut(alloc, size, piece)?;
+    Ok(found == head && met == Some(fault))
 }
 
 /// The first bytes of the piece: line 0 has 45 bits, the first two lines have 130, the first three 206, all 235.
@@ -80,7 +88,8 @@ fn whole_and_faulty(rt: HostRuntime) -> Result<(), Fail> {
     let alloc = rt.alloc();
     let size = Size::new(1, 1, 2);
     let lines = vec![in alloc; vec![in alloc; 1]?, vec![in alloc; 34]?]?;
-    assert!(rt; cut(alloc, &size, &[0x50, 0x00, 0x0C])? == CutEnd::Whole(lines));
+    let (found, met) = cut(alloc, &size, &[0x50, 0x00, 0x0C])?;
+    assert!(rt; found == lines && met.is_none());
     for (piece, fault) in [
         (&[0x50, 0x00, 0x0C, 0x00][..], PieceFault::Long),
         (&[0x50, 0xFF, 0x80], PieceFault::Broken),

@@ -24,7 +24,10 @@ fn by_slices(
             return Err(PieceFault::OutOfMemory);
         }
     }
-    decoder.finish()
+    match decoder.finish()?.into_vecs() {
+        Ok(lines) => Ok(lines),
+        Err(_) => Err(PieceFault::OutOfMemory),
+    }
 }
 
 /// What a decoder answers that is given the piece byte by byte.
@@ -40,7 +43,10 @@ fn by_bytes(
             return Err(PieceFault::OutOfMemory);
         }
     }
-    decoder.finish()
+    match decoder.finish()?.into_vecs() {
+        Ok(lines) => Ok(lines),
+        Err(_) => Err(PieceFault::OutOfMemory),
+    }
 }
 
 /// What the piece reads as, where it is given whole, byte by byte and by slices of every length. Two answers

@@ -54,8 +54,38 @@ fn come_back(alloc: Global, size: &Size, lines: &[Vec<u16>]) -> Result<bool, Fai
     for slice in piece.chunks(4096) {
         decoder.push_all(slice)?;
     }
-    let read = decoder.finish()?;
+    let read = decoder.finish()?.into_vecs()?;
     Ok(read.as_slice() == lines)
+}
+
+/// Whether a decoder and clones of it that were made on the way give the lines, each in turn.
+fn clones_give(alloc: Global, size: &Size, lines: &[Vec<u16>]) -> Result<bool, Fail> {
+    let params = Params::new(8, 0, 0, 0, 0, 0)?;
+    let Some(piece) = written(alloc, &params, size, lines)? else {
+        return Ok(false);
+    };
+    let half = piece.len() / 2;
+    let mut decoder = size.decoder(alloc, &params);
+    for slice in piece[..half].chunks(4096) {
+        decoder.push_all(slice)?;
+    }
+    let mut clone = decoder.try_clone()?;
+    clone.push_all(&piece[half..])?;
+    let again = clone.try_clone()?;
+    let read = clone.finish()?.into_vecs()?;
+    for slice in piece[half..].chunks(4096) {
+        decoder.push_all(slice)?;
+    }
+    let own = decoder.finish()?.into_vecs()?;
+    let last = again.finish()?.into_vecs()?;
+    Ok(read.as_slice() == lines && own.as_slice() == lines && last.as_slice() == lines)
+}
+
+#[test]
+fn clones_share_lines(rt: HostRuntime) -> Result<(), Fail> {
+    let lines = lines_of(rt.alloc(), 1100, 100, 1)?;
+    assert!(rt; clones_give(rt.alloc(), &Size::new(1100, 1, 100), &lines)?);
+    Ok(())
 }
 
 #[test]

@@ -2,7 +2,8 @@ use Rattle.std.proofs.Common.{◌≡◌, ℕ, ◌+◌, ◌-◌, true, false, Lis
 use Rattle.std.proofs.lemmas.List.{append-nil}
 use Rattle.std.proofs.Math.Seq.{take-add}
 use Rattle.jls_values.specs.Params.{CodingParameters}
-use Rattle.jls_bits.specs.Bits.{is_whole}
+use Rattle.jls_bits.specs.Bits.{bits_read, is_whole}
+use Rattle.jls_interval.specs.Decoding.{IsReading}
 use Rattle.jls_interval.specs.IntervalBytes.{ReadsBefore, IsReadingBefore, HasLengths}
 use Rattle.jls_bits.proofs.Appending.{whole_prefix}
 use Rattle.jls_interval.proofs.IntervalReading.{shape_none, shape_then}
@@ -86,4 +87,5 @@ loop-at-preserved c =
 pub returns-clause-reading : goal.returns-clause-reading
 returns-clause-reading c = λ p f w.
     let v = c.loop-at.invariant in let t = c.loop-at-test.false in let l = v.within in let some = c.requires.some in
-    before_end p c.loop-at.unstuffer c.loop-at.reader c.loop-at.chunk (v.few (omega arith) (omega arith) w) (v.reading p f w)
+    subst (IsReading p (bits_read c.loop-at.unstuffer)) (sym c.in_ok-share_lines.ensures.same)
+    (before_end p c.loop-at.unstuffer c.loop-at.reader c.loop-at.chunk (v.few (omega arith) (omega arith) w) (v.reading p f w))

@@ -12,4 +12,4 @@ take_lines-requires c =
       | in-Some w ↦ ap (λ p. p.shape) w.partial-is ∙ c.requires.held _ (sym c.take.ensures.value ∙ w.in-Some.is)
     ] in
     let kept : c.reserve.new.self.shape ≡ c.args.shape.now = ap (λ p. p.shape) c.reserve.ensures ∙ same in
-    rw (kept, c.components.ensures.value, c.rows-first_row.ensures.first) fit
+    rw (c.in_ok-into_vecs.ensures, kept, c.components.ensures.value, c.rows-first_row.ensures.first) fit

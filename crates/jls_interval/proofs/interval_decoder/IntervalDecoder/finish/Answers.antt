@@ -1,4 +1,4 @@
-use Rattle.std.proofs.Common.{◌≡◌, ◌*◌, Vec, Global, Result, Err, ℕ}
+use Rattle.std.proofs.Common.{◌≡◌, ◌*◌, List, Result, Err, ℕ}
 use Rattle.jls_interval.specs.declared.decode_piece.PieceFault.{PieceFault}
 use Rattle.jls_interval.specs.declared.decode_piece.PieceFault.TheVariants.{OutOfMemory}
 use Rattle.jls_interval.proofs.Finishing.{read_of}
@@ -6,6 +6,6 @@ use Rattle.jls_interval.proofs.interval_decoder.IntervalDecoder.finish.Goals as 
 
 pub returns-clause-read : goal.returns-clause-read
 returns-clause-read c =
-    let v = c.args.self in let result : Result (Vec (Vec ℕ Global) Global) PieceFault = c.outcome.result in
+    let v = c.args.self in let result : Result (List (List ℕ)) PieceFault = c.outcome.result in
     read_of v.parameters v.width v.components (v.rows * v.components) c.outcome.ensures.in_range c.outcome.ensures.width result
     (result ≡ Err OutOfMemory) v.bytes c.outcome.ensures.outcome

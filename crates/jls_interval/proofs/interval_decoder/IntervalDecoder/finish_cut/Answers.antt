@@ -11,7 +11,7 @@ use Rattle.jls_interval.specs.declared.decode_piece.PieceFault.TheVariants.{Long
 use Rattle.jls_interval.specs.declared.interval_reader.IntervalReader.{IntervalReader}
 use Rattle.jls_interval.specs.declared.interval_reader.State.TheVariants.{Complete}
 use Rattle.jls_interval.proofs.Finishing.{working_breaks, stopped_breaks, over_long}
-use Rattle.jls_interval.proofs.IntervalReading.{items, state_of}
+use Rattle.jls_interval.proofs.IntervalReading.{state_of}
 use Rattle.jls_interval.proofs.interval_decoder.IntervalDecoder.finish_cut.Goals as goal
 
 -- what is seen of the bytes, where no push was refused
@@ -48,7 +48,7 @@ returns-else-extra-le7-clause-cut_end c =
     let r = h.reading c.if-ended.false in let whole = h.whole c.if-ended.false in
     let many : 7 < c.in-Complete.extra = (let e = c.if-extra-le7.false in omega arith) in
     seen c.args.self (Head c.into_head-in-Complete.result Long) c.self.invariant c.if-self.false c.self.view_is (
-      over_long i.params d.reader.width d.components d.count i.unstuffer c.self.invariant.are_bytes whole (items d.lines.items)
+      over_long i.params d.reader.width d.components d.count i.unstuffer c.self.invariant.are_bytes whole d.lines
           c.in-Complete.extra (state_of i.params d (bits_read i.unstuffer) r (Complete c.in-Complete.extra) c.in-Complete.is) many,
       inl (whole, c.into_head-in-Complete.ensures i.params _ r),
     )

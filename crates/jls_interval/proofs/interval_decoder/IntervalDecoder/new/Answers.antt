@@ -7,7 +7,6 @@ use Rattle.jls_bits.proofs.DataBits.{whole_end}
 use Rattle.jls_interval.specs.Decoding.{IsWorking, HaveWidth}
 use Rattle.jls_interval.specs.declared.line_reader.OpenEvent.TheVariants.{NotBegun}
 use Rattle.jls_interval.proofs.Decoding.{working_start}
-use Rattle.jls_interval.proofs.IntervalReading.{items}
 use Rattle.jls_interval.proofs.interval_decoder.IntervalDecoder.new.Goals as goal
 
 pub invariant_of-result-2 : goal.invariant_of-result-2
@@ -20,13 +19,13 @@ invariant_of-result-2 c =
     let same : m ≡ n = c.from-3.ensures ∙ sym c.from-2.ensures in
     let start : IsWorking p w n count (bits_read []) [] [] coder.cells coder.run_indices NotBegun =
     working_start p w n count some any coder.cells coder.run_indices c.new-2.ensures.cells c.new-2.ensures.run_indices in
-    let lined : IsWorking p w n count (bits_read []) (items c.new-4.result.items) c.new-3.result.items coder.cells coder.run_indices
-    NotBegun = subst (λ z. IsWorking p w n count (bits_read []) (items z) c.new-3.result.items coder.cells coder.run_indices NotBegun)
-    (sym c.new-4.ensures.items) (subst (λ z. IsWorking p w n count (bits_read []) [] z coder.cells coder.run_indices NotBegun)
+    let lined : IsWorking p w n count (bits_read []) c.new-4.result c.new-3.result.items coder.cells coder.run_indices
+    NotBegun = subst (λ z. IsWorking p w n count (bits_read []) z c.new-3.result.items coder.cells coder.run_indices NotBegun)
+    (sym c.new-4.ensures) (subst (λ z. IsWorking p w n count (bits_read []) [] z coder.cells coder.run_indices NotBegun)
     (sym c.new-3.ensures.items) start) in
-    let none : length c.new-4.result.items ≡ 0 = ap length c.new-4.ensures.items in
+    let none : length c.new-4.result ≡ 0 = ap length c.new-4.ensures in
     let begun : length c.new-3.result.items ≡ 0 = ap length c.new-3.ensures.items in
-    let wide : HaveWidth w (items c.new-4.result.items) = subst (λ z. HaveWidth w (items z)) (sym c.new-4.ensures.items) tt in
+    let wide : HaveWidth w c.new-4.result = subst (λ z. HaveWidth w z) (sym c.new-4.ensures) tt in
     let samples : w * n * c.args.rows ≤ 2 ^ 28 =
     subst (λ z. z * n * c.args.rows ≤ 2 ^ 28) (sym c.from.ensures)
     (subst (λ z. c.args.width * z * c.args.rows ≤ 2 ^ 28) (sym c.from-2.ensures) c.requires.samples) in
@@ -53,7 +52,7 @@ invariant_of-result-2 c =
                   wide;
               line_at_most = omega arith;
               state_is =
-                  subst (λ z. IsWorking p w n count (bits_read z) (items c.new-4.result.items) c.new-3.result.items coder.cells
+                  subst (λ z. IsWorking p w n count (bits_read z) c.new-4.result c.new-3.result.items coder.cells
                   coder.run_indices
                   NotBegun) (sym e) lined;
             };

@@ -1,4 +1,4 @@
-use Rattle.std.proofs.Common.{◌≡◌, ℕ, ◌*◌, Bool, false, List, Vec, Global, Result, Err, sym, subst}
+use Rattle.std.proofs.Common.{◌≡◌, ℕ, ◌*◌, Bool, false, List, Result, Err, sym, subst}
 use Rattle.std.specs.Prelude.{MatchOption}
 use Rattle.jls_values.specs.Params.{CodingParameters}
 use Rattle.jls_interval.specs.Lines.{interval_shape}
@@ -13,10 +13,10 @@ use Rattle.jls_interval.proofs.interval_decoder.IntervalDecoder.outcome.Goals as
 seen : (v : IntervalBytes) (refused : Bool) (q : CodingParameters) (w n rows count : ℕ) (bytes : List ℕ) → refused ≡ false
     → record { parameters = q; width = w; components = n; rows = rows; bytes = bytes_of refused bytes } ≡ v → count ≡ rows * n
     → IsBroken (interval_shape q w n count) bytes
-    → MatchOption v.bytes ((let r : Result (Vec (Vec ℕ Global) Global) PieceFault = Err Broken in r) ≡ Err OutOfMemory)
+    → MatchOption v.bytes ((let r : Result (List (List ℕ)) PieceFault = Err Broken in r) ≡ Err OutOfMemory)
     (λ bytes. IsBroken (interval_asked v) bytes)
 seen v refused q w n rows count bytes granted view count_is broken =
-    let Q : Type 0 = ((let r : Result (Vec (Vec ℕ Global) Global) PieceFault = Err Broken in r) ≡ Err OutOfMemory) in
+    let Q : Type 0 = ((let r : Result (List (List ℕ)) PieceFault = Err Broken in r) ≡ Err OutOfMemory) in
     let all : IsBroken (interval_shape q w n (rows * n)) bytes = subst (λ z. IsBroken (interval_shape q w n z) bytes) count_is broken in
     let there : MatchOption (bytes_of refused bytes) Q (λ bytes. IsBroken (interval_shape q w n (rows * n)) bytes) =
     subst (λ r. MatchOption (bytes_of r bytes) Q (λ bytes. IsBroken (interval_shape q w n (rows * n)) bytes)) (sym granted) all in

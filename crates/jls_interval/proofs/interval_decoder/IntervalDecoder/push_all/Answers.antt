@@ -22,7 +22,7 @@ push_bytes-requires-clause-lengths c =
     lengths_same i.unstuffer i.reader b.new.reader b.ensures.shape b.ensures.kept
     (record {
       lines_paid = h.lines_paid;
-      lines_at_most = subst (λ z. length i.reader.lines.items ≤ z) (sym v.count_is) h.lines_at_most;
+      lines_at_most = subst (λ z. length i.reader.lines ≤ z) (sym v.count_is) h.lines_at_most;
       lines_wide = h.lines_wide;
       line_at_most = h.line_at_most;
     })
@@ -51,7 +51,7 @@ invariant_of-self c =
         reading = λ e. o.reading i.params before (sym o.whole ∙ turned c.in-Ok.whole false e);
         lines_paid =
             o.lengths.lines_paid;
-        lines_at_most = subst (λ z. length new.lines.items ≤ z) count_is o.lengths.lines_at_most;
+        lines_at_most = subst (λ z. length new.lines ≤ z) count_is o.lengths.lines_at_most;
         lines_wide =
             o.lengths.lines_wide;
         line_at_most = o.lengths.line_at_most;

@@ -1,4 +1,4 @@
-use Rattle.std.proofs.Common.{◌≡◌, ℕ, ◌*◌, ◌<◌, Bool, false, List, map, sym, subst, arith}
+use Rattle.std.proofs.Common.{◌≡◌, ℕ, ◌*◌, ◌<◌, Bool, false, List, sym, subst, arith}
 use Rattle.std.specs.Prelude.{IfSome}
 use Rattle.std.proofs.lemmas.Bool.Decides.{nat_tests}
 use Rattle.jls_values.specs.Params.{CodingParameters}
@@ -40,7 +40,7 @@ pub returns-in-NoCode : goal.returns-in-NoCode
 returns-in-NoCode c = λ _.
     let i = c.self.inside in let d = i.reader in let v = c.self.invariant in let w : ℕ = d.reader.width in let n : ℕ = d.components in
     let reading = (v.decoding c.if-self.false).reading c.if-self-2.false in
-    let lines : List (List ℕ) = map (λ v. v.items) d.lines.items in
+    let lines : List (List ℕ) = d.lines in
     let no_code : BeginsNoCode i.params w n d.count (bits_read i.unstuffer) =
     at_state i.params w n d.count (bits_read i.unstuffer) lines d.reader d.state _ c.in-NoCode.is reading.state_is in
     said i.params w n i.rows d.count i.refused i.unstuffer _ c.if-self.false v.count_is c.self.view_is
@@ -50,7 +50,7 @@ pub returns-in-Complete : goal.returns-in-Complete
 returns-in-Complete c = λ many.
     let i = c.self.inside in let d = i.reader in let v = c.self.invariant in let w : ℕ = d.reader.width in let n : ℕ = d.components in
     let reading = (v.decoding c.if-self.false).reading c.if-self-2.false in
-    let lines : List (List ℕ) = map (λ v. v.items) d.lines.items in
+    let lines : List (List ℕ) = d.lines in
     let over : IsComplete i.params w n d.count (bits_read i.unstuffer) lines c.in-Complete.extra =
     at_state i.params w n d.count (bits_read i.unstuffer) lines d.reader d.state _ c.in-Complete.is reading.state_is in
     let high : 7 < c.in-Complete.extra = grind (arith, nat_tests, many) in

@@ -22,7 +22,7 @@ invariant_of-result c =
           o.lengths bytes (record {
             lines_paid = h.lines_paid;
             lines_at_most =
-                subst (λ z. length d.lines.items ≤ z) (sym v.count_is) h.lines_at_most;
+                subst (λ z. length d.lines ≤ z) (sym v.count_is) h.lines_at_most;
             lines_wide = h.lines_wide;
             line_at_most =
                 h.line_at_most;
@@ -32,7 +32,7 @@ invariant_of-result c =
             whole = h.whole;
             reading = λ e. o.bits i.params (bits_read bytes) (h.reading e);
             lines_paid = l.lines_paid;
-            lines_at_most = subst (λ z. length new.lines.items ≤ z) count_is l.lines_at_most;
+            lines_at_most = subst (λ z. length new.lines ≤ z) count_is l.lines_at_most;
             lines_wide = l.lines_wide;
             line_at_most = l.line_at_most;
           });

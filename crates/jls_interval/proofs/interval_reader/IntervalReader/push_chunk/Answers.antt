@@ -1,5 +1,4 @@
-use Rattle.std.proofs.Common.{◌≡◌, ℕ, ◌%◌, ◌≤◌, true, false, List, Bool, ◌++◌, Vec, Global, length, refl, ◌∙◌, ap, sym, subst, arith}
-use Rattle.std.proofs.lemmas.List.{length-map}
+use Rattle.std.proofs.Common.{◌≡◌, ℕ, ◌%◌, ◌≤◌, true, false, List, Bool, ◌++◌, length, refl, ◌∙◌, sym, subst, arith}
 use Rattle.jls_values.specs.Params.{CodingParameters}
 use Rattle.jls_interval.specs.Events.{Above, above}
 use Rattle.jls_interval.specs.Decoding.{IsReading, TakesFirst, TakesEvent}
@@ -7,21 +6,19 @@ use Rattle.jls_interval.specs.LineSamples.{TakesInLine}
 use Rattle.jls_interval.specs.declared.interval_reader.IntervalReader.{IntervalReader}
 use Rattle.jls_interval.specs.declared.interval_reader.State.TheVariants.{Working}
 use Rattle.jls_interval.specs.declared.line_reader.LineReader.{LineReader}
-use Rattle.jls_interval.proofs.IntervalReading.{items, working, samples_taken, shape_none, shape_then, taking_none, taking_then}
+use Rattle.jls_interval.proofs.IntervalReading.{working, samples_taken, shape_none, shape_then, taking_none, taking_then}
 use Rattle.jls_interval.proofs.IntervalReading.{taking_more, taking_all, taking_shorter, taking_fewer}
 use Rattle.jls_interval.proofs.interval_reader.IntervalReader.push_chunk.Goals as goal
 
 -- samples that were taken into the line in work, of which this is the place, after the bits taken before
-module _ {old d : IntervalReader} (new : LineReader) {all chunk unread : List Bool} {lines : List (Vec ℕ Global)} {k : ℕ} {up : Above}
+module _ {old d : IntervalReader} (new : LineReader) {all chunk unread : List Bool} {k : ℕ} {up : Above}
     (before : TakesFirst old all d chunk) (state : d.state ≡ Working)
-    (same : lines ≡ d.lines.items) (k_is : k ≡ length lines % d.components) (up_is : up ≡ above d.components (items lines))
+    (k_is : k ≡ length d.lines % d.components) (up_is : up ≡ above d.components d.lines)
     (wide : new.width ≡ d.reader.width) (params : new.coder.cells.parameters ≡ d.reader.coder.cells.parameters)
     (t : TakesInLine k up d.reader new chunk unread) where
   samples : TakesFirst d chunk (record d { reader = new }) unread
   samples = λ p given h.
-      let n : ℕ = d.components in let maps = length-map d.lines.items (λ (v : Vec ℕ Global). v.items) in
-      samples_taken p d given h state new chunk unread k (k_is ∙ ap (λ z. length z % n) same ∙ ap (λ z. z % n) (sym maps)) up
-      (up_is ∙ ap (λ z. above n (items z)) same) wide params t
+      samples_taken p d given h state new chunk unread k k_is up up_is wide params t
 
   first : TakesFirst old all (record d { reader = new }) unread
   first = taking_then old d (record d { reader = new }) all chunk before unread samples
@@ -33,11 +30,11 @@ module _ {old d : IntervalReader} (new : LineReader) {all chunk unread : List Bo
 pub events-init : goal.events-init
 events-init c = record { shape = shape_none c.args.self.now; taking = taking_none c.args.self.now c.args.chunk.now }
 
-pub after-place-requires-clause-at_least : goal.after-place-requires-clause-at_least
-after-place-requires-clause-at_least c = let h = c.requires in (c.events.invariant.taking h.0 h.1 h.2).reading.components_at_least
+pub next_place-place-requires-clause-at_least : goal.next_place-place-requires-clause-at_least
+next_place-place-requires-clause-at_least c = let h = c.requires in (c.events.invariant.taking h.0 h.1 h.2).reading.components_at_least
 
-pub after-place-requires-clause-at_most : goal.after-place-requires-clause-at_most
-after-place-requires-clause-at_most c = let h = c.requires in (c.events.invariant.taking h.0 h.1 h.2).reading.components_at_most
+pub next_place-place-requires-clause-at_most : goal.next_place-place-requires-clause-at_most
+next_place-place-requires-clause-at_most c = let h = c.requires in (c.events.invariant.taking h.0 h.1 h.2).reading.components_at_most
 
 pub take_samples-requires : goal.take_samples-requires
 take_samples-requires c =
@@ -46,8 +43,8 @@ take_samples-requires c =
 
 pub push_event-requires-clause-reading : goal.push_event-requires-clause-reading
 push_event-requires-clause-reading c =
-    let h = c.requires in let place = c.after-place.ensures in let s = c.take_samples.ensures in
-    let so_far = first c.take_samples.new.reader c.events.invariant.taking (c.is_working.ensures.0 c.events-test.true) c.deref.ensures.value
+    let h = c.requires in let place = c.next_place-place.ensures in let s = c.take_samples.ensures in
+    let so_far = first c.take_samples.new.reader c.events.invariant.taking (c.is_working.ensures.0 c.events-test.true)
     place.component place.above s.width s.parameters c.in_ok-take_samples.ensures.taken in
     (h.0, _, (so_far h.0 h.1 h.2).reading)
 
@@ -59,25 +56,25 @@ returns-then-len-fewest-clause-shape c =
 
 pub returns-then-len-fewest-clause-bits : goal.returns-then-len-fewest-clause-bits
 returns-then-len-fewest-clause-bits c =
-    let place = c.after-place.ensures in let s = c.take_samples.ensures in
-    first c.take_samples.new.reader c.events.invariant.taking (c.is_working.ensures.0 c.events-test.true) c.deref.ensures.value
+    let place = c.next_place-place.ensures in let s = c.take_samples.ensures in
+    first c.take_samples.new.reader c.events.invariant.taking (c.is_working.ensures.0 c.events-test.true)
     place.component place.above s.width s.parameters c.in_ok-take_samples.ensures.taken
 
 pub returns-then-not-goes_on-clause-bits : goal.returns-then-not-goes_on-clause-bits
 returns-then-not-goes_on-clause-bits c =
-    let place = c.after-place.ensures in let s = c.take_samples.ensures in
-    let so_far = first c.take_samples.new.reader c.events.invariant.taking (c.is_working.ensures.0 c.events-test.true) c.deref.ensures.value
+    let place = c.next_place-place.ensures in let s = c.take_samples.ensures in
+    let so_far = first c.take_samples.new.reader c.events.invariant.taking (c.is_working.ensures.0 c.events-test.true)
     place.component place.above s.width s.parameters c.in_ok-take_samples.ensures.taken in
     taking_all c.args.self.now _ c.push_event.new.self c.args.chunk.now _ so_far c.new.result c.new.ensures
     (subst (TakesEvent _ c.push_event.new.self _ c.push_event.new.chunk) c.if-not-goes_on.true c.in_ok-goes_on.ensures.bits)
 
 pub events-smaller : goal.events-smaller
 events-smaller c =
-    let h = c.requires in let place = c.after-place.ensures in let s = c.take_samples.ensures in
-    let so_far = first c.take_samples.new.reader c.events.invariant.taking (c.is_working.ensures.0 c.events-test.true) c.deref.ensures.value
+    let h = c.requires in let place = c.next_place-place.ensures in let s = c.take_samples.ensures in
+    let so_far = first c.take_samples.new.reader c.events.invariant.taking (c.is_working.ensures.0 c.events-test.true)
     place.component place.above s.width s.parameters c.in_ok-take_samples.ensures.taken in
     let no_more = fewer c.take_samples.new.reader c.events.invariant.taking (c.is_working.ensures.0 c.events-test.true)
-    c.deref.ensures.value place.component place.above s.width s.parameters c.in_ok-take_samples.ensures.taken h.0 h.1 h.2 in
+    place.component place.above s.width s.parameters c.in_ok-take_samples.ensures.taken h.0 h.1 h.2 in
     let shorter = taking_shorter c.args.self.now _ c.push_event.new.self c.args.chunk.now _ so_far c.push_event.new.chunk
     (subst (TakesEvent _ c.push_event.new.self _ c.push_event.new.chunk) c.if-not-goes_on.false c.in_ok-goes_on.ensures.bits) h.0 h.1
     h.2 in
@@ -85,8 +82,8 @@ events-smaller c =
 
 pub events-preserved : goal.events-preserved
 events-preserved c =
-    let place = c.after-place.ensures in let s = c.take_samples.ensures in
-    let so_far = first c.take_samples.new.reader c.events.invariant.taking (c.is_working.ensures.0 c.events-test.true) c.deref.ensures.value
+    let place = c.next_place-place.ensures in let s = c.take_samples.ensures in
+    let so_far = first c.take_samples.new.reader c.events.invariant.taking (c.is_working.ensures.0 c.events-test.true)
     place.component place.above s.width s.parameters c.in_ok-take_samples.ensures.taken in
     let now : IntervalReader = record c.events.self { reader = c.take_samples.new.reader } in
     record {

@@ -1,6 +1,6 @@
 use Rattle.std.proofs.Common.{◌≡◌, ℕ, ◌+◌, ◌%◌, ◌^◌, ◌<◌, ◌≤◌, List, Bool, Vec, Global, length, [], ◌∷◌, ◌++◌, refl, sym, ap, ◌∙◌, subst}
 use Rattle.std.proofs.Common.{arith}
-use Rattle.std.proofs.lemmas.List.{length-map, length-append, map-append}
+use Rattle.std.proofs.lemmas.List.{length-append}
 use Rattle.jls_values.specs.Params.{CodingParameters, AreCodingParameters}
 use Rattle.jls_interval.specs.Events.{Event, Above, above}
 use Rattle.jls_interval.specs.After.{IsAfter}
@@ -14,7 +14,7 @@ use Rattle.jls_interval.specs.declared.interval_reader.State.{State}
 use Rattle.jls_interval.specs.declared.interval_reader.State.TheVariants.{Working, Complete, NoCode}
 use Rattle.jls_interval.specs.declared.interval_reader.IntervalReader.{IntervalReader}
 use Rattle.jls_interval.proofs.Decoding.{working_takes, working_on, working_line, working_over}
-use Rattle.jls_interval.proofs.IntervalReading.{items, wide_same, wide_more, line_fits, state_same, working, in_range, more_state}
+use Rattle.jls_interval.proofs.IntervalReading.{wide_same, wide_more, line_fits, state_same, working, in_range, more_state}
 use Rattle.jls_interval.proofs.IntervalReading.{more_same, refused_same, refused_state, moved_taken}
 use Rattle.jls_interval.proofs.interval_reader.IntervalReader.push_event.Goals as goal
 
@@ -26,29 +26,23 @@ Pushes old new chunk unread k up step =
 
 -- What an event says of a reader at work, in the place after its lines
 module _ {p : CodingParameters} {given : List Bool} {d : IntervalReader} {new : LineReader} {chunk unread : List Bool}
-    {lines : List (Vec ℕ Global)} {k : ℕ} {up : Above} {step : EventStep} (h : IsReading p given d) (state : d.state ≡ Working)
-    (same : lines ≡ d.lines.items) (component : k ≡ length lines % d.components) (above_is : up ≡ above d.components (items lines))
+    {k : ℕ} {up : Above} {step : EventStep} (h : IsReading p given d) (state : d.state ≡ Working)
+    (k_is : k ≡ length d.lines % d.components) (up_is : up ≡ above d.components d.lines)
     (wide : new.width ≡ d.reader.width) (parameters : new.coder.cells.parameters ≡ d.reader.coder.cells.parameters)
     (pushed : Pushes d.reader new chunk unread k up step) where
   open d use {components as n, reader.{width as w, line.{items as line}}}
   open new use {line.{items as line'}}
 
   abbrev L : List (List ℕ)
-  L = items d.lines.items
-
-  k_is : k ≡ length L % n
-  k_is = component ∙ ap (λ z. length z % n) same ∙ ap (λ z. z % n) (sym (length-map d.lines.items (λ (v : Vec ℕ Global). v.items)))
-
-  up_is : up ≡ above n L
-  up_is = above_is ∙ ap (λ z. above n (items z)) same
+  L = d.lines
 
   abbrev Is : List Bool → List (List ℕ) → List ℕ → State → Type 0
   Is bits ls l s = StateIs p w n d.count (given ++ bits) ls l new.coder.cells new.coder.run_indices new.open_event s
 
   -- a reader with these lines, this line in work and this state
-  reads : (l : Vec ℕ Global) (below : new.width < 2 ^ 16) (ls : Vec (Vec ℕ Global) Global) (bits : List Bool) (s : State)
-      → length ls.items ≤ d.count → length ls.items ≤ length given + length bits → HaveWidth w (items ls.items) → length l.items ≤ w
-      → Is bits (items ls.items) l.items s
+  reads : (l : Vec ℕ Global) (below : new.width < 2 ^ 16) (ls : List (List ℕ)) (bits : List Bool) (s : State)
+      → length ls ≤ d.count → length ls ≤ length given + length bits → HaveWidth w ls → length l.items ≤ w
+      → Is bits ls l.items s
       → IsReading p (given ++ bits) (record d { reader = record new { line = l; width_below = below }; lines = ls; state = s })
   reads l below ls bits s at_most paid widths short is = record {
     parameters = parameters ∙ h.parameters;
@@ -57,9 +51,9 @@ module _ {p : CodingParameters} {given : List Bool} {d : IntervalReader} {new : 
     components_at_most = h.components_at_most;
     lines_at_most = at_most;
     lines_paid = (let sum = length-append given bits in omega arith);
-    lines_wide = wide_same w new.width (items ls.items) wide widths;
+    lines_wide = wide_same w new.width ls wide widths;
     line_at_most = omega arith;
-    state_is = subst (λ z. StateIs p z n d.count (given ++ bits) (items ls.items) l.items new.coder.cells new.coder.run_indices
+    state_is = subst (λ z. StateIs p z n d.count (given ++ bits) ls l.items new.coder.cells new.coder.run_indices
         new.open_event s) (sym wide) is;
   }
 
@@ -113,28 +107,27 @@ module _ {p : CodingParameters} {given : List Bool} {d : IntervalReader} {new : 
         (subst (λ z. IsWorking p w n d.count (given ++ m.0) L line' new.coder.cells new.coder.run_indices z) (sym m.3) on)))
 
     -- the line is whole, and another one begins
-    module _ {l none v : Vec ℕ Global} (whole : length line' ≡ w) (ls : Vec (Vec ℕ Global) Global) (l_is : l ≡ none)
-        (empty : none.items ≡ []) (v_is : v ≡ new.line) (ls_is : ls.items ≡ d.lines.items ++ v ∷ []) where
-      grown : items ls.items ≡ L ++ line' ∷ []
-      grown = ap items ls_is ∙ map-append (λ (v : Vec ℕ Global). v.items) d.lines.items (v ∷ [])
-          ∙ ap (λ (z : Vec ℕ Global). L ++ z.items ∷ []) v_is
+    module _ {l none v : Vec ℕ Global} (whole : length line' ≡ w) (ls : List (List ℕ)) (l_is : l ≡ none)
+        (empty : none.items ≡ []) (v_is : v ≡ new.line) (ls_is : ls ≡ d.lines ++ v.items ∷ []) where
+      grown : ls ≡ L ++ line' ∷ []
+      grown = ls_is ∙ ap (λ (z : Vec ℕ Global). L ++ z.items ∷ []) v_is
 
       begun : l.items ≡ []
       begun = ap (λ (z : Vec ℕ Global). z.items) l_is ∙ empty
 
-      number : length ls.items ≡ length (L ++ line' ∷ [])
-      number = sym (length-map ls.items (λ (v : Vec ℕ Global). v.items)) ∙ ap length grown
+      number : length ls ≡ length (L ++ line' ∷ [])
+      number = ap length grown
 
       ended : {below : new.width < 2 ^ 16} (s : State) → Is m.0 (L ++ line' ∷ []) [] s
           → TakesSomeBits p given (record d { reader = record new { line = l; width_below = below }; lines = ls; state = s }) chunk unread
       ended {below} s is =
           let few = work.few in let paid = h.lines_paid in let one = some in let a = number in let b = length-append L (line' ∷ []) in
-          let maps = length-map d.lines.items (λ (v : Vec ℕ Global). v.items) in let zero = ap length begun in
+          let zero = ap length begun in
           takes (reads l below ls m.0 s (omega arith) (omega arith)
           (subst (HaveWidth w) (sym grown) (wide_more w L line' h.lines_wide whole)) (omega arith)
           (subst (λ z. Is m.0 z l.items s) (sym grown) (subst (λ z. Is m.0 (L ++ line' ∷ []) z s) (sym begun) is)))
 
-      complete : {below : new.width < 2 ^ 16} → d.count ≤ length ls.items
+      complete : {below : new.width < 2 ^ 16} → d.count ≤ length ls
           → TakesSomeBits p given
           (record d { reader = record new { line = l; width_below = below }; lines = ls; state = Complete 0 }) chunk unread
       complete all =
@@ -142,7 +135,7 @@ module _ {p : CodingParameters} {given : List Bool} {d : IntervalReader} {new : 
           ended (Complete 0) (working_over p ok w n d.count h.width_at_least given L line d.reader.coder.cells d.reader.coder.run_indices
           d.reader.open_event work m.0 line' new.coder.cells new.coder.run_indices m.2 whole (omega arith))
 
-      goes_on : {below : new.width < 2 ^ 16} → (length ls.items ≡ d.count → ⊥)
+      goes_on : {below : new.width < 2 ^ 16} → (length ls ≡ d.count → ⊥)
           → TakesSomeBits p given (record d { reader = record new { line = l; width_below = below }; lines = ls }) chunk unread
       goes_on ne =
           let few = work.few in let a = number in let b = length-append L (line' ∷ []) in
@@ -154,34 +147,34 @@ module _ {p : CodingParameters} {given : List Bool} {d : IntervalReader} {new : 
 
 pub returns-in-More-clause-bits : goal.returns-in-More-clause-bits
 returns-in-More-clause-bits c = λ p given h.
-    let place = c.after-place.ensures in let e = c.push_to_event.ensures in
-    more h c.requires.state c.deref.ensures.value place.component place.above e.width e.parameters c.in_ok-push_to_event.ensures.step
+    let place = c.next_place-place.ensures in let e = c.push_to_event.ensures in
+    more h c.requires.state place.component place.above e.width e.parameters c.in_ok-push_to_event.ensures.step
     c.in-More.is
 
 pub returns-in-Refused-clause-bits : goal.returns-in-Refused-clause-bits
 returns-in-Refused-clause-bits c = λ p given h.
-    let place = c.after-place.ensures in let e = c.push_to_event.ensures in
-    refused h c.requires.state c.deref.ensures.value place.component place.above e.width e.parameters c.in_ok-push_to_event.ensures.step
+    let place = c.next_place-place.ensures in let e = c.push_to_event.ensures in
+    refused h c.requires.state place.component place.above e.width e.parameters c.in_ok-push_to_event.ensures.step
     c.in-Refused.is
 
 pub returns-else-len-self-clause-bits : goal.returns-else-len-self-clause-bits
 returns-else-len-self-clause-bits c = λ p given h.
-    let place = c.after-place.ensures in let e = c.push_to_event.ensures in
-    unfinished h c.requires.state c.deref.ensures.value place.component place.above e.width e.parameters c.in_ok-push_to_event.ensures.step
+    let place = c.next_place-place.ensures in let e = c.push_to_event.ensures in
+    unfinished h c.requires.state place.component place.above e.width e.parameters c.in_ok-push_to_event.ensures.step
     c.in-Moved.is (λ o. (let f = c.if-len-self.false in let l = c.len.ensures in omega arith))
 
 pub returns-then-len-self-2-clause-bits : goal.returns-then-len-self-2-clause-bits
 returns-then-len-self-2-clause-bits c = λ p given h.
-    let place = c.after-place.ensures in let e = c.push_to_event.ensures in
-    complete h c.requires.state c.deref.ensures.value place.component place.above e.width e.parameters c.in_ok-push_to_event.ensures.step
+    let place = c.next_place-place.ensures in let e = c.push_to_event.ensures in
+    complete h c.requires.state place.component place.above e.width e.parameters c.in_ok-push_to_event.ensures.step
     c.in-Moved.is (let f = c.if-len-self.true in let l = c.len.ensures in omega arith) c.push.new.self c.replace-line.ensures.after
-    c.in_ok-next-in-Moved.ensures.items c.replace-line.ensures.value c.in_ok-push-in-Moved.ensures.items
+    c.in_ok-next-in-Moved.ensures.items c.replace-line.ensures.value c.in_ok-push-in-Moved.ensures
     (let f = c.if-len-self-2.true in let l = c.len-then-len-self.ensures in omega arith)
 
 pub returns-else-len-self-2-clause-bits : goal.returns-else-len-self-2-clause-bits
 returns-else-len-self-2-clause-bits c = λ p given h.
-    let place = c.after-place.ensures in let e = c.push_to_event.ensures in
-    goes_on h c.requires.state c.deref.ensures.value place.component place.above e.width e.parameters c.in_ok-push_to_event.ensures.step
+    let place = c.next_place-place.ensures in let e = c.push_to_event.ensures in
+    goes_on h c.requires.state place.component place.above e.width e.parameters c.in_ok-push_to_event.ensures.step
     c.in-Moved.is (let f = c.if-len-self.true in let l = c.len.ensures in omega arith) c.push.new.self c.replace-line.ensures.after
-    c.in_ok-next-in-Moved.ensures.items c.replace-line.ensures.value c.in_ok-push-in-Moved.ensures.items
+    c.in_ok-next-in-Moved.ensures.items c.replace-line.ensures.value c.in_ok-push-in-Moved.ensures
     (λ o. (let f = c.if-len-self-2.false in let l = c.len-then-len-self.ensures in omega arith))
