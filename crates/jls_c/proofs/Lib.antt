@@ -6,3 +6,4 @@ pub mod Fitting
 pub mod Texts
 pub mod Known
 pub mod Planned
+mod AnswerExamples

@@ -29,3 +29,5 @@ mod TenLineExamples
 mod HeadExamples
 mod EitherWayExamples
 pub mod ClosedExamples
+mod SourcedExamples
+mod TwoCodingExamples

@@ -34,3 +34,4 @@ pub mod SeenFiles
 pub mod Verdicts
 pub mod TakenFiles
 mod CutFiles
+mod BorderExamples

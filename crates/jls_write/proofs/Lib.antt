@@ -14,3 +14,4 @@ mod PackedLength
 mod ScanIds
 mod Scans
 mod WrittenFileExamples
+mod PnmExamples

@@ -61,6 +61,14 @@ record WrittenFileExamples : Type 0 where
       ≡ two_prefix (0xFF ∷ 0xDA ∷ 0x00 ∷ 0x0A ∷ 0x02 ∷ 0x01 ∷ 0x00 ∷ 0x02 ∷ 0x00 ∷ 0x00 ∷ 0x01 ∷ 0x00 ∷ 0x07 ∷ 0x16 ∷ 0xFF ∷ 0xD9 ∷ [])
   apart : written_file (column 1 (1 ∷ 2 ∷ []) (((10 ∷ []) ∷ []) ∷ ((10 ∷ []) ∷ []) ∷ [])) (options false 0)
       ≡ two_prefix (scan_prefix 1 (0x07 ∷ scan_prefix 2 (0x07 ∷ 0xFF ∷ 0xD9 ∷ [])))
+  -- other identifiers than 1 and 2 stand in the frame and in each scan (T.87 C.2.2 and C.2.3)
+  other_ids : written_file (column 1 (7 ∷ 200 ∷ []) (((10 ∷ []) ∷ []) ∷ ((0 ∷ []) ∷ []) ∷ [])) (options false 0)
+      ≡ 0xFF ∷ 0xD8 ∷ 0xFF ∷ 0xF7 ∷ 0x00 ∷ 0x0E ∷ 0x08 ∷ 0x00 ∷ 0x01 ∷ 0x00 ∷ 0x01 ∷ 0x02 ∷ 0x07 ∷ 0x11 ∷ 0x00 ∷ 0xC8 ∷ 0x11 ∷ 0x00
+      ∷ scan_prefix 7 (0x07 ∷ scan_prefix 200 (0x80 ∷ 0xFF ∷ 0xD9 ∷ []))
+  -- and in one of both
+  other_ids_by_line : written_file (column 1 (7 ∷ 200 ∷ []) (((10 ∷ []) ∷ []) ∷ ((10 ∷ []) ∷ []) ∷ [])) (options true 0)
+      ≡ 0xFF ∷ 0xD8 ∷ 0xFF ∷ 0xF7 ∷ 0x00 ∷ 0x0E ∷ 0x08 ∷ 0x00 ∷ 0x01 ∷ 0x00 ∷ 0x01 ∷ 0x02 ∷ 0x07 ∷ 0x11 ∷ 0x00 ∷ 0xC8 ∷ 0x11 ∷ 0x00
+      ∷ 0xFF ∷ 0xDA ∷ 0x00 ∷ 0x0A ∷ 0x02 ∷ 0x07 ∷ 0x00 ∷ 0xC8 ∷ 0x00 ∷ 0x00 ∷ 0x01 ∷ 0x00 ∷ 0x07 ∷ 0x16 ∷ 0xFF ∷ 0xD9 ∷ []
   -- ten intervals of one row: the markers count from 0 to 7 and anew
   ten_intervals : written_file
       (column 10 (1 ∷ []) (((0 ∷ []) ∷ (1 ∷ []) ∷ (2 ∷ []) ∷ (3 ∷ []) ∷ (4 ∷ []) ∷ (5 ∷ []) ∷ (6 ∷ []) ∷ (7 ∷ []) ∷ (8 ∷ []) ∷ (9 ∷ [])
@@ -81,5 +89,7 @@ written_file_examples = record {
   with_both = refl;
   by_line = refl;
   apart = refl;
+  other_ids = refl;
+  other_ids_by_line = refl;
   ten_intervals = refl;
 }
