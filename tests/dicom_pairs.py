@@ -18,6 +18,14 @@ def told(bench, name, copies, true, is_back=True, status=None):
     return f"{name}: nothing false ({got}, {printed}, {faults})", is_refused and status in (None, got)
 
 
+def told_by_header(bench, name, copies, true, number):
+    """Checks of copies that have two UIDs twice, and no third copy: undecided, unless --header names the copy of this number."""
+    got, out, printed, faults, _ = bench.mend(copies)
+    yield f"{name}: undecided ({got}, {printed}, {faults})", (got, out) == (1, None) and "each of two instances can be the file" in printed
+    got, out, printed, faults, _ = bench.mend(copies, "--header", f"COPY{number}")
+    yield f"{name}, and --header: the same file ({got}, {printed}, {faults})", (got, out == true) == (0, True)
+
+
 def checks_of_entries(bench, single):
     """The one entry of a table of one frame is 0, whatever a copy has there that leads nowhere; but some writers count from elsewhere."""
     true, at = single.bytes, single.table_at
@@ -59,8 +67,12 @@ def checks_of_foreign_files(bench, folder, rng):
     true += b"\0\0" if len(true) % 512 == 0 else b""
     large = File([frame(rng, 12, 90, 60, folder)], 12, 90, 60, uid="1.2.3.9.9").bytes
     foreign = large[: len(true)]
-    for copies in ([foreign, true], [true, foreign]):
-        yield told(bench, "a foreign file in the place of a copy", copies, true)
+    for number, copies in ((1, [foreign, true]), (0, [true, foreign])):
+        yield from told_by_header(bench, "a foreign file in the place of a copy", copies, true, number)
+    third = changed(true, (true.index(b"Doe^Jane"), b"E"), (true.index(b"OB\0\0\2\0\0\0\0\1") + 8, b"\1"))
+    yield told(bench, "the same, and a third copy", [foreign, true, third], true, False, 1)
+    third = changed(true, (true.index(b"\xff\xd8\xff\xf7\0\x0b") + 60, bytes(8)))
+    yield told(bench, "the same, and a third copy with a whole header", [foreign, true, third], true)
     broken = changed(true, (true.index(b"\xe0\x7f\x10\x00OB\0\0\xff\xff\xff\xff"), bytes(24)))
     yield told(bench, "the same, and the other copy is broken", [foreign, broken], true, False, 3)
     pad = -(len(true) + 12) % 512
@@ -78,7 +90,7 @@ def checks_of_shorter_copies(bench, made):
     true = made.bytes
     damaged = changed(true, (true.index(made.frames[1]) + 80, bytes(8)))
     for name, rest in (("is cut", true[512:-200]), ("lost bytes", true[512:-400] + true[-384:])):
-        yield told(bench, f"a foreign beginning of a copy that {name}", [head + rest, damaged], true)
+        yield from told_by_header(bench, f"a foreign beginning of a copy that {name}", [head + rest, damaged], true, 1)
     lines = b"".join(b"asSlice[%d].dFlow = %d.5\n" % (line % 30, line % 4) for line in range(300))
     text, at = with_value(made, lines)
     flipped = changed(text, (at + 2600, b"Z"), (at + 2700, b"Z"))
@@ -127,14 +139,13 @@ def series(made, value, name):
 
 
 def checks_of_beginnings(bench, made):
-    """A neighbour's beginning is told by its elements, which lead nowhere; that of one with elements at the same places isn't."""
+    """A neighbour's beginning whose elements lead nowhere is left out, and only --header takes the other header; or nothing does."""
     value = csa_header(random.Random(4))
     true = series(made, value, "ACME")
     longer, alike = (series(made, value, name).replace(UID.encode(), NEIGHBOUR.encode()) for name in ("ACME Works", "EMCA"))
-    for name, other, is_back in (("a neighbour's beginning", longer, True), ("that of one with the same places", alike, False)):
-        foreign = other[:3072] + true[3072:]
-        damaged = changed(true, (true.index(made.frames[1]) + 80, bytes(8)))
-        yield told(bench, name, [foreign, damaged], true, is_back, 3)
+    damaged = changed(true, (true.index(made.frames[1]) + 80, bytes(8)))
+    yield from told_by_header(bench, "a neighbour's beginning", [longer[:3072] + true[3072:], damaged], true, 1)
+    yield told(bench, "that of one with the same places", [alike[:3072] + true[3072:], damaged], true, False, 3)
 
 
 def described(made, bits, *more):

@@ -100,9 +100,11 @@ def checks_of_halves(bench, folder):
     foreign = (bytes(128) + b"DICM" + other.bytes[132 : other.name_at] + rng.randbytes(size))[:size]
     at = (big.items[0] // 512 + 3) * 512
     halves = [big.bytes[:at] + foreign[at:], foreign[:at] + big.bytes[at:]]
-    for copies in (halves, halves[::-1]):
+    for number, copies in enumerate((halves, halves[::-1])):
         status, out, printed, faults, _ = bench.mend(copies)
-        yield f"two halves: the same file ({status}, {printed}, {faults})", (status, out == big.bytes) == (0, True)
+        yield f"two halves: undecided ({status}, {printed}, {faults})", (status, out) == (1, None) and "each of two instances" in printed
+        status, out, printed, faults, _ = bench.mend(copies, "--header", f"COPY{number}")
+        yield f"two halves, and --header: the same file ({status}, {printed}, {faults})", (status, out == big.bytes) == (0, True)
     status, out, _, faults, _ = bench.mend([big.bytes, other.bytes])
     yield f"two whole files: refused ({status}, {faults})", (status, out) == (3, None)
     status, out, _, faults, _ = bench.mend([big.bytes[:at] + foreign[at:], other.bytes[:-200] + bytes(200)])

@@ -72,6 +72,25 @@ def checks_of_chimeras(bench, made):
             got, out, printed, faults, _ = bench.mend(order)
             yield f"{name}: undecided ({got}, {printed[-300:]}, {faults})", got in (1, 3) and out is None
     yield case(bench, "a chimera, and a third copy", [true, chimera, changed(true, (5000, noise))], 0, true)
+    yield from of_two_beginnings(bench, made)
+
+
+def of_two_beginnings(bench, made):
+    """Foreign bytes over the beginning of each copy: those of one break off, and those of the other lead on to its end."""
+    values = [element(0x190010, "LO", "MINE"), *(element(0x191000 + at, "LO", f"value {at * 37 % 100:02} of it") for at in range(40))]
+    true = put_before(made.bytes, 0x280002, *values)
+    neighbour = true.replace(UID.encode(), NEIGHBOUR.encode()).replace(b"20200131", b"20200201")[:512] + true[512:]
+    other = element(0x20002, "UI", CLASS) + element(0x20003, "UI", "1.2.3.9.9") + element(0x20010, "UI", "1.2.840.10008.1.2.1")
+    other = element(0x20000, "UL", struct.pack("<I", len(other))) + other + element(0x80016, "UI", CLASS)
+    other += element(0x80018, "UI", "1.2.3.9.9") + element(0x91001, "OB", random.Random(5).randbytes(900))
+    broken = (bytes(128) + b"DICM" + other)[:512] + true[512:]
+    for copies in ([broken, damaged_at(neighbour, made)], [damaged_at(neighbour, made), broken]):
+        yield case(bench, "a foreign beginning that breaks off, and another one", copies, 1, b"", "each of two instances can be the file")
+
+
+def damaged_at(data, made):
+    """A file that has eight bytes of its first frame zeroed."""
+    return changed(data, (data.index(made.frames[0]) + 70, bytes(8)))
 
 
 # The finished file ---------------------------------------------------------------------------------

@@ -19,7 +19,6 @@ INSTANCE = 0x00080018
 LARGEST_BEGINNING = 1 << 16  # bytes of a foreign beginning whose end is sought at borders of sectors
 MOST_PLACES = 8
 HEAD = 12  # bytes of an element's header, at most
-LEAST_APART = 2  # so many elements of a foreign beginning stand where the other file has none, at least
 SHARED = 4  # one block in so many of their second half is equal, at its place, in two files of which one was overwritten
 
 
@@ -135,20 +134,6 @@ def leads_apart(data, other, place):
     return own[0] != beside[0] and not own[1] and beside[1]
 
 
-def is_another_file(data, other, place):
-    """Whether the elements before a place are surely those of another file than the other one, whose header leads to Pixel Data.
-
-    Then they stand elsewhere, and lead on nowhere. Elements at the same places say nothing: two slices of a series have them, and each of
-    both can be the file. Their tags ascend, as those of a sector of a third file behind true elements do not.
-    """
-    beside = [(element.start, element.tag) for element in walk(other)]
-    own = [(element.start, element.tag) for element in walk(data) if element.start < place]
-    apart = [each for each in own if each not in beside]
-    if not beside or beside[-1][1] != PIXEL_DATA or len(apart) < LEAST_APART or own[-1] != apart[-1]:
-        return False
-    return all(one[1] < two[1] for one, two in zip(own, own[1:]))
-
-
 def overwritten_until(data, other):
     """Where the beginning of its own ends that a file has, if it breaks off there and goes on as the other one; else nothing."""
     if not share_blocks(data, other):
@@ -223,7 +208,7 @@ class Instances:
     """Sorts copies, by index: `certain` are of the instance, `uncertain` may be. `left_out` are others, with the reason.
 
     `rests` are copies whose beginning a foreign file has overwritten: where that ends, and the copy from which that was seen. `doubts` are
-    copies whose header can be the foreign one, with the reason.
+    copies whose header can be the foreign one, with the reason: two UIDs stand against each other, and no third copy has one of both.
     """
 
     def __init__(self, texts, is_same):
@@ -255,6 +240,7 @@ class Instances:
         for at, each in enumerate(self.identities):
             if each.uid not in (None, most) and at not in self.left_out:
                 self.left_out[at] = f"it is of another instance, {each.uid}"
+        self.doubt(most)
         return most
 
     def leave_out_half(self):
@@ -265,7 +251,6 @@ class Instances:
                 self.rests[at] = border, beside
                 self.left_out[at] = f"a foreign file, of instance {self.identities[at].uid}, has overwritten its beginning"
                 self.left_out[at] += f"; what follows from {border} on is used"
-                self.doubt(at, beside, border)
                 return
 
     def leave_out_foreign(self, counts):
@@ -290,10 +275,13 @@ class Instances:
             if until is not None:
                 self.rests[at] = until, beside
                 self.left_out[at] += f"; what follows from {until} on is used"
-                if counts[other] == 1:
-                    self.doubt(at, beside, until)
 
-    def doubt(self, at, beside, until):
-        """Two copies alone say of which instance they are, and one was left out: either can have the other file's beginning."""
-        if not is_another_file(self.texts[at], self.texts[beside], until):
-            self.doubts[beside] = f"each of two instances can be the file: {self.identities[beside].uid}, {self.identities[at].uid}"
+    def doubt(self, uid):
+        """One copy alone has this UID twice, and another copy has another one twice: each can have the other file's beginning.
+
+        Its elements can lead on to the end all the same: the bytes before are of a third file then, and no copy has the true ones.
+        """
+        own = [at for at, each in enumerate(self.identities) if each.uid == uid]
+        others = sorted({each.uid for each in self.identities} - {None, uid})
+        if len(own) == 1 and others:
+            self.doubts[own[0]] = f"each of two instances can be the file: {', '.join([uid, *others])}"
