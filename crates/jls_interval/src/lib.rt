@@ -8,6 +8,7 @@
 //!   an `encoder`
 //! - `interval_decoder`: the public decoder. It makes chunks of the data bits of its bytes, and keeps no bytes
 //! - `interval_reader`, `line_reader`: the lines so far. The current line, with the current event
+//! - `finished_lines`: the lines that are read. They stand in blocks, of which a clone takes handles
 //! - `push_event`, `push_sample`, `run_reader`: take bits of an event, of a sample, and of a run
 //! - `line_samples`: the fast way: samples of regular mode whose codes are short and complete in the chunk
 //! - `decode_piece`: `decode_interval`: a decoder that is pushed the whole piece
@@ -24,12 +25,14 @@
 //! Definitions: `Lines` (L(y, x) and neighbours), `Events` (stretches of columns, then the same computed), `Cells` and `Runs` (the state
 //! before an event), `Code` (bits), `Reads` (which bytes read, are too long, are broken), `Fits`. For laws and decoders: `Stepwise` (codes
 //! that are read step by step, without JPEG-LS), `Growth` (the interval as such a code), `Laws`, `ReadBack`, `Heads` and `CutEvents` (where
-//! bits break off). `Fronts`: first lines, the bytes that they fill. `PieceFaults` says what an answer says of a piece, except `NoLines`. `CutEnds` says the same at the input's end. The
-//! record `IntervalBytes` is what contracts see of a decoder. The other files are needed inside the crate only.
+//! bits break off). `Fronts`: first lines, and the bytes that they fill. `PieceFaults` says what an answer says of a piece, except
+//! `NoLines`. `CutEnds` says the same at the input's end. The record `IntervalBytes` is what contracts see of a decoder. `FinishedLines`
+//! says which list blocks of lines are. The other files are needed inside the crate only.
 //!
 //! Not proved:
 //!
 //! - That a decoder keeps no scan bytes. Its fields show that.
+//! - How much a clone copies: the line in work, and about as many finished lines as no block holds.
 //!
 //! # An interval's code in words
 //!
