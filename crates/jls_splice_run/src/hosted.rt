@@ -5,6 +5,7 @@ ghost use Rattle.std.specs.String.{string_bytes};
 ghost use Rattle.jls_io.specs.Event.{GrewBy};
 ghost use Rattle.jls_io.specs.Writing.{Printed};
 ghost use Rattle.jls_cli.specs.FaultLines.{not_created_line};
+ghost use Rattle.jls_host.specs.declared.choice.Guard.TheVariants as guarded;
 ghost use Rattle.jls_splice_run.specs.FaultLines.{not_replaced_line, program};
 ghost use Rattle.jls_splice_run.specs.Runs.{Ran};
 
@@ -26,7 +27,9 @@ impl Program for Splice {
     }
 
     /// It replaces no JPEG file.
-    fn guard(_words: &[String]) -> Guard {
+    fn guard(_words: &[String]) -> Guard
+        ensures { result ≡ guarded.Jpeg }
+    {
         Guard::Jpeg
     }
 
