@@ -47,7 +47,7 @@ class Copy:
         return b"".join(parts) + self.data[at:end]
 
 
-def equal_length(one, other, at, beside):
+def equal_length(one: bytes, other: bytes, at: int, beside: int) -> int:
     """How many bytes are equal from here on."""
     begin, most = at, min(len(one) - at, len(other) - beside)
     done, size = 0, 64

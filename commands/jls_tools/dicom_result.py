@@ -60,6 +60,15 @@ class Place:
 
 
 @dataclass
+class VersionTable:
+    """Headers of one picture that all read whole: (name, the copies) of each, which was taken, and what stands where they differ by tag."""
+
+    versions: list[tuple[str, list[str]]]
+    taken: str | None
+    rows: list[tuple[str, list[bytes | None]]]
+
+
+@dataclass
 class MendResult:
     """Status 0: OUT is written and whole. 1: not whole, or undecided. 3: refused, as `refusal` says. 4: a file can't be read or written."""
 
@@ -69,6 +78,7 @@ class MendResult:
     is_guessed: bool = False  # bytes of no element, as of the preamble, were taken for which nothing speaks
     frames: list = field(default_factory=list)
     places: list = field(default_factory=list)
+    versions: VersionTable | None = None
     folder: str | None = None  # where the frames stand that came back, if OUT isn't written
     sha256: str | None = None  # the sum of OUT
     matched: bool = False  # --sha256 matched
