@@ -217,7 +217,7 @@ def checks_of_most(bench, made):
         other = changed(short, (short.index(made.frames[0]) + 70, bytes(8)))
         for order in ([short, long, other], [long, short, other]):
             yield case(bench, f"{name} of a value that makes a file longer, in two of three", order, 0, short)
-        yield case(bench, f"{name} of a value that makes a file longer, in one of two", [short, long], 1, b"", "each can be the file's")
+        yield case(bench, f"{name} of a value that makes a file longer, in one of two", [short, long], 1, b"", "--header chooses one")
     lost = changed(true, (true.index(b"ORIGINAL"), bytes(12)))
     both = [lost, changed(lost, (made.items[1] + 70, bytes(8)))]
     yield case(bench, "zeros in a text of two of three", [*both, changed(true, (first + 70, bytes(8)))], 0, true)

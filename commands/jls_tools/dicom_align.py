@@ -3,8 +3,12 @@
 A byte that a copy has not (it is cut, or lost bytes) is taken from another copy that has it; `absent` says where that was done. So all
 copies have one length then, and where they differ each has a byte of its own.
 """
+from __future__ import annotations
+
 import re
+from collections.abc import Iterable, Iterator, Sequence
 from dataclasses import dataclass, field
+from typing import Optional
 
 from jls_tools.dicom_media import MOST_LOST
 from jls_tools.dicom_sectors import is_noise
@@ -47,7 +51,7 @@ class Copy:
         return b"".join(parts) + self.data[at:end]
 
 
-def equal_length(one, other, at, beside):
+def equal_length(one: bytes, other: bytes, at: int, beside: int) -> int:
     """How many bytes are equal from here on."""
     begin, most = at, min(len(one) - at, len(other) - beside)
     done, size = 0, 64
@@ -64,7 +68,7 @@ def equal_length(one, other, at, beside):
     return done
 
 
-def same_way_on(one, other, at, beside):
+def same_way_on(one: bytes, other: bytes, at: int, beside: int) -> Optional[int]:
     """How far the next run of bytes that are equal at these offsets is, if most of what comes is equal; else nothing."""
     window = min(256, len(one) - at, len(other) - beside)
     left, right = one[at : at + window], other[beside : beside + window]
@@ -77,17 +81,17 @@ def same_way_on(one, other, at, beside):
     return None
 
 
-def anchor_at(data, at):
+def anchor_at(data: bytes, at: int) -> Optional[bytes]:
     anchor = data[at : at + ANCHOR]
     return anchor if len(anchor) == ANCHOR and len(set(anchor)) >= ANCHOR_KINDS else None
 
 
-def meet_again(one, other, at, beside):
+def meet_again(one: bytes, other: bytes, at: int, beside: int) -> Optional[tuple[int, int]]:
     """The next offsets (in both) from which they are equal again, with bytes lost between or not; nothing if there are none.
 
     Of several the nearest is taken: what is lost may stand a second time further on.
     """
-    best, least = None, None
+    best, least = None, 0
     for step in STEPS:
         if best is not None and step >= least:
             break
@@ -98,7 +102,7 @@ def meet_again(one, other, at, beside):
     return best
 
 
-def meetings(one, other, at, beside, step):
+def meetings(one: bytes, other: bytes, at: int, beside: int, step: int) -> Iterator[tuple[int, int]]:
     """Where what stands so far on in one of both stands in the other one."""
     near, far = anchor_at(one, at + step), anchor_at(other, beside + step)
     if near is not None and near == far:
@@ -112,7 +116,7 @@ def meetings(one, other, at, beside, step):
         yield back(one, other, at, beside, found, beside + step)
 
 
-def lost_here(one, other, at, beside):
+def lost_here(one: bytes, other: bytes, at: int, beside: int) -> Optional[tuple[int, int]]:
     """Where both go on after bytes that one of them lost: equal for long, and far less so at equal offsets; else nothing."""
     window = min(WINDOW, len(one) - at, len(other) - beside)
     apart = sum(a != b for a, b in zip(one[at : at + window], other[beside : beside + window]))
@@ -123,14 +127,14 @@ def lost_here(one, other, at, beside):
     return meet if len(left) == len(right) == SHIFTED and left == right else None
 
 
-def back(one, other, at, beside, meet, meets):
+def back(one: bytes, other: bytes, at: int, beside: int, meet: int, meets: int) -> tuple[int, int]:
     """The first of the equal bytes before a place where both are equal."""
     while meet > at and meets > beside and one[meet - 1] == other[meets - 1]:
         meet, meets = meet - 1, meets - 1
     return meet, meets
 
 
-def pieces(one, other, is_free=False):
+def pieces(one: bytes, other: bytes, is_free: bool = False) -> Iterator[tuple[int, int]]:
     """(bytes of one, bytes of the other) in turn: as many of both, or none of one.
 
     Where as many bytes follow in both, they are taken by offset, unless the way is free.
@@ -160,7 +164,7 @@ def pieces(one, other, is_free=False):
     yield 0, len(other) - beside
 
 
-def insert_gaps(copy, gaps, source):
+def insert_gaps(copy: Copy, gaps: Iterable[tuple[int, int, int]], source: bytes) -> Copy:
     """Puts bytes into a copy that it has not: `gaps` are (its offset, count, offset in the source)."""
     parts, absent, at = [], [], 0
     shift, old = 0, copy.absent
@@ -176,8 +180,8 @@ def insert_gaps(copy, gaps, source):
     return Copy(copy.path, b"".join(parts), merged(absent + moved), copy.foreign)
 
 
-def merged(ranges):
-    found = []
+def merged(ranges: Iterable[tuple[int, int]]) -> list[tuple[int, int]]:
+    found: list[tuple[int, int]] = []
     for begin, end in sorted(ranges):
         if found and found[-1][1] >= begin:
             found[-1] = (found[-1][0], max(found[-1][1], end))
@@ -186,7 +190,7 @@ def merged(ranges):
     return found
 
 
-def gaps_of(one, other, is_free):
+def gaps_of(one: bytes, other: bytes, is_free: bool) -> tuple[list[tuple[int, int, int]], list[tuple[int, int, int]]]:
     """What each of two lacks of the other: for each a list as insert_gaps takes it."""
     at = beside = 0
     in_one, in_other = [], []
@@ -199,11 +203,11 @@ def gaps_of(one, other, is_free):
     return in_one, in_other
 
 
-def size_of(ranges):
+def size_of(ranges: Iterable[tuple[int, int]]) -> int:
     return sum(end - begin for begin, end in ranges)
 
 
-def aligned(one, other, are_shifted):
+def aligned(one: bytes, other: bytes, are_shifted: bool) -> tuple[list[tuple[int, int, int]], list[tuple[int, int, int]]]:
     """(gaps in one, gaps in the other). Those of one length are taken by offset, unless they have far more in common when shifted."""
     if len(one) != len(other):
         return gaps_of(one, other, False)
@@ -218,7 +222,7 @@ def aligned(one, other, are_shifted):
     return gaps if (left_apart + absent) * 2 < apart else ([], [])
 
 
-def on_one_axis(copies, are_shifted=False):
+def on_one_axis(copies: Sequence[Copy], are_shifted: bool = False) -> list[Copy]:
     """All copies on one axis, which the longest copy begins. `are_shifted`: two of one length may have lost bytes at different places."""
     order = sorted(range(len(copies)), key=lambda index: -len(copies[index].data))
     placed = {order[0]: copies[order[0]]}
@@ -233,7 +237,7 @@ def on_one_axis(copies, are_shifted=False):
     return slid([placed[index] for index in range(len(copies))])
 
 
-def slid(copies):
+def slid(copies: Sequence[Copy]) -> list[Copy]:
     """The copies with each loss where they differ least: where bytes repeat, it can have been found too early, too late, or in parts."""
     found = list(copies)
     for number, copy in enumerate(copies):
@@ -246,9 +250,9 @@ def slid(copies):
     return found
 
 
-def near_each_other(gaps):
+def near_each_other(gaps: Iterable[tuple[int, int]]) -> list[list[tuple[int, int]]]:
     """Lists of two losses and more, each near the one before."""
-    found = []
+    found: list[list[tuple[int, int]]] = []
     for gap in gaps:
         if found and gap[0] - found[-1][-1][1] < SLIDE:
             found[-1].append(gap)
@@ -257,7 +261,7 @@ def near_each_other(gaps):
     return [near for near in found if len(near) > 1]
 
 
-def in_one_place(copy, other, gaps):
+def in_one_place(copy: Copy, other: Copy, gaps: Sequence[tuple[int, int]]) -> Optional[Copy]:
     """A copy with these losses in one place near them, filled from another copy, if far fewer bytes differ so; else nothing."""
     begin, end = gaps[0][0], gaps[-1][1]
     if begin == 0 or end == len(copy.data):
@@ -276,7 +280,7 @@ def in_one_place(copy, other, gaps):
     return Copy(copy.path, data, merged([pair for pair in copy.absent if pair not in gaps] + [gap]), copy.foreign)
 
 
-def fewest(own, whole):
+def fewest(own: bytes, whole: bytes) -> tuple[int, int]:
     """(how many bytes differ, where) if what some bytes lack of others stands in the one place where fewest differ."""
     lost = len(whole) - len(own)
     best = count = sum(one != two for one, two in zip(own, whole[lost:]))
@@ -288,7 +292,7 @@ def fewest(own, whole):
     return best, place
 
 
-def may_stand_elsewhere(copy, other, gap):
+def may_stand_elsewhere(copy: Copy, other: Copy, gap: tuple[int, int]) -> bool:
     """Whether a loss can stand farther away where a few bytes more differ, which damage of the other copy can have made."""
     begin, end = gap
     if begin == 0 or end == len(copy.data):
@@ -301,7 +305,7 @@ def may_stand_elsewhere(copy, other, gap):
     return any(may_be_damage(own, beside, end - begin) for own, beside in sides)
 
 
-def may_be_damage(own, other, size):
+def may_be_damage(own: bytes, other: bytes, size: int) -> bool:
     """Whether of two texts nothing differs for long but one bit, noise, or a few bytes that are no printable text."""
     apart = [at for at, (one, two) in enumerate(zip(own, other)) if one != two]
     if not apart:
@@ -320,10 +324,10 @@ def may_be_damage(own, other, size):
 NOT_ZERO = re.compile(rb"[^\0]+")
 
 
-def differing(texts, begin=0, end=None):
+def differing(texts: Sequence[bytes], begin: int = 0, end: Optional[int] = None) -> list[tuple[int, int]]:
     """The ranges, of one byte or more, in which texts of one length differ. Each byte in them differs."""
     end = len(texts[0]) if end is None else end
-    found = []
+    found: list[tuple[int, int]] = []
     for at in range(begin, end, BLOCK):
         blocks = [text[at : min(end, at + BLOCK)] for text in texts]
         if all(block == blocks[0] for block in blocks[1:]):

@@ -20,7 +20,7 @@ DESCRIPTION = """jls-dicom mends DICOM files whose frames are JPEG-LS lossless, 
 It calls jls-salvage and jls-splice, and is tested, not proved."""
 STATUSES = """exit status:
   0  done; each frame is whole
-  1  a frame is not whole, or a place of the header is undecided
+  1  a frame is not whole, or the header is undecided
   2  the command line is wrong
   3  a file is refused, and the line says why
   4  a file can't be read, created or written
@@ -116,10 +116,22 @@ def place_line(place, has_names=True, sizes=()):
     return f"differ {place.offset} {place.length} {place.tag}, {verdict}; {'; '.join(values)}"
 
 
+def version_lines(table, has_names=True, sizes=()):
+    """The headers that read whole, and a line for each tag where they differ."""
+    counts = [f"{len(paths)} {'copy' if len(paths) == 1 else 'copies'}" for _, paths in table.versions]
+    copies = [f"{name}: {count}, {', '.join(map(printable, paths))}" for count, (name, paths) in zip(counts, table.versions)]
+    yield f"versions, {'undecided' if table.taken is None else f'taken: {table.taken}'}; {'; '.join(copies)}"
+    for tag, values in table.rows:
+        is_told = has_names or not can_have_name(tag)
+        shown = ["no element" if value is None else printed_value(value, *sizes) if is_told else f"{len(value)} bytes" for value in values]
+        yield f"version {tag}, {'; '.join(f'{name}: {each}' for (name, _), each in zip(table.versions, shown))}"
+
+
 def mended_lines(result, out, is_quiet=False, has_names=True, sizes=()):
     """What a run came to, a line for each copy that was left out, place, frame and note."""
     yield from (f"left out {printable(path)}: {why}" for path, why in result.left_out)
     yield from (place_line(place, has_names, sizes) for place in result.places if not (is_quiet and place.is_decided))
+    yield from version_lines(result.versions, has_names, sizes) if result.versions else ()
     yield from (frame.line() for frame in result.frames if not (is_quiet and frame.kind == "whole"))
     yield from map(printable, result.notes)
     if result.written:

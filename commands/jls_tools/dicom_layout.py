@@ -4,7 +4,7 @@ from jls_tools.dicom_alone import is_against_rules
 from jls_tools.dicom_file import JPEG_LS, tag_name
 from jls_tools.dicom_frames import EXTENDED_LENGTHS, EXTENDED_TABLE, Fragments, shape_of
 from jls_tools.dicom_header import ALLOCATED, COLUMNS, FRAMES, ROWS, SAMPLES, STORED, SYNTAX, TWINS, Header
-from jls_tools.dicom_most import agreed, without_more
+from jls_tools.dicom_most import agreed
 from jls_tools.dicom_runs import FINEST, Runs
 from jls_tools.dicom_structure import Walk
 from jls_tools.dicom_values import DIGITS_AND_DOTS, NOT_IN_TEXT, TEXTS, is_doubtful, is_written
@@ -86,11 +86,11 @@ def rank(structure):
 
 def laid_out(copies):
     """The copies on one axis, and their Layout. Where it breaks, or far fewer bytes differ then, they lost bytes at different places."""
-    placed = without_more(on_one_axis(copies))
+    placed = on_one_axis(copies)
     layout = Layout(placed)
     apart = size_of(layout.ranges)
     if not is_through(layout.structure) or apart >= SHIFTED:
-        shifted = without_more(on_one_axis(copies, True))
+        shifted = on_one_axis(copies, True)
         if is_through(layout.structure) and size_of(differing([copy.data for copy in shifted])) * FAR_MORE > apart:
             return placed, layout
         if [copy.absent for copy in shifted] != [copy.absent for copy in placed]:

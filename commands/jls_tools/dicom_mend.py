@@ -13,11 +13,11 @@ from jls_tools.dicom_instance import Instances, TwoInstances
 from jls_tools.dicom_kinds import NoKind, other_kinds
 from jls_tools.dicom_layout import contradiction, forbidden, has_shape, is_through, laid_out
 from jls_tools.dicom_lost import Lost, equal_in_most, most_of
-from jls_tools.dicom_most import whole_and_shorter
 from jls_tools.dicom_outputs import put_frames_folder, take_away, why_kept
 from jls_tools.dicom_result import FAILED, NOT_SUPPORTED, NOT_WHOLE, REFUSED, WHOLE, FrameResult, MendOptions, MendResult, Place
 from jls_tools.dicom_sum import BySum
 from jls_tools.dicom_tails import without_tails
+from jls_tools.dicom_versions import versions_of
 from jls_tools.dicom_write import packed, put_frames, store, top_level
 from jls_tools.mending import FrameMender, Mended, is_connected, is_spliced, shapes_of
 from jls_tools.programs import Programs
@@ -76,6 +76,7 @@ class Mending:
         except TwoInstances as fault:
             raise Refused(f"{fault}; --same takes them as copies of one") from fault
         self.result.left_out += [(self.paths[at], why) for at, why in sorted(instances.left_out.items())]
+        self.look_at_versions(instances)
         folder = tempfile.mkdtemp(prefix=".jls-dicom-", dir=os.path.dirname(os.path.abspath(self.out)))
         try:
             self.folder = folder
@@ -95,6 +96,13 @@ class Mending:
         self.paths = [path for at, path in enumerate(self.paths) if at not in others]
         self.tails = without_tails([text for at, text in enumerate(self.texts) if at not in others])
         self.texts = self.tails.texts
+
+    def look_at_versions(self, instances):
+        """Gives all copies one header, where those of several read whole and have other lengths."""
+        certain = [at for at in instances.certain if at not in instances.rests]
+        named = self.paths.index(self.options.header) if self.options.header in self.paths else None
+        self.versions = versions_of(self.texts, certain, named)
+        self.texts = self.versions.texts(self.texts, certain)
 
     # Copies ----------------------------------------------------------------------------
 
@@ -225,6 +233,7 @@ class Mending:
         else:
             self.without_sum()
         self.result.places = self.header.places()
+        self.result.versions = self.versions.told(self.paths)
 
     def deny_other_shapes(self):
         """A frame of another shape than the header says is of another file, if most bytes of codestreams are of the header's."""
@@ -252,9 +261,9 @@ class Mending:
         """Whether the header is decided and reads; why not, else."""
         for doubt in (why for at, why in self.doubts.items() if self.options.header != self.paths[at]):
             return doubt
-        shorter = whole_and_shorter(self.copies)
-        if shorter and self.options.header is None and self.layout.agreed is None:
-            return f"the header of {shorter[0].path} reads whole, and is shorter than that of another copy: each can be the file's"
+        fault = self.versions.fault()
+        if fault is not None:
+            return fault
         if not self.layout.has_header:
             return "no copy has a header that leads to Pixel Data"
         if self.header.is_open:
@@ -331,12 +340,14 @@ class Mending:
 
     def by_sum(self):
         """Tries what is open, until the file has the sum that is given."""
-        by_sum = BySum(self.layout, self.header, self.copies, self.mended, bytes(self.data), self.tails.ways)
+        heads = self.versions.heads()
+        by_sum = BySum(self.layout, self.header, self.copies, self.mended, bytes(self.data), self.tails.ways, heads)
         found = by_sum.find(self.options.sha256.lower())
         if found is None:
             self.result.notes.append("OUT is not written: no combination of what is open has the SHA-256 that is given")
             self.write_frames()
             return
+        self.versions.choose(found)
         self.result.matched = self.result.in_place = True
         self.store(found, WHOLE)
 

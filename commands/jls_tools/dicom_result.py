@@ -33,7 +33,7 @@ class FrameResult:
     promise: str = ""  # the words that jls-splice printed, or what stands for them
     note: str = ""
 
-    def line(self):
+    def line(self) -> str:
         if self.kind == NOT_SUPPORTED:
             return f"frame {self.number} {self.kind}: {self.note}"
         counts = f"settled {self.settled}, missing {self.missing}, disputed {self.disputed}"
@@ -50,13 +50,22 @@ class Place:
     offset: int
     length: int
     tag: str
-    values: list  # (names of the copies, the bytes that they have)
+    values: list[tuple[list[str], bytes]]  # (names of the copies, the bytes that they have)
     taken: int | None = None  # an index of values
     why: str = ""
 
     @property
-    def is_decided(self):
+    def is_decided(self) -> bool:
         return self.taken is not None
+
+
+@dataclass
+class VersionTable:
+    """Headers of one picture that all read whole: (name, the copies) of each, which was taken, and what stands where they differ by tag."""
+
+    versions: list[tuple[str, list[str]]]
+    taken: str | None
+    rows: list[tuple[str, list[bytes | None]]]
 
 
 @dataclass
@@ -67,31 +76,32 @@ class MendResult:
     written: bool = False
     in_place: bool = False  # OUT is the merged file, with each byte where it was
     is_guessed: bool = False  # bytes of no element, as of the preamble, were taken for which nothing speaks
-    frames: list = field(default_factory=list)
-    places: list = field(default_factory=list)
+    frames: list[FrameResult] = field(default_factory=list)
+    places: list[Place] = field(default_factory=list)
+    versions: VersionTable | None = None
     folder: str | None = None  # where the frames stand that came back, if OUT isn't written
     sha256: str | None = None  # the sum of OUT
     matched: bool = False  # --sha256 matched
-    left_out: list = field(default_factory=list)  # (path, why)
-    notes: list = field(default_factory=list)
+    left_out: list[tuple[str, str]] = field(default_factory=list)  # (path, why)
+    notes: list[str] = field(default_factory=list)
     refusal: str | None = None
     is_unsupported: bool = False  # refused for what these programs don't read: nothing says that it is damaged
 
-    def count(self, kind):
+    def count(self, kind: str) -> int:
         return sum(frame.kind == kind for frame in self.frames)
 
     @property
-    def settled(self):
+    def settled(self) -> int:
         return sum(frame.settled for frame in self.frames)
 
     @property
-    def missing(self):
+    def missing(self) -> int:
         return sum(frame.missing for frame in self.frames)
 
     @property
-    def disputed(self):
+    def disputed(self) -> int:
         return sum(frame.disputed for frame in self.frames)
 
     @property
-    def undecided(self):
+    def undecided(self) -> list[Place]:
         return [place for place in self.places if not place.is_decided]

@@ -1,9 +1,16 @@
 """Runs: the ranges of the axis in which copies differ, and the ways that they go there."""
-import bisect
-from dataclasses import dataclass
+from __future__ import annotations
 
-from jls_tools.dicom_align import differing
+import bisect
+from collections.abc import Iterator, Mapping, Sequence
+from dataclasses import dataclass
+from typing import TYPE_CHECKING, Optional
+
+from jls_tools.dicom_align import Copy, differing
 from jls_tools.dicom_media import SECTOR
+
+if TYPE_CHECKING:
+    from jls_tools.dicom_most import Agreed
 
 GAP = 8  # ranges nearer than that are one run, where most of it differs
 LEAST = 8  # so many bytes have to differ in a run of several ranges
@@ -17,18 +24,18 @@ class Run:
 
     begin: int
     end: int
-    ways: list
-    holders: list
-    zeros: list  # for each way whether it is to be dropped as a run of zeros
+    ways: list[bytes]
+    holders: list[list[int]]
+    zeros: list[bool]  # for each way whether it is to be dropped as a run of zeros
     whole: int  # the number of the cluster that it is a part of
-    firm: object = None  # the way of most copies, where their headers agree
+    firm: Optional[int] = None  # the way of most copies, where their headers agree
 
-    def part(self, way, begin, end):
+    def part(self, way: int, begin: int, end: int) -> bytes:
         """What a way has in a range, as far as the run goes."""
         return self.ways[way][max(begin, self.begin) - self.begin : min(end, self.end) - self.begin]
 
 
-def is_zeroed(data, begin, end, whole):
+def is_zeroed(data: bytes, begin: int, end: int, whole: tuple[int, int]) -> bool:
     """Whether a range is nothing but zeros, which look written over what was there: they end about where the copies differ no more.
 
     `whole` is the range before it was cut at borders of sectors. Zeros that go on far from there are more likely true, and the other
@@ -45,14 +52,14 @@ def is_zeroed(data, begin, end, whole):
     return is_near and (last - whole[1] <= 2 * ZEROS or has_border(whole[1], last))
 
 
-def has_border(begin, end):
+def has_border(begin: int, end: int) -> bool:
     """Whether this range of zeros begins or ends at a border of sectors."""
     return begin % SECTOR == 0 or end % SECTOR == 0
 
 
-def clusters(ranges):
+def clusters(ranges: list[tuple[int, int]]) -> Iterator[tuple[int, int]]:
     """Ranges near each other, together if most of what they span differs; else each by itself."""
-    group = []
+    group: list[tuple[int, int]] = []
     for begin, end in ranges + [(1 << 62, 1 << 62)]:
         if group and begin - group[-1][1] > GAP:
             span, apart = group[-1][1] - group[0][0], sum(last - first for first, last in group)
@@ -64,7 +71,7 @@ def clusters(ranges):
         group.append((begin, end))
 
 
-def cut_at_sectors(begin, end):
+def cut_at_sectors(begin: int, end: int) -> Iterator[tuple[int, int]]:
     """The parts of a range between borders of sectors: damage often ends there."""
     while begin < end:
         border = min(end, (begin // SECTOR + 1) * SECTOR)
@@ -72,8 +79,8 @@ def cut_at_sectors(begin, end):
         begin = border
 
 
-def run_at(copies, begin, end, whole, number_of_whole):
-    found = {}
+def run_at(copies: Sequence[Copy], begin: int, end: int, whole: tuple[int, int], number_of_whole: int) -> Run:
+    found: dict[bytes, list[int]] = {}
     for number, copy in enumerate(copies):
         holders = found.setdefault(copy.data[begin:end], [])
         if not copy.lacks(begin, end):
@@ -88,7 +95,9 @@ def run_at(copies, begin, end, whole, number_of_whole):
 class Runs:
     """All runs of copies on one axis, in order. `fineness` 0 joins near ranges, 1 does not, and 2 makes each byte a run of its own."""
 
-    def __init__(self, copies, fineness, ranges=None, agreed=None):
+    def __init__(
+        self, copies: Sequence[Copy], fineness: int, ranges: Optional[list[tuple[int, int]]] = None, agreed: Optional[Agreed] = None
+    ) -> None:
         ranges = differing([copy.data for copy in copies]) if ranges is None else ranges
         wholes = list(clusters(ranges))
         begins = [begin for begin, _ in wholes]
@@ -101,25 +110,25 @@ class Runs:
             for begin, end in ranges
             for first, last in cut_at_sectors(begin, end)
         ]
-        for run in self.runs if agreed else ():
-            if agreed.begin <= run.begin and run.end <= agreed.until:
+        for run in self.runs:
+            if agreed is not None and agreed.begin <= run.begin and run.end <= agreed.until:
                 run.firm = next((way for way, holders in enumerate(run.holders) if agreed.copies <= set(holders)), None)
         self.begins = [run.begin for run in self.runs]
         self.data = copies[0].data
 
-    def touching(self, begin, end):
+    def touching(self, begin: int, end: int) -> range:
         """The numbers of the runs that have a byte in this range."""
         first = bisect.bisect_right(self.begins, begin) - 1
         if first < 0 or self.runs[first].end <= begin:
             first += 1
         return range(first, bisect.bisect_left(self.begins, end))
 
-    def ways_of(self, number):
+    def ways_of(self, number: int) -> Sequence[int]:
         """The ways of a run that can be true."""
         run = self.runs[number]
         return range(len(run.ways)) if run.firm is None else (run.firm,)
 
-    def bytes_with(self, begin, end, chosen):
+    def bytes_with(self, begin: int, end: int, chosen: Mapping[int, int]) -> bytes:
         """The bytes of a range where runs go as `chosen` says, {run: way}; others go as the first copy does."""
         found = bytearray(self.data[begin:end])
         for number in self.touching(begin, end):

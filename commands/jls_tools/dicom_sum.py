@@ -5,15 +5,16 @@ MATCHED = "the SHA-256 matched"
 
 
 class BySum:
-    """What is open in a file: frames of which several streams decode, places outside of them, and what follows the last element."""
+    """What is open in a file: frames of which several streams decode, places outside of them, its header, and what follows its end."""
 
-    def __init__(self, layout, header, copies, mended, data, tails):
+    def __init__(self, layout, header, copies, mended, data, tails, heads=()):
         self.layout = layout
         self.header = header
         self.copies = copies
         self.mended = mended
         self.data = data
         self.tails = tails
+        self.heads = heads  # what can stand before Pixel Data, if copies have several headers: that in the data first
 
     def find(self, wanted):
         """The file that has this sum, or nothing. Frames and places then say that the sum decided them."""
@@ -35,6 +36,8 @@ class BySum:
             if not ways:
                 return None
             found.append((place.begin, place.end, ways))
+        if self.heads and self.data.startswith(self.heads[0]) and not self.header.open_runs(0, len(self.heads[0])):
+            found.insert(0, (0, len(self.heads[0]), list(self.heads)))
         for number in self.header.open_runs():
             run = self.header.runs.runs[number]
             for begin, end in self.header.parts[number]:

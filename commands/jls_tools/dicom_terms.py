@@ -4,6 +4,8 @@ Where copies differ in such a text and one reading alone is known, it is true if
 has, make the other reading. Short words, numbers at the end and other words are made of each other by a flip or a foreign sector.
 Retired terms are known too, and no element whose terms are free has any.
 """
+from __future__ import annotations
+
 import re
 
 from jls_tools.dicom_file import text_of
@@ -57,8 +59,8 @@ LEAST_WORD = 5
 PRINTABLE = re.compile(rb"[\x20-\x7e]*\Z")
 
 
-def terms():
-    found = {}
+def terms() -> dict[int, set[str]]:
+    found: dict[int, set[str]] = {}
     for line in TERMS.strip().split("\n"):
         tag, *words = line.split(" ")
         found.setdefault(int(tag, 16), set()).update(words)
@@ -68,16 +70,16 @@ def terms():
 OF_TAG = terms()
 
 
-def has_terms(tag):
+def has_terms(tag: int) -> bool:
     return tag in OF_TAG or tag == VERSION_NAME or is_creator(tag)
 
 
-def is_creator(tag):
+def is_creator(tag: int) -> bool:
     """Whether a tag is of a private creator (PS3.5, 7.8.1)."""
     return tag >> 16 & 1 == 1 and 0x10 <= tag & 0xFFFF <= 0xFF
 
 
-def is_term(tag, value):
+def is_term(tag: int, value: bytes) -> bool:
     """Whether a value of this element is known."""
     text = text_of(value)
     if tag == VERSION_NAME:
@@ -87,7 +89,7 @@ def is_term(tag, value):
     return all(part.strip(" ").replace(" ", "_") in OF_TAG[tag] for part in text.split("\\"))
 
 
-def is_made_of(tag, known, other):
+def is_made_of(tag: int, known: bytes, other: bytes) -> bool:
     """Whether damage makes the other value of a known one, and no writer: a byte in a long word, or bytes that are no text."""
     if not PRINTABLE.match(other.rstrip(b"\0")):
         return True

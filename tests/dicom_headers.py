@@ -1,0 +1,74 @@
+"""Checks of headers that all read whole: two versions of one, as an archive makes them that coerces values. None is mixed with another."""
+import hashlib
+
+from dicom_files import changed, element, get
+from dicom_truth import case, damaged
+
+LETTERS = element(0x100010, "PN", "Doe^Jane")
+
+
+def coerced(made, is_padded=True):
+    """The file with another name, a number that it hadn't, and an empty value in place of one; where its items begin."""
+    name = element(0x100010, "PN", "DOE^JANE MARY") + element(0x100020, "LO", "N-1234")
+    data = made.bytes.replace(LETTERS, name).replace(element(0x80020, "DA", "20200131"), element(0x80020, "DA", ""))
+    return data if is_padded else data[: -len(element(0xFFFCFFFC, "OB", bytes(30)))]
+
+
+def with_damage(made, data, number):
+    """A file with eight bytes of a frame zeroed."""
+    return changed(data, (data.index(made.frames[number]) + 70, bytes(8)))
+
+
+def checks_of_versions(bench, made):
+    """Of two headers that read whole, one is taken if most copies have it, or if a copy is named. Frames are mended of all copies."""
+    true, other = made.bytes, coerced(made)
+    pair = [with_damage(made, true, 0), with_damage(made, other, 1)]
+    for words in ("versions, undecided; A: 1 copy", "version (0010,0010), A: 'Doe^Jane'; B: 'DOE^JANE MARY ", "--header chooses one"):
+        yield case(bench, f"two headers: {words}", pair, 1, b"", words)
+    yield case(bench, "two headers: a tag that one lacks", pair, 1, b"", "version (0010,0020), A: no element; B: 'N-1234'")
+    yield case(bench, "two headers: an empty value", pair, 1, b"", "version (0008,0020), A: '20200131'; B: nothing")
+    _, _, printed, _, out = bench.mend(pair)
+    are_told = "\ndiffer " not in printed and printed.count("whole, settled") == 4
+    yield f"two headers: no line for each place, and all frames ({printed})", are_told
+    yield "two headers: the frames are there", get(f"{out}.frames/frame-0000.jls") == made.frames[0]
+    yield case(bench, "two headers, and --header names the one", pair, 0, true, "versions, taken: A", ["--header", "COPY0"])
+    yield case(bench, "two headers, and --header names the other one", pair, 0, other, "versions, taken: B", ["--header", "COPY1"])
+    for data in (true, other):
+        words = ["--sha256", hashlib.sha256(data).hexdigest()]
+        yield case(bench, "two headers, and a sum", pair, 0, data, f"versions, taken: {'A' if data == true else 'B'}", words)
+    three = [*pair, with_damage(made, true, 2)]
+    yield case(bench, "two copies of one header", three, 0, true, "versions, taken: A; A: 2 copies")
+    yield case(bench, "two copies of one header, and --header names the other one", three, 0, other, "taken: B", ["--header", "COPY1"])
+    yield case(bench, "two copies of each header", [*three, with_damage(made, other, 3)], 1, b"", "versions, undecided; A: 2 copies")
+    printed = bench.mend(pair, "--no-names")[2]
+    yield f"two headers: no name in lines ({printed})", "version (0010,0010), A: 8 bytes; B: 14 bytes" in printed and "JANE" not in printed
+
+
+def checks_of_damaged_versions(bench, made):
+    """What is no version: a header that is damaged, one that lost bytes, one of the same length."""
+    true, other = made.bytes, coerced(made)
+    broken = changed(with_damage(made, true, 2), (made.name_at - 8, bytes(20)))
+    three = [with_damage(made, true, 0), with_damage(made, other, 1), broken]
+    yield case(bench, "a third copy with a damaged header", three, 1, b"", "versions, undecided; A: 1 copy")
+    yield case(bench, "the same, and --header", three, 0, true, "versions, taken: A", ["--header", "COPY0"])
+    yield case(bench, "the same, and --header names the other one", three, 0, other, "versions, taken: B", ["--header", "COPY1"])
+    order = [broken, *three[:2]]
+    yield case(bench, "the same, and --header names the damaged one", order, 1, b"", "versions, undecided", ["--header", "COPY0"])
+    bare = coerced(made, False)
+    for number, data in enumerate((true, bare)):
+        pair = [with_damage(made, true, 0), with_damage(made, bare, 1)]
+        yield case(bench, "one that ends with Pixel Data", pair, 0, data, "versions, taken", ["--header", f"COPY{number}"])
+    cut = other[: other.index(made.frames[3]) + 20]
+    yield case(bench, "one that is cut in a frame", [damaged(made), cut], 0, true, "versions, taken: A", ["--header", "COPY0"])
+    yield case(bench, "one that is cut in a frame, named", [damaged(made), cut], 1, b"", "what follows Pixel Data", ["--header", "COPY1"])
+    wrong = changed(other, (140, b"\x07"))
+    printed = bench.mend([damaged(made), wrong])[2]
+    yield f"a group length that is wrong: no version ({printed})", "versions" not in printed
+    gone = true.replace(LETTERS, b"")
+    printed = bench.mend([damaged(made), gone])[2]
+    yield f"an element that is gone: no version ({printed})", "versions" not in printed and "one copy alone has it" in printed
+    printed = bench.mend([damaged(made), changed(true, (made.name_at, b"E"))])[2]
+    yield f"a letter: no version ({printed})", "versions" not in printed and "undecided" in printed
+
+
+HEADERS = [checks_of_versions, checks_of_damaged_versions]
