@@ -7,7 +7,7 @@ _jls_archive() {
         --ssh) mapfile -t COMPREPLY < <(compgen -A hostname -- "$word"); return ;;
     esac
     if [[ $word == -* && $before != --sums ]]; then
-        mapfile -t COMPREPLY < <(compgen -W '--folders --sums --jobs --tries --seconds --part --ssh --report --quiet --help --version' -- "$word")
+        mapfile -t COMPREPLY < <(compgen -W '--folders --sums --jobs --tries --seconds --part --ssh --report --no-names --quiet --help --version' -- "$word")
     elif [ "$before" = --sums ]; then
         mapfile -t COMPREPLY < <(compgen -f -- "$word")
         compopt -o filenames 2> /dev/null

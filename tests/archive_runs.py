@@ -216,8 +216,7 @@ def checks_of_rows(work: str) -> Iterator[Check]:
     done.append(subprocess.run(words, env={**PROGRAMS, "JLS_SPLICE": "/nowhere"}).returncode)
     yield "rows: the next run takes it away, and does nothing anew", (done, files_of_rows(out)) == ([1, 1], before)
     rows, old = Ledger(f"{out}.report/rows"), Store(f"{work}/old")
-    rows.begin((1, 1))
-    for row in filter(None, map(rows.of, rows.paths())):
+    for row in filter(None, (known.row() for known in rows.rows(work))):
         old.save(row)
     for name in before:
         os.remove(f"{out}.report/rows/{name}")
@@ -250,8 +249,7 @@ def checks_of_batches(work: str) -> Iterator[Check]:
     order = order_of(lambda: Trees.keep(job, rows))
     yield "batches: all files, then all rows", order == [*names, "write", "1-of-1.rows"]
     again = Ledger(f"{work}/batch.report/rows")
-    again.begin((1, 1))
-    yield "batches: the rows are there", sorted(again.paths()) == sorted([*names, "gone"])
+    yield "batches: the rows are there", [known.name for known in again.rows(work)] == sorted([*names, "gone"])
 
 
 def together(calls: List[List[str]]) -> List[Tuple[int, str]]:
@@ -328,7 +326,7 @@ class Ended:
 def checks_of_progress(work: str) -> Iterator[Check]:
     """Time left counts what this run did: 900 rows of an earlier one, passed over in 2 seconds, say nothing of the 100 that remain."""
     now = [0.0]
-    progress = Progress(1000, True, lambda: now[0])
+    progress = Progress(True, 1000, lambda: now[0])
     yield "progress: no time is told before a path was done", progress.text() == "0 of 1000, 0 not whole"
     for _ in range(900):
         now[0] += 2 / 900

@@ -1,12 +1,15 @@
 """Whether a call may work where it is told to: its trees, and OUT with the folders beside it."""
+from __future__ import annotations
+
 import json
 import os
+from typing import Optional, Sequence
 
 from . import archive_names
-from .archive_places import MARK, Refused
+from .archive_places import MARK, Places, Refused
 
 
-def folder_named(path):
+def folder_named(path: str) -> str:
     """The true path of a folder that a word names."""
     if not os.path.isdir(path):
         reason = "is no folder" if os.path.lexists(path) else "is not there"
@@ -14,11 +17,11 @@ def folder_named(path):
     return os.path.realpath(path)
 
 
-def is_within(path, folder):
+def is_within(path: str, folder: str) -> bool:
     return path == folder or path.startswith(folder.rstrip("/") + "/")
 
 
-def check_places(out, trees):
+def check_places(out: str, trees: Sequence[str]) -> None:
     """Refuses trees that are one another, or lie in OUT, and an OUT that lies in a tree."""
     shown = archive_names.printable
     for at, tree in enumerate(trees):
@@ -31,20 +34,21 @@ def check_places(out, trees):
                 raise Refused(f"{shown(tree)} and {shown(other)} lie in one another")
 
 
-def mark_of(places):
+def mark_of(places: Places) -> str:
     return os.path.join(places.report, MARK)
 
 
-def made_for(mark):
+def made_for(mark: str) -> Optional[str]:
     """What the runs are for that made a folder, by its mark. None if there is no mark, or one that a killed run didn't complete."""
     try:
         with open(mark, encoding="ascii") as file:
-            return json.load(file).get("what")
+            what: Optional[str] = json.load(file).get("what")
+            return what
     except (FileNotFoundError, ValueError):
         return None
 
 
-def claim(places, what):
+def claim(places: Places, what: str) -> None:
     """Makes OUT and the folder of the report. What is there already has to be of an earlier run, or empty."""
     mark, shown = mark_of(places), archive_names.printable(places.out)
     if os.path.ismount(places.out):

@@ -1,65 +1,93 @@
 """What the work on a path needs, and what every kind of path has done to it: comparing, copying through, setting aside."""
+from __future__ import annotations
+
+import hashlib
 import os
 import shutil
+from typing import Any, Dict, List, Optional, Sequence
 
-from . import archive_names, partial_picture, sums, view_thumbnail
-from .archive_rows import TOOK_TOO_LONG
+from . import archive_names, library, partial_picture, sums, view_thumbnail
+from .archive_places import Places
+from .archive_rows import TOOK_TOO_LONG, Row
+from .programs import Programs
+
+LOGS = "logs"
 
 
-def shown(path):
+def shown(path: str) -> str:
     return archive_names.printable(path)
 
 
 class Copy:
-    """A readable file of a path: the tree that it is in, where it stands, its sums."""
+    """A readable file of a path: the tree that it is in, where it stands, its sums.
 
-    def __init__(self, tree, path, digests):
+    Of a small one there are its bytes and what stat says; of a large one perhaps the name of a copy of it, `made` on the way.
+    """
+
+    def __init__(
+        self,
+        tree: int,
+        path: str,
+        digests: Dict[str, str],
+        data: Optional[bytes] = None,
+        seen: Optional[os.stat_result] = None,
+        made: str = "",
+    ) -> None:
         self.tree = tree
         self.path = path
         self.digests = digests
+        self.data = data
+        self.seen = seen
+        self.made = made
 
 
 class Desk:
     """The trees with their labels, the places for results, the programs, and a folder for what isn't complete."""
 
-    def __init__(self, trees, places, programs, options):
+    def __init__(self, trees: Sequence[str], places: Places, programs: Programs, options: Any) -> None:
         self.trees = trees
         self.labels = archive_names.labels_of(trees)
         self.places = places
         self.programs = programs
+        self.library = library.find(programs.salvage)
         self.options = options
-        self.sums = options.sums_read
-        self.folder = None
+        self.sums: sums.Sums = options.sums_read
+        self.expected: Dict[str, str] = {}  # {algorithm: sum} of the path that is worked on, as the manifests have it
+        self.folder = ""
         self.made = 0
         self.is_late = False  # the time for the path ran out: its copies are compared, and neither read as pictures nor mended
 
-    def begin(self, folder, is_late):
+    def begin(self, folder: str, is_late: bool, expected: Dict[str, str]) -> None:
         """Takes an empty folder for the next path. Names in it begin anew, so that logs are the same in each run."""
-        self.folder, self.made, self.is_late = folder, 0, is_late
-        self.places.put_there = []
+        self.folder, self.made, self.is_late, self.expected = folder, 0, is_late, expected
+        self.places.begin()
 
-    def late(self, row):
+    def late(self, row: Row) -> Row:
         """The row of a picture for which the time ran out."""
         return row.end(TOOK_TOO_LONG, 1, f"its work was ended after {self.options.seconds} s")
 
-    def inputs(self, inputs):
-        """What a row was made of: also the time that the path had, if that ran out."""
-        return f"{inputs}\nended after {self.options.seconds} s" if self.is_late else inputs
+    def inputs(self, inputs: str) -> str:
+        """What a row keeps of what it was made of: also of the time that the path had, if that ran out."""
+        return sum_of(f"{inputs}\n{self.limit()}" if self.is_late else inputs)
 
-    def is_of(self, row, inputs):
+    def limit(self) -> str:
+        return f"ended after {self.options.seconds} s"
+
+    def is_of(self, row: Row, inputs: str) -> bool:
         """Whether a row was made of this, and its files are there. One whose time ran out is of its limit too."""
-        known = row.inputs in (inputs, f"{inputs}\nended after {self.options.seconds} s")
+        texts = inputs, f"{inputs}\n{self.limit()}"
+        known = row.inputs in (*map(sum_of, texts), *texts)  # version 1.1.0 kept the texts
         return known and all(map(self.places.has, row.outputs))
 
-    def name(self, what="file"):
+    def name(self, what: str = "file") -> str:
         """The name of a new file in the folder for what isn't complete."""
         self.made += 1
         return f"{what}-{self.made}"
 
-    def place(self, name):
+    def place(self, name: str) -> str:
         return os.path.join(self.folder, name)
 
-    def links(self, copies):
+    def links(self, copies: Sequence[Copy]) -> List[str]:
         """Names of our own for files, since theirs can be anything."""
         names = []
         for copy in copies:
@@ -67,55 +95,55 @@ class Desk:
             os.symlink(copy.path, self.place(names[-1]))
         return names
 
-    def put(self, row, name, root, path, model=None):
+    def put(self, row: Row, name: str, root: str, path: str, model: Optional[str] = None) -> None:
         """Moves a file of the folder to its place, and notes in the row that it is there."""
         row.outputs.append(self.places.put(self.place(name), root, path, model))
 
-    def copy_to(self, row, copy, root, path):
+    def copy_to(self, row: Row, copy: Copy, root: str, path: str) -> None:
         """Copies a file to a place, with its permissions and times."""
         name = self.name()
         with open(copy.path, "rb") as source, open(self.place(name), "xb") as target:
             shutil.copyfileobj(source, target, 1 << 20)
         row.outputs.append(self.places.put(self.place(name), root, path, copy.path, True))
 
-    def label(self, copy):
+    def label(self, copy: Copy) -> str:
         return archive_names.printable(self.labels[copy.tree])
 
-    def set_aside(self, row, copies, result="differs", status=1):
+    def set_aside(self, row: Row, copies: Sequence[Copy], result: str = "differs", status: int = 1) -> Row:
         """Puts all copies beside OUT, each under the name of its tree."""
         for copy in copies:
             self.copy_to(row, copy, "differ", os.path.join(self.labels[copy.tree], row.path))
         return row.end(result, status)
 
-    def expected(self, row):
-        """The sums that the manifests have of the row's path."""
-        return self.sums.of_path(row.path)
-
-    def judge(self, row, path):
+    def judge(self, row: Row, path: str) -> Optional[bool]:
         """Whether a file is the one of the manifests, as the row says then too; nothing if these don't name it."""
-        expected = self.expected(row)
-        if not expected:
+        if not self.expected:
             return None
-        fits = sums.agree(expected, sums.digests(path, expected))
+        fits = sums.agree(self.expected, sums.digests(path, self.expected))
         row.sum = "matches" if fits else "differs"
         return fits
 
-    def keep_partial(self, row, name, path):
+    def keep_partial(self, row: Row, name: str, path: str) -> None:
         """Keeps a partial picture that isn't whole, and makes the row's thumbnail of it."""
         self.draw(row, name)
         self.put(row, name, "partial", path)
 
-    def draw(self, row, name):
+    def draw(self, row: Row, name: str) -> None:
         """Makes the row's thumbnail of a partial picture."""
+        thumbnail: Any = view_thumbnail.of
         try:
             # an absolute path stays what it is
-            row.thumbnail = view_thumbnail.of(partial_picture.read(self.place(name)))
+            row.thumbnail = thumbnail(partial_picture.read(self.place(name)))
         except (OSError, partial_picture.NotAPartialPicture) as fault:
             row.say(f"no thumbnail: {fault}")
 
-    def keep_log(self, row, text, path):
-        """Keeps what the programs printed of a picture that isn't whole."""
+    def keep_log(self, row: Row, text: str, path: str, root: str = "partial") -> None:
+        """Keeps what is to be told of a picture: beside its parts if it isn't whole, else with the report."""
         name = self.name("log")
         with open(self.place(name), "w", encoding="utf-8", errors="surrogateescape") as file:
             file.write(text)
-        self.put(row, name, "partial", path)
+        self.put(row, name, root, path)
+
+
+def sum_of(inputs: str) -> str:
+    return hashlib.sha256(os.fsencode(inputs)).hexdigest()[:32]

@@ -1,49 +1,60 @@
 """DICOM files of the trees: whether one reads, and what comes of copies that differ."""
-import os
+from __future__ import annotations
 
-from . import archive_names, dicom_info, dicom_mend, dicom_result
-from .mending import FrameMender
+import dataclasses
+import os
+from typing import Any, Iterator, List, Sequence
+
+from . import archive_bad, archive_names, archive_plain, archive_versions, dicom_command, dicom_info, dicom_mend, dicom_result, mending
+from .archive_desk import Copy, Desk
+from .archive_rows import Row
+from .dicom_result import FrameResult, MendResult
 from .programs import ProgramFailed
 from .unsupported import NOT_SUPPORTED
 
 FRAMES = ".frames"
+MOST_CHECKED = 16  # frames of a file whose bad bytes are looked for
+# modules without types
+mend_copies: Any = dicom_mend.mend
+one_file: Any = dicom_info.OneFile
+refusal_of: Any = dicom_info.refusal_of
+frame_mender: Any = mending.FrameMender
+mended_lines: Any = dicom_command.mended_lines
 
 
-def take(row, frames):
+def take(row: Row, frames: Sequence[FrameResult]) -> None:
     """Takes the numbers of frames."""
     row.frames = len(frames)
-    for name in ("settled", "missing", "disputed"):
-        setattr(row, name, sum(getattr(frame, name) for frame in frames))
+    row.settled, row.missing = sum(frame.settled for frame in frames), sum(frame.missing for frame in frames)
+    row.disputed = sum(frame.disputed for frame in frames)
 
 
-def words_for(frames):
+def words_for(frames: Sequence[FrameResult]) -> str:
     """The words for frames of which one isn't whole."""
     if any(frame.disputed or frame.kind == "disputed" for frame in frames):
         return "lines disputed"
     return "lines missing" if any(frame.missing or frame.kind == "missing" for frame in frames) else "not promised"
 
 
-def loss(frame):
+def loss(frame: FrameResult) -> int:
     return frame.missing + frame.disputed
 
 
-def log_of(result):
-    """What mending came to, a line for each frame, place and copy that was left out."""
-    lines = [frame.line() for frame in result.frames]
-    for place in result.places:
-        lines.append(f"{place.tag} at {place.offset}: {'taken' if place.is_decided else 'undecided'}, {place.why}")
-        lines += [f"    {', '.join(map(str, names))}: {bytes(value).hex(' ', 2)}" for names, value in place.values]
-    lines += [f"left out: {path}: {why}" for path, why in result.left_out]
-    lines += [*result.notes, *([result.refusal] if result.refusal else [])]
-    return "".join(f"{archive_names.printable(line)}\n" for line in lines)
+def log_of(desk: Desk, row: Row, copies: Sequence[Copy], result: MendResult) -> str:
+    """What mending came to, in the lines of `jls-dicom mend`."""
+    told = dataclasses.replace(result, folder=None)  # it has another name in the end
+    lines = [f"copy {archive_names.printable(copy.path)}" for copy in copies]
+    lines += mended_lines(told, row.path, False, not desk.options.no_names, dicom_command.LONG_VALUES)
+    lines += [archive_names.printable(result.refusal)] if result.refusal else []
+    return "".join(f"{line}\n" for line in lines)
 
 
-def said(fault):
+def said(fault: Exception) -> str:
     """What a note says of a file on which the reading of DICOM failed."""
     return f"its structure could not be followed ({type(fault).__name__}: {fault})"
 
 
-def mend(desk, row, copies):
+def mend(desk: Desk, row: Row, copies: Sequence[Copy]) -> Row:
     """DICOM files that differ. A file on which their reading fails must not stop the run: its copies are set aside."""
     try:
         return mend_files(desk, row, copies)
@@ -53,19 +64,21 @@ def mend(desk, row, copies):
         return desk.set_aside(row, copies, "does not read", 3).end("does not read", 3, said(fault))
 
 
-def mend_files(desk, row, copies):
+def mend_files(desk: Desk, row: Row, copies: Sequence[Copy]) -> Row:
     """DICOM files that differ: OUT gets the mended file if it is whole. Otherwise its frames that came back stand beside OUT."""
-    options = dicom_result.MendOptions(sha256=desk.expected(row).get("sha256"), tries=desk.options.tries)
+    options = dicom_result.MendOptions(sha256=desk.expected.get("sha256"), tries=desk.options.tries)
     out = desk.name("mended") + ".dcm"
-    result = dicom_mend.mend([copy.path for copy in copies], desk.place(out), options, desk.programs)
+    result: MendResult = mend_copies([copy.path for copy in copies], desk.place(out), options, desk.programs)
     if result.status == dicom_result.FAILED:
-        raise ProgramFailed(result.refusal, 4)
+        raise ProgramFailed(str(result.refusal), 4)
     take(row, result.frames)
+    take_decisions(desk, row, copies, result)
     for path, why in result.left_out:
         row.say(f"{archive_names.printable(path)} is left out: {why}")
     if result.status == dicom_result.WHOLE and result.written:
         fits, used = desk.judge(row, desk.place(out)), len(copies) - len(result.left_out)
         if fits or fits is None and used > 1:
+            desk.keep_log(row, log_of(desk, row, copies, result), row.path + ".log", "logs")
             desk.put(row, out, "out", row.path, copies[0].path)
             return row.end("mended", 0)
         row.say("what came back is not the file of the sum" if fits is False else "one copy alone is left, and nothing confirms its header")
@@ -73,11 +86,31 @@ def mend_files(desk, row, copies):
     return keep(desk, row, copies, result)
 
 
-def keep(desk, row, copies, result):
+def take_decisions(desk: Desk, row: Row, copies: Sequence[Copy], result: MendResult) -> None:
+    """What was decided where copies differ, and whose picture it is."""
+    decided = [place.values[place.taken][0] for place in result.places if place.taken is not None]
+    row.decided, row.one_copy = len(decided), sum(len(names) == 1 for names in decided)
+    texts = list(bytes_of(copies))
+    row.versions = archive_versions.count(texts)
+    row.bad = archive_bad.of_copies(texts)
+    if not desk.options.no_names:
+        row.patient, row.study = archive_versions.whose(texts)
+
+
+def bytes_of(copies: Sequence[Copy]) -> Iterator[bytes]:
+    for copy in copies:
+        if copy.data is not None:
+            yield copy.data
+        elif os.path.getsize(copy.path) <= archive_bad.LARGEST:
+            with open(copy.path, "rb") as file:
+                yield file.read()
+
+
+def keep(desk: Desk, row: Row, copies: Sequence[Copy], result: MendResult) -> Row:
     """A file that isn't whole: its frames and a log stand beside OUT. Copies of which nothing came are set aside."""
     if result.is_unsupported:
-        return set_unsupported_aside(desk, row, copies, result.refusal)
-    desk.keep_log(row, log_of(result), row.path + ".log")
+        return set_unsupported_aside(desk, row, copies, str(result.refusal))
+    desk.keep_log(row, log_of(desk, row, copies, result), row.path + ".log")
     if result.refusal or not any(frame.settled or frame.disputed for frame in result.frames):
         return desk.set_aside(row, copies, "does not read", 3).end("does not read", 3, result.refusal or "no frame has a line")
     worst = max(result.frames, key=loss)
@@ -91,29 +124,46 @@ def keep(desk, row, copies, result):
     return row.end(words, max(result.status, 1), "; ".join(result.notes))
 
 
-def set_unsupported_aside(desk, row, copies, why):
+def set_unsupported_aside(desk: Desk, row: Row, copies: Sequence[Copy], why: str) -> Row:
     """Copies that differ, of a coding that isn't read: nothing says which of them is damaged, or how much of it is lost."""
     row.settled = row.missing = row.disputed = None
     return desk.set_aside(row, copies, NOT_SUPPORTED).end(NOT_SUPPORTED, 1, why)
 
 
-def look(desk, row, copy):
+def look(desk: Desk, row: Row, copy: Copy) -> Row:
     """Says of a file that is copied through whether it reads."""
+    if copy.data is not None and reads_plainly(desk, row, copy.data):
+        return row.end("reads", 0)
     try:
-        return look_at(desk, row, dicom_info.OneFile(copy.path))
+        return look_at(desk, row, one_file(copy.path))
     except (OSError, ProgramFailed, MemoryError):
         raise
     except Exception as fault:
         return row.end("does not read", 3, said(fault))
 
 
-def look_at(desk, row, file):
+def reads_plainly(desk: Desk, row: Row, data: bytes) -> bool:
+    """Whether a plain walk comes to the end of a file, and each frame is whole by the library. The row has its numbers then."""
+    plain = archive_plain.read(data) if desk.library else None
+    if not desk.library or not plain:
+        return False
+    settled = 0
+    for frame in plain.frames:
+        whole = desk.library.whole(frame)
+        if not whole:
+            return False
+        settled += whole.settled
+    row.frames, row.settled, row.missing, row.disputed = len(plain.frames), settled, 0, 0
+    return True
+
+
+def look_at(desk: Desk, row: Row, file: Any) -> Row:
     """Says of a file whether its frames read."""
-    refusal = dicom_info.refusal_of("it", file)
+    refusal = refusal_of("it", file)
     if refusal:
         is_broken = not file.is_dicom or file.layout.breaks or file.layout.structure.is_cut
         return row.end("does not read" if is_broken else "copied", 3 if is_broken else 0, refusal)
-    mender = FrameMender(desk.programs, desk.folder, dicom_result.MendOptions())
+    mender = frame_mender(desk.programs, desk.folder, dicom_result.MendOptions())
     mended = [mender.mend(number, [stream]) for number, (_, stream) in enumerate(file.frames)]
     odd = sorted({frame.result.note for frame in mended if frame.result.kind == NOT_SUPPORTED})
     if odd and all(frame.is_whole or frame.result.kind == NOT_SUPPORTED for frame in mended):
@@ -123,6 +173,7 @@ def look_at(desk, row, file):
     lost = [frame for frame in mended if frame.result.kind != "whole"]
     if not lost:
         return row.end("reads", 0)
+    tell_of(desk, row, file, [frame.result.number for frame in lost])
     notes = sorted({frame.result.note for frame in lost if frame.result.note})
     drawn = max(lost, key=lambda frame: loss(frame.result))
     if drawn.partial:
@@ -130,3 +181,17 @@ def look_at(desk, row, file):
     if not any(frame.result.settled for frame in mended):
         return row.end("does not read", 3, "; ".join(notes))
     return row.end(words_for([frame.result for frame in lost]), 1, "; ".join(notes))
+
+
+def tell_of(desk: Desk, row: Row, file: Any, lost: List[int]) -> None:
+    """Where bytes of a damaged file are bad, and whose picture it is."""
+    ranges = []
+    for number in lost[:MOST_CHECKED]:
+        begin, stream = file.frames[number]
+        name = desk.name("frame")
+        with open(desk.place(name), "xb") as out:
+            out.write(stream)
+        ranges += archive_bad.ranges_in(stream, desk.programs.check(name, desk.folder).report.lines, begin)
+    row.bad = archive_bad.of_ranges(ranges, len(file.data))
+    if not desk.options.no_names:
+        row.patient, row.study = archive_versions.whose([file.data])

@@ -1,11 +1,14 @@
 """jls-archive --folders: a picture of each folder of IN, from the copies in it."""
+from __future__ import annotations
+
 import os
+from typing import Any, Dict, Iterator, List, Optional, Sequence, Tuple
 
 from . import archive_claim, archive_dicom, archive_places, archive_rows, dicom_file
 from .archive_desk import Copy, Desk
 from .archive_joining import Joining
 from .archive_rows import Row
-from .programs import ProgramFailed
+from .programs import ProgramFailed, Programs
 
 ENDINGS = (".jls", ".jlsp")
 
@@ -13,18 +16,20 @@ ENDINGS = (".jls", ".jlsp")
 class FolderStore(archive_rows.Store):
     """The row of NAME is OUT/NAME.row."""
 
-    def file_of(self, path):
+    def file_of(self, path: str) -> str:
         return os.path.join(self.folder, f"{path}.row")
 
-    def files(self):
+    def files(self) -> Iterator[str]:
         for name in os.listdir(self.folder):
             if name.endswith(".row"):
                 yield os.path.join(self.folder, name)
 
 
-def sorts_of(folder):
+def sorts_of(folder: str) -> Tuple[List[str], List[str], int]:
     """The copies of pictures in a folder, the DICOM files in it, and how many other files there are. Links are not followed."""
-    pictures, dicom, other = [], [], 0
+    pictures: List[str] = []
+    dicom: List[str] = []
+    other = 0
     for entry in sorted(os.scandir(folder), key=lambda entry: os.fsencode(entry.name)):
         if not entry.is_file(follow_symlinks=False):
             other += 1
@@ -41,7 +46,7 @@ def sorts_of(folder):
     return pictures, dicom, other
 
 
-def inputs_of(desk, folder):
+def inputs_of(desk: Desk, folder: str) -> str:
     """A text that changes if a file of the folder does, or a choice of the call."""
     parts = [f"tries {desk.options.tries}"]
     for entry in sorted(os.scandir(folder), key=lambda entry: os.fsencode(entry.name)):
@@ -50,17 +55,17 @@ def inputs_of(desk, folder):
     return "\n".join(parts)
 
 
-def name_of_shape(name, shape):
+def name_of_shape(name: str, shape: str) -> str:
     """The name of the picture of copies that have another shape than most."""
     return f"{name}.{shape.replace(' bits, components ', '-').replace(', ', '-').replace(',', '-')}"
 
 
-def most(shapes):
+def most(shapes: Dict[str, List[str]]) -> str:
     """The shape of most copies; of several the first."""
     return max(shapes, key=lambda shape: len(shapes[shape]))
 
 
-def picture_rows(desk, name, copies):
+def picture_rows(desk: Desk, name: str, copies: Sequence[str]) -> List[Row]:
     """A row for each shape that the copies have, that of most of them first."""
     joining = Joining(desk, [Copy(0, path, {}) for path in copies])
     joining.look()
@@ -74,7 +79,7 @@ def picture_rows(desk, name, copies):
     return rows
 
 
-def dicom_row(desk, name, paths):
+def dicom_row(desk: Desk, name: str, paths: Sequence[str]) -> Row:
     """The row of the DICOM files of a folder, which are mended together."""
     row = Row(f"{name}.dcm", "dicom", len(paths))
     archive_dicom.mend(desk, row, [Copy(0, path, {}) for path in paths])
@@ -84,7 +89,7 @@ def dicom_row(desk, name, paths):
 class Folders:
     """The work on folders: each item is the name of one."""
 
-    def __init__(self, options, programs):
+    def __init__(self, options: Any, programs: Programs) -> None:
         self.options = options
         self.source = archive_claim.folder_named(options.trees[0])
         self.out = os.path.realpath(options.out)
@@ -95,13 +100,20 @@ class Folders:
         self.store = FolderStore(self.out)
         self.desk = Desk([self.source], self.places, programs, options)
 
-    def begin(self):
+    def names(self) -> List[str]:
         """The folders of this part."""
         names = [entry.name for entry in os.scandir(self.source) if entry.is_dir(follow_symlinks=False)]
         index, parts = self.options.part
         return sorted(names, key=os.fsencode)[index - 1 :: parts]
 
-    def rows_of(self, name, folder):
+    def begin(self, _: str) -> Iterator[Tuple[str, Optional[Row]]]:
+        """The folders of this part, each with its row if it has one."""
+        return ((name, self.store.of(name)) for name in self.names())
+
+    def count(self) -> int:
+        return len(self.names())
+
+    def rows_of(self, name: str, folder: str) -> List[Row]:
         pictures, dicom, other = sorts_of(folder)
         if self.desk.is_late:
             return [self.desk.late(Row(name, "jls" if pictures or not dicom else "dicom", len(pictures) + len(dicom)))]
@@ -114,30 +126,29 @@ class Folders:
             rows[0].say(f"{other} other files")
         return rows
 
-    def is_done(self, name):
-        """The row of a folder that needs no work: nothing has changed since, and what was written is there."""
-        row = self.store.of(name)
+    def is_done(self, name: str, row: Optional[Row]) -> bool:
+        """Whether a folder needs no work: nothing has changed since, and what was written is there."""
         try:
-            return row if row and self.desk.is_of(row, inputs_of(self.desk, os.path.join(self.source, name))) else None
+            return row is not None and self.desk.is_of(row, inputs_of(self.desk, os.path.join(self.source, name)))
         except OSError:
-            return None  # it went away meanwhile: `do` says so
+            return False  # it went away meanwhile: `do` says so
 
-    def forget(self, name):
+    def forget(self, name: str, row: Optional[Row]) -> None:
         """Nothing: `do` takes the rows away itself."""
 
-    def keep(self, rows):
+    def keep(self, rows: List[Row]) -> None:
         """Nothing: `do` has kept them."""
 
-    def undo(self):
+    def undo(self) -> None:
         self.places.undo()
 
-    def do(self, name, folder, is_late):
+    def do(self, name: str, folder: str, is_late: bool) -> Row:
         """Settles a folder in a worker: its rows are kept when all files are there, its own row last."""
         row = self.store.of(name)
         self.store.remove(name)
         for output in row.outputs if row else []:
             self.places.drop(output)
-        self.desk.begin(folder, is_late)
+        self.desk.begin(folder, is_late, {})
         inputs, rows = self.settle(name, os.path.join(self.source, name))
         self.places.store([output for row in rows for output in row.outputs])
         for row in reversed(rows):
@@ -145,7 +156,7 @@ class Folders:
             self.store.save(row)
         return max(rows, key=lambda row: row.status)
 
-    def settle(self, name, source):
+    def settle(self, name: str, source: str) -> Tuple[str, List[Row]]:
         """(what the rows of a folder are made of, the rows). One that changed meanwhile is a result, and doesn't end the run."""
         inputs = self.inputs_now(source)
         try:
@@ -156,7 +167,7 @@ class Folders:
             self.places.undo()
             return "", [Row(name).end("cannot be read", 4, "the folder changed while it was read")]
 
-    def inputs_now(self, source):
+    def inputs_now(self, source: str) -> str:
         """What the rows of a folder are made of; nothing if it can't be read."""
         try:
             return inputs_of(self.desk, source)

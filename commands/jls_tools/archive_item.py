@@ -1,17 +1,22 @@
 """What becomes of one path of the trees: its row, and what is written of it."""
+from __future__ import annotations
+
+import errno
 import os
 import shutil
+from typing import Callable, Dict, List, Optional, Sequence, Tuple
 
-from . import archive_dicom, archive_names, archive_pictures, archive_trees, dicom_file, sums
-from .archive_desk import Copy
+from . import archive_dicom, archive_names, archive_pictures, archive_places, archive_trees, dicom_file, sums
+from .archive_desk import Copy, Desk
 from .archive_rows import Row
 from .archive_trees import Item
 from .programs import ProgramFailed
 
 DICOM, PICTURE, PARTIAL, OTHER = "dicom", "jls", "jlsp", "other"
+MOST_HELD = 1 << 24  # bytes of a file that is read at once
 
 
-def inputs_of(desk, item):
+def inputs_of(desk: Desk, item: Item) -> str:
     """A text that changes if a copy, a tree, a sum or a choice of the call does."""
     parts = []
     for tree, kind in sorted(item.kinds.items()):
@@ -21,78 +26,100 @@ def inputs_of(desk, item):
             parts.append(f"{kind} {seen.st_size} {seen.st_mtime_ns} {path}")
         except OSError as fault:
             parts.append(f"{kind} {fault.errno} {path}")
-    expected = sorted(desk.sums.of_path(item.path).items())
-    return "\n".join([f"tries {desk.options.tries}, sums {bool(desk.sums.of)} {expected}, labels {desk.labels}", *parts])
+    expected = sorted(item.expected.items())
+    names = ", no names" if desk.options.no_names else ""
+    return "\n".join([f"tries {desk.options.tries}, sums {bool(desk.sums.files)} {expected}, labels {desk.labels}{names}", *parts])
 
 
-def begins(copies, text):
+def begins(copies: Sequence[Copy], text: bytes) -> bool:
     """Whether a copy begins with these bytes."""
     for copy in copies:
+        if copy.data is not None:
+            if copy.data.startswith(text):
+                return True
+            continue
         with open(copy.path, "rb") as file:
             if file.read(len(text)) == text:
                 return True
     return False
 
 
-def kind_of(path, copies):
+def is_dicom(copy: Copy) -> bool:
+    return copy.data[128:132] == b"DICM" if copy.data is not None else dicom_file.begins_as_dicom(copy.path)
+
+
+def kind_of(path: str, copies: Sequence[Copy]) -> str:
     """What copies of a path are, by its name and by how they begin."""
     ending = os.path.splitext(path)[1].lower()
-    if ending == ".dcm" or any(dicom_file.begins_as_dicom(copy.path) for copy in copies):
+    if ending == ".dcm" or any(map(is_dicom, copies)):
         return DICOM
     if ending in (".jls", ".jlsp"):
         return PARTIAL if ending == ".jlsp" or begins(copies, b"JLSP") else PICTURE
     return OTHER
 
 
-def read_copies(desk, item, row):
-    """The copies that can be read, with their sums. The first is copied on the way, to the name that is answered."""
-    copies, first = [], None
-    algorithms = {"sha256", *desk.expected(row)}
+def read_copies(desk: Desk, item: Item, row: Row) -> List[Copy]:
+    """The copies that can be read. Small ones are held, with no sum but those that are expected."""
+    copies: List[Copy] = []
     for tree in item.trees_with(archive_trees.FILE):
         path = os.path.join(desk.trees[tree], item.path)
         try:
-            if first is None:
-                name = desk.name("first")
-                with open(desk.place(name), "xb") as target:
-                    digests = sums.digests(path, algorithms, target)
-                first = name
-            else:
-                digests = sums.digests(path, algorithms)
+            copies.append(read_copy(desk, (tree, path), item.expected, copies[0] if copies else None))
         except sums.Unreadable as fault:
             row.end("", 4, f"{archive_names.printable(desk.labels[tree])} cannot be read: {fault}")
-            continue
-        copies.append(Copy(tree, path, digests))
-    return copies, first
+    return copies
 
 
-def files(desk, item, row):
+def read_copy(desk: Desk, where: Tuple[int, str], expected: Dict[str, str], first: Optional[Copy]) -> Copy:
+    """A copy. One that equals the first one, which is held, is held once. The first one, if it is large, is copied on the way."""
+    tree, path = where
+    data, seen = sums.whole_of(path, MOST_HELD)
+    if data is not None:
+        data = first.data if first and first.data == data else data
+        return Copy(tree, path, sums.digests_of(data, expected), data, seen)
+    algorithms = {"sha256", *expected}
+    if first:
+        return Copy(tree, path, sums.digests(path, algorithms))
+    name = desk.name("first")
+    with open(desk.place(name), "xb") as target:
+        return Copy(tree, path, sums.digests(path, algorithms, target), made=name)
+
+
+def are_equal(copies: Sequence[Copy]) -> bool:
+    """Whether all copies have the same bytes."""
+    held = [copy.data for copy in copies]
+    if None in held:
+        return held.count(None) == len(held) and len({copy.digests["sha256"] for copy in copies}) == 1
+    return all(data == held[0] for data in held)
+
+
+def files(desk: Desk, item: Item, row: Row) -> Row:
     """Files in every tree that has the path."""
-    copies, first = read_copies(desk, item, row)
+    copies = read_copies(desk, item, row)
     row.copies = len(copies)
     if not copies:
         return row.end("cannot be read", 4)
     row.kind = kind_of(item.path, copies)
-    expected = desk.expected(row)
-    if desk.sums.of:
-        row.sum = "differs" if expected else "not listed"
-    if len({copy.digests["sha256"] for copy in copies}) == 1:
-        return copy_through(desk, row, copies[0], first)
+    if desk.sums.files:
+        row.sum = "differs" if item.expected else "not listed"
+    if are_equal(copies):
+        return copy_through(desk, row, copies[0])
     for copy in copies:
-        if sums.agree(expected, copy.digests):
+        if sums.agree(item.expected, copy.digests):
             row.say(f"the copies differ, and the sum is that of {desk.label(copy)}")
-            name = desk.links([copy])[0]
-            first = desk.name()
-            shutil.copyfile(desk.place(name), desk.place(first))
-            return copy_through(desk, row, copy, first)
+            return copy_through(desk, row, copy)
     if desk.is_late and row.kind != OTHER:
         return desk.late(desk.set_aside(row, copies))
-    mends = {DICOM: archive_dicom.mend, PICTURE: archive_pictures.mend, PARTIAL: archive_pictures.join, OTHER: desk.set_aside}
-    return mends[row.kind](*([desk] if row.kind != OTHER else []), row, copies)
+    if row.kind == OTHER:
+        return desk.set_aside(row, copies)
+    mends: Dict[str, Callable[[Desk, Row, Sequence[Copy]], Row]]
+    mends = {DICOM: archive_dicom.mend, PICTURE: archive_pictures.mend, PARTIAL: archive_pictures.join}
+    return mends[row.kind](desk, row, copies)
 
 
-def copy_through(desk, row, copy, name):
+def copy_through(desk: Desk, row: Row, copy: Copy) -> Row:
     """The file that all copies are, or that the sum names: it goes to OUT as it is, and the row says whether it reads."""
-    if sums.agree(desk.expected(row), copy.digests):
+    if sums.agree(desk.expected, copy.digests):
         row.sum = "matches"
     if desk.is_late and row.kind != OTHER:
         desk.late(row)
@@ -102,13 +129,24 @@ def copy_through(desk, row, copy, name):
         archive_pictures.look(desk, row, copy)
     else:
         row.end("copied", 0)
-    row.outputs.append(desk.places.put(desk.place(name), "out", row.path, copy.path, True))
+    row.outputs.append(copy_out(desk, row, copy))
     if row.sum == "differs":
         row.end(row.result, 1, "it is not the file of the sum")
     return row
 
 
-def link(desk, item, row):
+def copy_out(desk: Desk, row: Row, copy: Copy) -> List[str]:
+    """Writes the file of a path to OUT, with its permissions and times."""
+    place = desk.place(copy.made or desk.name())
+    if copy.data is not None and copy.seen is not None:
+        archive_places.write_like(place, copy.data, copy.seen)
+        return desk.places.move(place, "out", row.path)
+    if not copy.made:
+        shutil.copyfile(copy.path, place)
+    return desk.places.put(place, "out", row.path, copy.path, True)
+
+
+def link(desk: Desk, item: Item, row: Row) -> Row:
     """Symbolic links: one that all trees have and that stays in the tree is made anew. None is followed."""
     row.kind = "link"
     targets = {}
@@ -126,13 +164,13 @@ def link(desk, item, row):
     return row.end("copied", 0)
 
 
-def make_link(desk, row, target, place):
+def make_link(desk: Desk, row: Row, target: str, place: Tuple[str, str]) -> None:
     name = desk.name("link")
     os.symlink(target, desk.place(name))
     row.outputs.append(desk.places.put(desk.place(name), *place))
 
 
-def mixed(desk, item, row):
+def mixed(desk: Desk, item: Item, row: Row) -> Row:
     """A path that is a file in one tree and a folder, a link or something else in another: what is no folder is set aside."""
     words = {archive_trees.FILE: "a file", archive_trees.LINK: "a symbolic link", archive_trees.SPECIAL: "no file", "folder": "a folder"}
     said = [f"{words[kind]} in {archive_names.printable(desk.labels[tree])}" for tree, kind in sorted(item.kinds.items())]
@@ -145,7 +183,7 @@ def mixed(desk, item, row):
     return row.end("differs", 1, "it is " + ", and ".join(said))
 
 
-def gone(desk, item):
+def gone(desk: Desk, item: Item) -> List[str]:
     """A text for each tree whose file or link of a path can't be read any more."""
     said = []
     for tree, kind in sorted(item.kinds.items()):
@@ -160,12 +198,15 @@ def gone(desk, item):
     return said
 
 
-def settle(desk, item):
+def settle(desk: Desk, item: Item) -> Row:
     """The row of a path, with its files written. A copy that went away meanwhile is a result, and doesn't end the run."""
     row = Row(item.path, inputs=desk.inputs(inputs_of(desk, item)))
     try:
         return settle_as_it_is(desk, item, row)
-    except (OSError, ProgramFailed):
+    except (OSError, ProgramFailed) as fault:
+        if isinstance(fault, OSError) and fault.errno == errno.ENAMETOOLONG:
+            desk.places.undo()
+            return Row(item.path, row.kind, len(item.kinds), inputs=row.inputs).end("name too long", 4, "OUT can't have a path so long")
         said = gone(desk, item)
         if not said:
             raise
@@ -173,7 +214,7 @@ def settle(desk, item):
         return Row(item.path, row.kind, len(item.kinds), inputs=row.inputs).end("cannot be read", 4, "; ".join(said))
 
 
-def settle_as_it_is(desk, item, row):
+def settle_as_it_is(desk: Desk, item: Item, row: Row) -> Row:
     """The row of a path whose copies stay as they are meanwhile."""
     kinds = set(item.kinds.values())
     if item.faults:

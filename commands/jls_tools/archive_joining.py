@@ -1,25 +1,31 @@
 """Joins copies of one picture that may have lost their headers, and mends them where lines are missing then."""
+from __future__ import annotations
+
 import os
+from typing import Dict, List, Optional, Sequence, Tuple
 
 from . import archive_names, archive_pictures
+from .archive_desk import Copy, Desk
+from .archive_rows import Row
+from .programs import Outcome, Splice
 
 
 class Joining:
     """The copies of one folder. `of` has by shape the names of those that have it, `unread` those that were refused."""
 
-    def __init__(self, desk, copies):
+    def __init__(self, desk: Desk, copies: Sequence[Copy]) -> None:
         self.desk = desk
         self.copies = copies
-        self.log = []
-        self.of = {}
-        self.files = {}  # by shape: the copies that are no partial pictures
-        self.unread = []
+        self.log: List[str] = []
+        self.of: Dict[str, List[str]] = {}
+        self.files: Dict[str, List[str]] = {}  # by shape: the copies that are no partial pictures
+        self.unread: List[str] = []
         self.refused = 0
 
-    def note(self, title, outcome):
+    def note(self, title: str, outcome: Outcome) -> None:
         self.log.append(f"{title}: status {outcome.status}\n{outcome.printed}{outcome.faults}")
 
-    def look(self):
+    def look(self) -> None:
         """Checks each copy, under a name of our own."""
         for copy in self.copies:
             name = self.desk.links([copy])[0]
@@ -34,14 +40,14 @@ class Joining:
             self.of.setdefault(outcome.report.shape, []).append(name)
             self.files.setdefault(outcome.report.shape, []).extend([] if is_text else [name])
 
-    def salvage(self, row, shape, spare):
+    def salvage(self, row: Row, shape: str, spare: List[str]) -> None:
         """The picture of the copies of a shape; if lines are missing, with what jls-splice gets of them and of the spare ones.
 
         Where jls-splice added to it and never promised the picture, it isn't whole, also if each line is settled.
         """
         joined, files = self.of.get(shape, []), self.files.get(shape, [])
         known, status = self.join(None, joined, 3) if joined else (None, 3)
-        splices = []
+        splices: List[Splice] = []
         for names in [files, files + spare] if spare else [files]:
             known, status, splice = self.mend(known, status, names)
             splices += [splice] if splice else []
@@ -51,7 +57,7 @@ class Joining:
         self.end(row, known, status, result)
         row.say(f"{len(joined)} used, {self.refused} refused")
 
-    def join(self, known, names, status):
+    def join(self, known: Optional[str], names: List[str], status: int) -> Tuple[Optional[str], int]:
         """(the partial picture with these joined, the status). It stays as it was if the join is refused."""
         joined = self.desk.name("all")
         outcome = self.desk.programs.join(joined, ([known] if known else []) + names, self.desk.folder)
@@ -60,7 +66,7 @@ class Joining:
             return joined, outcome.status
         return known, status if known else outcome.status
 
-    def mend(self, known, status, names):
+    def mend(self, known: Optional[str], status: int, names: List[str]) -> Tuple[Optional[str], int, Optional[Splice]]:
         """(the partial picture, the status, what jls-splice came to if it added to it)"""
         if len(names) < 2 or known and not self.desk.programs.show(known, self.desk.folder).report.missing:
             return known, status, None
@@ -69,14 +75,14 @@ class Joining:
         self.note("splice", outcome)
         if not os.path.exists(self.desk.place(spliced)):
             return known, status, None
-        return *self.join(known, [spliced], status), outcome
+        return (*self.join(known, [spliced], status), outcome)
 
-    def end(self, row, known, status, result):
+    def end(self, row: Row, known: Optional[str], status: int, result: str) -> None:
         """Writes the picture if it is whole, and keeps all that the copies have."""
         desk = self.desk
         if known:
             row.take(desk.programs.show(known, desk.folder).report)
-        if status == 0:
+        if status == 0 and known:
             picture = desk.name("picture")
             outcome = desk.programs.write_jls(picture, known, desk.folder)
             self.note("write", outcome)
@@ -90,6 +96,6 @@ class Joining:
         words = archive_pictures.result_of(row, status)
         row.end(result if words == "reads" else words, status)
 
-    def keep_log(self, row):
+    def keep_log(self, row: Row) -> None:
         if self.log:
             self.desk.keep_log(row, "".join(self.log), f"{row.path}.log")

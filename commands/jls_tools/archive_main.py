@@ -1,34 +1,41 @@
 """jls-archive: from the words to the exit status."""
+from __future__ import annotations
+
 import contextlib
+import io
+import itertools
 import os
 import shutil
 import subprocess
 import sys
 import time
-from typing import List
+from typing import Any, Iterable, Iterator, List, Optional, Tuple
 
-from . import archive_claim, archive_folders, archive_item, archive_names, archive_places, archive_report, archive_run
-from . import archive_trees, archive_words
+from . import archive_claim, archive_folders, archive_item, archive_ledger, archive_names, archive_places, archive_plan, archive_report
+from . import archive_run, archive_trees, archive_words
 from .archive_desk import Desk
-from .archive_ledger import Ledger
+from .archive_ledger import Known, Ledger
 from .archive_places import Refused
 from .archive_progress import Progress
 from .archive_rows import Row
 from .archive_signals import Stopped, Watch
+from .archive_totals import Totals
+from .archive_trees import Item
 from .programs import ProgramFailed, Programs
+from .sums import BadManifest, Sums
 
 MOST_AT_ONCE = 64  # rows that wait for the disk together
 LONGEST = 1.0  # seconds that a row waits for others
 
 
-def say(text):
+def say(text: object) -> None:
     print(f"jls-archive: {text}", file=sys.stderr)
 
 
 class Trees:
     """The work on trees: its items, and what is done to one."""
 
-    def __init__(self, options, programs):
+    def __init__(self, options: Any, programs: Programs) -> None:
         self.options = options
         self.out = os.path.realpath(options.out)
         self.trees = [archive_claim.folder_named(tree) for tree in options.trees]
@@ -38,55 +45,67 @@ class Trees:
         self.store = Ledger(os.path.join(self.places.report, "rows"))
         self.desk = Desk(self.trees, self.places, programs, options)
 
-    def begin(self):
-        """Opens the rows of this part, and answers its paths. Folders without files are made at once."""
+    def begin(self, folder: str) -> Iterator[Tuple[Item, Optional[Row]]]:
+        """Opens the rows of this part, and answers its paths, each with its row if it has one. `folder` has room for what is sorted."""
         self.store.begin(self.options.part)
-        items = list(archive_trees.walk(self.trees))
-        paths = [item.path for item in items]
         sums = self.desk.sums
-        if sums.of and not sums.fit(path for path in paths):
-            raise Refused(f"no name in {', '.join(map(archive_names.printable, self.options.sums))} is a path of the trees")
-        self.prune(paths)
-        items += [archive_trees.Item(path, {}) for path in sorted(sums.of.keys() - set(paths))]
-        for item in items:
-            if item.is_folder():
-                os.makedirs(self.places.path("out", item.path), exist_ok=True)
-        items = [item for item in items if not item.is_folder()]
+        listed: Iterator[Any] = iter(())
+        if sums.files:
+            if not sums.fit(self.is_there):
+                raise Refused(f"no name in {', '.join(map(archive_names.printable, self.options.sums))} is a path of the trees")
+            listed = listed_by(sums, folder)
+        tasks = archive_plan.tasks(archive_trees.walk(self.trees), listed, self.store.rows(folder))
         index, parts = self.options.part
-        return items[index - 1 :: parts]
+        return itertools.islice(self.items_of(tasks), index - 1, None, parts)
 
-    def prune(self, paths):
-        """Takes rows away of paths that no tree and no sum has any more."""
-        if self.options.part != (1, 1):
-            return
-        known = {*paths, *self.desk.sums.of}
-        for path in self.store.paths():
-            row = self.store.of(path) if path not in known else None
-            for output in row.outputs if row else []:
-                self.places.drop(output)
-            if path not in known:
-                self.store.remove(path)
+    def is_there(self, name: str) -> bool:
+        """Whether a tree has something of this path that is no folder."""
+        places = (os.path.join(tree, name) for tree in self.trees)
+        return any(os.path.lexists(place) and (os.path.islink(place) or not os.path.isdir(place)) for place in places)
 
-    def is_done(self, item):
-        """The row of an item that needs no work: nothing has changed since, and what was written is there."""
-        row = self.store.of(item.path)
-        return row if row and self.desk.is_of(row, archive_item.inputs_of(self.desk, item)) else None
+    def items_of(self, tasks: Iterable[archive_plan.Task]) -> Iterator[Tuple[Item, Optional[Row]]]:
+        """The items of all parts. Folders without files are made, and rows of paths that are gone are taken away."""
+        for item, known in tasks:
+            if item and item.is_empty_folder:
+                os.makedirs(self.places.path("out", item.path), exist_ok=True)
+            elif item:
+                yield item, known.row() if known else None
+            elif known and self.options.part == (1, 1):
+                self.prune(known)
 
-    def forget(self, item):
+    def prune(self, known: Known) -> None:
+        """Takes the row away of a path that no tree and no sum has any more."""
+        row = known.row()
+        for output in row.outputs if row else []:
+            self.places.drop(output)
+        self.store.remove(known.name)
+
+    def count(self) -> int:
+        """How many paths there are, for the time that is left."""
+        index: int
+        parts: int
+        index, parts = self.options.part
+        every = sum(not item.is_empty_folder for item in archive_trees.walk(self.trees))
+        return -(-(every - index + 1) // parts)
+
+    def is_done(self, item: Item, row: Optional[Row]) -> bool:
+        """Whether an item needs no work: nothing has changed since, and what was written is there."""
+        return row is not None and self.desk.is_of(row, archive_item.inputs_of(self.desk, item))
+
+    def forget(self, item: Item, row: Optional[Row]) -> None:
         """Takes the row of an item away that is about to be done anew."""
-        row = self.store.of(item.path)
         if row:
             item.before = row.outputs
-            self.store.remove(item.path)
+            self.store.remove(archive_ledger.name_of(row))
 
-    def do(self, item, folder, is_late):
+    def do(self, item: Item, folder: str, is_late: bool) -> Row:
         """Settles an item in a worker."""
         for output in item.before:
             self.places.drop(output)
-        self.desk.begin(folder, is_late)
+        self.desk.begin(folder, is_late, item.expected)
         return archive_item.settle(self.desk, item)
 
-    def undo(self):
+    def undo(self) -> None:
         self.places.undo()
 
     def keep(self, rows: List[Row]) -> None:
@@ -95,46 +114,54 @@ class Trees:
         self.store.append(rows)
 
 
+def listed_by(sums: Sums, folder: str) -> Iterator[Any]:
+    try:
+        return sums.listed(folder)
+    except BadManifest as fault:
+        raise Refused(str(fault)) from fault
+
+
 class Batch:
     """Rows that are kept together, since to wait for the disk takes as long for many as for one."""
 
-    def __init__(self, job):
+    def __init__(self, job: Any) -> None:
         self.job = job
-        self.rows = []
+        self.rows: List[Row] = []
         self.begun = 0.0
 
-    def add(self, row):
+    def add(self, row: Row) -> None:
         if not self.rows:
             self.begun = time.monotonic()
         self.rows.append(row)
 
-    def is_due(self):
+    def is_due(self) -> bool:
         return len(self.rows) >= MOST_AT_ONCE or bool(self.rows) and time.monotonic() - self.begun > LONGEST
 
-    def keep(self):
+    def keep(self) -> None:
         if self.rows:
             self.job.keep(self.rows)
             self.rows = []
 
 
-def pending(job, items, progress, watch):
+def pending(job: Any, items: Iterable[Tuple[Any, Optional[Row]]], progress: Progress, watch: Watch) -> Iterator[Any]:
     """The items that need work. Those that an earlier run has done are counted."""
-    for item in items:
+    for item, row in items:
         watch.end()
-        row = job.is_done(item)
-        if row:
+        if row and job.is_done(item, row):
             progress.pass_over(row)
         else:
-            job.forget(item)
+            job.forget(item, row)
             yield item
 
 
-def go_through(job, options, watch):
+def go_through(job: Any, options: Any, watch: Watch) -> bool:
     """Does the work of this call, and answers whether all is whole."""
     work = archive_places.Work(job.places, options.part)
     try:
-        items = job.begin()
-        progress = Progress(len(items), options.quiet)
+        items = job.begin(work.folder)
+        progress = Progress(options.quiet)
+        if progress.is_on:
+            progress.total = int(job.count())
         with watch.held():
             do_all(job, archive_run.Run(job, work.folder, options, watch), pending(job, items, progress, watch), progress)
     finally:
@@ -142,11 +169,12 @@ def go_through(job, options, watch):
     return not progress.not_whole
 
 
-def do_all(job, run, waiting, progress):
+def do_all(job: Any, run: archive_run.Run, waiting: Iterator[Any], progress: Progress) -> None:
     """Does the items that wait, and keeps their rows; also of those that were done when the run ended early."""
     batch = Batch(job)
     try:
-        with contextlib.closing(run.go(waiting)) as done:
+        done = run.go(waiting)
+        with contextlib.closing(done):
             for row in done:
                 if row:
                     batch.add(row)
@@ -158,7 +186,7 @@ def do_all(job, run, waiting, progress):
         batch.keep()
 
 
-def share(options):
+def share(options: Any) -> None:
     """Lets GNU parallel give parts of the work to other machines; each makes its part by a call of its own."""
     tool = shutil.which("parallel")
     if not tool:
@@ -167,6 +195,7 @@ def share(options):
     command = [os.path.realpath(sys.argv[0]), "--shared", "--jobs", "1", "--tries", str(options.tries)]
     command += ["--seconds", str(options.seconds), "--part", f"{{}}/{parts}"]
     command += ["--folders"] if options.folders else []
+    command += ["--no-names"] if options.no_names else []
     for file in options.sums:
         command += ["--sums", os.path.realpath(file)]
     places = [os.path.realpath(word) for word in options.words]
@@ -179,16 +208,16 @@ def share(options):
         raise Stopped("the work was stopped on a machine", done.returncode)
 
 
-def work_and_report(job, options, watch):
-    """(whether all is whole, all rows). The table and the page are written too where the work ends early."""
+def work_and_report(job: Any, options: Any, watch: Watch) -> Tuple[bool, Optional[Totals]]:
+    """(whether all is whole, what all rows come to). The table and the page are written too where the work ends early."""
     try:
         if options.ssh:
             share(options)
-            rows = archive_report.write(job.places, job.store)
-            return not any(row.status for row in rows), rows
+            totals = archive_report.write(job.places, job.store)
+            return not totals.not_whole, totals
         is_whole = go_through(job, options, watch)
         watch.end()
-        return is_whole, [] if options.shared else archive_report.write(job.places, job.store)
+        return is_whole, None if options.shared else archive_report.write(job.places, job.store)
     except (Stopped, ProgramFailed, OSError):
         if not options.shared:
             with contextlib.suppress(OSError):
@@ -196,26 +225,28 @@ def work_and_report(job, options, watch):
         raise
 
 
-def run(options, watch):
+def run(options: Any, watch: Watch) -> int:
     if options.report:
         return archive_report.anew(options)
     programs = Programs()
     if options.version:
         print(programs.run([programs.salvage, "--version"]).printed, end="")
         return 0
-    job = (archive_folders.Folders if options.folders else Trees)(options, programs)
-    is_whole, rows = work_and_report(job, options, watch)
+    kind: Any = archive_folders.Folders if options.folders else Trees
+    job = kind(options, programs)
+    is_whole, totals = work_and_report(job, options, watch)
     if options.shared:
         return 0
-    if not options.quiet:
-        archive_report.print_summary(rows, options.out, job.places)
+    if totals and not options.quiet:
+        archive_report.print_summary(totals, options.out, job.places)
     return 0 if is_whole else 1
 
 
-def main():
+def main() -> int:
     watch = Watch()
     watch.catch()
-    sys.stdout.reconfigure(errors="backslashreplace")
+    if isinstance(sys.stdout, io.TextIOWrapper):
+        sys.stdout.reconfigure(errors="backslashreplace")
     try:
         return run(archive_words.read(sys.argv[1:]), watch)
     except Refused as fault:

@@ -1,27 +1,37 @@
 """JPEG-LS files and partial pictures of the trees: whether one reads, and what comes of copies that differ."""
-import os
+from __future__ import annotations
 
-from . import archive_desk
+import os
+from typing import Optional, Sequence, Set, Tuple
+
+from . import archive_bad, archive_desk
+from .archive_desk import Copy, Desk
+from .archive_rows import Row
+from .programs import Outcome, Report, Splice
 from .unsupported import NOT_SUPPORTED, unsupported
 
 PART = ".jlsp"
 BEGINNING = 1 << 16  # bytes of a file in which its first headers stand
 
 
-def result_of(report, status):
+def result_of(report: Report | Row, status: int) -> str:
     """The words for a picture whose lines a report counts."""
     if status == 3 or not report.shape:
         return "does not read"
     return "lines disputed" if report.disputed else "lines missing" if report.missing else "reads"
 
 
-def status_of(outcome, report):
+def status_of(outcome: Outcome, report: Report) -> int:
     """The row's status: a picture with lines missing is not whole whatever the call ended with."""
     return outcome.status or (1 if report.missing or report.disputed else 0)
 
 
-def look(desk, row, copy):
+def look(desk: Desk, row: Row, copy: Copy) -> Row:
     """Says of a file that is copied through whether it reads. If it isn't whole, its partial picture is kept beside OUT."""
+    whole = desk.library.whole(copy.data) if desk.library and copy.data is not None else None
+    if whole:
+        row.frames, row.shape, row.settled, row.missing, row.disputed = 1, whole.shape, whole.settled, 0, 0
+        return row.end("reads", 0)
     name = desk.links([copy])[0]
     outcome = desk.programs.check(name, desk.folder)
     report = outcome.report
@@ -32,13 +42,16 @@ def look(desk, row, copy):
     row.take(report)
     result = result_of(report, outcome.status)
     row.end(result, status_of(outcome, report), outcome.faults.replace(name, "it"))
+    if row.status and copy.data is not None:
+        row.bad = archive_bad.of_ranges(archive_bad.ranges_in(copy.data, report.lines), len(copy.data))
     if result in ("lines missing", "lines disputed"):
         partial = desk.name("partial")
         if desk.programs.join(partial, [name], desk.folder).status <= 1:
             desk.keep_partial(row, partial, row.path + PART)
+    return row
 
 
-def unsupported_of(desk, name, outcome):
+def unsupported_of(desk: Desk, name: str, outcome: Outcome) -> Optional[str]:
     """What a copy without any line has that isn't read; or nothing."""
     if outcome.report.settled:
         return None
@@ -46,35 +59,43 @@ def unsupported_of(desk, name, outcome):
         return unsupported(file.read(BEGINNING), outcome.fault)
 
 
-def log_of(desk, copies, names, outcome):
+def odd_in_all(desk: Desk, names: Sequence[str]) -> Optional[str]:
+    """What all copies have that isn't read, if it is one thing."""
+    odd: Set[Optional[str]] = {unsupported_of(desk, name, desk.programs.check(name, desk.folder)) for name in names}
+    return odd.pop() if len(odd) == 1 else None
+
+
+def log_of(copies: Sequence[Copy], names: Sequence[str], outcome: Outcome) -> str:
     """What jls-splice or join printed, with the places of the copies."""
     lines = [f"{name}: {archive_desk.shown(copy.path)}" for name, copy in zip(names, copies)]
     return "\n".join(lines) + f"\nstatus {outcome.status}\n" + outcome.printed + outcome.faults
 
 
-def mend(desk, row, copies):
+def mend(desk: Desk, row: Row, copies: Sequence[Copy]) -> Row:
     """JPEG-LS files that differ: OUT gets the mended file if it is promised to be the picture, or is the file of the sums."""
     names, spliced, mended = desk.links(copies), desk.name("spliced"), desk.name("mended")
     outcome = desk.programs.splice(spliced, names, mended, desk.folder, ["--tries", str(desk.options.tries)])
-    log = log_of(desk, copies, names, outcome)
+    log = log_of(copies, names, outcome)
     row.take(outcome.report)
-    odd = set() if outcome.report.settled else {unsupported_of(desk, name, desk.programs.check(name, desk.folder)) for name in names}
-    if len(odd) == 1 and None not in odd:
+    row.bad = archive_bad.of_copies([copy.data for copy in copies if copy.data is not None])
+    odd = None if outcome.report.settled else odd_in_all(desk, names)
+    if odd is not None:
         row.settled = row.missing = row.disputed = None
-        return desk.set_aside(row, copies, NOT_SUPPORTED).end(NOT_SUPPORTED, 1, odd.pop())
+        return desk.set_aside(row, copies, NOT_SUPPORTED).end(NOT_SUPPORTED, 1, odd)
     if outcome.status >= 2 or not os.path.exists(desk.place(spliced)):
         row.say(outcome.faults)
         keep_log(desk, row, log)
         return desk.set_aside(row, copies, "does not read", outcome.status or 3)
     fits = desk.judge(row, desk.place(mended)) if outcome.file_written else None
     if fits or fits is None and outcome.promises_picture:
+        desk.keep_log(row, log, row.path + ".log", "logs")
         desk.put(row, mended, "out", row.path, copies[0].path)
         return row.end("mended", 0)
     desk.set_aside(row, copies)
     return keep(desk, row, (spliced, mended, copies[0].path), outcome, log)
 
 
-def keep(desk, row, names, outcome, log):
+def keep(desk: Desk, row: Row, names: Tuple[str, str, str], outcome: Splice, log: str) -> Row:
     """A picture that isn't whole, or isn't promised to be: what there is of it stands beside OUT."""
     spliced, mended, model = names
     result = result_of(outcome.report, outcome.status)
@@ -92,16 +113,16 @@ def keep(desk, row, names, outcome, log):
     return row.end(result, max(outcome.status, 1))
 
 
-def keep_log(desk, row, log):
+def keep_log(desk: Desk, row: Row, log: str) -> None:
     desk.keep_log(row, log, row.path + ".log")
 
 
-def join(desk, row, copies):
+def join(desk: Desk, row: Row, copies: Sequence[Copy]) -> Row:
     """Partial pictures that differ, perhaps with copies among them: OUT gets all that they have."""
     names, joined = desk.links(copies), desk.name("joined")
     outcome = desk.programs.join(joined, names, desk.folder)
     if not os.path.exists(desk.place(joined)):
-        keep_log(desk, row, log_of(desk, copies, names, outcome))
+        keep_log(desk, row, log_of(copies, names, outcome))
         return desk.set_aside(row, copies, "does not read", outcome.status or 3)
     report = desk.programs.show(joined, desk.folder).report
     row.take(report)

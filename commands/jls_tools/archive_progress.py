@@ -15,7 +15,7 @@ class Ended(Protocol):
 class Progress:
     """Counts paths. The time left follows from those that were worked on in this run, and not from rows of an earlier one."""
 
-    def __init__(self, total: int, is_quiet: bool, clock: Callable[[], float] = time.monotonic) -> None:
+    def __init__(self, is_quiet: bool, total: int = 0, clock: Callable[[], float] = time.monotonic) -> None:
         self.total = total
         self.done = self.worked = self.not_whole = 0
         self.clock = clock
@@ -37,6 +37,7 @@ class Progress:
 
     def count(self, row: Ended) -> None:
         self.done += 1
+        self.total = max(self.total, self.done)
         self.not_whole += row.status != 0
 
     def left(self) -> Optional[float]:

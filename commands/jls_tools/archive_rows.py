@@ -1,4 +1,4 @@
-"""The rows of pictures.csv: one for each path, each kept in a file of its own as soon as it is known, so that a stopped run goes on."""
+"""The rows of pictures.csv: one for each path. Those of folders are each kept in a file of its own, so that a stopped run goes on."""
 from __future__ import annotations
 
 import contextlib
@@ -8,11 +8,15 @@ import hashlib
 import json
 import os
 import tempfile
-from typing import Iterator
+from typing import IO, Any, Dict, Iterable, Iterator, List
 
 from .dicom_result import NOT_SUPPORTED
 
+# Of the table: its titles, and the fields of a row
+OF_DECISIONS = {"decided": "decided", "one copy": "one_copy", "versions": "versions"}
 COLUMNS = ("path", "kind", "copies", "frames", "settled", "missing", "disputed", "before", "sum", "status", "result", "shape", "note")
+FIELDS = (*COLUMNS, *OF_DECISIONS.values())
+TITLES = (*COLUMNS, *OF_DECISIONS)
 PICTURES = ("dicom", "jls", "jlsp")
 TOOK_TOO_LONG = "took too long"
 PART = ".part-"  # begins the name of a file that isn't complete; eight letters or digits follow
@@ -36,32 +40,41 @@ class Row:
     shape: str = ""
     note: str = ""
     thumbnail: str = ""  # a small PNG in base 64, where lines are missing or disputed
-    inputs: str = ""  # what the row was made of: see `Store.is_done`
-    outputs: list = dataclasses.field(default_factory=list)  # the files that were written
+    inputs: str = ""  # what the row was made of: see `Desk.is_of`
+    outputs: List[List[str]] = dataclasses.field(default_factory=list)  # the files that were written
+    decided: int | None = None  # places of the header where copies differ, and one was taken
+    one_copy: int | None = None  # of these: what one copy alone has
+    versions: int | None = None  # elements of which copies have values that differ and all read
+    bad: str = ""  # where bytes are bad, from the file's begin to its end: see `archive_bad`
+    patient: str = ""
+    study: str = ""
 
-    def take(self, report, frames=1):
+    def __reduce__(self) -> Any:
+        return row_of, (self.path, values_of(self))
+
+    def take(self, report: Any, frames: int = 1) -> None:
         """Takes the numbers of a report of a program."""
         self.frames, self.shape = frames, report.shape
         self.settled, self.missing, self.disputed = report.settled, report.missing, report.disputed
         self.before = report.before
 
-    def end(self, result, status, note=""):
+    def end(self, result: str, status: int, note: str = "") -> Row:
         """Says what came out. A status that is there already stays if it is worse."""
         self.result, self.status = result, max(self.status, status)
         self.say(note)
         return self
 
-    def say(self, note):
+    def say(self, note: str) -> None:
         """Adds to the note, on one line."""
         note = " / ".join(line.strip() for line in note.splitlines() if line.strip())
         self.note = "; ".join(part for part in (self.note, note) if part)
 
     @property
-    def lines(self):
+    def lines(self) -> int:
         return (self.settled or 0) + (self.missing or 0) + (self.disputed or 0)
 
     @property
-    def loss(self):
+    def loss(self) -> float | None:
         """Which share of a picture's lines is missing or disputed, all if nothing could be made of it; nothing if that isn't known."""
         if self.kind not in PICTURES or self.result in (NOT_SUPPORTED, TOOK_TOO_LONG):
             return None
@@ -70,15 +83,37 @@ class Row:
         return 1.0 if self.status else 0.0
 
 
-def write_whole(path: str, data: bytes) -> None:
-    """Writes a file whole or not at all, with the permissions that the umask leaves."""
+DEFAULTS = {field.name: field.default for field in dataclasses.fields(Row)}
+
+
+def values_of(row: Row) -> Dict[str, Any]:
+    """The fields of a row that say something: others are as they are where nothing is said. The path stands beside them."""
+    found = {name: value for name, value in vars(row).items() if value != DEFAULTS[name]}
+    del found["path"]
+    if not row.outputs:
+        del found["outputs"]
+    return found
+
+
+def row_of(path: str, values: Dict[str, Any]) -> Row | None:
+    """The row of these fields; nothing where another version wrote them and they can't be used."""
+    every: Dict[str, Any] = {"path": path, **values}
+    try:
+        return Row(**every)
+    except TypeError:
+        return None
+
+
+@contextlib.contextmanager
+def written_whole(path: str) -> Iterator[IO[bytes]]:
+    """A file that gets its name when what stands inside has ended well, with the permissions that the umask leaves."""
     folder = os.path.dirname(path)
     mask = os.umask(0)
     os.umask(mask)
     handle, part = tempfile.mkstemp(prefix=PART, dir=folder)
     try:
         with open(handle, "wb") as file:
-            file.write(data)
+            yield file
             file.flush()
             os.fsync(file.fileno())
         os.chmod(part, 0o666 & ~mask)
@@ -87,6 +122,12 @@ def write_whole(path: str, data: bytes) -> None:
         with contextlib.suppress(FileNotFoundError):  # a signal came when it had its name already
             os.unlink(part)
         raise
+
+
+def write_whole(path: str, data: bytes) -> None:
+    """Writes a file whole or not at all."""
+    with written_whole(path) as file:
+        file.write(data)
 
 
 class Store:
@@ -131,15 +172,28 @@ class Store:
         return sorted(rows, key=lambda row: os.fsencode(row.path))
 
 
-def table(rows):
-    """The text of pictures.csv."""
-    class Lines(list):
-        write = list.append
+class Lines:
+    """Lines of CSV, as they are written."""
 
-    lines = Lines()
-    writer = csv.writer(lines, lineterminator="\n")
-    writer.writerow(COLUMNS)
-    for row in rows:
-        values = (getattr(row, name) for name in COLUMNS)
-        writer.writerow(["" if value is None else value for value in values])
-    return "".join(lines).encode("utf-8", "surrogateescape")
+    def __init__(self, file: IO[bytes]) -> None:
+        self.file = file
+        self.writer = csv.writer(self, lineterminator="\n")
+
+    def write(self, text: str) -> int:
+        return self.file.write(text.encode("utf-8", "surrogateescape"))
+
+    def add(self, row: Row) -> None:
+        self.writer.writerow([getattr(row, name) for name in FIELDS])
+
+    def head(self) -> None:
+        self.writer.writerow(TITLES)
+
+
+def write_table(path: str, rows: Iterable[Row]) -> Iterator[Row]:
+    """Writes pictures.csv on the way: it has its name when the last row was taken."""
+    with written_whole(path) as file:
+        lines = Lines(file)
+        lines.head()
+        for row in rows:
+            lines.add(row)
+            yield row

@@ -1,7 +1,10 @@
 """The words of jls-archive."""
+from __future__ import annotations
+
 import argparse
 import os
 import re
+from typing import Any, NoReturn, Sequence, Tuple
 
 from . import archive_places, sums
 
@@ -13,7 +16,7 @@ pictures that differ. Nothing in a TREE is changed, and no symbolic link is foll
 Beside OUT stand:
   OUT.differ/TREE/..  copies that differ and could not be mended, or are no pictures
   OUT.partial/..      what there is of pictures that aren't whole
-  OUT.report/         pictures.csv, a row for each path, and report.html, a page of those that aren't whole
+  OUT.report/         pictures.csv, a row for each path; report.html, a page of those that aren't whole or were mended; and logs
 
 With --folders, each folder of IN has copies of one picture, and OUT gets a picture for each folder.
 
@@ -25,17 +28,17 @@ ended by a signal; 5, 125, 127 and above: a program could not do its work, and t
 
 
 class Parser(argparse.ArgumentParser):
-    def error(self, message):
+    def error(self, message: str) -> NoReturn:
         raise archive_places.Refused(f"{message}\nTry jls-archive --help.")
 
 
-def number(text):
+def number(text: str) -> int:
     if not re.fullmatch(r"[1-9]\d{0,9}", text):
         raise argparse.ArgumentTypeError(f"{text} is no number from 1 on")
     return int(text)
 
 
-def part(text):
+def part(text: str) -> Tuple[int, int]:
     """(K, N) of K/N."""
     found = re.fullmatch(r"(\d{1,9})/(\d{1,9})", text)
     index, parts = (int(found.group(1)), int(found.group(2))) if found else (0, 0)
@@ -44,7 +47,7 @@ def part(text):
     return index, parts
 
 
-def parser():
+def parser() -> Parser:
     made = Parser(
         prog="jls-archive",
         usage="jls-archive [OPTIONS] OUT TREE TREE..\n       jls-archive --folders [OPTIONS] IN OUT\n       jls-archive --report OUT",
@@ -62,6 +65,7 @@ def parser():
     add("--part", type=part, default=(1, 1), metavar="K/N", help="only the Kth of N parts of the paths, for a job array")
     add("--ssh", metavar="HOST,..", help="share the work with these machines, by GNU parallel")
     add("--report", action="store_true", help="make the table and the page of OUT anew, also while a run goes on")
+    add("--no-names", action="store_true", help="leave names of patients out of logs, the table and the page")
     add("--quiet", action="store_true", help="no progress on the terminal, and no summary")
     add("--version", action="store_true", help="print the version of jls-salvage")
     # a part that --ssh gave away: no table, and status 0 when the part is done
@@ -69,7 +73,7 @@ def parser():
     return made
 
 
-def read(words):
+def read(words: Sequence[str]) -> Any:
     """The options of a call. A Refused says what is wrong with them."""
     options = parser().parse_args(words)
     options.sums_read = sums.Sums()

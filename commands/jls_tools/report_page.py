@@ -1,29 +1,24 @@
-"""report.html: one page without outside parts, with a row for each path that isn't whole; and the summary on the terminal."""
-import collections
+"""report.html: one page without outside parts, of the paths that aren't whole and of mended ones; and the summary on the terminal."""
+from __future__ import annotations
+
 import html
+import json
 import os
+from typing import Any, Iterator, List, Optional
+from urllib.parse import quote
 
-from . import archive_names
-from .archive_rows import PICTURES
-from .report_parts import CHOICE, HEAD, SCRIPT, STYLE
+from . import archive_names, report_parts
+from .archive_places import Places
+from .archive_rows import Row
+from .archive_totals import Most, Totals
 
-# (title, how a row shows it, whether it is a number)
-COLUMNS = (
-    ("path", lambda row: archive_names.printable(row.path), False),
-    ("kind", lambda row: row.kind, False),
-    ("result", lambda row: row.result, False),
-    ("copies", lambda row: row.copies, True),
-    ("frames", lambda row: row.frames, True),
-    ("settled", lambda row: row.settled, True),
-    ("missing", lambda row: row.missing, True),
-    ("disputed", lambda row: row.disputed, True),
-    ("loss", lambda row: percent(row.loss), True),
-    ("sum", lambda row: row.sum, False),
-    ("note", lambda row: archive_names.printable(row.note), False),
-)
+# Rows that a page has: with more of them a browser takes long. All are in pictures.csv
+MOST_LOST, MOST_MENDED, MOST_DRAWN = 8000, 2000, 2000
+MENDED = ("mended", "joined")
+WORDS = ("file", "not promised", "lines", "frames", "log")  # of links, in their order; copies come last
 
 
-def percent(share):
+def percent(share: Optional[float]) -> Optional[str]:
     """With one decimal, so that neither a small loss is shown as none nor a small rest as nothing."""
     if share is None:
         return None
@@ -32,81 +27,90 @@ def percent(share):
     return f"{99.9 if 0.999 < share < 1 else 100 * share:.1f} %"
 
 
-def by_loss(rows):
-    """What lost most first; what is no picture comes last."""
-    return sorted(rows, key=lambda row: (-1 if row.loss is None else row.loss, (row.missing or 0) + (row.disputed or 0)), reverse=True)
+class Page:
+    """The rows of the page, of those that pass by: what lost most first, then what was mended."""
+
+    def __init__(self, places: Places) -> None:
+        self.places = places
+        self.bases = {root: quoted(os.path.relpath(folder, places.report)) for root, folder in places.roots.items()}
+        self.lost = Most(MOST_LOST, self.data_of)
+        self.mended = Most(MOST_MENDED, self.data_of)
+
+    def add(self, row: Row) -> None:
+        if row.status:
+            self.lost.add(row)
+        elif row.result in MENDED:
+            self.mended.add(row)
+
+    def data_of(self, row: Row) -> str:
+        """A row as the script reads it: COLUMNS of report_parts, then the links, the thumbnail and where bytes are bad."""
+        shown = archive_names.printable
+        cells = [shown(row.path), row.kind, row.result, row.copies, row.frames, row.settled, row.missing, row.disputed, row.loss]
+        cells += [row.decided, row.one_copy, row.versions, row.sum, shown(row.note), shown(row.patient), shown(row.study)]
+        return json.dumps([*cells, self.links_of(row), row.thumbnail, row.bad], separators=(",", ":")).replace("</", "<\\/")
+
+    def links_of(self, row: Row) -> List[Any]:
+        """[what it is, where it stands] of the files that were written."""
+        found = [[word_for(*output), f"{self.bases[output[0]]}/{quoted(output[1])}"] for output in row.outputs if output[0] in self.bases]
+        return sorted(found, key=lambda link: WORDS.index(link[0]) if link[0] in WORDS else len(WORDS))
+
+    def parts(self, totals: Totals) -> Iterator[str]:
+        """The text of the page."""
+        name = html.escape(archive_names.printable(os.path.basename(self.places.out)))
+        yield report_parts.HEAD.format(title=f"{name}: what came back")
+        numbers = "".join(f"<div><dt>{title}</dt><dd>{count:,}</dd></div>" for title, count in totals.counts().items())
+        yield f"<style>{report_parts.STYLE}</style></head>\n<body><h1>{name}: what came back</h1><dl>{numbers}</dl>\n"
+        yield f'<table class="small"><tbody>\n{"".join(map(self.result_line, totals.results()))}</tbody></table>\n'
+        told = [*self.lost.made(), *self.mended.made()]
+        if not told:
+            yield "<p>All is whole, and nothing had to be mended.</p></body></html>\n"
+            return
+        if len(told) < self.lost.seen + self.mended.seen:
+            every = self.lost.seen + self.mended.seen
+            yield f'<p class="part">{len(told):,} of {every:,} rows are in this page: those that lost most. All are in pictures.csv.</p>\n'
+        yield report_parts.CHOICE
+        yield '<script type="application/json" id="data">[\n'
+        for number, data in enumerate(told):
+            yield ("" if number == 0 else ",\n") + (data if number < MOST_DRAWN else without_thumbnail(data))
+        yield f"\n]</script>\n<script>{report_parts.SCRIPT}</script></body></html>\n"
+
+    def result_line(self, result: Any) -> str:
+        words, count, is_whole = result
+        state = "whole" if is_whole else "not whole"
+        shown = html.escape(words)
+        has_rows = not is_whole or words in MENDED
+        told = f'<button type="button" data-result="{shown}">{shown}</button>' if has_rows else shown
+        return f'<tr><td>{told}</td><td class="n">{count:,}</td><td>{state}</td></tr>\n'
 
 
-def results(rows):
-    """[(a result, how many rows have it, whether these are whole)], whole ones first, then by number."""
-    counts = collections.Counter((row.status == 0, row.result) for row in rows)
-    ordered = sorted(counts.items(), key=lambda item: (-item[0][0], -item[1], item[0][1]))
-    return [(result, count, whole) for (whole, result), count in ordered]
+def without_thumbnail(data: str) -> str:
+    row = json.loads(data)
+    row[-2] = ""
+    return json.dumps(row, separators=(",", ":")).replace("</", "<\\/")
 
 
-def totals(rows):
-    pictures = [row for row in rows if row.kind in PICTURES]
-    lines = {name: sum(getattr(row, name) or 0 for row in rows) for name in ("settled", "missing", "disputed")}
-    return {
-        "paths": len(rows),
-        "pictures": len(pictures),
-        "whole": sum(row.status == 0 for row in rows),
-        "not whole": sum(row.status != 0 for row in rows),
-        **{f"lines {name}": count for name, count in lines.items()},
-    }
+def quoted(path: str) -> str:
+    return quote(os.fsencode(path))
 
 
-def cell(row, column):
-    title, shown, is_number = column
-    value = shown(row)
-    text = "" if value is None else html.escape(str(value))
-    kind = ' class="n"' if is_number else ' class="p"' if title in ("path", "note") else ""
-    return f"<td{kind}>{text}</td>"
+def word_for(root: str, name: str) -> str:
+    """What a link leads to."""
+    if root == "differ":
+        return archive_names.printable(f"copy of {name.partition('/')[0]}") if "/" in name else "copy"
+    if root == "out":
+        return "file"
+    ending = os.path.splitext(name)[1]
+    return {".log": "log", ".jlsp": "lines", ".frames": "frames"}.get(ending, "not promised")
 
 
-def line(row):
-    """A row of the page."""
-    picture = f'<img src="data:image/png;base64,{row.thumbnail}" alt="lost lines" decoding="async">' if row.thumbnail else ""
-    return f"<tr><td class=\"t\">{picture}</td>{''.join(cell(row, column) for column in COLUMNS)}</tr>"
-
-
-def heading():
-    cells = []
-    for title, _, is_number in COLUMNS:
-        kind = ' class="n"' if is_number else ' class="p"' if title in ("path", "note") else ""
-        order = ' aria-sort="descending"' if title == "loss" else ""
-        cells.append(f'<th{kind}{order}><button type="button" data-column="{title}">{title}</button></th>')
-    return '<tr><th class="t">lines</th>' + "".join(cells) + "</tr>"
-
-
-def page(rows, out):
-    """The bytes of the page."""
-    lost = by_loss([row for row in rows if row.status])
-    name = html.escape(archive_names.printable(os.path.basename(out)))
-    numbers = "".join(f"<div><dt>{title}</dt><dd>{count:,}</dd></div>" for title, count in totals(rows).items())
-    outcome = "".join(f"<tr><td>{html.escape(result)}</td><td class=\"n\">{count:,}</td></tr>" for result, count, _ in results(rows))
-    parts = [
-        HEAD.format(title=f"{name}: what came back"),
-        f"<style>{STYLE}</style></head><body><h1>{name}: what came back</h1><dl>{numbers}</dl>",
-        f'<table class="small"><tbody>{outcome}</tbody></table>',
-        '<p class="key"><span class="missing"></span> no copy has the line <span class="disputed"></span> copies disagree on the line</p>',
-        CHOICE if lost else "<p>All is whole.</p>",
-        f'<table id="rows"><thead>{heading()}</thead><tbody>' if lost else "",
-        "\n".join(map(line, lost)),
-        "</tbody></table>" if lost else "",
-        f"<script>{SCRIPT}</script></body></html>\n",
-    ]
-    return "\n".join(parts).encode("utf-8", "replace")
-
-
-def summary(rows, report):
+def summary(totals: Totals, report: str) -> str:
     """What the run came to, in a few lines of text."""
-    sums = totals(rows)
+    sums = totals.counts()
     said = [f"{sums['paths']} paths, {sums['pictures']} of them pictures; {sums['whole']} whole, {sums['not whole']} not"]
     said.append("lines: " + ", ".join(f"{sums[f'lines {name}']} {name}" for name in ("settled", "missing", "disputed")))
-    for result, count, whole in results(rows):
+    for result, count, whole in totals.results():
         said.append(f"{count:7} {result}{'' if whole else ', not whole'}")
-    worst = by_loss([row for row in rows if row.status])[:10]
+    worst: List[Row] = totals.worst.made()
     said += ["most lost:"] if worst else []
     said += [f"{percent(row.loss) or '':>9} {archive_names.printable(row.path)}" for row in worst]
     said.append(f"see {archive_names.printable(os.path.join(report, 'report.html'))}")

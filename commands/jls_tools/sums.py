@@ -1,7 +1,14 @@
-"""Reads manifests of checksums: lines of sha256sum, md5sum and their kin, with or without --tag, and BagIt's."""
+"""Reads manifests of checksums: lines of sha256sum, md5sum and their kin, with or without --tag, and BagIt's; never all at once."""
+from __future__ import annotations
+
 import hashlib
+import itertools
 import os
 import re
+from operator import itemgetter
+from typing import IO, Callable, Dict, Iterable, Iterator, List, Optional, Tuple
+
+from . import archive_order
 
 ALGORITHMS = {32: "md5", 40: "sha1", 56: "sha224", 64: "sha256", 96: "sha384", 128: "sha512"}
 PLAIN = re.compile(r"(\\?)([0-9A-Fa-f]+)[ \t]+\*?(.+)$", re.S)
@@ -13,17 +20,17 @@ class BadManifest(Exception):
     """A file is no manifest; the text names the line."""
 
 
-def unescaped(name):
+def unescaped(name: str) -> str:
     """The name behind the backslash that begins a line of sha256sum."""
     return re.sub(r"\\([\\nr])", lambda found: {"\\": "\\", "n": "\n", "r": "\r"}[found.group(1)], name)
 
 
-def decoded(name):
+def decoded(name: str) -> str:
     """A name of BagIt: a line feed, a carriage return and a percent sign are written as %0A, %0D, %25."""
     return re.sub(r"%(0[AaDd]|25)", lambda found: chr(int(found.group(1), 16)), name)
 
 
-def entry_of(line, is_bagit):
+def entry_of(line: str, is_bagit: bool) -> Optional[Tuple[str, str, str]]:
     """(name, algorithm, sum) of a line, or nothing."""
     tagged, plain = TAGGED.match(line), PLAIN.match(line)
     if tagged:
@@ -38,56 +45,93 @@ def entry_of(line, is_bagit):
     return os.path.normpath(name), ALGORITHMS[len(digest)], digest.lower()
 
 
-class Sums:
-    """What manifests say of paths: {path: {algorithm: sum}}."""
+Entry = Tuple[str, str, str, int]  # a name, an algorithm, the sum, and the number of the line
+Listed = Tuple[bytes, str, Dict[str, str]]  # where a path stands in the order, the path, and {algorithm: sum}
 
-    def __init__(self):
-        self.of = {}
 
-    def read(self, path):
-        """Takes the lines of a manifest. An OSError or BadManifest says why it can't."""
-        with open(path, encoding="utf-8", errors="surrogateescape", newline="\n") as file:
-            lines = file.read().removeprefix("\ufeff").split("\n")
-        is_bagit, taken = bool(BAGIT.search(os.path.basename(path))), 0
-        for number, line in enumerate(lines, 1):
-            line = line.rstrip("\r")
+def entries_in(path: str) -> Iterator[Entry]:
+    """The entries of a manifest. An OSError or BadManifest says why there are none."""
+    is_bagit, number, taken = bool(BAGIT.search(os.path.basename(path))), 0, 0
+    with open(path, encoding="utf-8", errors="surrogateescape", newline="\n") as file:
+        for number, line in enumerate(file, 1):
+            line = line.rstrip("\n").rstrip("\r")
+            line = line.removeprefix("\ufeff") if number == 1 else line
             if not line.strip() or line.startswith("#"):
                 continue
             entry = entry_of(line, is_bagit)
             if entry is None:
                 raise BadManifest(f"line {number} is no line of sha256sum, md5sum or BagIt")
-            name, algorithm, digest = entry
-            if self.of.setdefault(name, {}).setdefault(algorithm, digest) != digest:
-                raise BadManifest(f"line {number} has another sum of the same file")
+            yield (*entry, number)
             taken += 1
-        if not taken:
-            raise BadManifest("it has no sums")
+    if not taken:
+        raise BadManifest("it has no sums")
 
-    def fit(self, paths):
+
+class Sums:
+    """What manifests say of paths. `head` is a folder that all names have, and no path of the trees."""
+
+    def __init__(self) -> None:
+        self.files: List[str] = []
+        self.head = ""
+
+    def read(self, path: str) -> None:
+        """Takes a manifest, when each of its lines has been read. An OSError or BadManifest says why it can't."""
+        for _ in entries_in(path):
+            pass
+        self.files.append(path)
+
+    def entries(self) -> Iterator[Entry]:
+        for file in self.files:
+            for name, algorithm, digest, number in entries_in(file):
+                yield name.removeprefix(self.head), algorithm, digest, number
+
+    def fit(self, is_there: Callable[[str], bool]) -> bool:
         """Leaves a folder out of all names, such as BagIt's data, if names are paths of the trees only without it.
 
         Answers whether any name is a path then.
         """
-        paths = set(paths)
-        if paths & self.of.keys():
-            return True
-        heads = {name.partition("/")[0] for name in self.of if "/" in name}
-        for head in sorted(heads):
-            short = {name.removeprefix(head + "/"): sums for name, sums in self.of.items()}
-            if paths & short.keys():
-                self.of = short
+        heads = set()
+        for name, _, _, _ in self.entries():
+            if is_there(name):
                 return True
-        return False
+            head, slash, rest = name.partition("/")
+            if slash and head not in heads and is_there(rest):
+                heads.add(head)
+        if heads:
+            self.head = min(heads) + "/"
+        return bool(heads)
 
-    def of_path(self, path):
-        return self.of.get(path, {})
+    def listed(self, folder: str) -> Iterator[Listed]:
+        """What the manifests say, in the order of paths. `folder` has room for what is sorted. A BadManifest comes before all else."""
+        sorter = archive_order.Sorter(folder)
+        try:
+            for name, algorithm, digest, number in self.entries():
+                sorter.add((archive_order.key_of(name), algorithm, digest, number))
+            kept = archive_order.kept(grouped(sorter.sorted()), folder)
+        finally:
+            sorter.close()
+        return listed_in(kept)
+
+
+def listed_in(kept: IO[bytes]) -> Iterator[Listed]:
+    for key, path, expected in archive_order.records_in(kept):
+        yield key, path, expected
+
+
+def grouped(records: Iterable[archive_order.Record]) -> Iterator[Listed]:
+    for key, group in itertools.groupby(records, key=itemgetter(0)):
+        found: Dict[str, str] = {}
+        for _, algorithm, digest, number in group:
+            if found.setdefault(algorithm, digest) != digest:
+                raise BadManifest(f"line {number} has another sum of the same file")
+        yield key, os.fsdecode(key), found
 
 
 class Unreadable(Exception):
     """A file can't be read; the text is the system's."""
 
 
-def blocks_of(path):
+def blocks_of(path: str) -> Iterator[bytes]:
     try:
         with open(path, "rb", buffering=0) as file:
             while block := file.read(1 << 20):
@@ -96,7 +140,24 @@ def blocks_of(path):
         raise Unreadable(fault.strerror) from fault
 
 
-def digests(path, algorithms, copy_to=None):
+def whole_of(path: str, most: int) -> Tuple[Optional[bytes], os.stat_result]:
+    """(the bytes of a file, what stat says of it); no bytes where there are more than so many."""
+    try:
+        handle = os.open(path, os.O_RDONLY | os.O_CLOEXEC)
+        try:
+            seen, parts = os.fstat(handle), []
+            left = most + 1 if seen.st_size <= most else 0
+            while left and (part := os.read(handle, min(left, seen.st_size + 1))):
+                parts.append(part)
+                left -= len(part)
+            return (b"".join(parts) if left else None), seen
+        finally:
+            os.close(handle)
+    except OSError as fault:
+        raise Unreadable(fault.strerror) from fault
+
+
+def digests(path: str, algorithms: Iterable[str], copy_to: Optional[IO[bytes]] = None) -> Dict[str, str]:
     """{algorithm: sum} of a file, in one reading of it. `copy_to` is an open file that gets its bytes."""
     sums = {name: hashlib.new(name, usedforsecurity=False) for name in algorithms}
     for block in blocks_of(path):
@@ -107,6 +168,11 @@ def digests(path, algorithms, copy_to=None):
     return {name: each.hexdigest() for name, each in sums.items()}
 
 
-def agree(expected, found):
+def digests_of(data: bytes, algorithms: Iterable[str]) -> Dict[str, str]:
+    """{algorithm: sum} of bytes."""
+    return {name: hashlib.new(name, data, usedforsecurity=False).hexdigest() for name in algorithms}
+
+
+def agree(expected: Dict[str, str], found: Dict[str, str]) -> bool:
     """Whether each sum that is expected of a file is the one that was found."""
     return bool(expected) and all(found.get(name) == digest for name, digest in expected.items())

@@ -1,0 +1,66 @@
+"""Where bytes of a file are bad, in few cells from its begin to its end. A cell is a digit: 0 where all of it is well, 9 where none is.
+
+Of copies that differ, bytes are bad where these do. Of equal ones they are what `jls-salvage check` could not decode.
+"""
+from __future__ import annotations
+
+import re
+from typing import Iterable, Iterator, List, Sequence, Tuple
+
+CELLS = 64
+LARGEST = 1 << 26  # bytes: of larger files nothing is said
+NEXT_MARKER = re.compile(rb"\xff[\x80-\xfe]", re.S)
+PIECE = re.compile(r"piece \d+ \d+ (\d+) ")
+END = re.compile(r"end (?:input|fault \d+(?: at)?) (\d+)")
+Range = Tuple[int, int]
+
+
+def apart(one: bytes, other: bytes) -> int:
+    """How many bytes of two differ; those that only one has do."""
+    size = min(len(one), len(other))
+    mask = int.from_bytes(one[:size], "big") ^ int.from_bytes(other[:size], "big")
+    return size - mask.to_bytes(size, "big").count(0) + max(len(one), len(other)) - size
+
+
+def cells_of(size: int) -> Iterator[Range]:
+    count = min(CELLS, size)
+    return ((at * size // count, (at + 1) * size // count) for at in range(count))
+
+
+def digit(bad: int, size: int) -> str:
+    return str(-(-9 * min(bad, size) // size))
+
+
+def of_copies(texts: Sequence[bytes]) -> str:
+    """Where copies differ from the first one."""
+    size = max(map(len, texts), default=0)
+    if len(texts) < 2 or size > LARGEST:
+        return ""
+    found = []
+    for begin, end in cells_of(size):
+        own = [text[begin:end] for text in texts]
+        found.append(digit(max(apart(own[0], each) for each in own[1:]), end - begin))
+    return "".join(found)
+
+
+def of_ranges(ranges: Iterable[Range], size: int) -> str:
+    """The same for ranges of a file."""
+    if not size or size > LARGEST:
+        return ""
+    found = list(ranges)
+    bad = (sum(max(0, min(end, last) - max(begin, first)) for first, last in found) for begin, end in cells_of(size))
+    return "".join(digit(count, end - begin) for count, (begin, end) in zip(bad, cells_of(size)))
+
+
+def ranges_in(stream: bytes, lines: Sequence[str], begin: int = 0) -> List[Range]:
+    """What `check` said of a codestream that stands at `begin` of a file: each piece that is none, and what it did not come to."""
+    found = []
+    for line in lines:
+        piece, end = PIECE.match(line), END.match(line)
+        if piece:
+            at = int(piece.group(1))
+            marker = NEXT_MARKER.search(stream, at)
+            found.append((begin + at, begin + (marker.start() if marker else len(stream))))
+        elif end:
+            found.append((begin + int(end.group(1)), begin + len(stream)))
+    return found
