@@ -11,7 +11,7 @@ from typing import List, NamedTuple, Optional
 
 from .dicom_frames import MARKER
 
-SONAME = "libjls_salvage.so.1"
+SONAME = "libjls_salvage.so.2"
 DONE, END_EOI = 0, 0  # of enum jls_answer and enum jls_end
 EOI = b"\xff\xd9"
 LARGEST = 1 << 28  # bytes of a copy: of a larger one the program says it, which a signal ends at once
@@ -21,6 +21,7 @@ class Info(ctypes.Structure):
     """struct jls_info of include/jls_salvage.h."""
 
     _fields_ = [
+        *((name, ctypes.c_uint32) for name in ("size", "unsupported")),
         *((name, ctypes.c_uint64) for name in "samples bytes faulty_pieces end_offset lines missing settled disputed".split()),
         *((name, ctypes.c_uint16) for name in ("width", "height")),
         *((name, ctypes.c_uint8) for name in ("precision", "components", "end", "fault")),
@@ -70,7 +71,7 @@ class Library:
         """What `check` says of a copy that is whole, to its last byte. Nothing of any other copy, or where memory is short."""
         if stream[:2] != b"\xff\xd8" or len(stream) > LARGEST:
             return None
-        found = Info()
+        found = Info(size=ctypes.sizeof(Info))
         answer = self.functions.jls_check(stream, len(stream), ctypes.byref(found), None, 0)
         is_well = answer == DONE and found.end == END_EOI and stream[found.end_offset :] == EOI
         if not is_well or found.missing or found.disputed or found.faulty_pieces or found.settled != found.lines or not found.lines:
