@@ -16,6 +16,7 @@ pub record AreFirstLines (p : CodingParameters) (width components : ℕ) (lines 
   pub components_at_most : components ≤ 4
   pub each : AllByRecursion (IsLine p width) lines
 
+-- a place before all bits
 abbrev pub nowhere : BitPlace
 nowhere = record { bytes = 0; bits = 0 }
 

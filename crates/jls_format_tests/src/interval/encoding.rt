@@ -1,6 +1,7 @@
 //! Lines, and the bytes that they are written as.
 
 use super::decoding::{OTHER_PARAMETERS, SINGLE_SAMPLES};
+use jls_bits::BitPlace;
 use jls_interval::*;
 use jls_values::Params;
 use std::alloc::{AllocError, Global};
@@ -169,5 +170,27 @@ fn several_components(rt: HostRuntime) -> Result<(), Fail> {
         };
         assert!(rt; written_as(rt.alloc(), &params, given, bytes)?, "{lines:?}");
     }
+    Ok(())
+}
+
+#[test]
+fn fronts(rt: HostRuntime) -> Result<(), Fail> {
+    let alloc = rt.alloc();
+    let params = Params::new(8, 0, 0, 0, 0, 0)?;
+    let line = [0, 0, 5];
+    let two = encode_front(alloc, &params, 3, 1, &[&line, &line])?;
+    assert!(rt; two.bytes.as_slice() == [0xc5].as_slice());
+    let first = BitPlace { bytes: 1, bits: 0 };
+    let second = BitPlace { bytes: 1, bits: 6 };
+    assert!(rt; two.ends.as_slice() == [first, second].as_slice());
+    let run = encode_front(alloc, &params, 12, 1, &[&[0; 12]])?;
+    assert!(rt; run.bytes.as_slice() == [0xff].as_slice());
+    assert!(rt; run.ends.as_slice() == [first].as_slice());
+    let inside_a_row = encode_front(alloc, &params, 1, 2, &[&[10]])?;
+    assert!(rt; inside_a_row.bytes.as_slice() == [0x07].as_slice());
+    assert!(rt; inside_a_row.ends.as_slice() == [first].as_slice());
+    let none = encode_front(alloc, &params, 3, 1, &[])?;
+    assert!(rt; none.bytes.is_empty());
+    assert!(rt; none.ends.is_empty());
     Ok(())
 }
