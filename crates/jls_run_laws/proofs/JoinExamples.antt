@@ -32,7 +32,7 @@ use Rattle.jls_station.specs.Reading.{IsRead}
 use Rattle.jls_station.specs.declared.input.ReadStop.TheVariants.{Whole}
 use Rattle.jls_cli.specs.Outcomes.{finished}
 use Rattle.jls_station.proofs.OneInput.{empty_goes_on}
-use Rattle.jls_salvage_run.specs.WritingFiles.{done}
+use Rattle.jls_salvage_run.specs.WritingFiles.{WritesFile, done}
 use Rattle.jls_salvage_run.specs.declared.writing.Format.TheVariants.{Pnm}
 use Rattle.jls_run_laws.specs.JoinThenWrite.{JoinsDamagedCopies, JoinsForDamagedCopies, WritesWhatWasJoined}
 use Rattle.jls_run_laws.specs.NoOtherLaws.{SomeInputHasEachLine}
@@ -293,18 +293,21 @@ module _ (a b : ReadCopy) (ra : CopyReads first a) (rb : CopyReads second b) whe
     some_bytes : 0 < length (pnm (picture_of both))
     some_bytes = subst (λ (p : WholePicture). 0 < length (pnm p)) (sym gives.1) (omega arith)
 
+    pub writes_file : WritesFile Pnm (112 ∷ []) (111 ∷ []) (finished true true) (text_reading ++ handing)
+    writes_file = done Pnm (112 ∷ []) (111 ∷ []) (given_by_text both) true text_reading handing text_taken gives.0
+        (record { settled_is = (λ _. gives.0, λ _. refl); whole_is = (λ _. refl, λ _. refl) })
+        tt
+        (record {
+          writes = took (pnm (picture_of both)) ∷ [];
+          events_are = refl;
+          wrote = record { are_writes = (some_bytes, tt); they_took = append-nil (pnm (picture_of both)) };
+        })
+
     pub writes : WritesWhatWasJoined joining Pnm (finished true true) (text_reading ++ handing)
     writes = record {
       out = 112 ∷ [];
       name = 111 ∷ [];
-      writes = done Pnm (112 ∷ []) (111 ∷ []) (given_by_text both) true text_reading handing text_taken gives.0
-          (record { settled_is = (λ _. gives.0, λ _. refl); whole_is = (λ _. refl, λ _. refl) })
-          tt
-          (record {
-            writes = took (pnm (picture_of both)) ∷ [];
-            events_are = refl;
-            wrote = record { are_writes = (some_bytes, tt); they_took = append-nil (pnm (picture_of both)) };
-          });
+      writes = writes_file;
       same_bytes = ap (λ (bytes : List ℕ). bytes ∷ []) refl;
     }
 

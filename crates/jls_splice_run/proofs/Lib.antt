@@ -12,3 +12,4 @@ mod Members
 mod Named
 mod Running
 mod Seen
+mod ReportedExamples
