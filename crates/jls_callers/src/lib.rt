@@ -3,7 +3,7 @@
 //!
 //! - `taking`, `texts`: steps by which a station takes copies, and `.jlsp` files
 //! - `reading`: a copy that is read by itself
-//! - `writing`: `write_station` goes from a history to the bytes that a sink took
+//! - `writing`: `write_station` goes from a history to the bytes that a sink took. So do those for a PNM file and the report
 //! - `known`: what a call makes of known bytes: how far it reads, and why it has no picture or another shape
 //! - `unfailed`: what is left if no read of a source failed: how a reading stops, and why an input is refused
 #![tactic(auto)]
@@ -20,4 +20,4 @@ pub use reading::{read_any, read_in_memory};
 pub use taking::{take_first, take_next, take_other};
 pub use texts::{read_back, take_cut_text, take_its_text, take_text_of_another_shape, text_of};
 pub use unfailed::{read_unfailed, take_unfailed};
-pub use writing::write_station;
+pub use writing::{station_report, write_station, write_station_pnm};

@@ -1,13 +1,16 @@
-//! A caller that writes the picture of a station.
+//! Callers that write the picture of a station, and its report.
 
-ghost use Rattle.std.specs.Prelude.{◌≡◌, ℕ, List, IsTrue};
+ghost use Rattle.std.specs.Prelude.{◌≡◌, ℕ, List, IsTrue, IfOk};
 ghost use Rattle.std.specs.List.{AllByRecursion};
 ghost use Rattle.jls_io.specs.Event.{GrewBy};
 ghost use Rattle.jls_io.specs.Writing.{Wrote};
 ghost use Rattle.jls_write.specs.Outcomes.{HandedOut};
 ghost use Rattle.jls_write.specs.Picture.{WholePicture, picture_of};
+ghost use Rattle.jls_write.specs.Pnm.{pnm};
 ghost use Rattle.jls_write.specs.WholePictures.{IsPicture};
 ghost use Rattle.jls_write.specs.WrittenFile.{written_file};
+ghost use Rattle.jls_report.specs.Report.{report_of};
+ghost use Rattle.jls_report.specs.ReportText.{report_text};
 ghost use Rattle.jls_headline.specs.Collected.{CollectedFrom};
 ghost use Rattle.jls_headline.specs.Damaged.{Damaged, EachLineSurvives};
 ghost use Rattle.jls_headline.specs.ReadsAs.{ReadsAsOnly};
@@ -15,9 +18,10 @@ ghost use Rattle.jls_headline.specs.Sources.{SourcedCopy, copies_of};
 
 use jls_headline::same_copies_give_the_picture;
 use jls_io::Sink;
+use jls_report::Report;
 use jls_station::Station;
-use jls_write::{Options, Picture, write_jls};
-use std::alloc::Global;
+use jls_write::{Options, Picture, write_jls, write_pnm};
+use std::alloc::{AllocError, Global};
 
 /// Writes the picture of a station as JPEG-LS, if each line is settled and the options fit. If it answers true, the sink
 /// took all of it.
@@ -50,4 +54,25 @@ pub fn write_station<W: Sink>(
         }
         Err(_) => false,
     }
+}
+
+/// Writes the picture of a station as PNM, if each line is settled. If it answers true, the sink took all of it.
+pub fn write_station_pnm<W: Sink>(station: &Station, sink: &mut W) -> bool
+    // Where this holds of two stations, the clause `writes` of the law says that both sinks took the same bytes.
+    ensures { IsTrue result → HandedOut (W.history sink.old) (W.history sink.new) (W.contents sink.old) (W.contents sink.new)
+        (pnm (picture_of station.now)) }
+{
+    match Picture::of(station.partial()) {
+        Ok(picture) => write_pnm(&picture, sink).is_ok(),
+        Err(_) => false,
+    }
+}
+
+/// The text of the report of a station.
+pub fn station_report(alloc: Global, station: &Station) -> Result<Vec<u8>, AllocError>
+    // Where this holds of two stations, the clause `writes` of the law says that both texts are the same.
+    ensures { IfOk result (λ text. text.items ≡ report_text (report_of station.now)) }
+{
+    let report = Report::of(alloc, station.partial())?;
+    report.to_text(alloc)
 }
