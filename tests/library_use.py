@@ -91,14 +91,16 @@ def buffers(copy: bytes) -> None:
         differ(name, raised(lambda: jls_salvage.check(each)), wanted if name != "read_only" or len(copy) % 2 == 0 else even)
     for none in (b"", bytearray(), memoryview(b""), array.array("B")):
         differ(f"no bytes of {type(none).__name__}", raised(lambda: jls_salvage.check(none)), jls_salvage.NoPicture)
+    calls: list[Callable[..., object]] = [jls_salvage.check, jls_salvage.header, jls_salvage.read, jls_salvage.lines, jls_salvage.join]
     for wrong in ([1, 2], None, 5, "name", 1.5):
-        for call in (jls_salvage.check, jls_salvage.header, jls_salvage.read, jls_salvage.lines, jls_salvage.join):
-            differ(f"{call.__name__} of {wrong!r}", raised(lambda: call(wrong)), TypeError)
+        for call in calls:
+            differ(f"{call} of {wrong!r}", raised(lambda: call(wrong)), TypeError)
 
 
 def sources(copy: bytes) -> None:
-    for source in (1.0, "1", None):
-        differ(f"source {source!r}", raised(lambda: jls_salvage.partial(copy, source)), TypeError)  # type: ignore[arg-type]
+    wrong: list[Any] = [1.0, "1", None]
+    for each in wrong:
+        differ(f"source {each!r}", raised(lambda: jls_salvage.partial(copy, each)), TypeError)
     for source in (-1, 2**32):
         differ(f"source {source}", raised(lambda: jls_salvage.partial(copy, source)), ValueError)
     if numpy is not None:
@@ -140,10 +142,10 @@ def written() -> None:
     for name, (samples, wanted) in SEQUENCES.items():
         differ(f"samples that are {name}", raised(lambda: samples_of(samples, 8, 2, 2)), wanted)
     four = [1, 2, 3, 4]
-    for words in ((four, 8.0, 2, 2), (four, "8", 2, 2), (four, None, 2, 2), (four, 8, 2.0, 2)):
-        differ(f"written with {words[1:]}", raised(lambda: jls_salvage.write(*words)), TypeError)  # type: ignore[arg-type]
-    for words in ((four, 0, 2, 2), (four, 300, 2, 2), (four, 8, -2, -2), (four, 8, 70000, 1), (four, 8, 1, 1, 256)):
-        differ(f"written with {words[1:]}", raised(lambda: jls_salvage.write(*words)), NotWritable)  # type: ignore[arg-type]
+    of_types: list[Any] = [(8.0, 2, 2), ("8", 2, 2), (None, 2, 2), (8, 2.0, 2)]
+    of_ranges: list[Any] = [(0, 2, 2), (300, 2, 2), (8, -2, -2), (8, 70000, 1), (8, 1, 1, 256)]
+    for words, wanted in [(each, TypeError) for each in of_types] + [(each, NotWritable) for each in of_ranges]:
+        differ(f"written with {words}", raised(lambda: jls_salvage.write(four, *words)), wanted)
     for interval in (-1, 65536):
         differ(f"interval {interval}", raised(lambda: jls_salvage.write(four, 8, 2, 2, restart_interval=interval)), NotWritable)
     is_true: Any = 256

@@ -48,15 +48,16 @@ static uint32_t call(int which) {
 }
 
 static int is_untouched(void) {
-    return memcmp(&info, blank, sizeof info) == 0 && memcmp(&header, blank, sizeof header) == 0 && memcmp(out, blank, ROOM) == 0 && memcmp(samples, blank, ROOM) == 0
-           && memcmp(lines, blank, sizeof lines) == 0;
+    return memcmp(&info, blank, sizeof info) == 0 && memcmp(&header, blank, sizeof header) == 0 && memcmp(out, blank, ROOM) == 0
+           && memcmp(samples, blank, ROOM) == 0 && memcmp(lines, blank, sizeof lines) == 0;
 }
 
 /* Refuses the first request, then the second, and so on; with many of them some are left out. */
 static void refuse(int which) {
     uint32_t answer = JLS_OUT_OF_MEMORY;
     for (long number = 0; answer == JLS_OUT_OF_MEMORY; number += 1 + number / 16) {
-        memset(&info, 0xA5, sizeof info), memset(&header, 0xA5, sizeof header), memset(out, 0xA5, ROOM), memset(samples, 0xA5, sizeof samples), memset(lines, 0xA5, sizeof lines);
+        memset(&info, 0xA5, sizeof info), memset(&header, 0xA5, sizeof header);
+        memset(out, 0xA5, ROOM), memset(samples, 0xA5, sizeof samples), memset(lines, 0xA5, sizeof lines);
         left = number;
         answer = call(which);
         int enough = left > 0 || refusals == 0;
