@@ -204,7 +204,7 @@ class Piece:
 
 @dataclass(frozen=True)
 class Header:
-    """What the headers of a copy say, up to its first scan."""
+    """What the headers of a copy say, up to its first scan. Where `fault` isn't `Fault.NONE`, they end at `end_offset`, before its data."""
 
     width: int
     height: int

@@ -91,6 +91,9 @@ static void of_headers(void) {
     other.fault = JLS_FAULT_LENGTH;
     wants("a scan without components", "FF D8 " GREY "FF DA 00 06 00 05 01 00", other, JLS_DONE);
     wants("two starts", "FF D8 FF D8 00 02 " GREY SCAN, (jls_header){.fault = JLS_FAULT_UNKNOWN_MARKER, .end_offset = 2}, JLS_NO_PICTURE);
+    other = grey, other.unsupported = JLS_NEAR_LOSSLESS, other.fault = JLS_FAULT_LOSSY, other.end_offset = 17, other.near_lossless = 5;
+    other.interleave = 2;
+    wants("a lossy scan behind fill bytes", "FF D8 " GREY "FF FF " LOSSY_SCAN, other, JLS_UNSUPPORTED);
     other = grey, other.fault = JLS_FAULT_ENDED, other.end_offset = 20;
     wants("a header that is cut off", "FF D8 " GREY "FF DA 00 08 01", other, JLS_DONE);
 }
@@ -161,7 +164,25 @@ static void of_sizes(void) {
     want("what lies behind", longer.behind == 7 && longer.info.width == 3);
 }
 
+#define AT(structure, field, offset) want(#structure " has " #field " elsewhere", offsetof(structure, field) == (offset))
+
+/* Where fields are: a program that was built with 1.2.0 finds them there. */
+static void of_places(void) {
+    AT(jls_info, unsupported, 4), AT(jls_info, samples, 8), AT(jls_info, bytes, 16), AT(jls_info, faulty_pieces, 24);
+    AT(jls_info, end_offset, 32), AT(jls_info, lines, 40), AT(jls_info, missing, 48), AT(jls_info, settled, 56), AT(jls_info, disputed, 64);
+    AT(jls_info, width, 72), AT(jls_info, height, 74), AT(jls_info, precision, 76), AT(jls_info, components, 77), AT(jls_info, end, 78);
+    AT(jls_info, fault, 79), AT(jls_header, unsupported, 4), AT(jls_header, samples, 8), AT(jls_header, lines, 16);
+    AT(jls_header, end_offset, 24), AT(jls_header, restart_interval, 32), AT(jls_header, width, 36), AT(jls_header, height, 38);
+    AT(jls_header, precision, 40), AT(jls_header, components, 41), AT(jls_header, interleave, 42), AT(jls_header, near_lossless, 43);
+    AT(jls_header, fault, 44), AT(jls_layout, bytes, 4), AT(jls_layout, interleaved, 5), AT(jls_layout, stride, 8);
+    AT(jls_piece, offset, 0), AT(jls_piece, interval, 8), AT(jls_piece, scan, 12), AT(jls_piece, kind, 13);
+    AT(jls_line, readings, 0), AT(jls_line, status, 8), AT(jls_frame, width, 0), AT(jls_frame, height, 2), AT(jls_frame, restart_interval, 4);
+    AT(jls_frame, precision, 6), AT(jls_frame, components, 7), AT(jls_frame, interleaved, 8);
+    want("an element has another size", sizeof(jls_piece) == 16 && sizeof(jls_line) == 16 && sizeof(jls_frame) == 10);
+}
+
 int main(void) {
+    of_places();
     of_headers();
     of_layouts();
     of_sizes();
