@@ -179,19 +179,22 @@ pub(crate) struct SearchedParts<'a> {
     all: CountingSearch,
 }
 
-/// Makes all searches over these parts.
+/// Makes all searches over these parts of the copies.
 fn search_over<'a, E: Sink>(
     alloc: Global,
+    copies: &[&'a [u8]],
     parts: Parts<'a>,
     options: SearchOptions,
     faults: &mut E,
 ) -> Result<SearchedParts<'a>, AllocError>
-    requires some_way { AllByRecursion HasSomeWay parts }
-    requires short { IsShort parts }
-    ensures parts { IfOk result (λ new. new.parts ≡ parts.entry) }
+    requires some { 0 < length copies.now }
+    requires short { AreShort (bytes_of copies.now) }
+    requires parts { AreParts (bytes_of copies.now) parts }
+    ensures parts { IfOk result (λ new. AreParts (bytes_of copies.now) new.parts) }
     ensures counts { IfOk result (λ new. IsCounting options.ceiling new.parts new.all) }
     ensures told { GrewBy (IsTold options.tells) (E.history faults.old) (E.history faults.new) }
 {
+    parts_can_be_searched();
     let all = search_all(alloc, &parts, options, faults)?;
     Ok(SearchedParts { parts, all })
 }
@@ -233,8 +236,7 @@ fn search_finer<'a, E: Sink>(
     let Some(finer) = finer_parts(alloc, copies, &before.parts)? else {
         return Ok(before);
     };
-    parts_can_be_searched();
-    let new = search_over(alloc, finer, options, faults)?;
+    let new = search_over(alloc, copies, finer, options, faults)?;
     if new.all.searched.splices.is_empty() {
         return Ok(before);
     }
@@ -255,8 +257,7 @@ fn search_copies<'a, E: Sink>(
     ensures told { GrewBy (IsTold options.tells) (E.history faults.old) (E.history faults.new) }
 {
     let parts = find_parts(alloc, copies)?;
-    parts_can_be_searched();
-    let before = search_over(alloc, parts, options, faults)?;
+    let before = search_over(alloc, copies, parts, options, faults)?;
     search_finer(alloc, copies, before, options, faults)
 }
 

@@ -1,5 +1,3 @@
-use Rattle.jls_diff.specs.PartsOf.{bytes_of}
-use Rattle.jls_splice_run.proofs.MakingLemmas.{some_copy}
 use Rattle.jls_splice_run.proofs.Told.{tells_none}
 use Rattle.jls_splice_run.proofs.limits.search_finer.Goals as goal
 
