@@ -5,17 +5,10 @@ ghost use Rattle.std.specs.Prelude.{◌<◌, ◌≤◌, length};
 ghost use Rattle.jls_diff.specs.PartsOf.{parts_of};
 
 use crate::next_level::LivingPath;
-use jls_copy::CopyReader;
 use jls_diff::{Part, Parts};
 
 /// For how many samples it counts that a copy has a way.
 const SAMPLES_A_COPY: u64 = 30;
-
-/// How many samples were read.
-fn samples_read(reader: &CopyReader) -> u64 {
-    let _fed = reader.fed();
-    0
-}
 
 /// Whether these bytes are all one byte.
 fn are_of_one_byte(way: &[u8]) -> bool {
@@ -53,7 +46,7 @@ pub(crate) fn backing_at(parts: &Parts<'_>, place: usize, choice: usize) -> u64
 /// What speaks for a path, in samples.
 fn weight(path: &LivingPath) -> u64 {
     let backed = path.backing.saturating_mul(SAMPLES_A_COPY);
-    samples_read(&path.kept.reader).saturating_add(backed)
+    path.kept.reader.samples_read().saturating_add(backed)
 }
 
 /// The place of the path for which least speaks; the last of equal ones.
