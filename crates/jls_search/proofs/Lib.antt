@@ -10,6 +10,7 @@ mod Lengths
 mod KeptReaders
 mod LevelPaths
 mod NextLevels
+mod ReaderLevels
 pub mod FoundFiles
 mod Lists
 mod Sets
