@@ -35,4 +35,3 @@ pub mod SeenFiles
 pub mod Verdicts
 pub mod TakenFiles
 mod CutFiles
-mod BorderExamples
