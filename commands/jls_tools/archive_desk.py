@@ -4,14 +4,15 @@ from __future__ import annotations
 import hashlib
 import os
 import shutil
-from typing import Any, Dict, List, Optional, Sequence
+from typing import Any, Dict, List, Optional, Sequence, TypeVar
 
 from . import archive_names, library, partial_picture, sums, view_thumbnail
 from .archive_places import Places
 from .archive_rows import TOOK_TOO_LONG, Row
-from .programs import Programs
+from .dicom_result import FAILED
+from .programs import Outcome, ProgramFailed, Programs
 
-LOGS = "logs"
+Done = TypeVar("Done", bound=Outcome)
 
 
 def shown(path: str) -> str:
@@ -105,6 +106,12 @@ class Desk:
         with open(copy.path, "rb") as source, open(self.place(name), "xb") as target:
             shutil.copyfileobj(source, target, 1 << 20)
         row.outputs.append(self.places.put(self.place(name), root, path, copy.path, True))
+
+    def sure(self, outcome: Done) -> Done:
+        """What a program came to, unless it could not read or write a file: that says nothing of a picture."""
+        if outcome.status == FAILED:
+            raise ProgramFailed(outcome.faults.strip() or "a file could not be read or written", FAILED)
+        return outcome
 
     def label(self, copy: Copy) -> str:
         return archive_names.printable(self.labels[copy.tree])
