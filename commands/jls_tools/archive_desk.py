@@ -12,6 +12,7 @@ from .archive_rows import TOOK_TOO_LONG, Row
 from .dicom_result import FAILED
 from .programs import Outcome, ProgramFailed, Programs
 
+NAMED = "\nnames are told"
 Done = TypeVar("Done", bound=Outcome)
 
 
@@ -67,16 +68,17 @@ class Desk:
         """The row of a picture for which the time ran out."""
         return row.end(TOOK_TOO_LONG, 1, f"its work was ended after {self.options.seconds} s")
 
-    def inputs(self, inputs: str) -> str:
-        """What a row keeps of what it was made of: also of the time that the path had, if that ran out."""
-        return sum_of(f"{inputs}\n{self.limit()}" if self.is_late else inputs)
+    def inputs(self, inputs: str, row: Row) -> str:
+        """What a row keeps of what it was made of: also of the time that the path had, if that ran out, and whether names are told."""
+        has_names = not self.options.no_names and (row.patient or row.study or any(name.endswith(".log") for _, name in row.outputs))
+        return sum_of(inputs + self.limit() if self.is_late else inputs + NAMED if has_names else inputs)
 
     def limit(self) -> str:
-        return f"ended after {self.options.seconds} s"
+        return f"\nended after {self.options.seconds} s"
 
     def is_of(self, row: Row, inputs: str) -> bool:
         """Whether a row was made of this, and its files are there. One whose time ran out is of its limit too."""
-        texts = inputs, f"{inputs}\n{self.limit()}"
+        texts = [inputs, inputs + self.limit(), *([] if self.options.no_names else [inputs + NAMED])]
         known = row.inputs in (*map(sum_of, texts), *texts)  # version 1.1.0 kept the texts
         return known and all(map(self.places.has, row.outputs))
 
