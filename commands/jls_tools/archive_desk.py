@@ -70,7 +70,8 @@ class Desk:
 
     def inputs(self, inputs: str, row: Row) -> str:
         """What a row keeps of what it was made of: also of the time that the path had, if that ran out, and whether names are told."""
-        has_names = not self.options.no_names and (row.patient or row.study or any(name.endswith(".log") for _, name in row.outputs))
+        has_log = row.kind == "dicom" and any(name.endswith(".log") for _, name in row.outputs)
+        has_names = not self.options.no_names and (row.patient or row.study or has_log)
         return sum_of(inputs + self.limit() if self.is_late else inputs + NAMED if has_names else inputs)
 
     def limit(self) -> str:

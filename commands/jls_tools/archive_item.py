@@ -13,7 +13,7 @@ from .archive_trees import Item
 from .programs import ProgramFailed
 
 DICOM, PICTURE, PARTIAL, OTHER = "dicom", "jls", "jlsp", "other"
-MOST_HELD = 1 << 24  # bytes of a file that is read at once
+MOST_HELD = 1 << 23  # bytes of a file that is read at once
 
 
 def inputs_of(desk: Desk, item: Item) -> str:
