@@ -4,11 +4,16 @@ from __future__ import annotations
 import csv
 import os
 import subprocess
+import sys
 from typing import Any, Dict, Iterator, List, Tuple
 
 import archive_cases
 import dicom_files
 from archive_cases import ARCHIVE, PROGRAM, PROGRAMS, SPLICE, get, put
+
+sys.path.insert(0, os.path.join(archive_cases.TOP, "commands"))
+
+from jls_tools.programs import Programs
 
 Check = Tuple[str, bool]
 cases: Any = archive_cases  # modules without types
@@ -109,6 +114,12 @@ def checks_of_library(work: str) -> Iterator[Check]:
     yield f"library: equal files that read start no program {ended}", ended == (0, "") and not os.path.exists(f"{work}/calls")
     called([f"{work}/without", f"{work}/whole-a", f"{work}/whole-b"], JLS_SALVAGE_LIBRARY="")
     yield "library: the same comes of them without it", cases.results_of(f"{work}/without") == cases.results_of(f"{work}/out")
+    programs = Programs()
+    for name, stream in {**whole, **odd}.items():
+        place = put(f"{work}/one", stream)
+        told, said = programs.check(place), programs.run([PROGRAM, "check", place])
+        is_same = (told.status, told.printed, told.faults) == (said.status, said.printed, said.faults)
+        yield f"library: of {name} it says what the program does", is_same
     words = [f"{work}/odd-a", f"{work}/odd-b"]
     called(["--jobs", "1", f"{work}/odd", *words], JLS_SALVAGE_LIBRARY=library, **counted)
     calls = get(f"{work}/calls").split()

@@ -6,7 +6,7 @@ import os
 import shutil
 from typing import Any, Dict, List, Optional, Sequence, TypeVar
 
-from . import archive_names, library, partial_picture, sums, view_thumbnail
+from . import archive_names, partial_picture, sums, view_thumbnail
 from .archive_places import Places
 from .archive_rows import TOOK_TOO_LONG, Row
 from .dicom_result import FAILED
@@ -51,7 +51,7 @@ class Desk:
         self.labels = archive_names.labels_of(trees)
         self.places = places
         self.programs = programs
-        self.library = library.find(programs.salvage)
+        self.library = programs.library
         self.options = options
         self.sums: sums.Sums = options.sums_read
         self.expected: Dict[str, str] = {}  # {algorithm: sum} of the path that is worked on, as the manifests have it
