@@ -3,6 +3,7 @@ from __future__ import annotations
 
 import csv
 import os
+import struct
 import subprocess
 import sys
 from typing import Any, Dict, Iterator, List, Tuple
@@ -13,6 +14,7 @@ from archive_cases import ARCHIVE, PROGRAM, PROGRAMS, SPLICE, get, put
 
 sys.path.insert(0, os.path.join(archive_cases.TOP, "commands"))
 
+from jls_tools import archive_plain, dicom_info
 from jls_tools.programs import Programs
 
 Check = Tuple[str, bool]
@@ -81,6 +83,37 @@ def page_of(work: str) -> bytes:
     return get(f"{work}/out.report/report.html") + get(f"{work}/out.report/pictures.csv")
 
 
+def without_vr(tag: int, value: bytes) -> bytes:
+    return struct.pack("<HHI", tag >> 16, tag & 0xFFFF, len(value)) + value
+
+
+def checks_of_syntaxes(work: str) -> Iterator[Check]:
+    """Equal files of other transfer syntaxes are told as by the walk that goes on where bytes are damaged, and take no time."""
+    work = f"{work}/syntaxes"
+    element: Any = dicom_files.element
+    pixels = bytes(range(256)) * 800
+    items = b"\xfe\xff\0\xe0\xff\xff\xff\xff" + without_vr(0x100020, b"12") + b"\xfe\xff\x0d\xe0\0\0\0\0"
+    sequence = struct.pack("<HHI", 8, 0x1140, 0xFFFFFFFF) + items + b"\xfe\xff\xdd\xe0\0\0\0\0"
+    plain = without_vr(0x80016, b"1.2.840.10008.5.1.4.1.1.7\0") + sequence + without_vr(0x100010, b"Doe^Jane")
+    plain += without_vr(0x7FE00010, pixels)
+    coded = element(0x80016, "UI", dicom_files.CLASS) + element(0x100010, "PN", "Doe^Jane") + element(0x7FE00010, "OB", pixels)
+    files: Dict[str, bytes] = {}
+    for uid, data in (("", plain), (".1", coded), (".4.50", coded), (".1.99", coded), (".2", coded), (".1", coded[:-1]), ("", plain[:-1])):
+        meta = element(0x20010, "UI", f"1.2.840.10008.1.2{uid}")
+        files[f"{len(files)}.dcm"] = bytes(128) + b"DICM" + element(0x20000, "UL", struct.pack("<I", len(meta))) + meta + data
+    for name, data in files.items():
+        for tree in "ab":
+            put(f"{work}/{tree}/{name}", data)
+    called([f"{work}/out", f"{work}/a", f"{work}/b"])
+    for name, row in rows_of(f"{work}/out.report").items():
+        one: Any = dicom_info.OneFile
+        refusal: Any = dicom_info.refusal_of
+        wanted = refusal("it", one(f"{work}/a/{name}"))
+        yield f"syntaxes: {name} {row['result']}, {row['note'][:60]}", row["note"] == wanted
+    read = [bool(archive_plain.other_syntax(data)) for data in files.values()]
+    yield f"syntaxes: those that read are walked plainly {read}", read == [True, True, True, False, False, False, False]
+
+
 def counting(work: str, name: str, program: str) -> str:
     """A program that notes that it was called."""
     path = put(f"{work}/{name}", f"#!/bin/sh\necho {name} >> '{work}/calls'\nexec '{program}' \"$@\"\n".encode())
@@ -129,4 +162,4 @@ def checks_of_library(work: str) -> Iterator[Check]:
     yield "library: the same comes of damaged files without it", cases.results_of(f"{work}/odd-without") == cases.results_of(f"{work}/odd")
 
 
-CHECKS = (checks_of_decisions, checks_of_library)
+CHECKS = (checks_of_decisions, checks_of_syntaxes, checks_of_library)
