@@ -76,7 +76,7 @@ def checks_of_names(work: str) -> Iterator[Check]:
     subprocess.run(["rm", "-rf", work], check=True)
 
 
-def checks_of_many(work: str, count: int = 2000) -> Iterator[Check]:
+def checks_of_many(work: str, count: int = 600) -> Iterator[Check]:
     """Many files in one folder, more than are sorted at once."""
     work = f"{work}/many"
     for tree in "ab":
