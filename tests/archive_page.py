@@ -84,6 +84,9 @@ def checks_of_parts(work: str) -> Iterator[Check]:
     yield "page: what is whole is counted alone", "whole.dcm" not in text and ">reads</td>" in text
     yield "page: a note ends no script", text.count("</script>") == 2
     yield "page: nothing from outside", not re.search(r"https?:|src=\"(?!data:)|<link|@import|url\(", text)
+    row = Row("one", "jls", 2, status=1, outputs=[["out", "one.jlsp"], ["partial", "one.log"]])
+    links = Page(Places(f"{work}/taken", report=f"{work}/taken")).links_of(row)
+    yield "page: links of a folder", [link[0] for link in links] == ["lines", "log"] and links[0][1] == "./one.jlsp"
     yield "page: a link to a name that is no UTF-8", '["copy of one","../out.differ/one/not%20%FF%20%26%20%3Ci%3E.txt"]' in text
 
 
