@@ -53,7 +53,7 @@ def is_zeros(stream, other):
     return len(apart) == 0 or apart.count(0) * 10 >= len(apart) * 9
 
 
-def shares_little(stream, other):
+def shares_little(stream: bytes, other: bytes) -> bool:
     """Whether another copy has a codestream at this place with less than half of these bytes.
 
     What is zeros wherever it differs is none, nor is what does not begin as a codestream: it is no frame, but damage. So is one that has
