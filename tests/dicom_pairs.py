@@ -166,6 +166,8 @@ def checks_of_samples(bench, small):
         ("another largest sample that can be", described(small, (8, 8, 7), 0, 3, 191), False),
     ):
         yield told(bench, name, [other, true], true, is_back)
+    odd = [described(small, (8, stored, 65535), 0, 3, 255) for stored in (8, 7)]
+    yield told(bench, "High Bit 65535, and two Bits Stored", odd, odd[0], False, 1)
     signed = described(small, (8, 8, 7), 1, 3, 65535)
     yield told(bench, "a largest sample, with signs", [signed, described(small, (8, 8, 7), 1, 3, 255)], signed, False)
 

@@ -6,7 +6,7 @@ import re
 import shutil
 import subprocess
 import sys
-from typing import Sequence
+from typing import Any, Optional, Sequence
 
 PICTURE = re.compile(r"picture (\d+)x(\d+), (\d+) bits, components (\d+(?:,\d+)*)$")
 FAULT = re.compile(r"^end fault (\d+)|no picture, fault (\d+)", re.M)
@@ -29,17 +29,17 @@ class Report:
     def __init__(self, text: str) -> None:
         self.lines = text.splitlines()
         self.width = self.height = self.bits = 0
-        self.components = []
+        self.components: list[int] = []
         self.settled = self.missing = self.disputed = 0
-        self.missing_lines = []  # (component, first, last)
-        self.disputed_lines = []  # (component, line, readings)
-        self.promise = None  # the words after "promise", if that line is there
-        self.before = None  # the offset of the line "before", if it is there
-        self.end = None  # the words after "end"
+        self.missing_lines: list[tuple[int, ...]] = []  # (component, first, last)
+        self.disputed_lines: list[tuple[int, ...]] = []  # (component, line, readings)
+        self.promise: Optional[str] = None  # the words after "promise", if that line is there
+        self.before: Optional[int] = None  # the offset of the line "before", if it is there
+        self.end: Optional[str] = None  # the words after "end"
         for line in self.lines:
             self.take(line)
 
-    def take(self, line):
+    def take(self, line: str) -> None:
         word, _, rest = line.partition(" ")
         picture, counts = PICTURE.match(line), COUNTS.match(line)
         if picture:
@@ -55,16 +55,17 @@ class Report:
         elif word in ("promise", "end"):
             setattr(self, word, rest)
         elif word == "before":
-            self.before = int(re.match(r"\d+", rest).group())
+            offset = re.match(r"\d+", rest)
+            self.before = int(offset.group()) if offset else None
 
     @property
-    def shape(self):
+    def shape(self) -> str:
         """The words after "picture", or nothing."""
         if not self.width:
             return ""
         return f"{self.width}x{self.height}, {self.bits} bits, components {','.join(map(str, self.components))}"
 
-    def has(self, begin):
+    def has(self, begin: str) -> bool:
         """Whether a line begins so."""
         return any(line.startswith(begin) for line in self.lines)
 
@@ -79,7 +80,7 @@ class Outcome:
         self.report = Report(printed)
 
     @property
-    def fault(self):
+    def fault(self) -> Optional[int]:
         """The number of the fault at which the reading of a copy ended; nothing if there is none."""
         found = FAULT.search(self.printed) or FAULT.search(self.faults)
         return int(found.group(1) or found.group(2)) if found else None
@@ -127,7 +128,7 @@ class Programs:
         """Runs words, of which the first is a path of a program. A ProgramFailed is raised where it can't say anything of a picture."""
         name = os.path.basename(words[0])
         try:
-            stdin = {"stdin": subprocess.DEVNULL} if given is None else {"input": given}
+            stdin: dict[str, Any] = {"stdin": subprocess.DEVNULL} if given is None else {"input": given}
             done = subprocess.run(words, cwd=folder, capture_output=True, **stdin)
         except OSError as fault:
             raise ProgramFailed(f"{words[0]}: {fault.strerror}", 127) from fault
@@ -138,20 +139,20 @@ class Programs:
             raise ProgramFailed(faults.strip() or f"{name} ended with status {done.returncode}", done.returncode)
         return Outcome(done.returncode, printed, faults)
 
-    def has_option(self, option):
+    def has_option(self, option: str) -> bool:
         """Whether jls-splice has an option."""
         return option in self.run([self.splice_program, "--help"]).printed
 
-    def check(self, name, folder=None):
+    def check(self, name: str, folder: str | None = None) -> Outcome:
         return self.run([self.salvage, "check", name], folder)
 
-    def show(self, name, folder=None):
+    def show(self, name: str, folder: str | None = None) -> Outcome:
         return self.run([self.salvage, "show", name], folder)
 
     def join(self, out: str, names: Sequence[str], folder: str | None = None) -> Outcome:
         return self.run([self.salvage, "join", out, *names], folder)
 
-    def write_jls(self, out, name, folder=None, by_line=False):
+    def write_jls(self, out: str, name: str, folder: str | None = None, by_line: bool = False) -> Outcome:
         """Writes a whole picture as JPEG-LS; by line, if its components shall be interleaved so."""
         ways = ["--ilv", "line"] if by_line else []
         return self.run([self.salvage, "write", "--as", "jls", *ways, out, name], folder)
@@ -162,5 +163,5 @@ class Programs:
         """Mends copies: OUT gets the partial picture, and `file` the mended file. Options are further words, such as --tries 100."""
         words = [self.splice_program, *options, *(["--file", file] if file else []), out, *names]
         outcome = self.run(words, folder)
-        written = bool(file) and os.path.exists(os.path.join(folder or ".", file))
+        written = file is not None and os.path.exists(os.path.join(folder or ".", file))
         return Splice(outcome, written)
