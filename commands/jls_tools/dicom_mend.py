@@ -21,6 +21,7 @@ from jls_tools.dicom_outputs import put_frames_folder, take_away, why_kept
 from jls_tools.dicom_result import FAILED, NOT_SUPPORTED, NOT_WHOLE, REFUSED, WHOLE, FrameResult, MendOptions, MendResult, Place
 from jls_tools.dicom_sum import BySum
 from jls_tools.dicom_tails import without_tails
+from jls_tools.dicom_transfers import undone
 from jls_tools.dicom_versions import versions_of
 from jls_tools.dicom_write import packed, put_frames, store, top_level
 from jls_tools.mending import FrameMender, Mended, is_connected, is_spliced, shapes_of
@@ -91,14 +92,19 @@ class Mending:
             shutil.rmtree(folder, ignore_errors=True)
 
     def look_at_kinds(self) -> None:
-        """Leaves out copies of another transfer syntax, and cuts tails. Refuses what is no DICOM file of JPEG-LS frames."""
+        """Leaves out copies of another transfer syntax, undoes transfers as text, cuts tails. Refuses what has no DICOM file of JPEG-LS."""
         try:
             others = other_kinds(self.paths, self.texts)
         except NoKind as fault:
             raise (Unsupported if fault.is_other else Refused)(str(fault)) from fault
         self.result.left_out = [(self.paths[at], why) for at, why in sorted(others.items())]
         self.paths = [path for at, path in enumerate(self.paths) if at not in others]
-        self.tails = without_tails([text for at, text in enumerate(self.texts) if at not in others])
+        texts = [text for at, text in enumerate(self.texts) if at not in others]
+        for at, text in undone(texts).items():
+            texts[at] = text
+            note = f"a transfer put a carriage return before each line feed of {self.paths[at]}: that was undone"
+            self.result.notes.append(note)
+        self.tails = without_tails(texts)
         self.texts = self.tails.texts
 
     def look_at_versions(self, instances: Instances) -> None:
