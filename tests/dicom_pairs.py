@@ -114,6 +114,10 @@ def checks_of_one_copy_alone(bench, made):
     flipped, lost = changed(true, (at, b"\x21")), true[: at - 11] + true[at + 5 :]
     yield told(bench, "a bit of the version in one copy alone", [flipped, lost], true, False, 1)
     yield told(bench, "a bit of the version", [flipped, changed(true, (made.items[0] + 60, bytes(8)))], true)
+    sex = put_before(true, 0x280002, element(0x100040, "CS", "F"))
+    flipped = changed(sex, (sex.index(b"\x10\0\x40\0CS") + 2, b"\x48"))
+    yield told(bench, "a bit of a tag in one copy alone, which PS3.6 has not", [flipped, rest], sex, False, 1)
+    yield told(bench, "the same element, whole", [sex, rest], sex)
     text = put_before(true, 0x280002, element(0x190010, "LO", "MINE"), element(0x191010, "LT", "of a slice " * 80))
     at = place_of(text, 0x280102)
     zeros = changed(text, (at // 512 * 512, bytes(512)))

@@ -18,7 +18,7 @@ from jls_tools.dicom_media import SECTOR
 from jls_tools.dicom_result import Place
 from jls_tools.dicom_sectors import BESIDE, has_noise_within, is_noise, is_plain
 from jls_tools.dicom_structure import Step
-from jls_tools.dicom_values import DIGITS_AND_DOTS, TEXTS, allows, is_doubtful, strangeness
+from jls_tools.dicom_values import DIGITS_AND_DOTS, TEXTS, allows, is_doubtful, is_of_standard, strangeness
 
 if TYPE_CHECKING:
     from jls_tools.dicom_header import Header
@@ -183,7 +183,7 @@ class Doubts:
     def has(self, step: Step, element: Element, own: bytes) -> bool:
         """Whether something speaks against an element, whose bytes these are."""
         value, end = own[element.value - element.start :], element.start + len(own)
-        if strangeness(element.tag, element.vr) >= WRONG_VR or element.tag <= step.before[2]:
+        if strangeness(element.tag, element.vr) >= WRONG_VR or not is_of_standard(element.tag) or element.tag <= step.before[2]:
             return True
         if step.kind == "leaf" and is_doubtful(element.vr, value) and not self.is_said_twice(element, value):
             return True

@@ -131,7 +131,16 @@ def of_elements(text: str) -> Iterator[tuple[int, tuple[bytes, ...]]]:
 
 VRS_OF: dict[int, tuple[bytes, ...]] = {**dict(of_elements(ELEMENTS)), **dict(of_elements(MORE_ELEMENTS))}
 VRS_OF.update({0x00281201 + at: (b"OW", b"US") for at in range(3)})  # writers have both
+REPEATING, REPEATING_GROUPS = (0x50, 0x60, 0x7F), (0x1000, 0x1010)
+REPEATING_ELEMENTS = (0x002031, 0x002804, 0x002808)
 KNOWN_VRS = {tag: vrs[0] for tag, vrs in VRS_OF.items() if len(vrs) == 1}
+
+
+def is_of_standard(tag: int) -> bool:
+    """Whether PS3.6 has a tag, as far as that is known here: private and repeating groups can have any."""
+    group = tag >> 16
+    is_repeated = group >> 8 in REPEATING or group in REPEATING_GROUPS or tag >> 8 in REPEATING_ELEMENTS
+    return tag in VRS_OF or group % 2 == 1 or tag & 0xFFFF == 0 or is_repeated
 
 
 def strangeness(tag: int, vr: bytes) -> int:
