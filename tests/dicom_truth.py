@@ -102,6 +102,12 @@ def checks_of_finished(bench, made):
     for tag, uid in ((0x20002, CLASS), (0x20003, UID), (0x80016, CLASS), (0x80018, UID)):
         data = without(true, tag, "UI", uid)
         yield case(bench, f"no UID of {tag:08x}", [data, changed(data, (20, b"x"))], 1, b"", "is missing")
+    for tag, number in ((0x280102, 11), (0x280103, 1)):
+        data = without(true, tag, "US", number)
+        both = [data, changed(data, (data.index(made.frames[0]) + 70, bytes(8)))]
+        yield case(bench, f"no element {tag:08x} in each copy", both, 0, data, "is missing: every copy has it so")
+    flipped = changed(true, (true.index(b"\x28\0\x03\x01US") + 3, b"\x11"))
+    yield case(bench, "a bit of a tag: no Pixel Representation", [flipped, true[: made.name_at + 4]], 1, b"", "is missing")
     tail = File(made.frames[:-1] + [made.frames[-1] + bytes(146)], 12, 24, 20)
     yield case(bench, "a frame's item with 146 bytes behind it", [tail.bytes, damaged(tail)], 1, b"", "does not end with it")
     odd = changed(true, (140, struct.pack("<I", struct.unpack("<I", true[140:144])[0] + 2)))

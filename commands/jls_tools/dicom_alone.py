@@ -18,7 +18,7 @@ from jls_tools.dicom_media import SECTOR
 from jls_tools.dicom_result import Place
 from jls_tools.dicom_sectors import BESIDE, has_noise_within, is_noise, is_plain
 from jls_tools.dicom_structure import Step
-from jls_tools.dicom_values import DIGITS_AND_DOTS, TEXTS, allows, is_doubtful, is_of_standard, strangeness
+from jls_tools.dicom_values import DIGITS_AND_DOTS, FREE_TEXTS, TEXTS, allows, is_doubtful, is_of_standard, strangeness
 
 if TYPE_CHECKING:
     from jls_tools.dicom_header import Header
@@ -27,6 +27,7 @@ PADDING = 0xFFFCFFFC
 # Group length, transfer syntax, Samples per Pixel, Number of Frames, Rows and Columns: the file or its frames say what they have to be
 CONFIRMED = frozenset((0x00020000, 0x00020010, 0x00280002, 0x00280008, 0x00280010, 0x00280011, PIXEL_DATA))
 VERSION, STORED, HIGH, SIGN = 0x00020001, 0x00280101, 0x00280102, 0x00280103
+CHARACTER_SET, ONLY_ASCII = 0x00080005, ("", "ISO_IR 6")  # without one, texts have the letters of ASCII (PS3.5, 6.1.2)
 ONLY_VERSION = b"\0\1"  # of the meta information (PS3.10, 7.1)
 PAIRS = ((0x00020002, 0x00080016), (0x00020003, 0x00080018))
 ONE_ALONE = "one copy alone has it"
@@ -178,6 +179,7 @@ class Doubts:
         self.texts = [(len(copy.foreign) - NEAR, copy.foreign) for copy in header.copies if copy.foreign]
         self.texts += [(0, stranger.data) for stranger in strangers if stranger.may_be_copy]
         self.data = bytes(header.merged())
+        self.is_ascii = CHARACTER_SET not in header.elements or header.text(CHARACTER_SET) in ONLY_ASCII
         self.uids = [(leaf.value, leaf.bytes_of(self.data)) for leaf in header.leaves if leaf.vr == b"UI"]
 
     def has(self, step: Step, element: Element, own: bytes) -> bool:
@@ -186,6 +188,8 @@ class Doubts:
         if strangeness(element.tag, element.vr) >= WRONG_VR or not is_of_standard(element.tag) or element.tag <= step.before[2]:
             return True
         if step.kind == "leaf" and is_doubtful(element.vr, value) and not self.is_said_twice(element, value):
+            return True
+        if step.kind == "leaf" and self.is_ascii and element.vr in FREE_TEXTS and not value.isascii():
             return True
         if step.depth == 0 and is_against_rules(self.header, element, value):
             return True
