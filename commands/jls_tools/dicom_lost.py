@@ -37,7 +37,8 @@ class Lost:
     def __init__(self, copies: Sequence[Copy], layout: Layout) -> None:
         self.copies = copies
         self.total = len(copies[0].data)
-        self.begin = layout.structure.pixel_data.value
+        pixels = layout.structure.pixel_data
+        self.begin = pixels.value if pixels else self.total
         self.runs, self.ways = layout.runs, layout.structure.ways
         self.denied: list[list[int]] = [[] for _ in copies]  # for each copy the places in headers of items at which it has others
         for place in headers_of_items(layout.structure):
