@@ -6,9 +6,9 @@ from typing import Optional
 
 from jls_tools.dicom_align import SHIFTED, Copy, differing, on_one_axis, size_of
 from jls_tools.dicom_alone import is_against_rules
-from jls_tools.dicom_file import JPEG_LS, tag_name
+from jls_tools.dicom_file import JPEG_LS, Element, tag_name
 from jls_tools.dicom_frames import EXTENDED_LENGTHS, EXTENDED_TABLE, Fragments, FramePlace, Shape, shape_of
-from jls_tools.dicom_header import ALLOCATED, COLUMNS, FRAMES, ROWS, SAMPLES, STORED, SYNTAX, TWINS, Header
+from jls_tools.dicom_header import ALLOCATED, BY_MOST, COLUMNS, FRAMES, ROWS, SAMPLES, STORED, SYNTAX, TWINS, Header
 from jls_tools.dicom_most import agreed
 from jls_tools.dicom_runs import FINEST, Runs
 from jls_tools.dicom_structure import Structure, Walk
@@ -16,6 +16,7 @@ from jls_tools.dicom_tables import Table
 from jls_tools.dicom_values import DIGITS_AND_DOTS, NOT_IN_TEXT, TEXTS, is_doubtful, is_written
 from jls_tools.dicom_write import expected_tables
 
+OVERWRITTEN = 8  # so many bytes of one value in a text, at least, can be written over it
 FAR_MORE = 8  # one in so many places still differs, at most, where copies that read in place are taken to have lost bytes
 
 
@@ -127,7 +128,19 @@ def forbidden(header: Header) -> Optional[str]:
             return f"{tag_name(leaf.tag)} has what PS3.5 or PS3.10 forbids"
         if value and leaf.vr in TEXTS and not value.strip(b"\0") and any(leaf.bytes_of(copy.data).strip(b"\0") for copy in header.copies):
             return f"{tag_name(leaf.tag)} has zeros, and a copy has a text there"
+        if value and leaf.vr in TEXTS and is_overwritten(header, leaf):
+            return f"{tag_name(leaf.tag)} has one value many times where copies differ"
     return None
+
+
+def is_overwritten(header: Header, leaf: Element) -> bool:
+    """Whether one value many times was taken in a text where copies differ, as something writes it over a text, and not most have it."""
+    for number in header.runs.touching(leaf.value, leaf.end):
+        if number in header.left and header.why[number] != BY_MOST:
+            part = header.runs.runs[number].part(header.left[number][0], leaf.value, leaf.end)
+            if len(part) >= OVERWRITTEN and not part.strip(part[:1]) and part[:1] != b" ":
+                return True
+    return False
 
 
 def is_of_writer(vr: bytes, value: bytes, agreed: bytes) -> bool:

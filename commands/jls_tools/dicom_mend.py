@@ -119,6 +119,7 @@ class Mending:
     def mend_all(self, instances: Instances) -> None:
         """Mends with all that may be copies; then again without those that turn out to be none."""
         chosen = sorted([*instances.certain, *instances.uncertain, *instances.rests])
+        self.is_alone = False
         while True:
             self.take(chosen)
             strangers = self.strangers(instances, chosen)
@@ -128,6 +129,7 @@ class Mending:
                 why = "its UIDs don't agree or don't read, and no frame of it fits a copy of the instance"
                 self.result.left_out.append((self.paths[at], why))
             chosen = [at for at in chosen if at not in strangers]
+            self.is_alone = len(chosen) == 1
         self.finish()
 
     def strangers(self, instances: Instances, chosen: list[int]) -> list[int]:
@@ -276,6 +278,8 @@ class Mending:
         fault = self.versions.fault()
         if fault is not None:
             return fault
+        if self.is_alone and self.options.header is None:
+            return "one copy alone is left, and nothing confirms its header"
         if not self.layout.has_header:
             return "no copy has a header that leads to Pixel Data"
         if self.header.is_open:

@@ -25,6 +25,7 @@ NOT_IN_STRING = re.compile(rb"[\x00-\x1a\x1c-\x1f\x7f]|\xff\xff")
 # Some writers put several of these into free texts. A flip makes one, and noise has bytes beyond ASCII beside them
 WRITTEN = re.compile(rb"[\x01-\x08\x0b\x0e-\x1a\x1c-\x1f\x7f]")
 FREE_TEXTS = frozenset(b"LO LT PN SH ST UC UT".split())
+NUMBERS = frozenset(b"UI DA TM DT DS IS".split())
 SHORT_PAD = 4
 PRINTABLE = re.compile(rb"[\x20-\x7e]{2,64}\Z")
 SIZES = {b"AT": 4, b"FD": 8, b"FL": 4, b"OD": 8, b"OF": 4, b"OL": 4, b"OV": 8, b"OW": 2, b"SL": 4, b"SS": 2, b"SV": 8, b"UL": 4, b"US": 2}
@@ -103,7 +104,7 @@ def is_doubtful(vr: bytes, value: bytes) -> bool:
     if allows(vr, value) or len(value) <= SHORT_PAD and not value.strip(b"\0"):
         return False
     text = bytearray(value.rstrip(b"\0"))
-    if vr not in TEXTS or not PRINTABLE.match(text):
+    if vr not in TEXTS or not PRINTABLE.match(text) or vr in NUMBERS and is_half_of_numbers(text):
         return True
     for at, bit in itertools.product(range(len(text)), range(8)):
         text[at] ^= 1 << bit
@@ -111,6 +112,11 @@ def is_doubtful(vr: bytes, value: bytes) -> bool:
             return True
         text[at] ^= 1 << bit
     return False
+
+
+def is_half_of_numbers(text: bytes) -> bool:
+    """Whether half of a text and more are digits and dots: who writes another text than a number has few of them."""
+    return sum(byte in b"0123456789." for byte in text) * 2 >= len(text)
 
 
 FORMS = {b"AS": AGE, b"CS": CODE, b"DS": DECIMAL, b"DT": DATE_TIME, b"IS": WHOLE}
