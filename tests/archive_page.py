@@ -84,6 +84,9 @@ def checks_of_parts(work: str) -> Iterator[Check]:
     yield "page: what is whole is counted alone", "whole.dcm" not in text and ">reads</td>" in text
     yield "page: a note ends no script", text.count("</script>") == 2
     yield "page: nothing from outside", not re.search(r"https?:|src=\"(?!data:)|<link|@import|url\(", text)
+    row = Row("one", "jls", 2, status=1, outputs=[["out", "one.jlsp"], ["partial", "one.log"]])
+    links = Page(Places(f"{work}/taken", report=f"{work}/taken")).links_of(row)
+    yield "page: links of a folder", [link[0] for link in links] == ["lines", "log"] and links[0][1] == "./one.jlsp"
     yield "page: a link to a name that is no UTF-8", '["copy of one","../out.differ/one/not%20%FF%20%26%20%3Ci%3E.txt"]' in text
 
 
@@ -96,18 +99,18 @@ def checks_of_browser(work: str) -> Iterator[Check]:
     place = f"file://{work}/few.report/report.html"
     wanted: Dict[str, List[str]] = {
         "": ["b/9.dcm", "b/10.dcm", "a/2.dcm", "a/1.dcm", "not \\xff & <i>.txt"],
-        "#result=mended": ["a/1.dcm"],
         "#sort=path": ["a/1.dcm", "a/2.dcm", "b/9.dcm", "b/10.dcm", "not \\xff & <i>.txt"],
         "#sort=-decided": ["a/1.dcm"],
         "#only=KNEE&sort=missing": ["b/10.dcm", "b/9.dcm"],
         "#group=patient&only=dcm": ["Doe^Jane, 7: 2 rows", "a/2.dcm", "a/1.dcm", "Roe^Jack, 8: 2 rows", "b/9.dcm", "b/10.dcm"],
         "#group=study&result=mended": ["Doe^Jane, 7 / 20200131 HEAD 1.2: 1 rows", "a/1.dcm"],
     }
+    texts = {chosen: shown_by(program, place + chosen) for chosen in wanted}
     for chosen, lines in wanted.items():
-        told = lines_of(shown_by(program, place + chosen))
+        told = lines_of(texts[chosen])
         is_all = "sort=-" in chosen or len(told) == len(lines)
         yield f"browser: {chosen or 'as it is opened'}: {told}", told[: len(lines)] == lines and is_all
-    text = shown_by(program, place)
+    text = texts[""]
     yield "browser: a small picture and a bar of bytes where there are some", (text.count("<img"), text.count('class="bar"')) == (2, 2)
     yield "browser: what is no share of loss is blank", not re.search("<td[^>]*><div>(NaN|null|undefined)", text)
     long = (row_of(f"{number:06}.dcm", "lines missing", 1, number % 100) for number in range(10000))

@@ -17,11 +17,12 @@ from archive_cases import ARCHIVE, PROGRAMS, TOP, get, put
 
 sys.path.insert(0, os.path.join(TOP, "commands"))
 
+from jls_tools import archive_report
 from jls_tools.archive_ledger import Ledger
 from jls_tools.archive_main import Trees
 from jls_tools.archive_places import Places
 from jls_tools.archive_progress import Progress
-from jls_tools.archive_rows import Row, Store
+from jls_tools.archive_rows import FIELDS, TITLES, Row, Store
 from jls_tools.archive_trees import kind_of
 
 Check = Tuple[str, bool]
@@ -236,6 +237,33 @@ def checks_of_rows(work: str) -> Iterator[Check]:
     yield "rows: of the files of several parts the latest line counts", (said["note 1"], len(said)) == ("differs", 11)
 
 
+def checks_of_table(work: str) -> Iterator[Check]:
+    """pictures.csv, whose rows of one kind are copied, is what a writer of CSV writes of each row. Spoilt lines count for nothing."""
+    places, ledger = Places(f"{work}/table"), Ledger(f"{work}/table.report/rows")
+    ledger.begin((1, 1))
+    put(f"{work}/table.report/.run.json", b"")
+    names = ["plain", "a,b", 'a "b"', "new\nline", "\u00e4", "\udcff", "back\\slash", " blank ", "'", "a]]}]", "tab\t", "=1", "a/b", "a-b"]
+    of_all: Dict[str, Any] = {"kind": "jls", "copies": 2, "settled": 16, "missing": 0, "shape": "4x4, 8 bits", "inputs": "0" * 32}
+    whole = [Row(name, result="reads", outputs=[["out", name]], **of_all) for name in names]
+    lost = [Row(f"{name} lost", "jls", 2, 1, 9, 7, 0, status=1, result="lines missing", inputs="0" * 32, patient="]]}]") for name in names]
+    mended = [Row(f"{name} mended", "dicom", 2, result="mended", decided=2, inputs="0" * 32, outputs=[["out", name]]) for name in names]
+    ledger.append([*whole, *lost, *mended])
+    ledger.append([Row("spoilt", result="before", inputs="0" * 32)])
+    with open(ledger.file, "ab") as file:
+        file.write(b'[1, "spoilt", {"kind": "jls", "result"\n[1, "plain\n[[[\n\xff\xfe\n')
+    ledger.append([Row("gone", result="copied")])
+    ledger.remove("gone")
+    totals = archive_report.write(places, ledger)
+    every = sorted([*whole, *lost, *mended, Row("spoilt", result="before")], key=lambda row: os.fsencode(row.path))
+    with open(f"{work}/wanted", "w", newline="", encoding="utf-8", errors="surrogateescape") as text:
+        writer = csv.writer(text, lineterminator="\n")
+        writer.writerow(TITLES)
+        writer.writerows([getattr(row, name) for name in FIELDS] for row in every)
+    yield "table: as a writer of CSV writes it", get(f"{work}/table.report/pictures.csv") == get(f"{work}/wanted")
+    counts = totals.paths, totals.pictures, totals.not_whole, totals.lines["settled"], totals.lines["missing"]
+    yield f"table: all are counted {counts}", counts == (43, 42, 14, 14 * 25, 14 * 7)
+
+
 def checks_of_batches(work: str) -> Iterator[Check]:
     """Rows are written when the files that they name are on the disk, and wait for the disk together."""
     places, ledger = Places(f"{work}/batch"), Ledger(f"{work}/batch.report/rows")
@@ -339,4 +367,4 @@ def checks_of_progress(work: str) -> Iterator[Check]:
 
 
 OF_RUNS = (checks_of_signals, checks_of_report, checks_of_seconds, checks_of_locks, checks_of_changes)
-CHECKS = (*OF_RUNS, checks_of_rows, checks_of_batches, checks_of_progress)
+CHECKS = (*OF_RUNS, checks_of_rows, checks_of_table, checks_of_batches, checks_of_progress)

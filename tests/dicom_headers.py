@@ -1,7 +1,7 @@
-"""Checks of headers that all read whole: two versions of one, as an archive makes them that coerces values. None is mixed with another."""
+"""Checks of headers that all read whole: two versions of one, as an archive makes them that coerces values. And of transfers as text."""
 import hashlib
 
-from dicom_files import changed, element, get
+from dicom_files import changed, element, get, with_value
 from dicom_truth import case, damaged
 
 LETTERS = element(0x100010, "PN", "Doe^Jane")
@@ -71,4 +71,39 @@ def checks_of_damaged_versions(bench, made):
     yield f"a letter: no version ({printed})", "versions" not in printed and "undecided" in printed
 
 
-HEADERS = [checks_of_versions, checks_of_damaged_versions]
+# Transfers as text ----------------------------------------------------------------------------------
+
+
+def sent_as_text(data):
+    return data.replace(b"\n", b"\r\n")
+
+
+def damaged_value(true, at):
+    """A file without the header of the element before this value."""
+    return changed(true, (at - 60, bytes(20)))
+
+
+def checks_of_transfers(bench, made):
+    """A carriage return before each line feed of a copy is taken out again, if the copy has then the length of another one."""
+    lines = b"".join(b"<Step.%d> of a slice\n" % at for at in range(60))
+    for name, text in (("line feeds", lines), ("carriage returns and line feeds", lines.replace(b"\n", b"\r\n") + bytes([10, 7] * 40))):
+        true, at = with_value(made, text)
+        other = damaged_value(true, at)
+        sent = sent_as_text(true)
+        later = changed(sent, (sent.index(made.frames[0][:8]) + 70, bytes(8)))
+        for copies in ([sent, other], [other, sent], [later, other], [later, other, changed(true, (at, b"\0\0"))]):
+            yield case(bench, f"{name}, one copy sent as text", copies, 0, true, "carriage return before each line feed")
+        printed = bench.mend([sent, later])[2]
+        yield f"{name}, each copy sent as text: nothing is undone ({printed})", "carriage return" not in printed
+    true, at = with_value(made, 4 * lines.replace(b"\n", b"\r\n"))
+    copies = [sent_as_text(true), damaged_value(true, at)]
+    yield case(bench, "carriage returns and line feeds alone, one copy sent as text", copies, 0, true, "carriage return before each")
+    noise = changed(true, (at + 300, b"\n\3\n\7" * 60))
+    few, place = with_value(made, lines + b"of a slice\r\n" * 12)
+    yield case(bench, "some line feeds, and as many lost bytes", [few, few[: place + 700] + few[place + 712 :]], 0, few)
+    for copies in ([true, noise], [noise, true]):
+        status, out, printed, _, _ = bench.mend(copies)
+        yield f"line feeds of noise in the other copy ({status}, {printed})", "carriage return" not in printed and out in (None, true)
+
+
+HEADERS = [checks_of_versions, checks_of_damaged_versions, checks_of_transfers]

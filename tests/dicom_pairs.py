@@ -114,6 +114,19 @@ def checks_of_one_copy_alone(bench, made):
     flipped, lost = changed(true, (at, b"\x21")), true[: at - 11] + true[at + 5 :]
     yield told(bench, "a bit of the version in one copy alone", [flipped, lost], true, False, 1)
     yield told(bench, "a bit of the version", [flipped, changed(true, (made.items[0] + 60, bytes(8)))], true)
+    sex = put_before(true, 0x280002, element(0x100040, "CS", "F"))
+    flipped = changed(sex, (sex.index(b"\x10\0\x40\0CS") + 2, b"\x48"))
+    yield told(bench, "a bit of a tag in one copy alone, which PS3.6 has not", [flipped, rest], sex, False, 1)
+    yield told(bench, "the same element, whole", [sex, rest], sex)
+    for name, parts, is_back in (
+        ("without a character set", (), False),
+        ("in ASCII alone", (element(0x80005, "CS", "ISO_IR 6"),), False),
+        ("in Latin", (element(0x80005, "CS", "ISO_IR 100"),), True),
+    ):
+        latin = put_before(true, 0x280002, element(0x104000, "LT", b"d\x8d\xd0z\xa4_\xcft\xcd\xf3"))
+        latin = latin.replace(element(0x80008, "CS", "ORIGINAL\\PRIMARY"), b"".join(parts) + element(0x80008, "CS", "ORIGINAL\\PRIMARY"))
+        cut = latin[: latin.index(b"Doe^Jane") + 4]
+        yield told(bench, f"letters beyond ASCII in one copy alone, {name}", [latin, cut], latin, is_back, None if is_back else 1)
     text = put_before(true, 0x280002, element(0x190010, "LO", "MINE"), element(0x191010, "LT", "of a slice " * 80))
     at = place_of(text, 0x280102)
     zeros = changed(text, (at // 512 * 512, bytes(512)))
@@ -166,6 +179,8 @@ def checks_of_samples(bench, small):
         ("another largest sample that can be", described(small, (8, 8, 7), 0, 3, 191), False),
     ):
         yield told(bench, name, [other, true], true, is_back)
+    odd = [described(small, (8, stored, 65535), 0, 3, 255) for stored in (8, 7)]
+    yield told(bench, "High Bit 65535, and two Bits Stored", odd, odd[0], False, 1)
     signed = described(small, (8, 8, 7), 1, 3, 65535)
     yield told(bench, "a largest sample, with signs", [signed, described(small, (8, 8, 7), 1, 3, 255)], signed, False)
 

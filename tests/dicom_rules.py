@@ -150,6 +150,7 @@ def false_readings(made):
     table = (made.items[0], *made.items[1:])
     for name, tag, new, old, other in (
         ("a tag, by a bit that of a known one", 0x280002, element(0x181138, "DS", "12.5"), b"\x18\0\x38\x11", b"\x18\0\x30\x11"),
+        ("a tag that few files have, and one of many", 0x280002, element(0x180028, "DS", "12.5"), b"\x18\0\x28\0", b"\x18\0\x50\0"),
         ("a modality of old, by a bit another one", 0x90010, element(0x80060, "CS", "EC"), b"EC", b"ES"),
         ("a sex, by a bit another one", 0x280002, element(0x100040, "CS", "N"), b"CS\2\0N", b"CS\2\0O"),
         ("a set of characters", 0x280002, element(0x181400, "LO", "x") + element(0x190010, "LO", "SPI-P Release 1;3"), b"1;3", b"1;1"),

@@ -102,6 +102,12 @@ def checks_of_finished(bench, made):
     for tag, uid in ((0x20002, CLASS), (0x20003, UID), (0x80016, CLASS), (0x80018, UID)):
         data = without(true, tag, "UI", uid)
         yield case(bench, f"no UID of {tag:08x}", [data, changed(data, (20, b"x"))], 1, b"", "is missing")
+    for tag, number in ((0x280102, 11), (0x280103, 1)):
+        data = without(true, tag, "US", number)
+        both = [data, changed(data, (data.index(made.frames[0]) + 70, bytes(8)))]
+        yield case(bench, f"no element {tag:08x} in each copy", both, 0, data, "is missing: every copy has it so")
+    flipped = changed(true, (true.index(b"\x28\0\x03\x01US") + 3, b"\x11"))
+    yield case(bench, "a bit of a tag: no Pixel Representation", [flipped, true[: made.name_at + 4]], 1, b"", "is missing")
     tail = File(made.frames[:-1] + [made.frames[-1] + bytes(146)], 12, 24, 20)
     yield case(bench, "a frame's item with 146 bytes behind it", [tail.bytes, damaged(tail)], 1, b"", "does not end with it")
     odd = changed(true, (140, struct.pack("<I", struct.unpack("<I", true[140:144])[0] + 2)))
@@ -226,6 +232,26 @@ def checks_of_most(bench, made):
     yield case(bench, "the same in two of three", [prefix, changed(prefix, (first + 70, bytes(8))), true], 0, true)
 
 
+# No copy has the true bytes --------------------------------------------------------------------------
+
+
+def checks_of_nothing_true(bench, made, neighbour):
+    """What one copy alone can have, and still is damaged: a text in a number, one value over a text, a neighbour beside a lost copy."""
+    true = put_before(made.bytes, 0x280002, element(0x20000D, "UI", "1.2.3.4.5.6.7.8.9.10"))
+    at = true.index(b"1.2.3.4.5.6.7.8.9")
+    for name, wrong in (("a text in a UID", b"BAD ."), ("letters in a UID", b"abcd")):
+        both = [changed(true, (at + 6, wrong)), changed(true, (at - 8, bytes(20)))]
+        yield case(bench, f"{name} of one copy, and zeros over it in the other", both, 1, b"", "has what its VR forbids")
+    begin = made.bytes.index(b"ORIGINAL")
+    both = [changed(made.bytes, (begin, b"H" * 12)), changed(made.bytes, (begin, bytes(range(1, 13))))]
+    yield case(bench, "one value over a code of one copy, and noise over it in the other", both, 1, b"", "one value many times")
+    uids = [place for place in range(len(made.bytes)) if made.bytes.startswith(UID.encode(), place)]
+    lost = changed(made.bytes, *((place, b"zzz") for place in uids), *((item + 8, bytes(400)) for item in made.items))
+    for order, number in (([lost, neighbour.bytes], 1), ([neighbour.bytes, lost], 0)):
+        yield case(bench, "a lost copy, and a neighbour", order, 1, b"", "one copy alone is left")
+        yield case(bench, "the same, and --header", order, 0, neighbour.bytes, "left out", ["--header", f"COPY{number}"])
+
+
 # Other transfer syntaxes ---------------------------------------------------------------------------
 
 
@@ -273,4 +299,4 @@ def checks_of_read_anew(made):
 
 
 TRUTH = [checks_of_chimeras, checks_of_finished, checks_of_cuts, checks_of_tails, checks_of_most, checks_of_syntaxes]
-TRUTH += [checks_of_read_anew]
+TRUTH += [checks_of_read_anew, checks_of_nothing_true]

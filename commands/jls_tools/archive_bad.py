@@ -8,7 +8,7 @@ import re
 from typing import Iterable, Iterator, List, Sequence, Tuple
 
 CELLS = 64
-LARGEST = 1 << 26  # bytes: of larger files nothing is said
+LARGEST = 1 << 25  # bytes: of larger files nothing is said
 NEXT_MARKER = re.compile(rb"\xff[\x80-\xfe]", re.S)
 PIECE = re.compile(r"piece \d+ \d+ (\d+) ")
 END = re.compile(r"end (?:input|fault \d+(?: at)?) (\d+)")

@@ -4,14 +4,16 @@ from __future__ import annotations
 import hashlib
 import os
 import shutil
-from typing import Any, Dict, List, Optional, Sequence
+from typing import Any, Dict, List, Optional, Sequence, TypeVar
 
-from . import archive_names, library, partial_picture, sums, view_thumbnail
+from . import archive_names, partial_picture, sums, view_thumbnail
 from .archive_places import Places
 from .archive_rows import TOOK_TOO_LONG, Row
-from .programs import Programs
+from .dicom_result import FAILED
+from .programs import Outcome, ProgramFailed, Programs
 
-LOGS = "logs"
+NAMED = "\nnames are told"
+Done = TypeVar("Done", bound=Outcome)
 
 
 def shown(path: str) -> str:
@@ -49,7 +51,7 @@ class Desk:
         self.labels = archive_names.labels_of(trees)
         self.places = places
         self.programs = programs
-        self.library = library.find(programs.salvage)
+        self.library = programs.library
         self.options = options
         self.sums: sums.Sums = options.sums_read
         self.expected: Dict[str, str] = {}  # {algorithm: sum} of the path that is worked on, as the manifests have it
@@ -66,16 +68,18 @@ class Desk:
         """The row of a picture for which the time ran out."""
         return row.end(TOOK_TOO_LONG, 1, f"its work was ended after {self.options.seconds} s")
 
-    def inputs(self, inputs: str) -> str:
-        """What a row keeps of what it was made of: also of the time that the path had, if that ran out."""
-        return sum_of(f"{inputs}\n{self.limit()}" if self.is_late else inputs)
+    def inputs(self, inputs: str, row: Row) -> str:
+        """What a row keeps of what it was made of: also of the time that the path had, if that ran out, and whether names are told."""
+        has_log = row.kind == "dicom" and any(name.endswith(".log") for _, name in row.outputs)
+        has_names = not self.options.no_names and (row.patient or row.study or has_log)
+        return sum_of(inputs + self.limit() if self.is_late else inputs + NAMED if has_names else inputs)
 
     def limit(self) -> str:
-        return f"ended after {self.options.seconds} s"
+        return f"\nended after {self.options.seconds} s"
 
     def is_of(self, row: Row, inputs: str) -> bool:
         """Whether a row was made of this, and its files are there. One whose time ran out is of its limit too."""
-        texts = inputs, f"{inputs}\n{self.limit()}"
+        texts = [inputs, inputs + self.limit(), *([] if self.options.no_names else [inputs + NAMED])]
         known = row.inputs in (*map(sum_of, texts), *texts)  # version 1.1.0 kept the texts
         return known and all(map(self.places.has, row.outputs))
 
@@ -105,6 +109,12 @@ class Desk:
         with open(copy.path, "rb") as source, open(self.place(name), "xb") as target:
             shutil.copyfileobj(source, target, 1 << 20)
         row.outputs.append(self.places.put(self.place(name), root, path, copy.path, True))
+
+    def sure(self, outcome: Done) -> Done:
+        """What a program came to, unless it could not read or write a file: that says nothing of a picture."""
+        if outcome.status == FAILED:
+            raise ProgramFailed(outcome.faults.strip() or "a file could not be read or written", FAILED)
+        return outcome
 
     def label(self, copy: Copy) -> str:
         return archive_names.printable(self.labels[copy.tree])

@@ -5,7 +5,8 @@ import dataclasses
 import os
 from typing import Any, Iterator, List, Sequence
 
-from . import archive_bad, archive_names, archive_plain, archive_versions, dicom_command, dicom_info, dicom_mend, dicom_result, mending
+from . import archive_bad, archive_names, archive_plain, archive_versions, dicom_command, dicom_file, dicom_info, dicom_mend
+from . import dicom_result, mending
 from .archive_desk import Copy, Desk
 from .archive_rows import Row
 from .dicom_result import FrameResult, MendResult
@@ -134,6 +135,9 @@ def look(desk: Desk, row: Row, copy: Copy) -> Row:
     """Says of a file that is copied through whether it reads."""
     if copy.data is not None and reads_plainly(desk, row, copy.data):
         return row.end("reads", 0)
+    syntax = archive_plain.other_syntax(copy.data) if copy.data is not None else None
+    if syntax is not None:
+        return row.end("copied", 0, f"it: no JPEG-LS lossless: {dicom_file.syntax_name(syntax)}")
     try:
         return look_at(desk, row, one_file(copy.path))
     except (OSError, ProgramFailed, MemoryError):

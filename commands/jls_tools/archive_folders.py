@@ -152,7 +152,7 @@ class Folders:
         inputs, rows = self.settle(name, os.path.join(self.source, name))
         self.places.store([output for row in rows for output in row.outputs])
         for row in reversed(rows):
-            row.inputs = self.desk.inputs(inputs)
+            row.inputs = self.desk.inputs(inputs, row)
             self.store.save(row)
         return max(rows, key=lambda row: row.status)
 

@@ -13,7 +13,7 @@ from .archive_trees import Item
 from .programs import ProgramFailed
 
 DICOM, PICTURE, PARTIAL, OTHER = "dicom", "jls", "jlsp", "other"
-MOST_HELD = 1 << 24  # bytes of a file that is read at once
+MOST_HELD = 1 << 23  # bytes of a file that is read at once
 
 
 def inputs_of(desk: Desk, item: Item) -> str:
@@ -27,8 +27,7 @@ def inputs_of(desk: Desk, item: Item) -> str:
         except OSError as fault:
             parts.append(f"{kind} {fault.errno} {path}")
     expected = sorted(item.expected.items())
-    names = ", no names" if desk.options.no_names else ""
-    return "\n".join([f"tries {desk.options.tries}, sums {bool(desk.sums.files)} {expected}, labels {desk.labels}{names}", *parts])
+    return "\n".join([f"tries {desk.options.tries}, sums {bool(desk.sums.files)} {expected}, labels {desk.labels}", *parts])
 
 
 def begins(copies: Sequence[Copy], text: bytes) -> bool:
@@ -200,18 +199,19 @@ def gone(desk: Desk, item: Item) -> List[str]:
 
 def settle(desk: Desk, item: Item) -> Row:
     """The row of a path, with its files written. A copy that went away meanwhile is a result, and doesn't end the run."""
-    row = Row(item.path, inputs=desk.inputs(inputs_of(desk, item)))
+    inputs, row = inputs_of(desk, item), Row(item.path)
     try:
-        return settle_as_it_is(desk, item, row)
+        settle_as_it_is(desk, item, row)
     except (OSError, ProgramFailed) as fault:
-        if isinstance(fault, OSError) and fault.errno == errno.ENAMETOOLONG:
-            desk.places.undo()
-            return Row(item.path, row.kind, len(item.kinds), inputs=row.inputs).end("name too long", 4, "OUT can't have a path so long")
-        said = gone(desk, item)
-        if not said:
+        is_long = isinstance(fault, OSError) and fault.errno == errno.ENAMETOOLONG
+        said = [] if is_long else gone(desk, item)
+        if not (is_long or said):
             raise
         desk.places.undo()
-        return Row(item.path, row.kind, len(item.kinds), inputs=row.inputs).end("cannot be read", 4, "; ".join(said))
+        row = Row(item.path, row.kind, len(item.kinds))
+        row.end(*("name too long", 4, "OUT can't have a path so long") if is_long else ("cannot be read", 4, "; ".join(said)))
+    row.inputs = desk.inputs(inputs, row)
+    return row
 
 
 def settle_as_it_is(desk: Desk, item: Item, row: Row) -> Row:

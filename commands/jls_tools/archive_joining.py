@@ -4,7 +4,7 @@ from __future__ import annotations
 import os
 from typing import Dict, List, Optional, Sequence, Tuple
 
-from . import archive_names, archive_pictures
+from . import archive_bad, archive_names, archive_pictures
 from .archive_desk import Copy, Desk
 from .archive_rows import Row
 from .programs import Outcome, Splice
@@ -20,6 +20,7 @@ class Joining:
         self.of: Dict[str, List[str]] = {}
         self.files: Dict[str, List[str]] = {}  # by shape: the copies that are no partial pictures
         self.unread: List[str] = []
+        self.said: Dict[str, List[str]] = {}  # by name: the lines of `check`
         self.refused = 0
 
     def note(self, title: str, outcome: Outcome) -> None:
@@ -37,6 +38,7 @@ class Joining:
                 self.refused += 1
                 self.unread += [] if is_text else [name]
                 continue
+            self.said[name] = outcome.report.lines
             self.of.setdefault(outcome.report.shape, []).append(name)
             self.files.setdefault(outcome.report.shape, []).extend([] if is_text else [name])
 
@@ -55,7 +57,20 @@ class Joining:
         if status == 0 and splices and not any(splice.promises for splice in splices):
             status, result = 1, "not promised"
         self.end(row, known, status, result)
+        row.bad = self.bad(files) if row.status else ""
         row.say(f"{len(joined)} used, {self.refused} refused")
+
+    def bad(self, names: Sequence[str]) -> str:
+        """Where bytes are bad: of several files where they differ, of one what does not decode."""
+        places = list(map(self.desk.place, names))
+        if not places or max(map(os.path.getsize, places)) > archive_bad.LARGEST:
+            return ""
+        texts = []
+        for place in places:
+            with open(place, "rb") as file:
+                texts.append(file.read())
+        found = archive_bad.of_copies(texts)
+        return found if found.strip("0") else archive_bad.of_ranges(archive_bad.ranges_in(texts[0], self.said[names[0]]), len(texts[0]))
 
     def join(self, known: Optional[str], names: List[str], status: int) -> Tuple[Optional[str], int]:
         """(the partial picture with these joined, the status). It stays as it was if the join is refused."""

@@ -10,8 +10,7 @@ import itertools
 import json
 import os
 import re
-from operator import itemgetter
-from typing import Any, Dict, Iterable, Iterator, List, NamedTuple, Optional, Tuple
+from typing import Any, Dict, Iterable, Iterator, List, Optional, Tuple
 
 from . import archive_rows
 from .archive_order import Sorter
@@ -19,7 +18,8 @@ from .archive_rows import Row
 
 ENDING = ".rows"
 # The number of the run, and the name: a path, with a slash behind it if it is a folder that can't be read
-BEGINNING = re.compile(rb'\[(\d+), "((?:[^"\\]|\\.)*)", ')
+NONE = b", null]\n"  # ends a line that says that a path has no row
+BEGINNING = re.compile(rb'\[(\d+), "([^"\\]*(?:\\.[^"\\]*)*)", ')
 
 
 def name_of(row: Row) -> str:
@@ -40,29 +40,43 @@ def values_in(line: bytes) -> Optional[Dict[str, Any]]:
         return None
 
 
-class Known(NamedTuple):
-    """A row that is there: where its path stands in the order, its name, and its fields."""
+class Known:
+    """A row that is there: where its path stands in the order, and its lines, the one that counts last. `at` is where its fields begin."""
 
-    key: bytes
-    name: str
-    values: Dict[str, Any]
+    __slots__ = ("key", "lines", "at")
+
+    def __init__(self, key: bytes, lines: List[bytes], at: int) -> None:
+        self.key = key
+        self.lines = lines
+        self.at = at
+
+    @property
+    def name(self) -> str:
+        return os.fsdecode(self.key)
 
     def row(self) -> Optional[Row]:
-        return archive_rows.row_of(self.name.rstrip("/"), self.values)
+        """The row. Of lines that a disk spoilt the one before counts."""
+        for line in reversed(self.lines):
+            if line.endswith(NONE):
+                return None
+            values = values_in(line)
+            if values is not None:
+                return archive_rows.row_of(self.name.rstrip("/"), values)
+        return None
 
 
-def noted(line: bytes) -> Optional[Tuple[bytes, int]]:
-    """(where the path of a line stands in the order, the number of its run). One that a disk spoilt says nothing."""
+def noted(line: bytes) -> Optional[Tuple[bytes, int, int]]:
+    """(where the path of a line stands in the order, the number of its run, where its fields begin). A spoilt one says nothing."""
     found = BEGINNING.match(line)
     if not found:
         return None
-    name = found.group(2)
+    run, name = found.groups()
     if b"\\" in name:
         try:
             name = os.fsencode(json.loads(b'"' + name + b'"'))
         except ValueError:
             return None
-    return name, int(found.group(1))
+    return name, int(run), found.end()
 
 
 def latest(lines: Iterable[bytes], folder: str) -> Iterator[Known]:
@@ -72,24 +86,20 @@ def latest(lines: Iterable[bytes], folder: str) -> Iterator[Known]:
         for number, line in enumerate(lines):
             said = noted(line)
             if said:
-                sorter.add((*said, number, line))
-        for key, group in itertools.groupby(sorter.sorted(), key=itemgetter(0)):
-            known = known_of(key, [record[3] for record in group])
-            if known:
-                yield known
+                sorter.add((said[0], said[1], number, said[2], line))
+        name, begin = b"", 0
+        of_name: List[bytes] = []
+        for key, _, _, at, line in sorter.sorted():
+            if key != name:
+                if of_name and not of_name[-1].endswith(NONE):
+                    yield Known(name, of_name, begin)
+                of_name = []
+            name, begin = key, at
+            of_name.append(line)
+        if of_name and not of_name[-1].endswith(NONE):
+            yield Known(name, of_name, begin)
     finally:
         sorter.close()
-
-
-def known_of(key: bytes, lines: List[bytes]) -> Optional[Known]:
-    """What the last line of a path says; of those that a disk spoilt the line before counts."""
-    for line in reversed(lines):
-        if line.endswith(b", null]\n"):
-            return None
-        values = values_in(line)
-        if values is not None:
-            return Known(key, os.fsdecode(key), values)
-    return None
 
 
 class Ledger:

@@ -54,7 +54,9 @@ class Trees:
             if not sums.fit(self.is_there):
                 raise Refused(f"no name in {', '.join(map(archive_names.printable, self.options.sums))} is a path of the trees")
             listed = listed_by(sums, folder)
-        tasks = archive_plan.tasks(archive_trees.walk(self.trees), listed, self.store.rows(folder))
+        rows = self.store.rows(folder)
+        first = list(itertools.islice(rows, 1))  # they are sorted now, while a signal ends the run at once
+        tasks = archive_plan.tasks(archive_trees.walk(self.trees), listed, itertools.chain(first, rows))
         index, parts = self.options.part
         return itertools.islice(self.items_of(tasks), index - 1, None, parts)
 
@@ -200,7 +202,7 @@ def share(options: Any) -> None:
         command += ["--sums", os.path.realpath(file)]
     places = [os.path.realpath(word) for word in options.words]
     words = [tool, "--will-cite", "--quote", "--sshlogin", options.ssh, "--halt", "now,fail=1"]
-    words += ["--env", "JLS_SALVAGE", "--env", "JLS_SPLICE"]
+    words += ["--env", "JLS_SALVAGE", "--env", "JLS_SPLICE", "--env", "JLS_SALVAGE_LIBRARY"]
     bar = ["--bar"] if sys.stderr.isatty() and not options.quiet else []
     numbers = "".join(f"{number}\n" for number in range(1, parts + 1))
     done = subprocess.run([*words, *bar, *command, "--", *places], input=numbers, text=True)

@@ -8,7 +8,7 @@ import pickle
 import tempfile
 from typing import IO, Any, Iterable, Iterator, List, Tuple
 
-MOST_HELD = 20000  # records in memory
+MOST_HELD = 40000  # records in memory
 AT_ONCE = 64  # records that are read back together
 Record = Tuple[Any, ...]  # the first entries say the order
 

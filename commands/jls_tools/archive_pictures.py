@@ -33,7 +33,7 @@ def look(desk: Desk, row: Row, copy: Copy) -> Row:
         row.frames, row.shape, row.settled, row.missing, row.disputed = 1, whole.shape, whole.settled, 0, 0
         return row.end("reads", 0)
     name = desk.links([copy])[0]
-    outcome = desk.programs.check(name, desk.folder)
+    outcome = desk.sure(desk.programs.check(name, desk.folder))
     report = outcome.report
     odd = unsupported_of(desk, name, outcome)
     if odd is not None:
@@ -46,7 +46,7 @@ def look(desk: Desk, row: Row, copy: Copy) -> Row:
         row.bad = archive_bad.of_ranges(archive_bad.ranges_in(copy.data, report.lines), len(copy.data))
     if result in ("lines missing", "lines disputed"):
         partial = desk.name("partial")
-        if desk.programs.join(partial, [name], desk.folder).status <= 1:
+        if desk.sure(desk.programs.join(partial, [name], desk.folder)).status <= 1:
             desk.keep_partial(row, partial, row.path + PART)
     return row
 
@@ -74,7 +74,7 @@ def log_of(copies: Sequence[Copy], names: Sequence[str], outcome: Outcome) -> st
 def mend(desk: Desk, row: Row, copies: Sequence[Copy]) -> Row:
     """JPEG-LS files that differ: OUT gets the mended file if it is promised to be the picture, or is the file of the sums."""
     names, spliced, mended = desk.links(copies), desk.name("spliced"), desk.name("mended")
-    outcome = desk.programs.splice(spliced, names, mended, desk.folder, ["--tries", str(desk.options.tries)])
+    outcome = desk.sure(desk.programs.splice(spliced, names, mended, desk.folder, ["--tries", str(desk.options.tries)]))
     log = log_of(copies, names, outcome)
     row.take(outcome.report)
     row.bad = archive_bad.of_copies([copy.data for copy in copies if copy.data is not None])
@@ -102,7 +102,7 @@ def keep(desk: Desk, row: Row, names: Tuple[str, str, str], outcome: Splice, log
     if result == "reads":
         result = "not promised"
         if not outcome.file_written:
-            wrote = desk.programs.write_jls(mended, spliced, desk.folder)
+            wrote = desk.sure(desk.programs.write_jls(mended, spliced, desk.folder))
             log += wrote.faults
         if os.path.exists(desk.place(mended)):
             desk.put(row, mended, "partial", row.path, model)
@@ -120,7 +120,7 @@ def keep_log(desk: Desk, row: Row, log: str) -> None:
 def join(desk: Desk, row: Row, copies: Sequence[Copy]) -> Row:
     """Partial pictures that differ, perhaps with copies among them: OUT gets all that they have."""
     names, joined = desk.links(copies), desk.name("joined")
-    outcome = desk.programs.join(joined, names, desk.folder)
+    outcome = desk.sure(desk.programs.join(joined, names, desk.folder))
     if not os.path.exists(desk.place(joined)):
         keep_log(desk, row, log_of(copies, names, outcome))
         return desk.set_aside(row, copies, "does not read", outcome.status or 3)

@@ -8,12 +8,15 @@ from __future__ import annotations
 import struct
 from typing import List, NamedTuple, Optional
 
-from .dicom_file import ITEM, JPEG_LS, PIXEL_DATA, SEQUENCE_END, UNDEFINED, Element, header_of, skip_undefined, text_of
+from .dicom_file import ITEM, ITEM_END, JPEG_LS, PIXEL_DATA, SEQUENCE_END, SYNTAXES, UNDEFINED
+from .dicom_file import Element, header_of, skip_undefined, text_of
 from .dicom_values import is_uid
 
 PREAMBLE, MAGIC = 128, b"DICM"
 SYNTAX, FRAMES = 0x00020010, 0x00280008
 EOI = b"\xff\xd9"
+IMPLICIT = "1.2.840.10008.1.2"
+NOT_WALKED = ("1.2.840.10008.1.2.1.99", "1.2.840.10008.1.2.2")  # deflated, big endian
 
 
 class Plain(NamedTuple):
@@ -68,6 +71,57 @@ def fragments_of(data: bytes, at: int, end: int) -> List[bytes]:
 
 def unpadded(frame: bytes) -> bytes:
     return frame[:-1] if frame.endswith(EOI + b"\0") else frame
+
+
+def other_syntax(data: bytes) -> Optional[str]:
+    """The transfer syntax of a file that has another one than JPEG-LS lossless, if each element reads in it to the last byte."""
+    if data[PREAMBLE : PREAMBLE + 4] != MAGIC:
+        return None
+    at, syntax = PREAMBLE + len(MAGIC), b""
+    while data[at : at + 2] == b"\2\0":
+        element = header_of(data[at : at + 12], at)
+        if element is None or element.length == UNDEFINED or element.end > len(data):
+            return None
+        syntax = element.bytes_of(data) if element.tag == SYNTAX else syntax
+        at = element.end
+    uid = text_of(syntax)
+    if uid == JPEG_LS or uid not in SYNTAXES or uid in NOT_WALKED:
+        return None
+    is_well = is_implicit(data, at) if uid == IMPLICIT else elements_of(data) is not None
+    return uid if is_well else None
+
+
+def is_implicit(data: bytes, at: int) -> bool:
+    """Whether elements without VRs fill a file from here on, in order (PS3.5, 7.1.3)."""
+    last = 0
+    while at + 8 <= len(data):
+        group, number, length = struct.unpack_from("<HHI", data, at)
+        tag = group << 16 | number
+        if tag <= last or group == ITEM >> 16:
+            return False
+        end = behind_implicit(data, at + 8) if length == UNDEFINED else at + 8 + length
+        if end is None:
+            return False
+        at, last = end, tag
+    return at == len(data) and last > 0
+
+
+def behind_implicit(data: bytes, at: int) -> Optional[int]:
+    """Where a sequence of undefined length ends whose items begin here."""
+    depth = 1
+    while at + 8 <= len(data):
+        group, number, length = struct.unpack_from("<HHI", data, at)
+        tag = group << 16 | number
+        at += 8
+        if tag == SEQUENCE_END:
+            depth -= 1
+            if depth == 0:
+                return at
+        elif tag != ITEM_END and length != UNDEFINED:
+            at += length
+        elif tag not in (ITEM, ITEM_END):
+            depth += 1
+    return None
 
 
 def read(data: bytes) -> Optional[Plain]:

@@ -2,38 +2,96 @@
 from __future__ import annotations
 
 import os
-from typing import Any, Iterator, Tuple
+import re
+from typing import Any, Dict, Iterator, Optional, Tuple
 
 from . import archive_claim, archive_folders, archive_names, archive_places, archive_rows, report_page
-from .archive_ledger import Ledger
+from .archive_ledger import Known, Ledger
 from .archive_places import Refused
 from .archive_rows import Row
 from .archive_totals import Totals
 
 
+MOST_USUAL = 10000  # kinds of rows that are kept
+# A path that stands in a line of CSV as it is, and the end of a line of a row whose last fields are its inputs and files
+PLAIN = re.compile(rb"[ !#-+\--\[\]-~]*\Z")
+OUTPUTS_LAST, INPUTS = b"]]}]\n", b', "inputs": "'
+
+
+class Usual:
+    """Rows of an archive that are whole as they were: millions, of few kinds. A kind is read once, and its rows are counted and copied."""
+
+    def __init__(self, totals: Totals, lines: archive_rows.Lines) -> None:
+        self.totals = totals
+        self.lines = lines
+        self.kinds: Dict[bytes, Optional[Tuple[Row, bytes]]] = {}
+        self.counts: Dict[bytes, int] = {}
+
+    def take(self, known: Known) -> bool:
+        """Counts a row of such a kind and writes its line of the table; false for any other."""
+        line = known.lines[-1]
+        end = line.find(INPUTS, known.at)
+        if end < 0 or not line.endswith(OUTPUTS_LAST) or not PLAIN.match(known.key):
+            return False
+        fields = line[known.at : end]
+        if fields not in self.kinds:
+            self.note(fields, known.row())
+        kind = self.kinds[fields]
+        if kind is None:
+            return False
+        self.counts[fields] += 1
+        self.lines.file.write(known.key + kind[1])
+        return True
+
+    def note(self, fields: bytes, row: Optional[Row]) -> None:
+        """Notes a kind by one of its rows."""
+        if len(self.kinds) >= MOST_USUAL:
+            self.end()
+        if row is None or row.status or row.result in report_page.MENDED:
+            self.kinds[fields] = None
+            return
+        row.path = ""
+        self.kinds[fields] = row, self.lines.of(row)
+        self.counts[fields] = 0
+
+    def end(self) -> None:
+        """Counts the rows of all kinds."""
+        for fields, count in self.counts.items():
+            kind = self.kinds[fields]
+            if kind and count:
+                self.totals.add(kind[0], count)
+        self.kinds, self.counts = {}, {}
+
+
 def write(places: archive_places.Places, store: Any) -> Totals:
     """Writes the table and the page of all rows that are there, and answers what they come to."""
+    totals, page = Totals(), report_page.Page(places)
     # one at a time, so that no older table comes last
     with archive_places.alone(places):
-        totals, page = Totals(), report_page.Page(places)
-        for row in archive_rows.write_table(os.path.join(places.report, "pictures.csv"), rows_of(store, places.report)):
-            totals.add(row)
-            page.add(row)
+        with archive_rows.written_whole(os.path.join(places.report, "pictures.csv")) as file:
+            lines = archive_rows.Lines(file)
+            lines.head()
+            for row in unusual(store, places.report, Usual(totals, lines)):
+                totals.add(row)
+                page.add(row)
+                lines.add(row)
         with archive_rows.written_whole(os.path.join(places.report, "report.html")) as file:
             for part in page.parts(totals):
                 file.write(part.encode("utf-8", "replace"))
     return totals
 
 
-def rows_of(store: Any, folder: str) -> Iterator[Row]:
-    """The rows of trees, as they are read, or of folders."""
+def unusual(store: Any, folder: str, usual: Usual) -> Iterator[Row]:
+    """The rows of trees that are of no usual kind, or all of folders."""
     if not isinstance(store, Ledger):
         yield from store.all()
         return
     for known in store.rows(folder):
-        row = known.row()
-        if row:
-            yield row
+        if not usual.take(known):
+            row = known.row()
+            if row:
+                yield row
+    usual.end()
 
 
 def print_summary(totals: Totals, out: str, places: archive_places.Places) -> None:

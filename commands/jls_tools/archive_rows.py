@@ -173,27 +173,30 @@ class Store:
 
 
 class Lines:
-    """Lines of CSV, as they are written."""
+    """Lines of CSV, as they are written to a file."""
 
     def __init__(self, file: IO[bytes]) -> None:
         self.file = file
-        self.writer = csv.writer(self, lineterminator="\n")
-
-    def write(self, text: str) -> int:
-        return self.file.write(text.encode("utf-8", "surrogateescape"))
 
     def add(self, row: Row) -> None:
-        self.writer.writerow([getattr(row, name) for name in FIELDS])
+        self.file.write(self.of(row))
 
     def head(self) -> None:
-        self.writer.writerow(TITLES)
+        self.file.write(text_of(TITLES))
+
+    def of(self, row: Row) -> bytes:
+        return text_of([getattr(row, name) for name in FIELDS])
 
 
-def write_table(path: str, rows: Iterable[Row]) -> Iterator[Row]:
-    """Writes pictures.csv on the way: it has its name when the last row was taken."""
-    with written_whole(path) as file:
-        lines = Lines(file)
-        lines.head()
-        for row in rows:
-            lines.add(row)
-            yield row
+class Text(List[str]):
+    """What csv.writer wants of a file."""
+
+    def write(self, text: str) -> None:
+        self.append(text)
+
+
+def text_of(values: Iterable[Any]) -> bytes:
+    """A line of CSV."""
+    text = Text()
+    csv.writer(text, lineterminator="\n").writerow(values)
+    return "".join(text).encode("utf-8", "surrogateescape")

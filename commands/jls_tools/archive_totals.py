@@ -47,16 +47,15 @@ class Totals:
         self.of_result: Counter[Tuple[bool, str]] = collections.Counter()
         self.worst = Most(WORST)
 
-    def add(self, row: Row) -> None:
-        self.paths += 1
-        self.pictures += row.kind in PICTURES
-        self.of_result[row.status == 0, row.result] += 1
-        if row.settled is not None:
-            self.lines["settled"] += row.settled
-            self.lines["missing"] += row.missing or 0
-            self.lines["disputed"] += row.disputed or 0
+    def add(self, row: Row, count: int = 1) -> None:
+        """Counts a row, or so many that differ in their paths alone."""
+        self.paths += count
+        self.pictures += count * (row.kind in PICTURES)
+        self.of_result[row.status == 0, row.result] += count
+        for name in LINES:
+            self.lines[name] += count * (getattr(row, name) or 0)
         if row.status:
-            self.not_whole += 1
+            self.not_whole += count
             self.worst.add(row)
 
     def results(self) -> List[Tuple[str, int, bool]]:

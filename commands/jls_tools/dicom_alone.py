@@ -4,21 +4,30 @@ Its way is the only one that goes on there. So it is taken where its VR allows t
 that was left out has the element with another value, the place of a loss is not clear, or the element is strange. The frames, or another
 element, confirm some values.
 """
-import re
-from dataclasses import dataclass
+from __future__ import annotations
 
-from jls_tools.dicom_align import may_stand_elsewhere, merged
+import re
+from collections.abc import Iterator, Sequence
+from dataclasses import dataclass
+from typing import TYPE_CHECKING
+
+from jls_tools.dicom_align import Copy, may_stand_elsewhere, merged
 from jls_tools.dicom_csa import is_chain
-from jls_tools.dicom_file import PIXEL_DATA, tag_name, text_of
+from jls_tools.dicom_file import PIXEL_DATA, Element, tag_name, text_of
 from jls_tools.dicom_media import SECTOR
 from jls_tools.dicom_result import Place
 from jls_tools.dicom_sectors import BESIDE, has_noise_within, is_noise, is_plain
-from jls_tools.dicom_values import DIGITS_AND_DOTS, TEXTS, allows, is_doubtful, strangeness
+from jls_tools.dicom_structure import Step
+from jls_tools.dicom_values import DIGITS_AND_DOTS, FREE_TEXTS, TEXTS, allows, is_doubtful, is_of_standard, strangeness
+
+if TYPE_CHECKING:
+    from jls_tools.dicom_header import Header
 
 PADDING = 0xFFFCFFFC
 # Group length, transfer syntax, Samples per Pixel, Number of Frames, Rows and Columns: the file or its frames say what they have to be
 CONFIRMED = frozenset((0x00020000, 0x00020010, 0x00280002, 0x00280008, 0x00280010, 0x00280011, PIXEL_DATA))
 VERSION, STORED, HIGH, SIGN = 0x00020001, 0x00280101, 0x00280102, 0x00280103
+CHARACTER_SET, ONLY_ASCII = 0x00080005, ("", "ISO_IR 6")  # without one, texts have the letters of ASCII (PS3.5, 6.1.2)
 ONLY_VERSION = b"\0\1"  # of the meta information (PS3.10, 7.1)
 PAIRS = ((0x00020002, 0x00080016), (0x00020003, 0x00080018))
 ONE_ALONE = "one copy alone has it"
@@ -40,14 +49,14 @@ class Stranger:
     may_be_copy: bool
 
 
-def held_by_one(copies):
+def held_by_one(copies: Sequence[Copy]) -> list[tuple[int, int]]:
     """The ranges of the axis that no two copies have."""
     borders = sorted({0, len(copies[0].data), *(place for copy in copies for pair in copy.absent for place in pair)})
     found = [(begin, end) for begin, end in zip(borders, borders[1:]) if sum(not copy.lacks(begin, end) for copy in copies) < 2]
     return merged(found)
 
 
-def confirmed(header):
+def confirmed(header: Header) -> set[int]:
     """The tags of the top level whose values the file itself confirms."""
     found = set(CONFIRMED)
     for first, second in PAIRS:
@@ -60,7 +69,7 @@ def confirmed(header):
     return found
 
 
-def elements_alone(header, ranges):
+def elements_alone(header: Header, ranges: Sequence[tuple[int, int]]) -> Iterator[tuple[Step, Element, int]]:
     """The steps of elements of which one copy alone has some byte, and that nothing confirms; and where what counts of each ends."""
     known = confirmed(header)
     for step in header.structure.steps if ranges else ():
@@ -69,18 +78,19 @@ def elements_alone(header, ranges):
             continue
         end = element.end if step.kind == "leaf" else element.value
         if any(first < end and element.start < last for first, last in ranges):
-            yield step, end
+            yield step, element, end
 
 
-def is_repeated(copies, strangers, begin, own):
+def is_repeated(copies: Sequence[Copy], strangers: Sequence[Stranger], begin: int, own: bytes) -> bool:
     """Whether a copy that was left out, or the foreign beginning of one, has the same bytes: then they are not damaged."""
     texts = [copy.foreign for copy in copies] + [stranger.data for stranger in strangers]
     return any(text[begin : begin + len(own)] == own for text in texts)
 
 
-def values_alone(copies, strangers, begin, own):
+def values_alone(copies: Sequence[Copy], strangers: Sequence[Stranger], begin: int, own: bytes) -> list[tuple[list[str], bytes]]:
     """What each copy has where `own` is taken: [(paths, bytes)], that first."""
-    values, end = {own: []}, begin + len(own)
+    values: dict[bytes, list[str]] = {own: []}
+    end = begin + len(own)
     for copy in copies:
         value = copy.foreign[begin:end] if copy.lacks(begin, end) else b""
         values.setdefault(value or copy.has_only(begin, end), []).append(copy.path)
@@ -92,7 +102,7 @@ def values_alone(copies, strangers, begin, own):
 # What speaks against it ----------------------------------------------------------------
 
 
-def unclear_ranges(header):
+def unclear_ranges(header: Header) -> list[tuple[int, int]]:
     """What a copy lacks, where the copies differ beside it, or damage of another may hide where it stood: then that is not clear."""
     found = []
     for copy in header.copies:
@@ -105,7 +115,7 @@ def unclear_ranges(header):
     return found
 
 
-def differs_before(header, begin, end):
+def differs_before(header: Header, begin: int, end: int) -> bool:
     """Whether copies differ before a loss. Where a copy is cut, fewer bytes have to be equal."""
     if end < len(header.copies[0].data):
         return bool(header.runs.touching(max(0, begin - CLEAR), begin))
@@ -116,12 +126,12 @@ def differs_before(header, begin, end):
     return sum(len(set(values)) > 1 for values in zip(*texts)) > CLEAR
 
 
-def is_across(element, border):
+def is_across(element: Element, border: int) -> bool:
     """Whether a foreign beginning may end elsewhere than at this border: in a value across it in which a text is not seen to be wrong."""
     return element.value < border < element.end and (element.vr not in TEXTS or element.length > SECTOR)
 
 
-def ends_clearly(copy):
+def ends_clearly(copy: Copy) -> bool:
     """Whether a foreign beginning ends at a border of sectors, where the bytes of the other copy go on: as noise, or unlike them."""
     border = copy.absent[0][1]
     before, after = copy.data[border - BESIDE : border], copy.data[border : border + BESIDE]
@@ -131,12 +141,12 @@ def ends_clearly(copy):
     return is_noise(foreign) or share_of(before, after) >= ALIKE and share_of(foreign, after) <= 1 - ALIKE
 
 
-def share_of(data, other):
+def share_of(data: bytes, other: bytes) -> float:
     """Which share of some bytes are of values that others have."""
     return sum(byte in other for byte in data) / max(1, len(data))
 
 
-def denies(text, own, element):
+def denies(text: bytes, own: bytes, element: Element) -> bool:
     """Whether the bytes of a copy that was left out, or of a foreign beginning, go another way through an element that can be true."""
     other = text[element.start : element.start + len(own)]
     if len(other) < len(own):
@@ -148,20 +158,20 @@ def denies(text, own, element):
     return not (element.vr in TEXTS and (ZEROS in other[head:] or not allows(element.vr, other[head:])))
 
 
-def is_against_rules(header, element, value):
+def is_against_rules(header: Header, element: Element, value: bytes) -> bool:
     """Whether an element of the top level has what PS3.10, 7.1, or PS3.5, 8.1.1, forbids: High Bit is one less than Bits Stored."""
     if element.tag == VERSION:
         return value != ONLY_VERSION
     if element.tag == SIGN:
         return value not in (b"\0\0", b"\1\0")
     stored, high = header.short(STORED), header.short(HIGH)
-    return element.tag in (STORED, HIGH) and None not in (stored, high) and high != stored - 1
+    return element.tag in (STORED, HIGH) and stored is not None and high is not None and high != stored - 1
 
 
 class Doubts:
     """What speaks against the values that one copy alone has."""
 
-    def __init__(self, header, strangers):
+    def __init__(self, header: Header, strangers: Sequence[Stranger]) -> None:
         self.header = header
         self.unclear = unclear_ranges(header)
         self.borders = [copy.absent[0][1] for copy in header.copies if copy.foreign and not ends_clearly(copy)]
@@ -169,15 +179,17 @@ class Doubts:
         self.texts = [(len(copy.foreign) - NEAR, copy.foreign) for copy in header.copies if copy.foreign]
         self.texts += [(0, stranger.data) for stranger in strangers if stranger.may_be_copy]
         self.data = bytes(header.merged())
+        self.is_ascii = CHARACTER_SET not in header.elements or header.text(CHARACTER_SET) in ONLY_ASCII
         self.uids = [(leaf.value, leaf.bytes_of(self.data)) for leaf in header.leaves if leaf.vr == b"UI"]
 
-    def has(self, step, own):
+    def has(self, step: Step, element: Element, own: bytes) -> bool:
         """Whether something speaks against an element, whose bytes these are."""
-        element = step.element
         value, end = own[element.value - element.start :], element.start + len(own)
-        if strangeness(element.tag, element.vr) >= WRONG_VR or element.tag <= step.before[2]:
+        if strangeness(element.tag, element.vr) >= WRONG_VR or not is_of_standard(element.tag) or element.tag <= step.before[2]:
             return True
         if step.kind == "leaf" and is_doubtful(element.vr, value) and not self.is_said_twice(element, value):
+            return True
+        if step.kind == "leaf" and self.is_ascii and element.vr in FREE_TEXTS and not value.isascii():
             return True
         if step.depth == 0 and is_against_rules(self.header, element, value):
             return True
@@ -189,7 +201,7 @@ class Doubts:
             return True
         return any(element.start >= first and denies(text, own, element) for first, text in self.texts)
 
-    def is_said_twice(self, element, value):
+    def is_said_twice(self, element: Element, value: bytes) -> bool:
         """Whether a UID has zeros before numbers, which none should have, but another one of the file begins with them too."""
         last = max((found.end() for found in ZERO_BEFORE.finditer(value)), default=0)
         if element.vr != b"UI" or last < LONG_BEGIN or not DIGITS_AND_DOTS.match(value):
@@ -197,19 +209,19 @@ class Doubts:
         return any(own != element.value and uid.startswith(value[:last]) for own, uid in self.uids)
 
 
-def places_alone(header, strangers):
+def places_alone(header: Header, strangers: Sequence[Stranger]) -> list[Place]:
     """A Place for each of these elements: decided, unless something speaks against what the one copy has."""
     copies, data = header.copies, bytes(header.merged())
-    doubts, found = Doubts(header, strangers), []
-    for step, end in elements_alone(header, held_by_one(copies)):
-        element = step.element
+    doubts = Doubts(header, strangers)
+    found: list[Place] = []
+    for step, element, end in elements_alone(header, held_by_one(copies)):
         own = data[element.start : end]
         if is_repeated(copies, strangers, element.start, own):
             continue
         begin = element.value if element.value < end else element.start
         values = values_alone(copies, strangers, begin, data[begin:end])
         place = Place(element.start, len(own), tag_name(element.tag), values)
-        if not doubts.has(step, own):
+        if not doubts.has(step, element, own):
             place.taken, place.why = 0, ONE_ALONE
         found.append(place)
     return found

@@ -1,8 +1,13 @@
 """The command line of jls-dicom, and what it prints."""
+from __future__ import annotations
+
 import argparse
+import io
 import os
 import signal
 import sys
+from collections.abc import Iterator, Sequence
+from typing import Optional
 
 from jls_tools.archive_names import printable
 from jls_tools.dicom_header import printed_value
@@ -10,7 +15,7 @@ from jls_tools.dicom_info import frames, info
 from jls_tools.dicom_mend import mend
 from jls_tools.dicom_names import can_have_name
 from jls_tools.dicom_outputs import put_log
-from jls_tools.dicom_result import FAILED, NOT_WHOLE, USAGE, WHOLE, MendOptions
+from jls_tools.dicom_result import FAILED, NOT_WHOLE, USAGE, WHOLE, MendOptions, MendResult, Place, VersionTable
 from jls_tools.dicom_write import USER_MASK
 from jls_tools.programs import ProgramFailed, Programs
 
@@ -31,35 +36,35 @@ STATUSES = """exit status:
 class Stopped(Exception):
     """A signal ends the run."""
 
-    def __init__(self, number):
+    def __init__(self, number: int) -> None:
         super().__init__(number)
         self.number = number
 
 
-def stop(number, _):
+def stop(number: int, _: object) -> None:
     for each in SIGNALS:  # a second one must not stop the removal of temporary files
         signal.signal(each, signal.SIG_IGN)
     raise Stopped(number)
 
 
-def say(text):
+def say(text: str) -> None:
     print(f"jls-dicom: {text}", file=sys.stderr)
 
 
-def sum_of(text):
+def sum_of(text: str) -> str:
     text = text.strip().lower()
     if len(text) != 64 or any(letter not in "0123456789abcdef" for letter in text):
         raise argparse.ArgumentTypeError("a SHA-256 has 64 hex digits")
     return text
 
 
-def sample_of(text):
+def sample_of(text: str) -> int:
     if not text.isdigit() or int(text) > 65535:
         raise argparse.ArgumentTypeError("a sample is a number from 0 to 65535")
     return int(text)
 
 
-def parser():
+def parser() -> argparse.ArgumentParser:
     top = argparse.ArgumentParser(
         prog="jls-dicom", description=DESCRIPTION, epilog=STATUSES, formatter_class=argparse.RawDescriptionHelpFormatter, allow_abbrev=False
     )
@@ -75,7 +80,7 @@ def parser():
     return top
 
 
-def add_mend(command):
+def add_mend(command: argparse.ArgumentParser) -> None:
     command.add_argument("--max", type=sample_of, metavar="N", help="the largest sample that the picture can have, for jls-splice")
     command.add_argument("--tries", type=int, metavar="N", help="the most that jls-splice tries for a frame")
     command.add_argument("--header", metavar="COPY", help="where copies differ and nothing decides, take what this copy has")
@@ -91,32 +96,32 @@ def add_mend(command):
 class Progress:
     """A line on a terminal that says how far the work is."""
 
-    def __init__(self, is_quiet):
+    def __init__(self, is_quiet: bool) -> None:
         self.is_shown = not is_quiet and sys.stderr.isatty()
         self.is_open = False
 
-    def __call__(self, done, count):
+    def __call__(self, done: int, count: int) -> None:
         if self.is_shown:
             print(f"\rframe {done} of {count}", end="", file=sys.stderr, flush=True)
             self.is_open = True
 
-    def end(self):
+    def end(self) -> None:
         if self.is_open:
             print("\r\x1b[K", end="", file=sys.stderr, flush=True)
             self.is_open = False
 
 
-def place_line(place, has_names=True, sizes=()):
+def place_line(place: Place, has_names: bool = True, sizes: Sequence[int] = ()) -> str:
     """A place where copies differ. `sizes` are those of values, as printed_value takes them."""
     is_told = has_names or not can_have_name(place.tag)
     shown = [printed_value(value, *sizes) if is_told else f"{len(value)} bytes" for _, value in place.values]
     names = [", ".join(printable(name) for name in holders) or "none" for holders, _ in place.values]
     values = [f"{name}: {value}" for name, value in zip(names, shown)]
-    verdict = "undecided" if not place.is_decided else f"taken: {shown[place.taken]} ({place.why})"
+    verdict = "undecided" if place.taken is None else f"taken: {shown[place.taken]} ({place.why})"
     return f"differ {place.offset} {place.length} {place.tag}, {verdict}; {'; '.join(values)}"
 
 
-def version_lines(table, has_names=True, sizes=()):
+def version_lines(table: VersionTable, has_names: bool = True, sizes: Sequence[int] = ()) -> Iterator[str]:
     """The headers that read whole, and a line for each tag where they differ."""
     counts = [f"{len(paths)} {'copy' if len(paths) == 1 else 'copies'}" for _, paths in table.versions]
     copies = [f"{name}: {count}, {', '.join(map(printable, paths))}" for count, (name, paths) in zip(counts, table.versions)]
@@ -127,7 +132,9 @@ def version_lines(table, has_names=True, sizes=()):
         yield f"version {tag}, {'; '.join(f'{name}: {each}' for (name, _), each in zip(table.versions, shown))}"
 
 
-def mended_lines(result, out, is_quiet=False, has_names=True, sizes=()):
+def mended_lines(
+    result: MendResult, out: str, is_quiet: bool = False, has_names: bool = True, sizes: Sequence[int] = ()
+) -> Iterator[str]:
     """What a run came to, a line for each copy that was left out, place, frame and note."""
     yield from (f"left out {printable(path)}: {why}" for path, why in result.left_out)
     yield from (place_line(place, has_names, sizes) for place in result.places if not (is_quiet and place.is_decided))
@@ -142,7 +149,7 @@ def mended_lines(result, out, is_quiet=False, has_names=True, sizes=()):
         yield f"frames are in {printable(result.folder)}"
 
 
-def check_words(words, programs):
+def check_words(words: argparse.Namespace, programs: Programs) -> Optional[str]:
     """What argparse doesn't see; a text, or nothing."""
     if len(words.copies) < 2:
         return "mend takes two copies or more"
@@ -153,7 +160,7 @@ def check_words(words, programs):
     return None
 
 
-def run_mend(words, programs):
+def run_mend(words: argparse.Namespace, programs: Programs) -> int:
     fault = check_words(words, programs)
     if fault:
         say(fault)
@@ -174,7 +181,7 @@ def run_mend(words, programs):
     return result.status
 
 
-def run(words):
+def run(words: argparse.Namespace) -> int:
     programs = Programs()
     if words.command == "mend":
         return run_mend(words, programs)
@@ -193,11 +200,12 @@ def run(words):
     return status
 
 
-def main(arguments):
+def main(arguments: Sequence[str]) -> int:
     for number in SIGNALS:
         signal.signal(number, stop)
-    sys.stdout.reconfigure(errors="surrogateescape")
-    sys.stderr.reconfigure(errors="surrogateescape")
+    for stream in (sys.stdout, sys.stderr):
+        if isinstance(stream, io.TextIOWrapper):
+            stream.reconfigure(errors="surrogateescape")
     os.umask(0o077)
     try:
         return run(parser().parse_args(arguments))

@@ -1,8 +1,16 @@
 """Takes what one copy has at open places where another copy lost sectors, or has noise: dicom_sectors says where that is so."""
+from __future__ import annotations
+
 import itertools
+from collections.abc import Sequence
+from typing import TYPE_CHECKING, Optional
 
 from jls_tools.dicom_media import NEAR_PLACES, SECTOR
+from jls_tools.dicom_runs import Run
 from jls_tools.dicom_sectors import BESIDE, IS_NOISE, NEAR, Pair, is_noise_alone
+
+if TYPE_CHECKING:
+    from jls_tools.dicom_header import Header
 
 DECIDED = 3  # so many places of a range were decided, at least, where others go with them
 IS_COMPANY = "the places around it in its sector are of that copy"
@@ -14,11 +22,11 @@ IS_ONE_RUN = "others are part of a run of one value that was written over places
 class Decider:
     """Takes from a Header what a copy has where it lost sectors, or has noise."""
 
-    def __init__(self, header):
+    def __init__(self, header: Header) -> None:
         self.header = header
         self.runs = header.runs
 
-    def decide(self):
+    def decide(self) -> None:
         """For each two copies, unless nothing is open."""
         header = self.header
         for own, other in itertools.permutations(range(len(header.copies)), 2):
@@ -35,23 +43,23 @@ class Decider:
             self.by_runs_of_one_value(pair, own, other)
             self.by_sectors(pair, own, other)
 
-    def wholes(self):
+    def wholes(self) -> list[tuple[int, int]]:
         """The ranges that were cut at borders of sectors, with each of their parts, of which one is open."""
-        wholes = {}
+        wholes: dict[int, list[int]] = {}
         for number in sorted(self.header.left):
             wholes.setdefault(self.runs.runs[number].whole, []).append(number)
         is_open = set(self.header.open_runs())
         parts = [numbers for numbers in wholes.values() if is_open & set(numbers)]
         return [(self.runs.runs[numbers[0]].begin, self.runs.runs[numbers[-1]].end) for numbers in parts]
 
-    def stretches(self):
+    def stretches(self) -> list[tuple[int, int]]:
         """The ranges of open runs, those together that were cut at a border of sectors."""
-        wholes = {}
+        wholes: dict[int, list[Run]] = {}
         for number in self.header.open_runs():
             wholes.setdefault(self.runs.runs[number].whole, []).append(self.runs.runs[number])
         return [(runs[0].begin, runs[-1].end) for runs in wholes.values()]
 
-    def drop(self, own, other, begin, end, why, least=0):
+    def drop(self, own: int, other: int, begin: int, end: int, why: str, least: int = 0) -> None:
         """Drops what a copy alone has of a range in which it was damaged, unless some of it was decided for it and against the other."""
         header = self.header
         if any(header.copies[copy].lacks(begin, end) for copy in (own, other)):
@@ -66,14 +74,14 @@ class Decider:
             if not is_noise_alone(header.copies[other].data, run.begin, run.end):  # else the other copy lost it too
                 header.keep(number, {way for way in header.left[number] if set(run.holders[way]) - {own}}, why)
 
-    def is_for(self, number, one, two):
+    def is_for(self, number: int, one: int, two: int) -> bool:
         """Whether a run was decided for one copy and against another one."""
         if len(self.header.left[number]) > 1:
             return False
         holders = self.header.holders(number)
         return one in holders and two not in holders
 
-    def by_noise(self, pair, own, other):
+    def by_noise(self, pair: Pair, own: int, other: int) -> None:
         """Open sectors next to others of noise, in which places were decided against a copy: that one lost all of them."""
         for border in sorted({self.runs.runs[number].begin // SECTOR * SECTOR for number in self.header.open_runs()}):
             if not pair.is_noise_alone(border) or pair.is_cut_out(border):
@@ -88,7 +96,7 @@ class Decider:
             if sum(self.length(number) for number in against) >= BESIDE and not any(self.is_for(each, own, other) for each in numbers):
                 self.drop(own, other, border, border + SECTOR, IS_NOISE)
 
-    def by_company(self, pair, own, other):
+    def by_company(self, pair: Pair, own: int, other: int) -> None:
         """Open places between others of one sector, all of which were decided against a copy: that one lost the sector there."""
         for border in sorted({self.runs.runs[number].begin // SECTOR * SECTOR for number in self.header.open_runs()}):
             numbers = [number for number in self.runs.touching(border, border + SECTOR) if number in self.header.left]
@@ -99,10 +107,10 @@ class Decider:
                 continue
             for number in numbers:
                 before, behind = self.around(pair, number, against, border)
-                if None not in (before, behind) and pair.is_lost_between(before, behind):
+                if before is not None and behind is not None and pair.is_lost_between(before, behind):
                     self.drop(own, other, self.runs.runs[number].begin, self.runs.runs[number].end, IS_COMPANY)
 
-    def around(self, pair, number, against, border):
+    def around(self, pair: Pair, number: int, against: Sequence[int], border: int) -> tuple[Optional[int], Optional[int]]:
         """Where the places end and begin between which a run lies, or the borders of its sector if it reaches them; else nothing."""
         run, runs = self.runs.runs[number], self.runs.runs
         before = max((runs[each].end for each in against if each < number), default=None)
@@ -113,7 +121,7 @@ class Decider:
             behind = run.end
         return before, behind
 
-    def by_runs_of_one_value(self, pair, own, other):
+    def by_runs_of_one_value(self, pair: Pair, own: int, other: int) -> None:
         """Open places in a run of one value that was written over places near them, before and behind: true zeros can follow lost ones."""
         waiting = self.header.open_runs()
         for number in waiting + waiting[::-1]:
@@ -128,7 +136,7 @@ class Decider:
             if is_between and len(against) >= DECIDED and not any(self.is_for(each, own, other) for each in numbers):
                 self.drop(own, other, run.begin, run.end, IS_ONE_RUN)
 
-    def by_sectors(self, pair, own, other):
+    def by_sectors(self, pair: Pair, own: int, other: int) -> None:
         """Open places in sectors that a copy lost as a whole: enough places in them were decided against it, and none for it."""
         for border in sorted({self.runs.runs[number].begin // SECTOR * SECTOR for number in self.header.open_runs()}):
             first, last = pair.lost_around(border)
@@ -143,7 +151,7 @@ class Decider:
             if pair.begins_or_ends(first, last) or self.is_replaced(pair, inner, against, border):
                 self.drop(own, other, border, border + SECTOR, IS_SECTOR)
 
-    def is_replaced(self, pair, numbers, against, border):
+    def is_replaced(self, pair: Pair, numbers: Sequence[int], against: Sequence[int], border: int) -> bool:
         """Whether all of a sector differs from its first to its last bytes, both of which were decided against a copy."""
         end = border + SECTOR
         if not {numbers[0], numbers[-1]} <= set(against) or sum(map(self.length, against)) < BESIDE:
@@ -151,9 +159,9 @@ class Decider:
         is_from, is_until = self.runs.runs[numbers[0]].begin <= border + NEAR, self.runs.runs[numbers[-1]].end >= end - NEAR
         return is_from and is_until and pair.agree_beside(border, end)
 
-    def length(self, number):
+    def length(self, number: int) -> int:
         return self.runs.runs[number].end - self.runs.runs[number].begin
 
-    def distance(self, number, run):
+    def distance(self, number: int, run: Run) -> int:
         other = self.runs.runs[number]
         return max(other.begin - run.end, run.begin - other.end)

@@ -28,6 +28,8 @@ UIDS = (
     (INSTANCE, "SOP Instance UID"),
 )
 TWINS = ((CLASS_IN_META, CLASS, "SOP Class UIDs"), (INSTANCE_IN_META, INSTANCE, "SOP Instance UIDs"))
+# Those that the frames do not say
+OF_PICTURE = ((0x00280004, "Photometric Interpretation"), (0x00280102, "High Bit"), (0x00280103, "Pixel Representation"))
 MOST_PADDING = 1  # bytes between a frame's EOI and the end of its item
 
 
@@ -171,7 +173,7 @@ def faults_of(data: bytes, frames: int) -> list[Fault]:
         return [*faults, Fault("the elements don't lead to Pixel Data", ((FIRST, len(data)),))]
     if not reading.is_broken and reading.end < len(data):
         faults.append(Fault(f"{len(data) - reading.end} bytes stand after the last element", ((reading.end, len(data)),)))
-    faults += [*of_meta(reading), *of_uids(reading)]
+    faults += [*of_meta(reading), *of_uids(reading), *of_picture(reading)]
     return faults if reading.is_broken else [*faults, *of_frames(reading, frames)]
 
 
@@ -197,6 +199,15 @@ def of_uids(reading: Reading) -> Iterator[Fault]:
         one, two = reading.element(first), reading.element(second)
         if one and two and text_of(one.bytes_of(reading.data)) != text_of(two.bytes_of(reading.data)):
             yield Fault(f"the {name} are not equal", ((one.start, one.end), (two.start, two.end)), True)
+
+
+def of_picture(reading: Reading) -> Iterator[Fault]:
+    """Elements that are missing, and that each picture has (PS3.3, C.7.6.3). All copies lack them where a writer left them out."""
+    for tag, name in OF_PICTURE:
+        if reading.element(tag) is None:
+            before = max((element.start for element in reading.top if element.tag < tag), default=FIRST)
+            behind = min((element.value for element in reading.top if element.tag > tag), default=reading.end)
+            yield Fault(f"{tag_name(tag)}, {name}, is missing", ((before, behind),), True)
 
 
 def of_frames(reading: Reading, count: int) -> Iterator[Fault]:

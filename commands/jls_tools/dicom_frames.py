@@ -3,10 +3,15 @@ from __future__ import annotations
 
 import re
 import struct
+from collections.abc import Sequence
 from dataclasses import dataclass
-from typing import Optional
+from typing import TYPE_CHECKING, Optional
 
+from jls_tools.dicom_align import Copy
 from jls_tools.dicom_file import UNDEFINED
+
+if TYPE_CHECKING:
+    from jls_tools.dicom_structure import Structure
 
 # SOI, and then SOF55, LSE, APPn, COM, DRI or fill
 BEGIN = re.compile(rb"\xff\xd8(?=\xff[\xf7\xf8\xe0-\xef\xfe\xdd\xff])")
@@ -14,6 +19,7 @@ DELIMITER = b"\xfe\xff\xdd\xe0\0\0\0\0"
 ITEM_TAG = b"\xfe\xff\x00\xe0"
 USUAL_RESET = 64
 EXTENDED_TABLE, EXTENDED_LENGTHS = 0x7FE00001, 0x7FE00002
+Fragment = tuple[int, int, int, bool]  # where its header begins, where its value begins, where it ends, whether the header reads
 
 
 @dataclass
@@ -49,7 +55,7 @@ def table_of(data: bytes, begin: int, end: int, size: int) -> list[int]:
 class Fragments:
     """The fragments that a Structure has, and what the offset tables of the copies say."""
 
-    def __init__(self, structure, copies):
+    def __init__(self, structure: Structure, copies: Sequence[Copy]) -> None:
         self.copies = copies
         items = structure.items_of_pixels()
         total = structure.walk.total
@@ -70,9 +76,9 @@ class Fragments:
         self.places = self.table_places()
         self.split_unread()
 
-    def table_places(self):
+    def table_places(self) -> set[int]:
         """Offsets of items of frames that an offset table has, in some copy, and that can be true."""
-        found = set()
+        found: set[int] = set()
         for copy in self.copies:
             entries = table_of(copy.data, self.table.value, self.table.end, 4) if self.table else []
             if self.extended and self.extended.length != UNDEFINED:
@@ -80,7 +86,7 @@ class Fragments:
             found.update(self.first + entry for entry in entries)
         return found
 
-    def split_unread(self):
+    def split_unread(self) -> None:
         """Cuts what stands between two items that read at the places that the tables have."""
         parts = []
         for start, value, end, is_read in self.found:
@@ -91,18 +97,18 @@ class Fragments:
             parts += [(begin, min(begin + 8, until), until, False) for begin, until in zip(borders, borders[1:])]
         self.found = parts
 
-    def begins_frame(self, fragment):
+    def begins_frame(self, fragment: Fragment) -> bool:
         start, value, end, _ = fragment
         return start in self.places or any(BEGIN.match(copy.data, value, end) for copy in self.copies)
 
-    def frames(self, count):
+    def frames(self, count: Optional[int]) -> list[FramePlace]:
         """FramePlaces, if the header says so many frames (None: it does not read)."""
+        groups: list[list[Fragment]] = []
         if count == 1:
             groups = [self.found] if self.found else []
         elif count == len(self.found):
             groups = [[fragment] for fragment in self.found]
         else:
-            groups = []
             for fragment in self.found:
                 if not groups or self.begins_frame(fragment):
                     groups.append([])
@@ -136,7 +142,7 @@ def paired_by_bytes(streams: list[list[bytes]]) -> list[list[bytes]]:
         for stream in own:
             mine = pieces_of(stream)
             likeness, group = max(((len(mine & group[0]), at) for at, group in enumerate(groups)), default=(0, None))
-            if likeness and likeness * 4 >= min(len(mine), len(groups[group][0])):
+            if group is not None and likeness and likeness * 4 >= min(len(mine), len(groups[group][0])):
                 groups[group][1].append(stream)
                 groups[group][0].update(mine)
             else:

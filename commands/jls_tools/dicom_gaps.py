@@ -1,11 +1,16 @@
 """A DICOM file whose lost lines are filled with one value: it has new UIDs, and says what it is and of which file it was made."""
+from __future__ import annotations
+
 import re
 import struct
 import uuid
 from collections import Counter
+from collections.abc import Iterable, Sequence
+from typing import Union
 
 from jls_tools import partial_picture
 from jls_tools.dicom_file import ITEM, UNDEFINED, tag_bytes
+from jls_tools.dicom_frames import Shape
 
 IMAGE_TYPE, DESCRIPTION, SOURCES = 0x00080008, 0x00082111, 0x00082112
 CLASS, INSTANCE, INSTANCE_IN_META, META_LENGTH = 0x00080016, 0x00080018, 0x00020003, 0x00020000
@@ -13,28 +18,29 @@ OF_CLASS, OF_INSTANCE = 0x00081150, 0x00081155
 LONGEST_DESCRIPTION = 1024
 TRANSFORM = re.compile(rb"\xff\xe8\0\x07mrfx.", re.S)  # APP8 that names a colour transform
 HEADERS = 256
+Elements = list[tuple[int, bytes]]  # (tag, all bytes of the element)
 
 
-def element(tag, vr, value, pad=b" "):
+def element(tag: int, vr: bytes, value: bytes, pad: bytes = b" ") -> bytes:
     value += pad * (len(value) % 2)
     if vr in (b"SQ", b"OB"):
         return tag_bytes(tag) + vr + b"\0\0" + struct.pack("<I", len(value)) + value
     return tag_bytes(tag) + vr + struct.pack("<H", len(value)) + value
 
 
-def value_of(elements, tag):
+def value_of(elements: Elements, tag: int) -> bytes:
     """The value of an element whose header has a length of two bytes."""
     return next((value[8:] for own, value in elements if own == tag), b"")
 
 
-def put(elements, tag, value):
+def put(elements: Elements, tag: int, value: bytes) -> Elements:
     """The elements with this one in its place."""
     rest = [pair for pair in elements if pair[0] != tag]
     at = next((number for number, pair in enumerate(rest) if pair[0] > tag), len(rest))
     return rest[:at] + [(tag, value)] + rest[at:]
 
 
-def sources(elements):
+def sources(elements: Elements) -> bytes:
     """Source Image Sequence with the old UID before what it had."""
     kept = b""
     for tag, value in elements:
@@ -46,7 +52,7 @@ def sources(elements):
     return element(SOURCES, b"SQ", tag_bytes(ITEM) + struct.pack("<I", len(inner)) + inner + kept)
 
 
-def derived(elements, description):
+def derived(elements: Elements, description: str) -> Elements:
     """The elements of a file that was made of this one."""
     uid = f"2.25.{uuid.uuid4().int}".encode()
     kind = value_of(elements, IMAGE_TYPE).rstrip(b" \0").split(b"\\")
@@ -67,13 +73,13 @@ def derived(elements, description):
     return put(elements, META_LENGTH, element(META_LENGTH, b"UL", struct.pack("<I", size)))
 
 
-def description_of(frames):
+def description_of(frames: Iterable[tuple[int, list[str]]]) -> str:
     """Which lines were filled, by frame and component."""
     parts = [f"frame {number}: {', '.join(lines)}" for number, lines in frames]
     return "lost lines were filled by jls-dicom: " + "; ".join(parts)
 
 
-def filled_lines(picture):
+def filled_lines(picture: AnyPicture) -> list[str]:
     """The lines of a partial picture that have no reading, or several: words such as '1 2-3' of component 1."""
     words = []
     for index, name in enumerate(picture.ids):
@@ -82,7 +88,7 @@ def filled_lines(picture):
     return words
 
 
-def filled_text(picture, value):
+def filled_text(picture: AnyPicture, value: int) -> bytes:
     """The text of a whole picture, with one value in each lost line (docs/FORMAT.md, version 2)."""
     lost = struct.pack(">H", value) * picture.width
     head = struct.pack(">BHHB", picture.precision, picture.width, picture.height, len(picture.ids)) + bytes(picture.ids)
@@ -95,13 +101,13 @@ def filled_text(picture, value):
     return b"".join(parts)
 
 
-def transform_of(streams):
+def transform_of(streams: Iterable[bytes]) -> bytes:
     """The segment that names a colour transform, as most of these codestreams have it among their headers; or nothing."""
     found = Counter(match.group() for match in (TRANSFORM.search(stream[:HEADERS]) for stream in streams) if match)
     return found.most_common(1)[0][0] if found else b""
 
 
-def with_transform(stream, segment):
+def with_transform(stream: bytes, segment: bytes) -> bytes:
     """A codestream with this segment after SOI. Its samples are those before the inverse transform, as in the other frames."""
     return stream[:2] + segment + stream[2:]
 
@@ -109,8 +115,11 @@ def with_transform(stream, segment):
 class Empty:
     """A partial picture without any reading."""
 
-    def __init__(self, shape, ids):
+    def __init__(self, shape: Shape, ids: list[int]) -> None:
         self.precision, self.width, self.height, self.ids = shape.precision, shape.columns, shape.rows, ids
 
-    def of_line(self, component, line):
+    def of_line(self, component: int, line: int) -> Sequence[partial_picture.Reading]:
         return []
+
+
+AnyPicture = Union[partial_picture.PartialPicture, Empty]

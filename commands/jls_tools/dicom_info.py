@@ -1,7 +1,11 @@
 """What one DICOM file is, and its frames: `info` and `frames` of jls-dicom."""
+from __future__ import annotations
+
 import os
 import shutil
 import tempfile
+from collections.abc import Callable, Iterator, Sequence
+from typing import Optional
 
 from jls_tools.dicom_align import Copy
 from jls_tools.dicom_file import JPEG_LS, NEAR_LOSSLESS, PIXEL_DATA, SYNTAXES, syntax_name, syntax_of
@@ -10,17 +14,18 @@ from jls_tools.dicom_header import COLUMNS, FRAMES, ROWS, SAMPLES, STORED
 from jls_tools.dicom_instance import identity_of
 from jls_tools.dicom_layout import Layout
 from jls_tools.dicom_mend import read
-from jls_tools.dicom_result import FAILED, NOT_SUPPORTED, NOT_WHOLE, REFUSED, WHOLE, MendOptions
+from jls_tools.dicom_result import FAILED, NOT_SUPPORTED, NOT_WHOLE, REFUSED, WHOLE, FrameResult, MendOptions
 from jls_tools.mending import FrameMender
+from jls_tools.programs import Programs
 
 NO_LINE = "damaged: no line decodes; jls-splice needs a second copy"
-INTERLEAVES = {0: "a scan for each component", 1: "interleaved by line", 2: "interleaved by sample"}
+INTERLEAVES: dict[Optional[int], str] = {0: "a scan for each component", 1: "interleaved by line", 2: "interleaved by sample"}
 
 
 class OneFile:
     """A file: its layout, its frames as (offset, stream), and how they were found."""
 
-    def __init__(self, path):
+    def __init__(self, path: str) -> None:
         self.data = read(path)
         self.syntax = syntax_of(self.data)
         self.is_dicom = self.data[128:132] == b"DICM"
@@ -35,22 +40,22 @@ class OneFile:
             self.how = "by search"
             self.frames = [(begin, unpadded(self.data[begin:end])) for begin, end in by_search(self.data)]
 
-    def value(self, tag):
+    def value(self, tag: int) -> Optional[bytes]:
         for element in self.layout.structure.elements:
             if element.tag == tag:
                 return element.bytes_of(self.data)
         return None
 
-    def number(self, tag):
+    def number(self, tag: int) -> Optional[int]:
         value = self.value(tag)
         return int.from_bytes(value, "little") if value is not None and len(value) == 2 else None
 
 
-def unpadded(stream):
+def unpadded(stream: bytes) -> bytes:
     return stream[:-1] if stream.endswith(b"\xff\xd9\0") else stream
 
 
-def refusal_of(path, file):
+def refusal_of(path: str, file: OneFile) -> Optional[str]:
     """Why a file is not for these tools, or nothing."""
     if file.data[:3] == b"\xff\xd8\xff" and other_coding(file.data):
         return f"{path}: {NOT_SUPPORTED}: {other_coding(file.data)}"
@@ -65,7 +70,7 @@ def refusal_of(path, file):
     return None
 
 
-def data_set_lines(file):
+def data_set_lines(file: OneFile) -> Iterator[str]:
     meta, data = identity_of(file.data).in_meta, identity_of(file.data).in_data
     yield "DICOM file" if file.is_dicom else "no DICOM file by its first bytes"
     yield syntax_name(file.syntax) if file.syntax else "the transfer syntax does not read"
@@ -76,7 +81,7 @@ def data_set_lines(file):
     yield f"header: {file.number(COLUMNS)}x{file.number(ROWS)}, {file.number(STORED)} bits, samples {file.number(SAMPLES)}, frames {said}"
 
 
-def header_lines(file):
+def header_lines(file: OneFile) -> Iterator[str]:
     if file.data[:3] == b"\xff\xd8\xff":
         yield "a bare JPEG file, and no DICOM file"
     else:
@@ -88,7 +93,7 @@ def header_lines(file):
     yield f"frames {len(file.frames)}, found {file.how}"
 
 
-def coding_lines(stream):
+def coding_lines(stream: bytes) -> Iterator[str]:
     shape = shape_of(stream)
     if shape and shape.near is not None:
         how = "near-lossless" if shape.near else "lossless"
@@ -97,7 +102,7 @@ def coding_lines(stream):
         yield f"coding: {other_coding(stream)}"
 
 
-def info(path, programs, progress=None):
+def info(path: str, programs: Programs, progress: Optional[Callable[[int, int], object]] = None) -> tuple[list[str], Optional[str], int]:
     """(lines, why it is refused or nothing, status)."""
     file = OneFile(path)
     refusal = refusal_of(path, file)
@@ -120,7 +125,7 @@ def info(path, programs, progress=None):
     return [*lines, *verdict_lines(results)], None, status_of(results)
 
 
-def verdict_lines(results):
+def verdict_lines(results: Sequence[FrameResult]) -> Iterator[str]:
     """What a file is as a whole, where none of its lines decodes: of a kind that isn't read, or damaged."""
     names = sorted({result.note for result in results if result.kind == NOT_SUPPORTED})
     if names:
@@ -129,13 +134,13 @@ def verdict_lines(results):
         yield NO_LINE
 
 
-def status_of(results):
+def status_of(results: Sequence[FrameResult]) -> int:
     if any(result.kind == NOT_SUPPORTED for result in results):
         return REFUSED
     return WHOLE if all(result.kind == "whole" for result in results) else NOT_WHOLE
 
 
-def frames(path, folder):
+def frames(path: str, folder: str) -> tuple[list[str], Optional[str], int]:
     """Takes the frames out: (lines, why it is refused or nothing, status)."""
     if os.path.lexists(folder):
         return [], f"{folder}: it is there already", FAILED

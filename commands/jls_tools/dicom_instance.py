@@ -3,7 +3,9 @@ from __future__ import annotations
 
 import itertools
 from collections import Counter
+from collections.abc import Iterator, Mapping, Sequence
 from dataclasses import dataclass
+from typing import Optional
 
 from jls_tools.dicom_align import Copy, differing
 from jls_tools.dicom_file import PIXEL_DATA, UNDEFINED, instance_of, walk
@@ -34,19 +36,19 @@ class Identity:
     in_data: str | None
 
     @property
-    def uid(self):
+    def uid(self) -> Optional[str]:
         return self.in_data if self.in_data is not None and self.in_meta == self.in_data else None
 
-    def is_of(self, uid):
+    def is_of(self, uid: Optional[str]) -> bool:
         """Whether the copy has this UID in its data set, or in its meta information if that of the data set does not read."""
         return uid is not None and uid == (self.in_meta if self.in_data is None else self.in_data)
 
 
-def identity_of(data):
+def identity_of(data: bytes) -> Identity:
     return Identity(*instance_of(data))
 
 
-def share_blocks(one, other):
+def share_blocks(one: bytes, other: bytes) -> bool:
     """Whether many blocks of the second half of two files are equal at their places, not counting those of one value.
 
     The first half does not count: slices of one series have much of their headers in common, and nothing of their codestreams.
@@ -60,7 +62,7 @@ def share_blocks(one, other):
     return counted >= 2 and equal * SHARED >= counted
 
 
-def equal_from(one, other):
+def equal_from(one: bytes, other: bytes) -> Optional[int]:
     """Where two files begin to be equal for long, or nothing."""
     for at in range(0, min(len(one), len(other)) - STRETCH + 1, STEP):
         stretch = one[at : at + STRETCH]
@@ -69,7 +71,7 @@ def equal_from(one, other):
     return None
 
 
-def border_of(data, other, place):
+def border_of(data: bytes, other: bytes, place: int) -> int:
     """Where two files that are equal from a place on begin to be so, if a smaller damage of one stands before the place."""
     found = place
     for at in range(place - STEP, max(place - BEFORE_BORDER, 0), -STEP):
@@ -81,7 +83,7 @@ def border_of(data, other, place):
     return found
 
 
-def breaks_at(data, place, is_before=False):
+def breaks_at(data: bytes, place: int, is_before: bool = False) -> bool:
     """Whether the elements of a file break off at a place: in the element or item that stands there; or before it too, if that counts."""
     structure = Walk(Runs([Copy("", data)], 0, []), len(data)).solve([data])
     begin = 0
@@ -93,7 +95,7 @@ def breaks_at(data, place, is_before=False):
     return not structure.is_found and all(element.start <= place + STEP for element in walk(data))
 
 
-def rests_from(data, other):
+def rests_from(data: bytes, other: bytes) -> Iterator[int]:
     """Where two files can begin to be equal after a foreign beginning of one: where they are so for long, and at borders of sectors."""
     place = equal_from(data, other)
     if place is None:
@@ -107,17 +109,17 @@ def rests_from(data, other):
             yield at
 
 
-def apart_until(data, other, end):
+def apart_until(data: bytes, other: bytes, end: int) -> int:
     """How many bytes of two beginnings of files differ."""
     return sum(last - first for first, last in differing([data[:end], other[:end]]))
 
 
-def instance_at(data):
+def instance_at(data: bytes) -> Optional[int]:
     """Where the SOP Instance UID stands; nothing if the elements don't go on so far."""
     return next((element.start for element in walk(data) if element.tag == INSTANCE), None)
 
 
-def element_across(data, place):
+def element_across(data: bytes, place: int) -> Optional[tuple[int, bool]]:
     """Where the element of the top level begins that goes across a place, and whether another one follows it; or nothing."""
     elements = list(walk(data))
     for element, behind in zip(elements, [*elements[1:], None]):
@@ -126,7 +128,7 @@ def element_across(data, place):
     return None
 
 
-def leads_apart(data, other, place):
+def leads_apart(data: bytes, other: bytes, place: int) -> bool:
     """Whether the elements of two files of one length stand elsewhere before a place, and only those of the other one go on after it."""
     own, beside = element_across(data, place), element_across(other, place)
     if len(data) != len(other) or own is None or beside is None:
@@ -134,7 +136,7 @@ def leads_apart(data, other, place):
     return own[0] != beside[0] and not own[1] and beside[1]
 
 
-def overwritten_until(data, other):
+def overwritten_until(data: bytes, other: bytes) -> Optional[int]:
     """Where the beginning of its own ends that a file has, if it breaks off there and goes on as the other one; else nothing."""
     if not share_blocks(data, other):
         return None
@@ -153,14 +155,15 @@ def overwritten_until(data, other):
     return None
 
 
-def items_and_end(data):
+def items_and_end(data: bytes) -> tuple[list[tuple[int, int]], int]:
     """The ranges of the items of Pixel Data, and where the elements of a file end or break off; it can be beyond the file."""
     elements = list(walk(data))
     if not elements or elements[-1].length == UNDEFINED and elements[-1].tag != PIXEL_DATA:
         return [], 0
     if elements[-1].length != UNDEFINED:
         return [], elements[-1].end
-    at, found = elements[-1].value, []
+    at = elements[-1].value
+    found: list[tuple[int, int]] = []
     while data[at : at + 4] == ITEM_BYTES:
         begin, at = at + 8, at + 8 + int.from_bytes(data[at + 4 : at + 8], "little")
         found.append((begin, at))
@@ -170,13 +173,13 @@ def items_and_end(data):
     return found, rest[-1].end if rest else at + 8
 
 
-def frames_of(data):
+def frames_of(data: bytes) -> list[tuple[int, int]]:
     """The ranges of the items of Pixel Data, if a file goes by its elements and items to its end; else nothing."""
     found, end = items_and_end(data)
     return found if end == len(data) else []
 
 
-def is_instead(data, other):
+def is_instead(data: bytes, other: bytes) -> bool:
     """Whether a foreign file stands in the place of all of a copy: it has the length of the whole file, but its own end is elsewhere.
 
     It is cut there, or more bytes follow its Pixel Data. No file of another length is cut to just this one, but at a border of sectors.
@@ -190,7 +193,7 @@ def is_instead(data, other):
     return not any(block == other[at * BLOCK : (at + 1) * BLOCK] for at, block in enumerate(blocks) if block.strip(block[:1]))
 
 
-def border_between(data, other):
+def border_between(data: bytes, other: bytes) -> Optional[int]:
     """Where a file begins to be overwritten with another one that stands before that place in the other: only so elements go on to the end.
 
     It lies in a frame. So its codestream is of both, and shows that it is one if it can be decoded.
@@ -211,21 +214,22 @@ class Instances:
     copies whose header can be the foreign one, with the reason: two UIDs stand against each other, and no third copy has one of both.
     """
 
-    def __init__(self, texts, is_same):
+    def __init__(self, texts: Sequence[bytes], is_same: bool) -> None:
         self.texts = texts
         self.identities = [identity_of(data) for data in texts]
-        self.left_out = {}
-        self.rests = {}
-        self.doubts = {}
-        self.uid = None
+        self.left_out: dict[int, str] = {}
+        self.rests: dict[int, tuple[int, int]] = {}
+        self.doubts: dict[int, str] = {}
+        self.uid: Optional[str] = None
+        self.certain: list[int] = list(range(len(texts)))
+        self.uncertain: list[int] = []
         if is_same:
-            self.certain, self.uncertain = list(range(len(texts))), []
             return
         self.uid = self.choose()
         self.certain = [at for at, each in enumerate(self.identities) if at not in self.left_out and each.is_of(self.uid)]
         self.uncertain = [at for at, each in enumerate(self.identities) if each.uid is None and at not in self.certain]
 
-    def choose(self):
+    def choose(self) -> Optional[str]:
         """The UID of the instance, if any copy has one; copies of others are left out where that is clear."""
         counts = Counter(each.uid for each in self.identities if each.uid is not None)
         if len(counts) <= 1:
@@ -243,7 +247,7 @@ class Instances:
         self.doubt(most)
         return most
 
-    def leave_out_half(self):
+    def leave_out_half(self) -> None:
         """Two copies, of which a foreign file has overwritten the end of one and the beginning of the other."""
         for at, beside in ((0, 1), (1, 0)) if len(self.texts) == 2 and not self.left_out else ():
             border = border_between(self.texts[beside], self.texts[at])
@@ -253,20 +257,20 @@ class Instances:
                 self.left_out[at] += f"; what follows from {border} on is used"
                 return
 
-    def leave_out_foreign(self, counts):
+    def leave_out_foreign(self, counts: Mapping[str, int]) -> None:
         """Leaves out a copy that is a foreign file from its beginning to its end."""
         for at, beside in itertools.permutations(range(len(self.texts)), 2):
             own, other = self.identities[at].uid, self.identities[beside].uid
-            if None in (own, other) or own == other or counts[own] > 1 or {at, beside} & self.left_out.keys():
+            if own is None or other is None or own == other or counts[own] > 1 or {at, beside} & self.left_out.keys():
                 continue
             if is_instead(self.texts[at], self.texts[beside]):
                 self.left_out[at] = f"a foreign file, of instance {own}, stands in its place"
 
-    def leave_out_overwritten(self, counts):
+    def leave_out_overwritten(self, counts: Mapping[str, int]) -> None:
         """Leaves out copies whose beginning a foreign file has overwritten: further on they are as a copy of another instance is."""
         for at, beside in itertools.permutations(range(len(self.texts)), 2):
             own, other = self.identities[at].uid, self.identities[beside].uid
-            if None in (own, other) or own == other or {at, beside} & self.left_out.keys():
+            if own is None or other is None or own == other or {at, beside} & self.left_out.keys():
                 continue
             is_odd = counts[own] == 1 and counts[other] > 1 and share_blocks(self.texts[at], self.texts[beside])
             until = overwritten_until(self.texts[at], self.texts[beside])
@@ -276,12 +280,12 @@ class Instances:
                 self.rests[at] = until, beside
                 self.left_out[at] += f"; what follows from {until} on is used"
 
-    def doubt(self, uid):
+    def doubt(self, uid: str) -> None:
         """One copy alone has this UID twice, and another copy has another one twice: each can have the other file's beginning.
 
         Its elements can lead on to the end all the same: the bytes before are of a third file then, and no copy has the true ones.
         """
         own = [at for at, each in enumerate(self.identities) if each.uid == uid]
-        others = sorted({each.uid for each in self.identities} - {None, uid})
+        others = sorted({each.uid for each in self.identities if each.uid is not None} - {uid})
         if len(own) == 1 and others:
             self.doubts[own[0]] = f"each of two instances can be the file: {', '.join([uid, *others])}"

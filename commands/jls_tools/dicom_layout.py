@@ -1,33 +1,40 @@
 """What stands where in a file of which there are several copies: its structure, its frames, and its header as far as it is decided."""
-from jls_tools.dicom_align import SHIFTED, differing, on_one_axis, size_of
+from __future__ import annotations
+
+from collections.abc import Sequence
+from typing import Optional
+
+from jls_tools.dicom_align import SHIFTED, Copy, differing, on_one_axis, size_of
 from jls_tools.dicom_alone import is_against_rules
-from jls_tools.dicom_file import JPEG_LS, tag_name
-from jls_tools.dicom_frames import EXTENDED_LENGTHS, EXTENDED_TABLE, Fragments, shape_of
-from jls_tools.dicom_header import ALLOCATED, COLUMNS, FRAMES, ROWS, SAMPLES, STORED, SYNTAX, TWINS, Header
+from jls_tools.dicom_file import JPEG_LS, Element, tag_name
+from jls_tools.dicom_frames import EXTENDED_LENGTHS, EXTENDED_TABLE, Fragments, FramePlace, Shape, shape_of
+from jls_tools.dicom_header import ALLOCATED, BY_MOST, COLUMNS, FRAMES, ROWS, SAMPLES, STORED, SYNTAX, TWINS, Header
 from jls_tools.dicom_most import agreed
 from jls_tools.dicom_runs import FINEST, Runs
-from jls_tools.dicom_structure import Walk
+from jls_tools.dicom_structure import Structure, Walk
+from jls_tools.dicom_tables import Table
 from jls_tools.dicom_values import DIGITS_AND_DOTS, NOT_IN_TEXT, TEXTS, is_doubtful, is_written
 from jls_tools.dicom_write import expected_tables
 
+OVERWRITTEN = 8  # so many bytes of one value in a text, at least, can be written over it
 FAR_MORE = 8  # one in so many places still differs, at most, where copies that read in place are taken to have lost bytes
 
 
 class Layout:
     """The structure that the copies have together, and the places of the frames."""
 
-    def __init__(self, copies):
+    def __init__(self, copies: Sequence[Copy]) -> None:
         self.copies = copies
         self.ranges = differing([copy.data for copy in copies])
         self.agreed = agreed(copies, self.ranges)
         self.runs, self.structure = self.find()
         self.has_header = self.structure.is_found and self.structure.pixel_data is not None
         self.fragments = Fragments(self.structure, copies) if self.has_header else None
-        self.places = self.fragments.frames(self.frame_count()) if self.has_header else []
+        self.places: list[FramePlace] = self.fragments.frames(self.frame_count()) if self.fragments else []
 
-    def find(self):
+    def find(self) -> tuple[Runs, Structure]:
         """The way that reaches the end with the least strangeness; with finer runs where coarse ones are strange or lead nowhere."""
-        best = None
+        best: Optional[tuple[Runs, Structure]] = None
         apart = sum(end - begin for begin, end in self.ranges)
         for fineness in (0, 1, 2):
             if fineness == 2 and apart > FINEST:
@@ -38,9 +45,10 @@ class Layout:
                 best = runs, structure
             if fineness == 0 and rank(structure) == (False, False, False, 0) or fineness == 1 and is_through(best[1]):
                 break
+        assert best is not None
         return best
 
-    def frame_count(self):
+    def frame_count(self) -> Optional[int]:
         """Number of Frames, as far as any copy has a number there that can be true; None if copies have several."""
         element = next((element for element in self.structure.elements if element.tag == FRAMES), None)
         if element is None:
@@ -53,20 +61,20 @@ class Layout:
         return found.pop() if len(found) == 1 else None
 
     @property
-    def breaks(self):
+    def breaks(self) -> list[tuple[int, int]]:
         return self.structure.jumps if self.structure.is_found else []
 
     @property
-    def is_exact(self):
+    def is_exact(self) -> bool:
         """Whether each header reads, so that frames can be put where they were."""
         return not self.breaks and not self.structure.is_cut and all(place.is_exact for place in self.places)
 
-    def header(self, shape, count):
+    def header(self, shape: Optional[Shape], count: int) -> Header:
         """The Header, decided as far as the file can say."""
         ranges = [fragment for place in self.places for fragment in place.fragments]
         header = Header(self.copies, self.runs, self.structure, ranges)
-        table = {}
-        if self.places:
+        table: Table = {}
+        if self.places and self.fragments:
             basic, extended, sizes = expected_tables(self.places, self.fragments.first)
             table = {EXTENDED_TABLE: (0, extended), EXTENDED_LENGTHS: (0, sizes)}
             if self.fragments.table and self.fragments.table.length == len(basic):
@@ -75,16 +83,16 @@ class Layout:
         return header
 
 
-def is_through(structure):
+def is_through(structure: Structure) -> bool:
     return structure.is_found and not structure.jumps and not structure.is_cut
 
 
-def rank(structure):
+def rank(structure: Structure) -> tuple[bool, bool, bool, int]:
     """What is worse comes later: not found, jumps, an end before the last element's, cost."""
     return (not structure.is_found, bool(structure.jumps), structure.is_cut, structure.cost or 0)
 
 
-def laid_out(copies):
+def laid_out(copies: Sequence[Copy]) -> tuple[list[Copy], Layout]:
     """The copies on one axis, and their Layout. Where it breaks, or far fewer bytes differ then, they lost bytes at different places."""
     placed = on_one_axis(copies)
     layout = Layout(placed)
@@ -100,13 +108,13 @@ def laid_out(copies):
     return placed, layout
 
 
-def has_shape(header, stream):
+def has_shape(header: Header, stream: bytes) -> Optional[bool]:
     """Whether a codestream has the shape that the header says; None if one of both can't be told."""
     shape, wanted = shape_of(stream), [header.short(tag) for tag in (ROWS, COLUMNS, SAMPLES)]
     return None if shape is None or None in wanted else [shape.rows, shape.columns, shape.components] == wanted
 
 
-def forbidden(header):
+def forbidden(header: Header) -> Optional[str]:
     """What no file may have, where copies differ: elements that are not equal, or a value that its VR forbids; or nothing."""
     for first, second in TWINS:
         one, two = header.text(first), header.text(second)
@@ -120,15 +128,27 @@ def forbidden(header):
             return f"{tag_name(leaf.tag)} has what PS3.5 or PS3.10 forbids"
         if value and leaf.vr in TEXTS and not value.strip(b"\0") and any(leaf.bytes_of(copy.data).strip(b"\0") for copy in header.copies):
             return f"{tag_name(leaf.tag)} has zeros, and a copy has a text there"
+        if value and leaf.vr in TEXTS and is_overwritten(header, leaf):
+            return f"{tag_name(leaf.tag)} has one value many times where copies differ"
     return None
 
 
-def is_of_writer(vr, value, agreed):
+def is_overwritten(header: Header, leaf: Element) -> bool:
+    """Whether one value many times was taken in a text where copies differ, as something writes it over a text, and not most have it."""
+    for number in header.runs.touching(leaf.value, leaf.end):
+        if number in header.left and header.why[number] != BY_MOST:
+            part = header.runs.runs[number].part(header.left[number][0], leaf.value, leaf.end)
+            if len(part) >= OVERWRITTEN and not part.strip(part[:1]) and part[:1] != b" ":
+                return True
+    return False
+
+
+def is_of_writer(vr: bytes, value: bytes, agreed: bytes) -> bool:
     """Whether a writer put there what a VR forbids: where copies agree, as control characters, or as zeros before numbers of a UID."""
     return bool(NOT_IN_TEXT.search(agreed.rstrip(b"\0"))) or is_written(vr, value) or vr == b"UI" and bool(DIGITS_AND_DOTS.match(value))
 
 
-def contradiction(header, shape, frame_count):
+def contradiction(header: Header, shape: Optional[Shape], frame_count: int) -> Optional[str]:
     """What a Header says that the frames deny, or nothing."""
     if header.text(SYNTAX) != JPEG_LS:
         return f"the transfer syntax is {header.text(SYNTAX)}"

@@ -1,14 +1,18 @@
 """Mends a DICOM file of JPEG-LS frames from damaged copies of it: `mend` is what jls-dicom and jls-archive call."""
+from __future__ import annotations
+
 import hashlib
 import os
 import shutil
 import tempfile
+from collections.abc import Sequence
+from typing import Optional
 
 from jls_tools import dicom_gaps, partial_picture
 from jls_tools.dicom_align import Copy
 from jls_tools.dicom_alone import Stranger
 from jls_tools.dicom_finished import faults_of
-from jls_tools.dicom_frames import DELIMITER, by_search, paired_by_bytes
+from jls_tools.dicom_frames import DELIMITER, FramePlace, Shape, by_search, paired_by_bytes
 from jls_tools.dicom_instance import Instances, TwoInstances
 from jls_tools.dicom_kinds import NoKind, other_kinds
 from jls_tools.dicom_layout import contradiction, forbidden, has_shape, is_through, laid_out
@@ -17,6 +21,7 @@ from jls_tools.dicom_outputs import put_frames_folder, take_away, why_kept
 from jls_tools.dicom_result import FAILED, NOT_SUPPORTED, NOT_WHOLE, REFUSED, WHOLE, FrameResult, MendOptions, MendResult, Place
 from jls_tools.dicom_sum import BySum
 from jls_tools.dicom_tails import without_tails
+from jls_tools.dicom_transfers import undone
 from jls_tools.dicom_versions import versions_of
 from jls_tools.dicom_write import packed, put_frames, store, top_level
 from jls_tools.mending import FrameMender, Mended, is_connected, is_spliced, shapes_of
@@ -28,7 +33,7 @@ __all__ = ["FrameResult", "MendOptions", "MendResult", "Place", "mend"]
 class Refused(Exception):
     """Why nothing is written, and the status."""
 
-    def __init__(self, text, status=REFUSED):
+    def __init__(self, text: str, status: int = REFUSED) -> None:
         super().__init__(text)
         self.status = status
 
@@ -37,14 +42,14 @@ class Unsupported(Refused):
     """These programs don't read the frames. Nothing says that they are damaged."""
 
 
-def mend(paths, out, options=None, programs=None):
+def mend(paths: Sequence[str], out: str, options: Optional[MendOptions] = None, programs: Optional[Programs] = None) -> MendResult:
     """Writes the file `out` from the copies `paths`, and answers a MendResult. Programs that fail raise a ProgramFailed.
 
     `out` must not be there. A folder `OUT.frames` of an earlier run is made anew. Nothing is printed. The copies are only read.
     """
     result = MendResult()
     try:
-        Mending(paths, out, options or MendOptions(), programs or Programs(), result).run()
+        Mending(list(paths), out, options or MendOptions(), programs or Programs(), result).run()
     except Refused as refused:
         result.status, result.refusal, result.is_unsupported = refused.status, str(refused), isinstance(refused, Unsupported)
     except OSError as fault:
@@ -55,7 +60,7 @@ def mend(paths, out, options=None, programs=None):
 class Mending:
     """One call of `mend`."""
 
-    def __init__(self, paths, out, options, programs, result):
+    def __init__(self, paths: list[str], out: str, options: MendOptions, programs: Programs, result: MendResult) -> None:
         self.paths = paths
         self.out = out
         self.options = options
@@ -63,7 +68,7 @@ class Mending:
         self.result = result
         self.place_of_frames = f"{out}.frames"
 
-    def run(self):
+    def run(self) -> None:
         kept = why_kept(self.out)
         if kept is not None:
             raise Refused(kept, FAILED)
@@ -86,29 +91,35 @@ class Mending:
         finally:
             shutil.rmtree(folder, ignore_errors=True)
 
-    def look_at_kinds(self):
-        """Leaves out copies of another transfer syntax, and cuts tails. Refuses what is no DICOM file of JPEG-LS frames."""
+    def look_at_kinds(self) -> None:
+        """Leaves out copies of another transfer syntax, undoes transfers as text, cuts tails. Refuses what has no DICOM file of JPEG-LS."""
         try:
             others = other_kinds(self.paths, self.texts)
         except NoKind as fault:
             raise (Unsupported if fault.is_other else Refused)(str(fault)) from fault
         self.result.left_out = [(self.paths[at], why) for at, why in sorted(others.items())]
         self.paths = [path for at, path in enumerate(self.paths) if at not in others]
-        self.tails = without_tails([text for at, text in enumerate(self.texts) if at not in others])
+        texts = [text for at, text in enumerate(self.texts) if at not in others]
+        for at, text in undone(texts).items():
+            texts[at] = text
+            note = f"a transfer put a carriage return before each line feed of {self.paths[at]}: that was undone"
+            self.result.notes.append(note)
+        self.tails = without_tails(texts)
         self.texts = self.tails.texts
 
-    def look_at_versions(self, instances):
+    def look_at_versions(self, instances: Instances) -> None:
         """Gives all copies one header, where those of several read whole and have other lengths."""
         certain = [at for at in instances.certain if at not in instances.rests]
-        named = self.paths.index(self.options.header) if self.options.header in self.paths else None
+        named = next((at for at, path in enumerate(self.paths) if path == self.options.header), None)
         self.versions = versions_of(self.texts, certain, named)
         self.texts = self.versions.texts(self.texts, certain)
 
     # Copies ----------------------------------------------------------------------------
 
-    def mend_all(self, instances):
+    def mend_all(self, instances: Instances) -> None:
         """Mends with all that may be copies; then again without those that turn out to be none."""
         chosen = sorted([*instances.certain, *instances.uncertain, *instances.rests])
+        self.is_alone = False
         while True:
             self.take(chosen)
             strangers = self.strangers(instances, chosen)
@@ -118,9 +129,10 @@ class Mending:
                 why = "its UIDs don't agree or don't read, and no frame of it fits a copy of the instance"
                 self.result.left_out.append((self.paths[at], why))
             chosen = [at for at in chosen if at not in strangers]
+            self.is_alone = len(chosen) == 1
         self.finish()
 
-    def strangers(self, instances, chosen):
+    def strangers(self, instances: Instances, chosen: list[int]) -> list[int]:
         """Of copies whose UIDs don't say what they are: those of which no frame equals, or is spliced with, one of a certain copy."""
         certain = [chosen.index(at) for at in instances.certain if at in chosen]
         if not certain:
@@ -131,20 +143,22 @@ class Mending:
                 found.append(at)
         return found
 
-    def fits(self, copy, frame, certain):
+    def fits(self, copy: int, frame: int, certain: Sequence[int]) -> bool:
         own, mended = self.own[frame].get(copy), self.mended[frame]
         others = [self.own[frame][other] for other in certain if other in self.own[frame]]
         if own is None:
             return False
-        return any(is_connected(own, other) or mended.is_whole and is_spliced(mended.stream, own, other) for other in others)
+        spliced = mended.stream if mended.is_whole else None
+        return any(is_connected(own, other) or spliced is not None and is_spliced(spliced, own, other) for other in others)
 
-    def take(self, chosen):
+    def take(self, chosen: Sequence[int]) -> None:
         """Lays these copies on one axis, finds their way and their frames, and mends each frame."""
         self.copies, self.layout = laid_out([self.copy_at(at) for at in chosen])
         named = enumerate(zip(self.paths, self.texts))
         self.strange = [Stranger(path, text, at in self.uncertain) for at, (path, text) in named if at not in chosen]
         self.own = [self.own_streams(place, [copy.data for copy in self.copies]) for place in self.layout.places]
-        filled, self.kept = self.own, {}
+        filled = self.own
+        self.kept: dict[int, list[bytes]] = {}
         if self.layout.has_header and is_through(self.layout.structure):
             lost = Lost(self.copies, self.layout)
             texts = lost.filled()
@@ -152,10 +166,10 @@ class Mending:
             self.kept = {place.number: lost.of_this_file(place, filled[place.number]) for place in self.layout.places}
         self.streams = [list(dict.fromkeys(own.values())) for own in filled]
         if not self.layout.places:
-            texts = [self.texts[at][self.rests.get(at, (0,))[0] :] for at in chosen]  # a foreign beginning has frames of its own
+            texts = [self.texts[at][self.rests.get(at, (0, 0))[0] :] for at in chosen]  # a foreign beginning has frames of its own
             self.streams = paired_by_bytes([[text[begin:end] for begin, end in by_search(text)] for text in texts])
             self.own = [dict(enumerate(streams)) for streams in self.streams]
-        self.mended = []
+        self.mended: list[Mended] = []
         for number, streams in enumerate(self.streams):
             begin = self.layout.places[number].begin if self.layout.places else 0
             self.mended.append(self.mended_frame(number, streams, begin))
@@ -163,7 +177,7 @@ class Mending:
                 self.options.progress(number + 1, len(self.streams))
         self.refuse_unsupported()
 
-    def mended_frame(self, number, streams, begin):
+    def mended_frame(self, number: int, streams: list[bytes], begin: int) -> Mended:
         """A Mended: of all streams, or if it isn't whole of those that are of this file, if these are fewer and it is whole then."""
         place = self.layout.places[number] if self.layout.places else None
         if place and place.is_exact and any(self.layout.structure.has_rival(first - 8, last) for first, last in place.fragments):
@@ -175,7 +189,7 @@ class Mending:
         other = self.mender.mend(number, kept, begin)
         return other if other.is_whole else mended
 
-    def mended_by_most(self, number, begin):
+    def mended_by_most(self, number: int, begin: int) -> Optional[Mended]:
         """A Mended of three copies or more: what most of them have, if it is whole; or nothing."""
         place = self.layout.places[number] if self.layout.places else None
         if place is None or any(copy.lacks(place.begin, place.end) for copy in self.copies):
@@ -185,7 +199,7 @@ class Mending:
         mended = self.mender.mend(number, [stream], begin) if stream is not None else None
         return mended if mended and mended.is_whole else None
 
-    def copy_at(self, at):
+    def copy_at(self, at: int) -> Copy:
         """A copy. One whose beginning a foreign file has overwritten has only the rest."""
         text = self.texts[at]
         if at not in self.rests:
@@ -193,7 +207,7 @@ class Mending:
         until, beside = self.rests[at]
         return Copy(self.paths[at], self.texts[beside][:until] + text[until:], [(0, until)], text[:until])
 
-    def own_streams(self, place, texts):
+    def own_streams(self, place: FramePlace, texts: Sequence[bytes]) -> dict[int, bytes]:
         """{copy: its stream of a frame}, of copies that have some of it. `texts` are the bytes of the copies."""
         found = {}
         for number, copy in enumerate(self.copies):
@@ -205,7 +219,7 @@ class Mending:
             found = {number: stream[:-1] if len(stream) == place.size else stream for number, stream in found.items()}
         return found
 
-    def refuse_unsupported(self):
+    def refuse_unsupported(self) -> None:
         """Refuses a file of which no line came back, and whose frames have a coding that isn't read."""
         results = [frame.result for frame in self.mended]
         names = sorted({result.note for result in results if result.kind == NOT_SUPPORTED})
@@ -214,7 +228,7 @@ class Mending:
 
     # What comes of it --------------------------------------------------------------------
 
-    def finish(self):
+    def finish(self) -> None:
         self.shape = shapes_of(self.mended, self.streams)
         self.name_counts()
         self.header = self.layout.header(self.shape, len(self.mended))
@@ -229,41 +243,43 @@ class Mending:
         self.note_breaks()
         self.data = self.header.merged()
         if self.options.sha256 is not None:
-            self.by_sum()
+            self.by_sum(self.options.sha256.lower())
         else:
             self.without_sum()
         self.result.places = self.header.places()
         self.result.versions = self.versions.told(self.paths)
 
-    def deny_other_shapes(self):
+    def deny_other_shapes(self) -> None:
         """A frame of another shape than the header says is of another file, if most bytes of codestreams are of the header's."""
-        sizes = {True: 0, False: 0, None: 0}
+        sizes: dict[Optional[bool], int] = {True: 0, False: 0, None: 0}
         for stream in (stream for streams in self.streams for stream in streams):
             sizes[has_shape(self.header, stream)] += len(stream)
         for frame in self.mended if sizes[True] > sizes[False] else ():
-            if frame.is_whole and has_shape(self.header, frame.stream) is False:
+            if frame.is_whole and frame.stream is not None and has_shape(self.header, frame.stream) is False:
                 frame.result.kind, frame.result.note = "disputed", "it has another shape than the header says"
 
-    def name_counts(self):
+    def name_counts(self) -> None:
         """A frame of which there is nothing has as many lines missing as the others have."""
         for frame in self.mended:
             result = frame.result
             if result.kind == "missing" and result.missing == 0 and self.shape:
                 result.missing = self.shape.rows * self.shape.components
 
-    def note_breaks(self):
+    def note_breaks(self) -> None:
         for begin, end in self.layout.breaks:
             self.result.notes.append(f"no copy has what stands at {begin}: the next that reads is at {end}")
         if self.layout.structure.is_cut:
             self.result.notes.append("the file ends before its last element does")
 
-    def can_write(self):
+    def can_write(self) -> Optional[str]:
         """Whether the header is decided and reads; why not, else."""
         for doubt in (why for at, why in self.doubts.items() if self.options.header != self.paths[at]):
             return doubt
         fault = self.versions.fault()
         if fault is not None:
             return fault
+        if self.is_alone and self.options.header is None:
+            return "one copy alone is left, and nothing confirms its header"
         if not self.layout.has_header:
             return "no copy has a header that leads to Pixel Data"
         if self.header.is_open:
@@ -279,41 +295,41 @@ class Mending:
         fault = contradiction(self.header, self.shape, len(self.mended))
         return fault if fault or self.options.header is not None else forbidden(self.header)
 
-    def is_in_pixels(self, begin, end):
+    def is_in_pixels(self, begin: int, end: int) -> bool:
         structure = self.layout.structure
-        return structure.pixel_data.value <= begin and end <= structure.end_of_pixels()
+        pixels = structure.pixel_data
+        return pixels is not None and pixels.value <= begin and end <= structure.end_of_pixels()
 
-    def all_whole(self):
+    def all_whole(self) -> bool:
         return all(frame.is_whole for frame in self.mended)
 
-    def without_sum(self):
+    def without_sum(self) -> None:
         if self.tails.cut:
             names = ", ".join(self.paths[at] for at in self.tails.cut)
             self.result.notes.append(f"bytes after the last element are no part of the file: they were cut from {names}")
         fault = self.can_write()
         if fault is None and self.all_whole():
-            self.write_whole([frame.stream for frame in self.mended])
+            self.write_whole([frame.stream for frame in self.mended if frame.stream is not None])
         elif fault is None and self.options.with_gaps is not None:
-            self.write_filled()
+            self.write_filled(self.options.with_gaps)
         else:
             if fault is not None:
                 self.result.notes.append(f"OUT is not written: {fault}")
             self.write_frames()
 
-    def write_whole(self, streams):
-        data = bytearray(self.data)
-        self.result.in_place = self.layout.is_exact and put_frames(data, self.layout.places, streams, self.copies)
-        if not self.result.in_place:
-            data = packed(self.data, self.layout.structure, streams)
+    def write_whole(self, streams: list[bytes]) -> None:
+        placed = bytearray(self.data)
+        self.result.in_place = self.layout.is_exact and put_frames(placed, self.layout.places, streams, self.copies)
+        data = bytes(placed) if self.result.in_place else packed(self.data, self.layout.structure, streams)
         self.result.is_guessed = self.header.is_guessed
-        fault = self.fault_of(bytes(data))
+        fault = self.fault_of(data)
         if fault is None:
-            self.store(bytes(data) + self.tails.ways[0], WHOLE)
+            self.store(data + self.tails.ways[0], WHOLE)
         else:
             self.result.notes.append(f"OUT is not written: {fault}")
             self.write_frames()
 
-    def fault_of(self, data):
+    def fault_of(self, data: bytes) -> Optional[str]:
         """What forbids status 0 in the finished file. What every copy has is its writer's: that is noted."""
         moved = len(data) - len(self.data)
         for fault in faults_of(data, len(self.mended)):
@@ -324,13 +340,13 @@ class Mending:
             self.result.notes.append(f"{len(tail)} bytes stand after the last element: every copy has them")
         return None
 
-    def is_in_all(self, begin, end, moved):
+    def is_in_all(self, begin: int, end: int, moved: int) -> bool:
         """Whether each copy has the bytes of this range of the finished file. What follows Pixel Data can have been moved."""
         shift = moved if begin >= self.layout.structure.end_of_pixels() + moved else 0
         begin, end = begin - shift, end - shift
         return not any(copy.lacks(begin, end) for copy in self.copies) and len({copy.data[begin:end] for copy in self.copies}) == 1
 
-    def store(self, data, status):
+    def store(self, data: bytes, status: int) -> None:
         store(data, self.out, self.folder)
         take_away(self.place_of_frames, self.folder)
         self.result.written, self.result.status = True, status
@@ -338,11 +354,11 @@ class Mending:
 
     # With a sum ----------------------------------------------------------------------------
 
-    def by_sum(self):
+    def by_sum(self, wanted: str) -> None:
         """Tries what is open, until the file has the sum that is given."""
         heads = self.versions.heads()
         by_sum = BySum(self.layout, self.header, self.copies, self.mended, bytes(self.data), self.tails.ways, heads)
-        found = by_sum.find(self.options.sha256.lower())
+        found = by_sum.find(wanted)
         if found is None:
             self.result.notes.append("OUT is not written: no combination of what is open has the SHA-256 that is given")
             self.write_frames()
@@ -353,7 +369,7 @@ class Mending:
 
     # Where not all is there ----------------------------------------------------------------
 
-    def write_frames(self):
+    def write_frames(self) -> None:
         """All frames that came back, in a folder."""
         self.result.status = NOT_WHOLE
         kept = [frame for frame in self.mended if frame.is_whole or frame.partial]
@@ -363,41 +379,43 @@ class Mending:
         os.mkdir(part)
         for frame in kept:
             name = os.path.join(part, f"frame-{frame.result.number:04}")
-            if frame.is_whole:
+            if frame.is_whole and frame.stream is not None:
                 with open(f"{name}.jls", "wb") as file:
                     file.write(frame.stream)
-            else:
+            elif frame.partial is not None:
                 shutil.copyfile(frame.partial, f"{name}.jlsp")
         put_frames_folder(part, self.place_of_frames, self.folder)
         self.result.folder = self.place_of_frames
 
-    def write_filled(self):
+    def write_filled(self, sample: int) -> None:
         """OUT with one value in each line that is lost, as a file of its own."""
         if self.shape is None:
             raise Refused("no frame says what shape the picture has", NOT_WHOLE)
-        if not 0 <= self.options.with_gaps < 1 << self.shape.precision:
-            raise Refused(f"--with-gaps {self.options.with_gaps}: the samples have {self.shape.precision} bits", 2)
-        ids = self.component_ids()
-        streams, lost = [], []
+        if not 0 <= sample < 1 << self.shape.precision:
+            raise Refused(f"--with-gaps {sample}: the samples have {self.shape.precision} bits", 2)
+        ids = self.component_ids(self.shape)
+        streams: list[bytes] = []
+        lost: list[tuple[int, list[str]]] = []
         for frame in self.mended:
-            if frame.is_whole:
+            if frame.is_whole and frame.stream is not None:
                 streams.append(frame.stream)
                 continue
-            picture = partial_picture.read(frame.partial) if frame.partial else dicom_gaps.Empty(self.shape, ids)
+            picture: dicom_gaps.AnyPicture = dicom_gaps.Empty(self.shape, ids)
+            picture = partial_picture.read(frame.partial) if frame.partial else picture
             lost.append((frame.result.number, dicom_gaps.filled_lines(picture)))
-            streams.append(self.filled(frame.result.number, picture))
+            streams.append(self.filled(frame.result.number, picture, sample))
         elements = dicom_gaps.derived(top_level(self.data, self.layout.structure), dicom_gaps.description_of(lost))
         self.store(packed(self.data, self.layout.structure, streams, elements), NOT_WHOLE)
 
-    def component_ids(self):
+    def component_ids(self, shape: Shape) -> list[int]:
         for frame in self.mended:
             if frame.shape:
                 return [int(name) for name in frame.shape.rpartition(" ")[2].split(",")]
-        return list(range(1, self.shape.components + 1))
+        return list(range(1, shape.components + 1))
 
-    def filled(self, number, picture):
+    def filled(self, number: int, picture: dicom_gaps.AnyPicture, sample: int) -> bytes:
         text, stream = f"{number}.filled", f"{number}.written"
-        self.mender.put(text, dicom_gaps.filled_text(picture, self.options.with_gaps))
+        self.mender.put(text, dicom_gaps.filled_text(picture, sample))
         outcome = self.programs.write_jls(stream, text, self.folder, by_line=len(picture.ids) > 1)
         if outcome.status != 0:
             raise Refused(f"frame {number} can't be written: {outcome.faults.strip()}", FAILED)
@@ -405,6 +423,6 @@ class Mending:
         return dicom_gaps.with_transform(self.mender.get(stream), segment)
 
 
-def read(path):
+def read(path: str) -> bytes:
     with open(path, "rb") as file:
         return file.read()

@@ -1,6 +1,7 @@
 """What mending a DICOM file came to: the words between `jls-dicom mend` and whoever calls it."""
 from __future__ import annotations
 
+from collections.abc import Callable
 from dataclasses import dataclass, field
 
 # The statuses that a MendResult has; a ProgramFailed of programs.py stands for all others
@@ -18,7 +19,7 @@ class MendOptions:
     sha256: str | None = None
     with_gaps: int | None = None
     tries: int | None = None
-    progress: object = None  # called with (frames done, frames)
+    progress: Callable[[int, int], object] | None = None  # called with (frames done, frames)
 
 
 @dataclass

@@ -1,5 +1,18 @@
 """The finished file by its SHA-256: what is open is tried, until the file has the sum that is given."""
-from jls_tools.dicom_write import find_sum, in_fragments, padding, with_choices
+from __future__ import annotations
+
+from collections.abc import Sequence
+from typing import TYPE_CHECKING, Optional
+
+from jls_tools.dicom_align import Copy
+from jls_tools.dicom_frames import FramePlace
+from jls_tools.dicom_header import Header
+from jls_tools.dicom_result import Place
+from jls_tools.dicom_write import Choice, find_sum, in_fragments, padding, with_choices
+from jls_tools.mending import Mended
+
+if TYPE_CHECKING:
+    from jls_tools.dicom_layout import Layout
 
 MATCHED = "the SHA-256 matched"
 
@@ -7,7 +20,16 @@ MATCHED = "the SHA-256 matched"
 class BySum:
     """What is open in a file: frames of which several streams decode, places outside of them, its header, and what follows its end."""
 
-    def __init__(self, layout, header, copies, mended, data, tails, heads=()):
+    def __init__(
+        self,
+        layout: Layout,
+        header: Header,
+        copies: Sequence[Copy],
+        mended: Sequence[Mended],
+        data: bytes,
+        tails: list[bytes],
+        heads: Sequence[bytes] = (),
+    ) -> None:
         self.layout = layout
         self.header = header
         self.copies = copies
@@ -16,11 +38,11 @@ class BySum:
         self.tails = tails
         self.heads = heads  # what can stand before Pixel Data, if copies have several headers: that in the data first
 
-    def find(self, wanted):
+    def find(self, wanted: str) -> Optional[bytes]:
         """The file that has this sum, or nothing. Frames and places then say that the sum decided them."""
         choices = self.choices()
         taken = find_sum(self.data, choices, wanted) if choices is not None else None
-        if taken is None:
+        if choices is None or taken is None:
             return None
         for frame in self.mended:
             if not frame.is_whole:
@@ -28,9 +50,9 @@ class BySum:
         self.take(choices, taken)
         return with_choices(self.data, choices, taken)
 
-    def choices(self):
+    def choices(self) -> Optional[list[Choice]]:
         """[(begin, end, ways)] of what is open, in order; nothing if a frame has no stream that fits."""
-        found = []
+        found: list[Choice] = []
         for place, frame in zip(self.layout.places, self.mended):
             ways = self.frame_ways(place, frame)
             if not ways:
@@ -46,7 +68,7 @@ class BySum:
         found.sort(key=lambda choice: choice[0])
         return [*found, (len(self.data), len(self.data), self.tails)]
 
-    def frame_ways(self, place, frame):
+    def frame_ways(self, place: FramePlace, frame: Mended) -> list[bytes]:
         """The bytes from a frame's begin to its end, for each stream that decodes and fits."""
         found = []
         for stream in dict.fromkeys(([frame.stream] if frame.stream is not None else []) + frame.others):
@@ -58,7 +80,7 @@ class BySum:
                 found.append(bytes(data))
         return found
 
-    def take(self, choices, taken):
+    def take(self, choices: Sequence[Choice], taken: Sequence[int]) -> None:
         for (begin, end, ways), way in zip(choices, taken):
             for number in self.header.open_runs(begin, end):
                 run = self.header.runs.runs[number]
@@ -67,7 +89,7 @@ class BySum:
         for place in self.header.alone:
             self.header.take_alone(place, self.copy_of(place), MATCHED)
 
-    def copy_of(self, place):
+    def copy_of(self, place: Place) -> int:
         """A copy that has a place itself; the first of all, if each lacks some of it."""
         end = place.offset + place.length
         return next((number for number, copy in enumerate(self.copies) if not copy.lacks(place.offset, end)), 0)

@@ -1,52 +1,62 @@
 """Offset tables of Pixel Data (PS3.5, A.4): what the frames say that they have, and what no table can have."""
+from __future__ import annotations
+
+from collections.abc import Collection
+from typing import TYPE_CHECKING, Optional
+
 from jls_tools.dicom_file import PIXEL_DATA
 from jls_tools.dicom_frames import EXTENDED_TABLE
 from jls_tools.dicom_media import BESIDE_TABLE
 from jls_tools.dicom_result import Place
 
+if TYPE_CHECKING:
+    from jls_tools.dicom_header import Header
+
 FRAMES_BEGIN = "there the frames begin"
 WITHIN = "others lead beyond the file"
 FIRST_FRAME = "the first frame begins there, and others count from nowhere"
+Table = dict[Optional[int], tuple[int, bytes]]  # what tables should have, by tag; None is that of the basic one, with where it begins
+Numbers = list[tuple[int, dict[int, int]]]  # (a number that can stand at a place, {run: way})
 
 
 class Tables:
     """Decides what a Header has in offset tables. `places` has a Place for each part of one of which no copy has each byte."""
 
-    def __init__(self, header):
+    def __init__(self, header: Header) -> None:
         self.header = header
         self.runs = header.runs
         self.left = header.left
-        self.places = []
+        self.places: list[Place] = []
 
-    def decide(self, table):
+    def decide(self, table: Table) -> None:
         """`table` has what tables should have, by tag; None is the tag of the basic one, with where it begins."""
         elements = self.header.elements
         for tag, expected in table.items():
+            begin, numbers = expected
             if tag is None:
-                begin, end = expected[0], expected[0] + len(expected[1])
-                self.keep_bytes(begin, end, expected[1])
-                self.by_reach(begin, end, 4)
-                self.by_origins(begin, expected[1])
-            elif tag in elements and elements[tag].length == len(expected[1]):
-                self.keep_bytes(elements[tag].value, elements[tag].end, expected[1])
+                self.keep_bytes(begin, begin + len(numbers), numbers)
+                self.by_reach(begin, begin + len(numbers), 4)
+                self.by_origins(begin, numbers)
+            elif tag in elements and elements[tag].length == len(numbers):
+                self.keep_bytes(elements[tag].value, elements[tag].end, numbers)
                 if tag == EXTENDED_TABLE:
                     self.by_reach(elements[tag].value, elements[tag].end, 8)
 
-    def open_readings(self, begin, end):
+    def open_readings(self, begin: int, end: int) -> Numbers:
         """[(the number that stands there, {run: way})] if something there is open."""
         readings = self.header.readings(begin, end) if self.header.open_runs(begin, end) else []
         return [(int.from_bytes(value, "little"), ways) for value, ways in readings]
 
-    def keep(self, readings, numbers, why):
+    def keep(self, readings: Numbers, numbers: Collection[int], why: str) -> None:
         self.header.keep_readings([(number, ways) for number, ways in readings if number in numbers], why)
 
-    def by_reach(self, begin, end, size):
+    def by_reach(self, begin: int, end: int, size: int) -> None:
         """Leaves for each entry what leads to a place in the file, from wherever a writer counts."""
         for at in range(begin, end, size):
             readings = self.open_readings(at, at + size)
             self.keep(readings, {number for number, _ in readings if number < len(self.runs.data)}, WITHIN)
 
-    def by_origins(self, begin, expected):
+    def by_origins(self, begin: int, expected: bytes) -> None:
         """A table of one entry: leaves 0, if another number counts from nowhere, and is of copies that were damaged beside it."""
         readings = self.open_readings(begin, begin + 4) if len(expected) == 4 else []
         others = [(number, ways) for number, ways in readings if number != 0]
@@ -59,14 +69,14 @@ class Tables:
         if all(any(self.is_beside_damage(*choice) for choice in ways.items()) for _, ways in others):
             self.keep(readings, {0}, FIRST_FRAME)
 
-    def is_beside_damage(self, number, way):
+    def is_beside_damage(self, number: int, way: int) -> bool:
         """Whether the bytes just before or after a run were decided against all copies that have this way."""
         run = self.runs.runs[number]
         beside = self.runs.touching(run.begin - 1, run.end + 1)
         decided = [each for each in beside if each != number and len(self.left.get(each, ())) == 1]
         return any(not self.header.holders(each) & set(run.holders[way]) for each in decided)
 
-    def keep_bytes(self, begin, end, expected):
+    def keep_bytes(self, begin: int, end: int, expected: bytes) -> None:
         """Leaves for each run in a range the ways that have these bytes, if all is so where the copies agree."""
         if not self.agrees(begin, end, expected):
             return
@@ -81,7 +91,7 @@ class Tables:
                 if is_taken and begin <= run.begin and run.end <= end:
                     self.header.keep(number, self.left[number][:1], FRAMES_BEGIN)
 
-    def agrees(self, begin, end, expected):
+    def agrees(self, begin: int, end: int, expected: bytes) -> bool:
         """Whether a table can be what it should: some writers count from elsewhere. Zeros beside lost places say nothing."""
         numbers, wanted = self.runs.touching(begin, end), bytearray(expected)
         for number in numbers:
@@ -93,7 +103,7 @@ class Tables:
         apart = [number for number in numbers if number in self.left]
         return expected.strip(b"\0") != b"" or not any(self.is_beside_lost(number, way) for number in apart for way in self.left[number])
 
-    def is_beside_lost(self, number, way):
+    def is_beside_lost(self, number: int, way: int) -> bool:
         """Whether zeros of a run are of copies that lost what stands beside it."""
         run = self.runs.runs[number]
         if run.ways[way].strip(b"\0"):
@@ -102,7 +112,7 @@ class Tables:
         decided = [each for each in beside if each != number and len(self.left.get(each, ())) == 1]
         return any(not self.header.holders(each) & set(run.holders[way]) for each in decided)
 
-    def by_bytes(self, begin, wanted):
+    def by_bytes(self, begin: int, wanted: bytes) -> bool:
         """Takes what a table has to have, if some copy has each byte of it, but none all of them; answers whether it is so."""
         end = begin + len(wanted)
         values = [(copy.path, copy.data[begin:end]) for copy in self.header.copies if not copy.lacks(begin, end)]

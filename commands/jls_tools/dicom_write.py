@@ -1,16 +1,23 @@
 """Builds the mended DICOM file: with each byte in its place, or packed anew; and stores it whole or not at all."""
+from __future__ import annotations
+
 import hashlib
 import os
 import struct
+from collections.abc import Iterator, Sequence
+from typing import Optional
 
+from jls_tools.dicom_align import Copy
 from jls_tools.dicom_file import ITEM, PIXEL_DATA, SEQUENCE_END, UNDEFINED, tag_bytes
-from jls_tools.dicom_frames import EXTENDED_LENGTHS, EXTENDED_TABLE
+from jls_tools.dicom_frames import EXTENDED_LENGTHS, EXTENDED_TABLE, FramePlace
+from jls_tools.dicom_structure import Structure
 
 MOST_TRIED = 4096
 NO_TABLE_FROM = 1 << 32
+Choice = tuple[int, int, list[bytes]]  # (begin, end, what can stand there)
 
 
-def padding(place, stream, copies):
+def padding(place: FramePlace, stream: bytes, copies: Sequence[Copy]) -> Optional[bytes]:
     """The bytes between the end of a frame's stream and the end of its place, or None if the frame does not fit there."""
     count = place.size - len(stream)
     if count < 0:
@@ -21,7 +28,7 @@ def padding(place, stream, copies):
     return tails.pop() if len(tails) == 1 and count <= 1 else None
 
 
-def in_fragments(place, stream):
+def in_fragments(place: FramePlace, stream: bytes) -> Iterator[tuple[int, bytes]]:
     """The parts of a stream for the fragments of its place: (begin, bytes)."""
     at = 0
     for begin, end in place.fragments:
@@ -29,7 +36,7 @@ def in_fragments(place, stream):
         at += end - begin
 
 
-def put_frames(data, places, streams, copies):
+def put_frames(data: bytearray, places: Sequence[FramePlace], streams: Sequence[bytes], copies: Sequence[Copy]) -> bool:
     """Puts streams into their places; answers whether all of them fit there."""
     for place, stream in zip(places, streams):
         pad = padding(place, stream, copies)
@@ -40,15 +47,15 @@ def put_frames(data, places, streams, copies):
     return True
 
 
-def item(value):
+def item(value: bytes) -> bytes:
     return tag_bytes(ITEM) + struct.pack("<I", len(value)) + value
 
 
-def even(stream):
+def even(stream: bytes) -> bytes:
     return stream + b"\0" * (len(stream) % 2)
 
 
-def pixel_data(streams, vr):
+def pixel_data(streams: Sequence[bytes], vr: bytes) -> bytes:
     """Pixel Data with an offset table, a fragment for each frame."""
     offsets, at = [], 0
     for stream in streams:
@@ -60,7 +67,7 @@ def pixel_data(streams, vr):
     return b"".join(parts) + tag_bytes(SEQUENCE_END) + b"\0\0\0\0"
 
 
-def top_level(data, structure):
+def top_level(data: bytes, structure: Structure) -> list[tuple[int, bytes]]:
     """[(tag, bytes)] of the elements before Pixel Data, each with all that it has inside."""
     elements = structure.elements
     found = []
@@ -71,15 +78,16 @@ def top_level(data, structure):
     return found
 
 
-def packed(data, structure, streams, elements=None):
+def packed(data: bytes, structure: Structure, streams: Sequence[bytes], elements: Optional[list[tuple[int, bytes]]] = None) -> bytes:
     """The file with these streams as its frames. `elements` stand for those before Pixel Data, where they were changed."""
     elements = top_level(data, structure) if elements is None else elements
     head = b"".join(value for tag, value in elements if tag not in (EXTENDED_TABLE, EXTENDED_LENGTHS))
-    preamble = bytes(data[:128]) + b"DICM"
-    return preamble + head + pixel_data(streams, structure.pixel_data.vr) + bytes(data[structure.end_of_pixels() :])
+    preamble, pixels = bytes(data[:128]) + b"DICM", structure.pixel_data
+    assert pixels is not None
+    return preamble + head + pixel_data(streams, pixels.vr) + bytes(data[structure.end_of_pixels() :])
 
 
-def expected_tables(places, first):
+def expected_tables(places: Sequence[FramePlace], first: int) -> tuple[bytes, bytes, bytes]:
     """What offset tables should have, for frames whose places are known: {tag or None: (where it begins, bytes)} without the places."""
     starts = [max(0, place.begin - 8 - first) for place in places]  # a file that is cut in a header has less than eight bytes there
     basic = struct.pack(f"<{len(starts)}I", *(start & 0xFFFFFFFF for start in starts))
@@ -91,7 +99,7 @@ def expected_tables(places, first):
 # Sums ----------------------------------------------------------------------------------
 
 
-def find_sum(data, choices, wanted):
+def find_sum(data: bytes, choices: Sequence[Choice], wanted: str) -> Optional[list[int]]:
     """The combination of choices with which a file has this SHA-256, as a list of indices; None if none of those that are tried has.
 
     `choices` are (begin, end, [bytes]) in order, not overlapping.
@@ -101,7 +109,7 @@ def find_sum(data, choices, wanted):
     first = hashlib.sha256(data[: choices[0][0] if choices else len(data)])
     if not choices:
         return [] if first.hexdigest() == wanted else None
-    waiting = [(first, [])]
+    waiting: list[tuple[hashlib._Hash, list[int]]] = [(first, [])]
     while waiting and tried < MOST_TRIED:
         before, taken = waiting.pop()
         if len(taken) == len(choices):
@@ -119,8 +127,9 @@ def find_sum(data, choices, wanted):
     return None
 
 
-def with_choices(data, choices, taken):
-    parts, at = [], 0
+def with_choices(data: bytes, choices: Sequence[Choice], taken: Sequence[int]) -> bytes:
+    parts: list[bytes] = []
+    at = 0
     for (begin, end, ways), number in zip(choices, taken):
         parts += [data[at:begin], ways[number]]
         at = end
@@ -130,7 +139,7 @@ def with_choices(data, choices, taken):
 # Storing -------------------------------------------------------------------------------
 
 
-def store(data, out, folder):
+def store(data: bytes, out: str, folder: str) -> None:
     """Stores a new file: whole, or not at all. `folder` is one for temporary files in the same file system. It replaces nothing."""
     part = os.path.join(folder, "out")
     with open(part, "xb") as file:
@@ -146,7 +155,7 @@ def store(data, out, folder):
         os.rename(part, out)
 
 
-def user_mask():
+def user_mask() -> int:
     mask = os.umask(0o077)
     os.umask(mask)
     return mask

@@ -14,7 +14,7 @@ from .dicom_frames import MARKER
 SONAME = "libjls_salvage.so.2"
 DONE, END_EOI = 0, 0  # of enum jls_answer and enum jls_end
 EOI = b"\xff\xd9"
-LARGEST = 1 << 28  # bytes of a copy: of a larger one the program says it, which a signal ends at once
+LARGEST = 1 << 26  # bytes of a copy: of a larger one the program says it, which a signal ends at once
 
 
 class Info(ctypes.Structure):
@@ -29,10 +29,15 @@ class Info(ctypes.Structure):
 
 
 class Whole(NamedTuple):
-    """A picture of which each line is settled: how many there are, and its shape as `check` prints it."""
+    """A picture of which each line is settled: how many there are, its shape as `check` prints it, and where its EOI stands."""
 
     settled: int
     shape: str
+    end: int
+
+    def printed(self) -> str:
+        """What `check` prints of it."""
+        return f"end eoi {self.end}\npicture {self.shape}\nsettled {self.settled}, missing 0, disputed 0\n"
 
 
 def places(program: str) -> List[str]:
@@ -80,7 +85,15 @@ class Library:
         if ids is None or len(ids) != found.components:
             return None
         named = ",".join(map(str, ids))
-        return Whole(found.settled, f"{found.width}x{found.height}, {found.precision} bits, components {named}")
+        return Whole(found.settled, f"{found.width}x{found.height}, {found.precision} bits, components {named}", found.end_offset)
+
+    def whole_at(self, path: str) -> Optional[Whole]:
+        """The same of a file. One that can't be read is for the program to tell."""
+        try:
+            with open(path, "rb") as file:
+                return self.whole(file.read()) if os.fstat(file.fileno()).st_size <= LARGEST else None
+        except OSError:
+            return None
 
 
 def find(program: str) -> Optional[Library]:

@@ -4,13 +4,15 @@ from __future__ import annotations
 import itertools
 import os
 import re
+from collections.abc import Iterable, Iterator, Sequence
 from dataclasses import dataclass, field
+from typing import TypeVar
 
 from jls_tools.dicom_align import differing
-from jls_tools.dicom_frames import has_usual_parameters, shape_of
+from jls_tools.dicom_frames import Shape, has_usual_parameters, shape_of
 from jls_tools.dicom_media import SECTORS
-from jls_tools.dicom_result import FAILED, FrameResult
-from jls_tools.programs import ProgramFailed
+from jls_tools.dicom_result import FAILED, FrameResult, MendOptions
+from jls_tools.programs import Outcome, ProgramFailed, Programs, Report, Splice
 from jls_tools.unsupported import NOT_SUPPORTED, unsupported
 
 # A frame is known by what stands after its headers
@@ -22,6 +24,7 @@ MOST_CROSSED, MOST_SECTORS = 40, 5
 SAME_RUN, SAME_KINDS, REST_KINDS = re.compile(rb"\0{8,}"), 6, 24
 ZERO_RUN = re.compile(rb"\0{8,}")
 EQUAL_RUN = re.compile(rb"\0{4,}")
+AnyOutcome = TypeVar("AnyOutcome", bound=Outcome)
 
 
 @dataclass
@@ -30,30 +33,30 @@ class Mended:
 
     result: FrameResult
     stream: bytes | None = None
-    others: list = field(default_factory=list)
+    others: list[bytes] = field(default_factory=list)
     partial: str | None = None  # the path of the partial picture
     shape: str = ""
 
     @property
-    def is_whole(self):
+    def is_whole(self) -> bool:
         return self.result.kind == "whole"
 
 
-def equal_bytes(one, other):
+def equal_bytes(one: bytes, other: bytes) -> int:
     """How many bytes of two streams are equal at equal offsets."""
     size = min(len(one), len(other))
     apart = int.from_bytes(one[:size], "big") ^ int.from_bytes(other[:size], "big")
     return apart.to_bytes(size, "big").count(0)
 
 
-def is_zeros(stream, other):
+def is_zeros(stream: bytes, other: bytes) -> bool:
     """Whether a stream is zeros wherever it differs from the other one, nearly."""
     size = min(len(stream), len(other))
     apart = [one for one, two in zip(stream[:size], other[:size]) if one != two]
     return len(apart) == 0 or apart.count(0) * 10 >= len(apart) * 9
 
 
-def shares_little(stream, other):
+def shares_little(stream: bytes, other: bytes) -> bool:
     """Whether another copy has a codestream at this place with less than half of these bytes.
 
     What is zeros wherever it differs is none, nor is what does not begin as a codestream: it is no frame, but damage. So is one that has
@@ -64,7 +67,7 @@ def shares_little(stream, other):
     return not is_zeros(other, stream) and not shares_stretch(stream, other)
 
 
-def equal_stretches(one, other):
+def equal_stretches(one: bytes, other: bytes) -> Iterator[tuple[int, bytes]]:
     """(begin, bytes) of what two streams have in common behind their headers, eight bytes or more each."""
     begin, end = max(behind_headers(one) or HEADERS, behind_headers(other)), min(len(one), len(other))
     apart = int.from_bytes(one[begin:end], "big") ^ int.from_bytes(other[begin:end], "big")
@@ -72,12 +75,12 @@ def equal_stretches(one, other):
         yield begin + run.start(), one[begin + run.start() : begin + run.end()]
 
 
-def shares_stretch(one, other):
+def shares_stretch(one: bytes, other: bytes) -> bool:
     """Whether two streams have a stretch in common behind their headers that codes no even area."""
     return any(len(set(stretch)) >= SAME_KINDS for _, stretch in equal_stretches(one, other))
 
 
-def shares_rest(one, other):
+def shares_rest(one: bytes, other: bytes) -> bool:
     """Whether two streams of one length have a long stretch in common behind a place where they differ: of two pictures none have."""
     if len(one) != len(other):
         return False
@@ -85,18 +88,18 @@ def shares_rest(one, other):
     return any(begin > differ and len(set(stretch)) >= REST_KINDS for begin, stretch in equal_stretches(one, other))
 
 
-def behind_headers(stream):
+def behind_headers(stream: bytes) -> int:
     """Where the first scan begins; 0 if no header of one stands near the beginning."""
     at = stream.find(b"\xff\xda", 0, MOST_HEADERS)
     return at + 2 + int.from_bytes(stream[at + 2 : at + 4], "big") if at >= 0 else 0
 
 
-def without_zeros(stream):
+def without_zeros(stream: bytes) -> int:
     """How many bytes stand outside of long runs of zeros, which may be damage."""
     return len(ZERO_RUN.sub(b"", stream))
 
 
-def is_connected(one, other):
+def is_connected(one: bytes, other: bytes) -> bool:
     """Whether two streams at one place are of one picture: most bytes after their headers are equal, or their ends, and these are many."""
     left, right = one[HEADERS:], other[HEADERS:]
     apart = int.from_bytes(left[: len(right)], "big") ^ int.from_bytes(right[: len(left)], "big")
@@ -106,7 +109,7 @@ def is_connected(one, other):
     return one == other or (equal >= LEAST_SHARED and equal * 2 >= least) or shares_rest(one, other)
 
 
-def is_spliced(stream, one, other):
+def is_spliced(stream: bytes, one: bytes, other: bytes) -> bool:
     """Whether a mended stream has bytes of each of two copies that the other has not."""
     if not len(stream) == len(one) == len(other):
         return False
@@ -115,7 +118,7 @@ def is_spliced(stream, one, other):
     return of_one >= LEAST_SPLICED and of_other >= LEAST_SPLICED
 
 
-def cuts_of(one, other, begin, sector, has_short):
+def cuts_of(one: bytes, other: bytes, begin: int, sector: int, has_short: bool) -> list[int]:
     """Places in two streams where damage of one can end and damage of the other begin: short equal ranges, and borders of sectors.
 
     `begin` is where the streams begin in the file. jls-splice takes what is near each other for one place.
@@ -128,18 +131,18 @@ def cuts_of(one, other, begin, sector, has_short):
     return sorted(at for at in found if 0 < at < len(one))
 
 
-def by_sectors(one, other, cuts):
+def by_sectors(one: bytes, other: bytes, cuts: Sequence[int]) -> list[bytes]:
     """Splices of two streams that have any of them in each sector in which they differ, if these are few."""
     borders = [0, *cuts, len(one)]
     parts = [{one[first:last], other[first:last]} for first, last in zip(borders, borders[1:])]
     if sum(len(part) == 2 for part in parts) > MOST_SECTORS:
         return []
-    return [b"".join(splice) for splice in itertools.product(*map(sorted, parts))]
+    return [b"".join(splice) for splice in itertools.product(*(sorted(part) for part in parts))]
 
 
-def crossed(streams, begin, sector, has_short):
+def crossed(streams: Sequence[bytes], begin: int, sector: int, has_short: bool) -> list[bytes]:
     """Splices of two streams that have one of them before a place and the other after it. They have no byte that neither has."""
-    found = []
+    found: list[bytes] = []
     for one, other in itertools.combinations(streams, 2):
         if len(one) == len(other):
             cuts = cuts_of(one, other, begin, sector, has_short)
@@ -152,10 +155,10 @@ def crossed(streams, begin, sector, has_short):
 class FrameMender:
     """Mends frames in a folder for temporary files."""
 
-    def __init__(self, programs, folder, options):
+    def __init__(self, programs: Programs, folder: str, options: MendOptions) -> None:
         self.programs = programs
         self.folder = folder
-        self.words = []
+        self.words: list[str] = []
         if options.most is not None:
             self.words += ["--max", str(options.most)]
         if options.tries is not None:
@@ -163,27 +166,27 @@ class FrameMender:
         self.has_files = programs.has_option("--files")
         self.wants_all = options.sha256 is not None
 
-    def name(self, number, ending):
+    def name(self, number: int, ending: str) -> str:
         return f"{number}{ending}"
 
-    def path(self, name):
+    def path(self, name: str) -> str:
         return os.path.join(self.folder, name)
 
-    def put(self, name, data):
+    def put(self, name: str, data: bytes) -> str:
         with open(self.path(name), "wb") as file:
             file.write(data)
         return name
 
-    def get(self, name):
+    def get(self, name: str) -> bytes:
         with open(self.path(name), "rb") as file:
             return file.read()
 
-    def drop(self, names):
+    def drop(self, names: Iterable[str]) -> None:
         for name in names:
             if os.path.exists(self.path(name)):
                 os.remove(self.path(name))
 
-    def mend(self, number, streams, begin=0):
+    def mend(self, number: int, streams: Sequence[bytes], begin: int = 0) -> Mended:
         """A Mended from the streams of a frame, which differ from each other; those of zeros alone are left out.
 
         `begin` is where the streams begin in the file.
@@ -200,9 +203,9 @@ class FrameMender:
         finally:
             self.drop(names)
 
-    def of_crossed(self, number, streams, names, begin):
+    def of_crossed(self, number: int, streams: Sequence[bytes], names: list[str], begin: int) -> Mended | None:
         """A Mended that is whole, from the streams and from what has one of two before a place and the other after it; or nothing."""
-        tried = []
+        tried: list[bytes] = []
         for has_short, sector in itertools.product((True, False), SECTORS):
             further = crossed(streams, begin, sector, has_short)
             if further == tried or not 0 < len(further) <= MOST_CROSSED:
@@ -217,38 +220,39 @@ class FrameMender:
                 return mended
         return None
 
-    def check(self, name):
+    def check(self, name: str) -> Outcome:
         return self.sure(self.programs.check(name, self.folder))
 
-    def sure(self, outcome):
+    def sure(self, outcome: AnyOutcome) -> AnyOutcome:
         """The outcome, unless a file of this folder could not be read or written: then nothing is said of the picture."""
         if outcome.status == FAILED:
             raise ProgramFailed(outcome.faults.strip(), FAILED)
         return outcome
 
-    def result(self, number, kind, report, promise="", note=""):
+    def result(self, number: int, kind: str, report: Report, promise: str = "", note: str = "") -> FrameResult:
         return FrameResult(number, kind, report.settled, report.missing, report.disputed, promise, note)
 
-    def of_one(self, number, stream, name):
+    def of_one(self, number: int, stream: bytes, name: str) -> Mended:
         outcome = self.check(name)
         if outcome.status == 0:
             return Mended(self.result(number, "whole", outcome.report), stream, [], None, outcome.report.shape)
-        if not outcome.report.settled and unsupported(stream, outcome.fault):
-            return Mended(FrameResult(number, NOT_SUPPORTED, note=unsupported(stream, outcome.fault)))
+        coding = unsupported(stream, outcome.fault)
+        if not outcome.report.settled and coding:
+            return Mended(FrameResult(number, NOT_SUPPORTED, note=coding))
         if outcome.status == 3 or not outcome.report.width:
             return Mended(FrameResult(number, "missing", note=self.why_unread(outcome.faults)))
         partial = self.name(number, ".jlsp")
         self.sure(self.programs.join(partial, [name], self.folder))
-        note = unsupported(stream, outcome.fault) or ""
+        note = coding or ""
         kind = "missing" if outcome.report.settled + outcome.report.disputed == 0 else "lines"
         return Mended(self.result(number, kind, outcome.report, note=note), None, [], self.path(partial), outcome.report.shape)
 
-    def why_unread(self, faults):
+    def why_unread(self, faults: str) -> str:
         """Why there is no picture: the fault as the program names it."""
         found = re.search(r"no picture, (fault .*)", faults)
         return found.group(1) if found else "no copy reads"
 
-    def of_several(self, number, streams, names, way=""):
+    def of_several(self, number: int, streams: Sequence[bytes], names: Sequence[str], way: str = "") -> Mended:
         partial, file, prefix = (self.name(number, way + ending) for ending in (".jlsp", ".mended", ".other"))
         words = list(self.words)
         if self.has_files and self.wants_all:
@@ -267,17 +271,17 @@ class FrameMender:
         kind, note = self.kind_of(splice, report), ""
         if stream is not None and not splice.file_written:
             kind, note = "whole", "of several files of this picture that with the usual parameters"
-        if kind == "whole" and any(shares_little(stream, other) for other in streams):
+        if kind == "whole" and stream is not None and any(shares_little(stream, other) for other in streams):
             if stream in streams:
                 kind, note = "disputed", "another copy has less than half of these bytes here"
         return Mended(self.result(number, kind, report, promise, note), stream, others, self.path(partial), report.shape)
 
-    def unsupported_of(self, streams, names):
+    def unsupported_of(self, streams: Sequence[bytes], names: Sequence[str]) -> str | None:
         """What all streams of a frame have that isn't read; nothing if one of them says otherwise."""
         found = {unsupported(stream, self.check(name).fault) for stream, name in zip(streams, names)}
         return found.pop() if len(found) == 1 else None
 
-    def usual_of_several(self, splice, names, prefix, words):
+    def usual_of_several(self, splice: Splice, names: Sequence[str], prefix: str, words: list[str]) -> bytes | None:
         """Of several files that have one picture, which is promised: the one whose coding parameters are the usual ones; or nothing."""
         report = splice.report
         is_one = (report.promise or "").startswith("picture") and report.settled and not report.missing and not report.disputed
@@ -289,14 +293,14 @@ class FrameMender:
         self.drop([partial])
         return found[0] if len(found) == 1 else None
 
-    def kind_of(self, splice, report):
+    def kind_of(self, splice: Splice, report: Report) -> str:
         if splice.status == 0 and splice.promises_picture:
             return "whole"
         if report.disputed:
             return "disputed"
         return "missing" if report.settled == 0 else "lines"
 
-    def others(self, prefix, streams, names):
+    def others(self, prefix: str, streams: Sequence[bytes], names: Sequence[str]) -> list[bytes]:
         """Streams that decode and may be the one that a checksum is of, where one is given."""
         if not self.wants_all:
             return []
@@ -304,7 +308,7 @@ class FrameMender:
             return [stream for stream, name in zip(streams, names) if self.check(name).status == 0]
         return self.files(prefix)
 
-    def files(self, prefix):
+    def files(self, prefix: str) -> list[bytes]:
         """What jls-splice wrote for --files."""
         found, number = [], 1
         while os.path.exists(self.path(f"{prefix}-{number}")):
@@ -314,7 +318,7 @@ class FrameMender:
         return found
 
 
-def shapes_of(mended, streams):
+def shapes_of(mended: Sequence[Mended], streams: Sequence[Sequence[bytes]]) -> Shape | None:
     """The Shape that frames have: of those that are whole, else of what any copy says of them."""
     for frame in mended:
         if frame.stream is not None and frame.is_whole:

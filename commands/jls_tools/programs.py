@@ -6,7 +6,9 @@ import re
 import shutil
 import subprocess
 import sys
-from typing import Any, Sequence
+from typing import Any, Optional, Sequence
+
+from . import library
 
 PICTURE = re.compile(r"picture (\d+)x(\d+), (\d+) bits, components (\d+(?:,\d+)*)$")
 FAULT = re.compile(r"^end fault (\d+)|no picture, fault (\d+)", re.M)
@@ -33,9 +35,9 @@ class Report:
         self.settled = self.missing = self.disputed = 0
         self.missing_lines: list[tuple[int, ...]] = []  # (component, first, last)
         self.disputed_lines: list[tuple[int, ...]] = []  # (component, line, readings)
-        self.promise: str | None = None  # the words after "promise", if that line is there
-        self.before: int | None = None  # the offset of the line "before", if it is there
-        self.end: str | None = None  # the words after "end"
+        self.promise: Optional[str] = None  # the words after "promise", if that line is there
+        self.before: Optional[int] = None  # the offset of the line "before", if it is there
+        self.end: Optional[str] = None  # the words after "end"
         for line in self.lines:
             self.take(line)
 
@@ -55,8 +57,8 @@ class Report:
         elif word in ("promise", "end"):
             setattr(self, word, rest)
         elif word == "before":
-            offset = rest.partition(",")[0]
-            self.before = int(offset) if offset.isdigit() else None
+            offset = re.match(r"\d+", rest)
+            self.before = int(offset.group()) if offset else None
 
     @property
     def shape(self) -> str:
@@ -80,7 +82,7 @@ class Outcome:
         self.report = Report(printed)
 
     @property
-    def fault(self) -> int | None:
+    def fault(self) -> Optional[int]:
         """The number of the fault at which the reading of a copy ended; nothing if there is none."""
         found = FAULT.search(self.printed) or FAULT.search(self.faults)
         return int(found.group(1) or found.group(2)) if found else None
@@ -124,6 +126,7 @@ class Programs:
         self.salvage = find("jls-salvage")
         self.splice_program = find("jls-splice")
         self.help: str | None = None
+        self.library = library.find(self.salvage)
 
     def run(self, words: Sequence[str], folder: str | None = None, given: bytes | None = None) -> Outcome:
         """Runs words, of which the first is a path of a program. A ProgramFailed is raised where it can't say anything of a picture."""
@@ -141,10 +144,8 @@ class Programs:
         return Outcome(done.returncode, printed, faults)
 
     def has_option(self, option: str) -> bool:
-        """Whether jls-splice has an option. It is asked once."""
-        if self.help is None:
-            self.help = self.run([self.splice_program, "--help"]).printed
-        return option in self.help
+        """Whether jls-splice has an option."""
+        return option in self.run([self.splice_program, "--help"]).printed
 
     def check(self, name: str, folder: str | None = None) -> Outcome:
         return self.run([self.salvage, "check", name], folder)
@@ -166,5 +167,5 @@ class Programs:
         """Mends copies: OUT gets the partial picture, and `file` the mended file. Options are further words, such as --tries 100."""
         words = [self.splice_program, *options, *(["--file", file] if file else []), out, *names]
         outcome = self.run(words, folder)
-        written = file is not None and file != "" and os.path.exists(os.path.join(folder or ".", file))
+        written = file is not None and os.path.exists(os.path.join(folder or ".", file))
         return Splice(outcome, written)

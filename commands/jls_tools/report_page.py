@@ -51,7 +51,8 @@ class Page:
 
     def links_of(self, row: Row) -> List[Any]:
         """[what it is, where it stands] of the files that were written."""
-        found = [[word_for(*output), f"{self.bases[output[0]]}/{quoted(output[1])}"] for output in row.outputs if output[0] in self.bases]
+        known = [(root, name) for root, name in row.outputs if root in self.bases]
+        found = [[word_for(root, name, row.path), f"{self.bases[root]}/{quoted(name)}"] for root, name in known]
         return sorted(found, key=lambda link: WORDS.index(link[0]) if link[0] in WORDS else len(WORDS))
 
     def parts(self, totals: Totals) -> Iterator[str]:
@@ -93,13 +94,13 @@ def quoted(path: str) -> str:
     return quote(os.fsencode(path))
 
 
-def word_for(root: str, name: str) -> str:
-    """What a link leads to."""
+def word_for(root: str, name: str, path: str) -> str:
+    """What a link leads to, of a row of this path."""
     if root == "differ":
         return archive_names.printable(f"copy of {name.partition('/')[0]}") if "/" in name else "copy"
-    if root == "out":
-        return "file"
     ending = os.path.splitext(name)[1]
+    if root == "out" and (name == path or ending != ".jlsp"):
+        return "file"
     return {".log": "log", ".jlsp": "lines", ".frames": "frames"}.get(ending, "not promised")
 
 

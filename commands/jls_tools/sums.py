@@ -5,6 +5,8 @@ import hashlib
 import itertools
 import os
 import re
+import shutil
+import tempfile
 from operator import itemgetter
 from typing import IO, Callable, Dict, Iterable, Iterator, List, Optional, Tuple
 
@@ -71,19 +73,33 @@ class Sums:
     """What manifests say of paths. `head` is a folder that all names have, and no path of the trees."""
 
     def __init__(self) -> None:
-        self.files: List[str] = []
+        self.files: List[str] = []  # they are read more than once
+        self.names: List[str] = []  # what they are called
+        self.kept: List[IO[bytes]] = []
         self.head = ""
 
     def read(self, path: str) -> None:
         """Takes a manifest, when each of its lines has been read. An OSError or BadManifest says why it can't."""
-        for _ in entries_in(path):
+        file = path if os.path.isfile(path) or not os.path.exists(path) else self.copy_of(path)
+        for _ in entries_in(file):
             pass
-        self.files.append(path)
+        self.files.append(file)
+        self.names.append(path)
 
-    def entries(self) -> Iterator[Entry]:
-        for file in self.files:
+    def copy_of(self, path: str) -> str:
+        """The path of what a pipe gives, which can be read once alone."""
+        kept = tempfile.NamedTemporaryFile()
+        with open(path, "rb") as file:
+            shutil.copyfileobj(file, kept)
+        kept.flush()
+        self.kept.append(kept)
+        return kept.name
+
+    def entries(self) -> Iterator[Tuple[str, str, str, Tuple[int, int]]]:
+        """(name, algorithm, sum, (which manifest, which line)) of all manifests."""
+        for which, file in enumerate(self.files):
             for name, algorithm, digest, number in entries_in(file):
-                yield name.removeprefix(self.head), algorithm, digest, number
+                yield name.removeprefix(self.head), algorithm, digest, (which, number)
 
     def fit(self, is_there: Callable[[str], bool]) -> bool:
         """Leaves a folder out of all names, such as BagIt's data, if names are paths of the trees only without it.
@@ -105,26 +121,25 @@ class Sums:
         """What the manifests say, in the order of paths. `folder` has room for what is sorted. A BadManifest comes before all else."""
         sorter = archive_order.Sorter(folder)
         try:
-            for name, algorithm, digest, number in self.entries():
-                sorter.add((archive_order.key_of(name), algorithm, digest, number))
-            kept = archive_order.kept(grouped(sorter.sorted()), folder)
+            for name, algorithm, digest, line in self.entries():
+                sorter.add((archive_order.key_of(name), algorithm, line, digest))
+            kept = archive_order.kept(self.grouped(sorter.sorted()), folder)
         finally:
             sorter.close()
         return listed_in(kept)
+
+    def grouped(self, records: Iterable[archive_order.Record]) -> Iterator[Listed]:
+        for key, group in itertools.groupby(records, key=itemgetter(0)):
+            found: Dict[str, str] = {}
+            for _, algorithm, (which, number), digest in group:
+                if found.setdefault(algorithm, digest) != digest:
+                    raise BadManifest(f"{self.names[which]}: line {number} has another sum of the same file")
+            yield key, os.fsdecode(key), found
 
 
 def listed_in(kept: IO[bytes]) -> Iterator[Listed]:
     for key, path, expected in archive_order.records_in(kept):
         yield key, path, expected
-
-
-def grouped(records: Iterable[archive_order.Record]) -> Iterator[Listed]:
-    for key, group in itertools.groupby(records, key=itemgetter(0)):
-        found: Dict[str, str] = {}
-        for _, algorithm, digest, number in group:
-            if found.setdefault(algorithm, digest) != digest:
-                raise BadManifest(f"line {number} has another sum of the same file")
-        yield key, os.fsdecode(key), found
 
 
 class Unreadable(Exception):

@@ -91,10 +91,15 @@ fn joined(
 ) -> Result<Vec<Vec<u16>>, AllocError>
     ensures { IfOk result (λ lines. map (λ v. v.items) lines.items ≡ finished blocks.items last.items) }
 {
-    let mut all = Vec::with_capacity(alloc, count)?;
+    let mut all = Vec::new(alloc);
     for block in blocks {
         let mut lines = unshared(alloc, block)?;
-        all.append(&mut lines)?;
+        if all.is_empty() {
+            all = lines;
+            all.reserve(count - all.len().min(count))?;
+        } else {
+            all.append(&mut lines)?;
+        }
     }
     all.append(&mut last)?;
     Ok(all)

@@ -34,3 +34,4 @@ pub mod TextRows
 pub mod TextSources
 pub mod Unions
 pub mod Views
+pub mod LargeSamples

@@ -45,18 +45,19 @@ impl<T: Drop> From<AllocFailed<T>> for InsertFault {
     }
 }
 
-/// Whether a sample has more bits than the precision. Each is looked at, so that the machine can take several at once.
-#[tactic(auto, using(std::proofs::lemmas::List::Folds::list_any_more))]
+/// Whether a sample has more bits than the precision: so has then the union of all bits. Each sample is looked at, so that the machine
+/// can take several at once.
+#[tactic(auto, using(std::proofs::lemmas::List::Folds::list_any_more, crate::proofs::LargeSamples::large_union, crate::proofs::LargeSamples::large_none))]
 fn has_large_sample(samples: &[u16], precision: u8) -> bool
     requires { precision ≤ 16 }
     ensures { result ≡ list_any (λ x. nat_le (2 ^ precision) x) samples.now }
 {
     let limit = 2u32.pow(precision as u32);
-    let mut is_large = false;
+    let mut union = 0u16;
     for x in samples {
-        is_large |= limit <= *x as u32;
+        union |= *x;
     }
-    is_large
+    limit <= union as u32
 }
 
 /// What is wrong with the samples of a line, in a picture of this precision and width.

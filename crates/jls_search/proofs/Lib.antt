@@ -10,6 +10,7 @@ mod Lengths
 mod KeptReaders
 mod LevelPaths
 mod NextLevels
+mod ReaderLevels
 pub mod FoundFiles
 mod Lists
 mod Sets
@@ -34,4 +35,3 @@ pub mod SeenFiles
 pub mod Verdicts
 pub mod TakenFiles
 mod CutFiles
-mod BorderExamples

@@ -16,6 +16,7 @@ pub mod Shapes
 pub mod Stations
 pub mod Settling
 pub mod Levels
+pub mod LevelSearches
 pub mod Cuts
 pub mod Seen
 pub mod Reading

@@ -136,3 +136,14 @@ pub fn is_dead(reader: CopyReader) -> Result<bool, AllocError>
     }
     Ok(false)
 }
+
+/// The same, of a reader that goes on.
+pub(crate) fn is_found_dead(reader: &CopyReader) -> Result<bool, AllocError>
+    ensures { IfOk result (λ dead. dead ≡ true → IfSome reader.now (λ prefix. IsDead IsFaultless prefix)) }
+{
+    if !reader.is_done() {
+        return Ok(is_broken(reader));
+    }
+    let clone = reader.try_clone()?;
+    is_dead(clone)
+}

@@ -44,6 +44,25 @@ pub(crate) struct BegunReader {
     pub(crate) choices: usize,
 }
 
+/// A reader to go on from along the path: a clone of this one, if its choices begin the path, and else a new one.
+pub(crate) fn begun_from(
+    alloc: Global,
+    last: &KeptReader,
+    path: &[usize],
+) -> Result<BegunReader, AllocError>
+    ensures { (parts : List Part) → IsKeptReader parts last.now → IfOk result (IsBegunOn parts path.now) }
+{
+    if path.starts_with(&last.choices) {
+        let choices = last.choices.len();
+        let reader = last.reader.try_clone()?;
+        return Ok(BegunReader { reader, choices });
+    }
+    Ok(BegunReader {
+        reader: CopyReader::new(alloc),
+        choices: 0,
+    })
+}
+
 /// A reader to go on from along the path: a clone of the kept one, if its choices begin the path, and else a new one.
 pub(crate) fn begun_on(
     alloc: Global,

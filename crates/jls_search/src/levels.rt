@@ -88,7 +88,11 @@ fn take_path(
 }
 
 /// The path, with one choice more.
-fn with_choice(alloc: Global, path: &[usize], choice: usize) -> Result<Vec<usize>, AllocError>
+pub(crate) fn with_choice(
+    alloc: Global,
+    path: &[usize],
+    choice: usize,
+) -> Result<Vec<usize>, AllocError>
     ensures { IfOk result (λ longer. longer.items ≡ path.now ++ choice ∷ []) }
 {
     let mut longer: Vec<usize> = path.iter().copied().collect(alloc)?;

@@ -13,7 +13,9 @@
 //! - `looking`: what is seen of a path
 //! - `searching`: the search, as a value that goes on as far as its caller wants; `adding`: the choices that it finds
 //! - `whole_search`: the search of whole files
-//! - `levels`: the search level by level, for the last level at which exactly one path lives
+//! - `level_search`: the search of whole files level by level, as a value that goes on one level at a time; `next_level`: what the paths of
+//!   a level go on to; `backing`: what speaks for a path. No contract speaks of that
+//! - `levels`: the levels of the search for the cut file, and the last one at which exactly one path lives
 //! - `codings`: whether copies are of one coding, as far as can be told. No contract speaks of it
 //! - `laws`: the laws of searches
 //!
@@ -39,8 +41,8 @@
 //! Here each file is decoded once at most. The first that a search of all splices finds is decoded in the search alone, since its reader
 //! comes with the files. If the shape that is taken is not the first frame's, as after a damaged header, each is decoded once more.
 //!
-//! Definitions: `Choices`, `Faultless`, `Search`, `Order`, `Levels`; `Places`, `ReadsBetween`, `OfGroups`, `GroupTries`, `Found`; `Files`,
-//! `Shapes`, `Stations`, `Settling`, `Cuts`. Inside the crate: `Seen`, `Reading`, `Tried`, `Goals`.
+//! Definitions: `Choices`, `Faultless`, `Search`, `Order`, `Levels`, `LevelSearches`; `Places`, `ReadsBetween`, `OfGroups`, `GroupTries`,
+//! `Found`; `Files`, `Shapes`, `Stations`, `Settling`, `Cuts`. Inside the crate: `Seen`, `Reading`, `Tried`, `Goals`.
 //!
 //! Not proved:
 //!
@@ -49,9 +51,12 @@
 //! - That no later level that `lone_path` comes to has one path that lives, and how many tries it makes.
 //! - How often a file is decoded.
 //! - Which groups are searched first (`order`), but that each has its turn.
+//! - How many ways a search level by level judges, how many of its paths live, which of them it lets go, and the order of what it finds
+//!   (`backing`).
 #![tactic(auto)]
 
 mod adding;
+mod backing;
 mod ceiling;
 mod choosing;
 mod codings;
@@ -65,10 +70,12 @@ mod found;
 mod group_search;
 mod kept;
 mod laws;
+mod level_search;
 mod levels;
 mod lines;
 mod living;
 mod looking;
+mod next_level;
 mod offsets;
 mod order;
 mod path;
@@ -96,7 +103,9 @@ pub use found::{FoundSplices, GroupsReported, complete_by_groups};
 pub use group_search::{MOST_BY_GROUPS, SearchedGroups, search_groups};
 pub use kept::{Judge, KeptReader};
 pub use laws::{parts_can_be_searched, searches_come_to_each_splice};
+pub use level_search::LevelSearch;
 pub use levels::lone_path;
+pub use next_level::{LevelRules, LivingPath};
 pub use reading_between::reads_between;
 pub use searching::Search;
 pub use setting::{Goal, Setting};

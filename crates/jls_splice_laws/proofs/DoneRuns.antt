@@ -27,7 +27,8 @@ use Rattle.jls_splice_run.specs.Limits.{has_some}
 use Rattle.jls_splice_run.specs.Listing.{AreNamedAsked, is_named}
 use Rattle.jls_splice_run.specs.Single.{IsOnly, IsSingleAsked}
 use Rattle.jls_splice_run.specs.Making.{IsCutFile, IsCutTaken, IsMade, IsPictureOf, IsPictureOfFiles, Made, cut_file, is_of_picture}
-use Rattle.jls_splice_run.specs.Making.{TellsOfSearches, files_taken, notes, promise_of, promise_on}
+use Rattle.jls_splice_run.specs.Making.{files_taken, notes, promise_of, promise_on}
+use Rattle.jls_splice_run.specs.Telling.{IsTold}
 use Rattle.jls_splice_run.specs.declared.found.Promise.TheVariants.{Picture, Lines}
 use Rattle.jls_copy_laws.proofs.Members.{none_in}
 use Rattle.jls_splice_run.specs.Runs.{Performs, came_of, no_names, at_copies, not_made, not_handed, done, texts}
@@ -73,7 +74,7 @@ none_printed events (inr (count, h)) = let lt = h.not_all in absurd (omega (arit
 
 module _ (words : List Text) (a : Asked) (asks : AskFor words a) where
   was_done : (copies : List CopyBytes) (m : Made) (reading writing report telling noting line : List Event)
-      → AreCopiesRead a.copies copies reading → IsMade a (bytes_read copies) m → TellsOfSearches a m.searches telling
+      → AreCopiesRead a.copies copies reading → IsMade a (bytes_read copies) m → IsTold a.options.progress telling
       → Printed (notes a (bytes_read copies) m) noting → HandsAll (texts a copies m) writing report → Printed [] line
       → DidMake words a (reading ++ writing) report ((telling ++ noting) ++ line)
   was_done copies m reading writing report telling noting line read made told noted handed none = record {
@@ -97,8 +98,8 @@ module _ (words : List Text) (a : Asked) (asks : AskFor words a) where
       → (did : DidMake words a desk report faults) × AreWhole did.copies × (status ≡ 0 ↔ IsTrue (is_of_picture (promise_on did.made)))
   unfolding was_done
   did_make _ _ _ _ (came_of _ _ _ _ line (at_copies r desk stops) told) e = absurd (not_done _ (copies_above _ r desk stops) e)
-  did_make _ _ _ _ (came_of _ _ _ _ line (not_made r copies desk faults read cant) told) e =
-      absurd (not_done _ (unmade_above a copies r faults cant) e)
+  did_make _ _ _ _ (came_of _ _ _ _ line (not_made r copies desk faults read cant tells) told) e =
+      absurd (not_done _ (unmade_above a copies r cant) e)
   did_make _ _ _ _ (came_of _ _ _ _ line (not_handed r copies m reading desk report faults noting read made tells noted stops) told) e =
       absurd (not_done _ (handing_above _ r desk report stops) e)
   did_make _ _ _ _
@@ -114,13 +115,13 @@ module _ (words : List Text) (a : Asked) (asks : AskFor words a) where
   unfolding was_done
   did_fail _ _ _ _ (came_of _ _ _ _ line (at_copies r desk stops) told) e =
       inr (record { refusal = r; stopping = []; line = line; faults_are = refl; stopped = at_copies r desk stops; told = told })
-  did_fail _ _ _ _ (came_of _ _ _ _ line (not_made r copies desk faults read cant) told) e =
+  did_fail _ _ _ _ (came_of _ _ _ _ line (not_made r copies desk faults read cant tells) told) e =
       inr (record {
         refusal = r;
         stopping = faults;
         line = line;
         faults_are = refl;
-        stopped = not_made r copies desk faults read cant;
+        stopped = not_made r copies desk faults read cant tells;
         told = told;
       })
   did_fail _ _ _ _ (came_of _ _ _ _ line (not_handed r copies m reading desk report faults noting read made tells noted stops) told) e =
@@ -237,15 +238,15 @@ module _ (are_faultless : WholeFilesAreFaultless) (words : List Text) (a : Asked
     f = d.made.found
 
     came : CameTo (IsSought d.made.ceiling) f.parts f.choices false
-    came = subst (CameTo (IsSought d.made.ceiling) f.parts f.choices) enough d.is_made.is_found.came_to
+    came = subst (CameTo (IsSought d.made.ceiling) f.parts f.choices) enough d.is_made.is_found_for.is_found.came_to
 
     among : Contains (files_of f.parts f.choices) file
     among =
-        came.all refl (length copies) copy_read d.is_made.is_found.are_parts.ways file is.whole.bytes is.splice
+        came.all refl (length copies) copy_read d.is_made.is_found_for.is_found.are_parts.ways file is.whole.bytes is.splice
         (are_faultless pic file is.whole, is.within)
 
     splices : splices_in f ≡ files_of f.parts f.choices
-    splices = splices_of_all d.made.ceiling copies f file d.is_made.is_found enough among
+    splices = splices_of_all d.made.ceiling copies f file d.is_made.is_found_for.is_found enough among
 
     taken : Contains (files_taken copies f) file
     taken =
@@ -259,7 +260,7 @@ module _ (are_faultless : WholeFilesAreFaultless) (words : List Text) (a : Asked
         files_alone a copies d.made d.is_made file d.made.cut refl among in
         never d.made.ceiling copies f.parts a.options.source p (record {
           some_copy = copy_read;
-          are_parts = d.is_made.is_found.are_parts;
+          are_parts = d.is_made.is_found_for.is_found.are_parts;
           found = f.choices;
           searched = came;
           shape = p.shape;
@@ -310,7 +311,7 @@ spliced_runs_take_the_cut words a desk report faults d path is =
     let cut : IsCutFile m.cut_ceiling m.found path =
     cut_is_lone copies m.found m.cut_ceiling m.lone m.cut path is d.is_made.is_lone d.is_made.is_cut in
     record {
-      are_parts = d.is_made.is_found.are_parts;
+      are_parts = d.is_made.is_found_for.is_found.are_parts;
       is_lone = cut.1;
       splices = splices_in m.found;
       takes = subst (λ (c : Option (List ℕ)). IsPictureOf a.options.source copies (splices_in m.found) (cut_file m.found c) m.picture)

@@ -49,12 +49,10 @@ refused_above names stops (NoFrame f offset) r h =
 memory_above : (a : Asked) (r : Refusal) → IsWantOfMemory a r → 1 < status_of_cause r.cause
 memory_above a r h = above_1 r cause.OutOfMemory h.1 (omega arith)
 
-pub unmade_above : (a : Asked) (copies : List CopyBytes) (r : Refusal) (events : List Event) → CantMake a copies r events
-    → 1 < status_of_cause r.cause
-unmade_above a copies r events (inl (want, told)) = memory_above a r want
-unmade_above a copies r events (inr (w, ceiling, f, tries, counted, found, inl want, told)) = memory_above a r want
-unmade_above a copies r events (inr (w, ceiling, f, tries, counted, found, inr (shape, is, refused), told)) =
-    refused_above a.copies (stops_read copies) shape r refused
+pub unmade_above : (a : Asked) (copies : List CopyBytes) (r : Refusal) → CantMake a copies r → 1 < status_of_cause r.cause
+unmade_above a copies r (inl want) = memory_above a r want
+unmade_above a copies r (inr (ceiling, f, found, inl want)) = memory_above a r want
+unmade_above a copies r (inr (ceiling, f, found, inr (shape, is, refused))) = refused_above a.copies (stops_read copies) shape r refused
 
 output_above : (name bytes : List ℕ) (r : Refusal) (events : List Event) → StopsAtOutput name bytes r events → 1 < status_of_cause r.cause
 output_above name bytes r _ (outputs.not_there named is) = above_1 r cause.NotCreated is (omega arith)

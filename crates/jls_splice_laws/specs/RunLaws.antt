@@ -19,9 +19,10 @@ use Rattle.jls_splice_run.specs.FaultLines.{program}
 use Rattle.jls_splice_run.specs.Handing.{HandsAll}
 use Rattle.jls_splice_run.specs.Limits.{has_some}
 use Rattle.jls_splice_run.specs.Listing.{is_named}
-use Rattle.jls_splice_run.specs.Making.{Made, IsMade, TellsOfSearches, is_of_picture, notes, promise_on}
+use Rattle.jls_splice_run.specs.Making.{Made, IsMade, is_of_picture, notes, promise_on}
 use Rattle.jls_splice_run.specs.declared.found.Promise.TheVariants.{Picture}
 use Rattle.jls_splice_run.specs.Runs.{Run, Splices, texts}
+use Rattle.jls_splice_run.specs.Telling.{IsTold}
 
 -- ---- runs
 
@@ -39,7 +40,7 @@ pub record DidMake (words : List Text) (a : Asked) (desk report faults : List Ev
   pub faults_are : faults ≡ telling ++ noting
   pub read : AreCopiesRead a.copies copies reading
   pub is_made : IsMade a (bytes_read copies) made
-  pub told : TellsOfSearches a made.searches telling
+  pub told : IsTold a.options.progress telling
   pub noted : Printed (notes a (bytes_read copies) made) noting
   pub handed : HandsAll (texts a copies made) writing report
 

@@ -13,6 +13,7 @@ use Rattle.jls_splice_run.specs.Copies.{AreWhole, bytes_read, StopsAtCopies}
 use Rattle.jls_splice_run.specs.Handing.{HandsAll, StopsInHanding, Texts}
 use Rattle.jls_splice_run.specs.Listing.{prefix_in}
 use Rattle.jls_splice_run.specs.Making.{AreTextsOf, CantMake, HoldsMade, Made, is_of_picture, notes}
+use Rattle.jls_splice_run.specs.Telling.{IsTold}
 use Rattle.jls_splice_run.specs.Runs.{GrewAll, Splices, at_copies, done, not_handed, not_made, texts, texts_held}
 use Rattle.jls_splice_run.specs.declared.found.Promise.{Promise}
 use Rattle.jls_splice_run.specs.declared.made.Made.{Made as MadeValue}
@@ -52,23 +53,23 @@ module _ (a : Asked) (desk mid report faults : History) where
   }
 
   module _ (faults' : History) (copies : List CopyBytes) (read : GrewBy (AreCopiesRead a.copies copies) desk mid) where
-    pub stops_unmade : {held : List CopyBytes} (r : Refusal) → held ≡ copies → GrewBy (CantMake a held r) faults faults'
-        → GrewAll (Splices a (Err r)) desk mid report report faults faults'
-    stops_unmade r held_are cant = record {
+    pub stops_unmade : {held : List CopyBytes} (r : Refusal) → held ≡ copies → CantMake a held r
+        → GrewBy (IsTold a.options.progress) faults faults' → GrewAll (Splices a (Err r)) desk mid report report faults faults'
+    stops_unmade r held_are cant told = record {
       desk_events = read.events;
       report_events = [];
-      fault_events = cant.events;
+      fault_events = told.events;
       desk_is = read.grew;
       report_is = sym (append-nil report);
-      faults_are = cant.grew;
-      they_are = not_made r copies read.events cant.events read.they_are (subst (λ z. CantMake a z r cant.events) held_are cant.they_are);
+      faults_are = told.grew;
+      they_are = not_made r copies read.events told.events read.they_are (subst (λ z. CantMake a z r) held_are cant) told.they_are;
     }
 
     module _ (new report' last : History) (v : MadeValue) {held : List CopyBytes} (held_are : held ≡ copies)
-        (holds : GrewBy (HoldsMade a held v) faults faults') {text : List ℕ} (text_is : text ≡ v.notes.items)
-        (noted : GrewBy (Printed text) faults' last) where
-      abbrev made : HoldsMade a copies v holds.events
-      made = subst (λ z. HoldsMade a z v holds.events) held_are holds.they_are
+        (holds : HoldsMade a held v) (told : GrewBy (IsTold a.options.progress) faults faults') {text : List ℕ}
+        (text_is : text ≡ v.notes.items) (noted : GrewBy (Printed text) faults' last) where
+      abbrev made : HoldsMade a copies v
+      made = subst (λ z. HoldsMade a z v) held_are holds
 
       its_notes : Printed (notes a (bytes_read copies) made.0) noted.events
       its_notes = subst (λ (t : List ℕ). Printed t noted.events) (text_is ∙ made.2.notes_are) noted.they_are
@@ -76,15 +77,15 @@ module _ (a : Asked) (desk mid report faults : History) where
       -- what comes of it, by what is done with the desk and the report output then
       handed : (Are : List Event → List Event → Type 0) (outcome : Outcome)
           → ((events reported : List Event) → Are events reported
-          → Splices a outcome (read.events ++ events) reported (holds.events ++ noted.events))
+          → Splices a outcome (read.events ++ events) reported (told.events ++ noted.events))
           → GrewBoth Are mid new report report' → GrewAll (Splices a outcome) desk new report report' faults last
       handed Are outcome come h = record {
         desk_events = read.events ++ h.desk_events;
         report_events = h.report_events;
-        fault_events = holds.events ++ noted.events;
+        fault_events = told.events ++ noted.events;
         desk_is = grew_twice desk mid new read.events h.desk_events read.grew h.desk_is;
         report_is = h.report_is;
-        faults_are = grew_twice faults faults' last holds.events noted.events holds.grew noted.grew;
+        faults_are = grew_twice faults faults' last told.events noted.events told.grew noted.grew;
         they_are = come h.desk_events h.report_events h.they_are;
       }
 
@@ -92,8 +93,8 @@ module _ (a : Asked) (desk mid report faults : History) where
           → GrewAll (Splices a (Err r)) desk new report report' faults last
       stops_in_handing r =
           handed (StopsInHanding (texts_held a v) r) (Err r)
-          (λ events reported stops. not_handed r copies made.0 read.events events reported holds.events noted.events read.they_are made.1
-          made.3 its_notes
+          (λ events reported stops. not_handed r copies made.0 read.events events reported told.events noted.events read.they_are made.1
+          told.they_are its_notes
           (subst (λ (t : Texts). StopsInHanding t r events reported) (texts_are a copies made.0 v made.2) stops))
 
       pub is_done : (whole : Bool) → (IsTrue whole ↔ AreWhole copies) → GrewBoth (HandsAll (texts_held a v)) mid new report report'
@@ -101,6 +102,6 @@ module _ (a : Asked) (desk mid report faults : History) where
       is_done whole whole_is =
           handed (HandsAll (texts_held a v)) (finished (is_of_picture v.promise) whole)
           (λ events reported all. subst (λ (p : Promise). Splices a (finished (is_of_picture p) whole) (read.events ++ events) reported
-          (holds.events ++ noted.events)) (sym made.2.promise_is)
-          (done copies made.0 whole read.events events reported holds.events noted.events read.they_are made.1 made.3 its_notes
+          (told.events ++ noted.events)) (sym made.2.promise_is)
+          (done copies made.0 whole read.events events reported told.events noted.events read.they_are made.1 told.they_are its_notes
           (subst (λ (t : Texts). HandsAll t events reported) (texts_are a copies made.0 v made.2) all) whole_is))

@@ -1,8 +1,8 @@
 -- Lemmas of this crate.
 mod PrintedLineExamples
 mod Offsets
-pub mod Rounds
-mod Turns
+mod KeptLimits
+mod Told
 mod LineBegins
 mod FaultLineExamples
 mod Done

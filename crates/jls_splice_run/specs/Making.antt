@@ -4,7 +4,6 @@ use Rattle.std.specs.Prelude.{get_or, length, option_map, if◌then◌else◌}
 use Rattle.std.specs.Str.{bytes_eq}
 use Rattle.std.specs.declared.vec.Vec.{Vec}
 use Rattle.std.specs.declared.alloc.Global.{Global}
-use Rattle.jls_io.specs.Event.{Event}
 use Rattle.jls_marker.specs.declared.fault.MarkerFault.{MarkerFault}
 use Rattle.jls_partial.specs.Partial.{PartialPicture, nothing_known}
 use Rattle.jls_partial.specs.Status.{IsSettled}
@@ -20,8 +19,7 @@ use Rattle.jls_splice_run.specs.declared.found.GroupSearch.{GroupSearch}
 use Rattle.jls_splice_run.specs.declared.found.Promise.{Promise}
 use Rattle.jls_splice_run.specs.declared.found.Promise.TheVariants.{Picture, Lines}
 use Rattle.jls_splice_run.specs.declared.found.SearchReport.{SearchReport}
-use Rattle.jls_splice_run.specs.Limits.{AreSearches, IsCutLimit, SearchMade, Searches, counting, cut_limit, has_some}
-use Rattle.jls_splice_run.specs.Telling.{AreReported, ReportedUpTo}
+use Rattle.jls_splice_run.specs.Limits.{KeepsLimit, has_some}
 use Rattle.jls_station.specs.declared.input.ReadStop.{ReadStop}
 use Rattle.jls_station.specs.declared.input.ReadStop.TheVariants.{Whole}
 use Rattle.jls_station.specs.CopyFiles.{CopyBytes}
@@ -74,14 +72,12 @@ abbrev pub IsCutTaken : List (List ℕ) → Found → Option (List ℕ) → Opti
 IsCutTaken copies f lone cut =
     (cut ≡ lone) ⊎ ((cut ≡ None) × IfSome lone (λ path. TakesNoCut copies (splices_in f) (prefix_of f.parts path)))
 
--- what is made of copies: all searches that were made; the limit of samples of the one that counts, if it had one; what was found, with
--- how many tries; the limit under which a cut file was sought, if there was one; its choices, if one was found; and those of the one that
--- was taken; the picture, and whether each line of it is settled; the single file without a fault; and the files that have numbers
+-- what is made of copies: the limit of samples of the search that counts, if it had one; what was found; the limit under which a cut file
+-- was sought, if there was one; its choices, if one was found; and those of the one that was taken; the picture, and whether each line of
+-- it is settled; the single file without a fault; and the files that have numbers
 pub record Made : Type 0 where
-  pub searches : Searches
   pub ceiling : Option ℕ
   pub found : Found
-  pub tries : ℕ
   pub cut_ceiling : Option ℕ
   pub lone : Option (List ℕ)
   pub cut : Option (List ℕ)
@@ -90,22 +86,17 @@ pub record Made : Type 0 where
   pub single : Option (List ℕ)
   pub files : List NamedFile
 
--- the search that counts, by its limit, what was found, and its tries
-abbrev pub search_of : Option ℕ → Found → ℕ → SearchMade
-search_of ceiling f tries = record { ceiling = ceiling; tries = tries; choices = f.choices; is_used_up = f.is_used_up }
-
--- these are the searches of what was asked, over the parts that were found, and this one counts. If groups were searched, each was with
--- each of the copies outside of it, and has as many tries of its own
-pub record IsCounted (a : Asked) (copies : List (List ℕ)) (w : Searches) (ceiling : Option ℕ) (f : Found) (tries : ℕ) : Type 0 where
-  pub are_searches : AreSearches a.options.ceiling a.options.tries f.parts w
-  pub counts : counting w.first w.more ≡ search_of ceiling f tries
+-- what was found was sought in these copies as it was asked for: the search that counts keeps the limit that is given. If groups were
+-- searched, each was with each of the copies outside of it, and has tries of its own
+pub record IsFoundFor (a : Asked) (copies : List (List ℕ)) (ceiling : Option ℕ) (f : Found) : Type 0 where
+  pub limit_is : KeepsLimit a.options.ceiling ceiling
+  pub is_found : IsFound ceiling copies f
   pub of_groups : IfSome f.by_groups (IsGroupSearch a.options.tries (length copies) f.parts)
 
 -- all of it is made of these copies
 pub record IsMade (a : Asked) (copies : List (List ℕ)) (m : Made) : Type 0 where
-  pub is_counted : IsCounted a copies m.searches m.ceiling m.found m.tries
-  pub is_found : IsFound m.ceiling copies m.found
-  pub cut_ceiling_is : IsCutLimit m.found.parts (cut_limit m.searches.first.ceiling m.searches.more) m.found.choices m.cut_ceiling
+  pub is_found_for : IsFoundFor a copies m.ceiling m.found
+  pub cut_ceiling_is : KeepsLimit a.options.ceiling m.cut_ceiling
   pub is_lone : IfSome m.lone (IsCutFile m.cut_ceiling m.found)
   pub is_cut : IsCutTaken copies m.found m.lone m.cut
   pub is_picture : IsPictureOf a.options.source copies (splices_in m.found) (cut_file m.found m.cut) m.picture
@@ -177,14 +168,6 @@ lines a copies m =
 abbrev pub notes : Asked → List (List ℕ) → Made → List ℕ
 notes a copies m = if bytes_eq a.out (codes "-") then noted_text (report_on a copies m) else []
 
--- events of the fault output: each search reported how far it was, if that is asked for. Those over other parts of the copies, of which
--- nothing counts, reported before them or after
-abbrev pub TellsOfSearches : Asked → Searches → List Event → Type 0
-TellsOfSearches a w events =
-    (before : List Event) × (counted : List Event) × (after : List Event) × (events ≡ (before ++ counted) ++ after)
-    × ReportedUpTo a.options.tries a.options.progress before × AreReported a.options.progress (w.first ∷ w.more) counted
-    × ReportedUpTo a.options.tries a.options.progress after
-
 -- ---- why nothing is made
 
 -- why a run stops if no file has a frame, by how the reading of the first copy stopped
@@ -209,24 +192,20 @@ IsUnsettled a copies splices r =
     IsWantOfMemory a r
     ⊎ ((found : ShapeFound) × IsShapeFound (bytes_read copies) splices found × IsRefusedFor a.copies (stops_read copies) found r)
 
--- why a run stops after the copies were read, and what it printed until then of how far its search was. If it stops for what its files are,
--- the search kept to its tries
-abbrev pub CantMake : Asked → List CopyBytes → Refusal → List Event → Type 0
-CantMake a copies r events =
-    (IsWantOfMemory a r × ReportedUpTo a.options.tries a.options.progress events)
-    ⊎ ((w : Searches) × (ceiling : Option ℕ) × (f : Found) × (tries : ℕ) × IsCounted a (bytes_read copies) w ceiling f tries
-    × IsFound ceiling (bytes_read copies) f × IsUnsettled a copies (splices_in f) r × TellsOfSearches a w events)
+-- why a run stops after the copies were read: for want of memory, or for what the files are that were found
+abbrev pub CantMake : Asked → List CopyBytes → Refusal → Type 0
+CantMake a copies r =
+    IsWantOfMemory a r
+    ⊎ ((ceiling : Option ℕ) × (f : Found) × IsFoundFor a (bytes_read copies) ceiling f × IsUnsettled a copies (splices_in f) r)
 
 -- ---- as the code has it
 
--- what was made, by the searches, what was found with the limit of a cut file, the choices of the one found and of the one taken, the
--- picture, whether each line of it is settled, and what the code holds of it
-abbrev pub made_of : Searches → FoundInTurn → Option (Vec ℕ Global) → Option (Vec ℕ Global) → PartialPicture → Bool → MadeValue → Made
-made_of w all lone cut p is_settled v = record {
-  searches = w;
+-- what was made, by what was found with the limit of a cut file, the choices of the one found and of the one taken, the picture, whether
+-- each line of it is settled, and what the code holds of it
+abbrev pub made_of : FoundInTurn → Option (Vec ℕ Global) → Option (Vec ℕ Global) → PartialPicture → Bool → MadeValue → Made
+made_of all lone cut p is_settled v = record {
   ceiling = all.splices.ceiling;
   found = found_of all.splices;
-  tries = all.splices.tries;
   cut_ceiling = all.cut_limit;
   lone = option_map (λ path. path.items) lone;
   cut = option_map (λ path. path.items) cut;
@@ -245,7 +224,6 @@ pub record AreTextsOf (a : Asked) (copies : List (List ℕ)) (m : Made) (v : Mad
   pub files_are : named_files v.files.items ≡ m.files
   pub promise_is : v.promise ≡ promise_on m
 
--- and it was made of these copies, and reported so
-abbrev pub HoldsMade : Asked → List CopyBytes → MadeValue → List Event → Type 0
-HoldsMade a copies v events =
-    (m : Made) × IsMade a (bytes_read copies) m × AreTextsOf a (bytes_read copies) m v × TellsOfSearches a m.searches events
+-- and it was made of these copies
+abbrev pub HoldsMade : Asked → List CopyBytes → MadeValue → Type 0
+HoldsMade a copies v = (m : Made) × IsMade a (bytes_read copies) m × AreTextsOf a (bytes_read copies) m v

@@ -17,7 +17,8 @@ use Rattle.jls_cli.specs.declared.outcome.Refusal.{Refusal}
 use Rattle.jls_splice_run.specs.Copies.{AreWhole, bytes_read, StopsAtCopies}
 use Rattle.jls_splice_run.specs.Handing.{HandsAll, StopsInHanding, Texts}
 use Rattle.jls_splice_run.specs.Listing.{IsNumbered, named_files, prefix_in}
-use Rattle.jls_splice_run.specs.Making.{CantMake, IsMade, Made, TellsOfSearches, is_of_picture, lines, notes, promise_on}
+use Rattle.jls_splice_run.specs.Making.{CantMake, IsMade, Made, is_of_picture, lines, notes, promise_on}
+use Rattle.jls_splice_run.specs.Telling.{IsTold}
 use Rattle.jls_splice_run.specs.declared.made.Made.{Made as MadeValue}
 
 -- the histories of the three devices grew by events, and they are such: nothing else was done
@@ -62,13 +63,13 @@ texts_held a v = record {
 pub data Splices (a : Asked) : Outcome → List Event → List Event → List Event → Type 0 where
   at_copies : (r : Refusal) (desk : List Event) → StopsAtCopies a.copies r desk → Splices a (Err r) desk [] []
   not_made : (r : Refusal) (copies : List CopyBytes) (desk faults : List Event) → AreCopiesRead a.copies copies desk
-      → CantMake a copies r faults → Splices a (Err r) desk [] faults
+      → CantMake a copies r → IsTold a.options.progress faults → Splices a (Err r) desk [] faults
   not_handed : (r : Refusal) (copies : List CopyBytes) (m : Made) (reading desk report faults noting : List Event)
-      → AreCopiesRead a.copies copies reading → IsMade a (bytes_read copies) m → TellsOfSearches a m.searches faults
+      → AreCopiesRead a.copies copies reading → IsMade a (bytes_read copies) m → IsTold a.options.progress faults
       → Printed (notes a (bytes_read copies) m) noting
       → StopsInHanding (texts a copies m) r desk report → Splices a (Err r) (reading ++ desk) report (faults ++ noting)
   done : (copies : List CopyBytes) (m : Made) (whole : Bool) (reading desk report faults noting : List Event)
-      → AreCopiesRead a.copies copies reading → IsMade a (bytes_read copies) m → TellsOfSearches a m.searches faults
+      → AreCopiesRead a.copies copies reading → IsMade a (bytes_read copies) m → IsTold a.options.progress faults
       → Printed (notes a (bytes_read copies) m) noting
       → HandsAll (texts a copies m) desk report
       → (IsTrue whole ↔ AreWhole copies)

@@ -21,8 +21,9 @@
 //!
 //! Not proved:
 //!
-//! - At which try a file is found, and that groups find splices that they pass by (`IsPassedBy` of jls_search).
-//! - How many files are found by a line before the last.
+//! - How searches are made: how many there are, in which order, under which limits, with how many tries, and when they tell of it. No
+//!   contract on files, lines, statuses or promises rests on it.
+//! - That a search which is said to be cut off was, and that groups find splices that they pass by (`IsPassedBy` of jls_search).
 //! - That a cut file is as long as it could be.
 #![tactic(auto)]
 

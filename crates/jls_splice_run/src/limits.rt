@@ -1,8 +1,7 @@
 //! All searches of a run. The first is the one asked for. If it has no ceiling and is cut off, others follow, each under the next ceiling
 //! of `LIMITS`.
 
-ghost use Rattle.std.specs.Prelude.{◌≡◌, ◌*◌, ◌<◌, ◌≤◌, ◌^◌, ℕ, List, Option, None, Some, false, length, map, max, min};
-ghost use Rattle.std.specs.Prelude.{IfOk, IfSome, OnErr};
+ghost use Rattle.std.specs.Prelude.{◌≡◌, ◌<◌, ◌≤◌, ◌^◌, ◌⊎◌, List, None, length, IfOk, IfSome};
 ghost use Rattle.std.specs.List.{AllByRecursion};
 ghost use Rattle.jls_io.specs.Event.{GrewBy};
 ghost use Rattle.jls_diff.specs.Parts.{AreParts, Part, made};
@@ -13,10 +12,8 @@ ghost use Rattle.jls_search.specs.Levels.{IsLone};
 ghost use Rattle.jls_search.specs.Search.{IsKeptReader, IsShort, files_of, lists_of};
 ghost use Rattle.jls_search.specs.SearchLaws.{AreShort};
 ghost use Rattle.jls_search.specs.Found.{IsFound, IsGroupSearch, found_of, splices_in};
-ghost use Rattle.jls_splice_run.specs.Limits.{HasReader, IsCutLimit, SearchMade, counting_of, last_or, next_tries, search_made};
-ghost use Rattle.jls_splice_run.specs.Limits as spec;
-ghost use Rattle.jls_splice_run.specs.Making.{search_of};
-ghost use Rattle.jls_splice_run.specs.Telling.{GoesFiner, HasChosenLimit, HasSearched, HasSearchedSome, ReportedUpTo, TookTurns};
+ghost use Rattle.jls_splice_run.specs.Limits.{IsCounting, IsSearchOf, KeepsLimit};
+ghost use Rattle.jls_splice_run.specs.Telling.{IsTold};
 
 use crate::options::SearchOptions;
 use crate::searching::search_once;
@@ -64,9 +61,7 @@ pub struct FoundInTurn<'a> {
 }
 
 /// How many tries a search has after one that found a file and made so many.
-fn tries_after(most: u32, tries: u32) -> u32
-    ensures { result ≡ min most (max 256 (16 * tries)) }
-{
+fn tries_after(most: u32, tries: u32) -> u32 {
     let many = u64::from(tries) * TRIES_AFTER;
     let wanted = if many < FEWEST_AFTER {
         FEWEST_AFTER
@@ -82,13 +77,8 @@ fn tries_after(most: u32, tries: u32) -> u32
 
 /// What searches in turn came to with one more that was not cut off.
 fn with_one_more(turned: Turned, searched: Searched, most: u32) -> Turned
-    requires { searched.is_used_up ≡ false }
-    ensures tries { result.tries ≡ next_tries most turned.tries (search_made searched) }
-    ensures whole { result.whole ≡ searched.ceiling }
-    ensures found { (first : SearchMade)
-        → last_or first result.found ≡ counting_of (last_or first turned.found) (search_made searched) }
-    ensures reader { (parts : List Part) → IfSome turned.found (HasReader parts) → IfSome searched.reader (IsKeptReader parts)
-        → IfSome result.found (HasReader parts) }
+    ensures { (parts : List Part) → IfSome turned.found (IsSearchOf parts) → IsSearchOf parts searched
+        → IfSome result.found (IsSearchOf parts) }
 {
     if searched.splices.is_empty() {
         return Turned {
@@ -114,10 +104,8 @@ fn search_in_turn<E: Sink>(
 ) -> Result<Turned, AllocError>
     requires some_way { AllByRecursion HasSomeWay parts.now }
     requires short { IsShort parts.now }
-    ensures turned { IfOk result (λ turned. GrewBy (TookTurns parts.now options limits.now turned)
-        (E.history faults.old) (E.history faults.new)) }
-    ensures reader { IfOk result (λ turned. IfSome turned.found (HasReader parts.now)) }
-    ensures reported_some { OnErr result (GrewBy (ReportedUpTo options.tries options.tells) (E.history faults.old) (E.history faults.new)) }
+    ensures found { IfOk result (λ turned. IfSome turned.found (IsSearchOf parts.now)) }
+    ensures told { GrewBy (IsTold options.tells) (E.history faults.old) (E.history faults.new) }
 {
     let mut turned = Turned {
         tries: options.tries,
@@ -150,10 +138,7 @@ struct CountingSearch {
 
 /// What counts of a search without a limit, and of others under limits in turn.
 fn chosen(first: Searched, turned: Turned) -> CountingSearch
-    ensures counts { search_made result.searched ≡ last_or (search_made first) turned.found }
-    ensures cut { result.cut_limit ≡ turned.whole }
-    ensures reader { (parts : List Part) → IfSome turned.found (HasReader parts) → IfSome first.reader (IsKeptReader parts)
-        → IfSome result.searched.reader (IsKeptReader parts) }
+    ensures { (parts : List Part) → IfSome turned.found (IsSearchOf parts) → IsSearchOf parts first → IsSearchOf parts result.searched }
 {
     let Turned { whole, found, .. } = turned;
     CountingSearch {
@@ -171,11 +156,8 @@ fn search_all<E: Sink>(
 ) -> Result<CountingSearch, AllocError>
     requires some_way { AllByRecursion HasSomeWay parts.now }
     requires short { IsShort parts.now }
-    ensures searched { IfOk result (λ all. GrewBy
-        (HasSearched options parts.now (search_made all.searched) all.cut_limit)
-        (E.history faults.old) (E.history faults.new)) }
-    ensures reader { IfOk result (λ all. IfSome all.searched.reader (IsKeptReader parts.now)) }
-    ensures reported_some { OnErr result (GrewBy (ReportedUpTo options.tries options.tells) (E.history faults.old) (E.history faults.new)) }
+    ensures counts { IfOk result (λ all. IsCounting options.ceiling parts.now all) }
+    ensures told { GrewBy (IsTold options.tells) (E.history faults.old) (E.history faults.new) }
 {
     let first = search_once(alloc, parts, options, faults)?;
     if options.ceiling.is_some() || !first.is_used_up {
@@ -209,10 +191,8 @@ fn search_over<'a, E: Sink>(
     requires short { AreShort (bytes_of copies.now) }
     requires parts { AreParts (bytes_of copies.now) parts }
     ensures parts { IfOk result (λ new. AreParts (bytes_of copies.now) new.parts) }
-    ensures searched { IfOk result (λ new. GrewBy (HasSearched options new.parts (search_made new.all.searched) new.all.cut_limit)
-        (E.history faults.old) (E.history faults.new)) }
-    ensures reader { IfOk result (λ new. IfSome new.all.searched.reader (IsKeptReader new.parts)) }
-    ensures reported_some { OnErr result (GrewBy (ReportedUpTo options.tries options.tells) (E.history faults.old) (E.history faults.new)) }
+    ensures counts { IfOk result (λ new. IsCounting options.ceiling new.parts new.all) }
+    ensures told { GrewBy (IsTold options.tells) (E.history faults.old) (E.history faults.new) }
 {
     parts_can_be_searched();
     let all = search_all(alloc, &parts, options, faults)?;
@@ -245,11 +225,10 @@ fn search_finer<'a, E: Sink>(
     requires some { 0 < length copies.now }
     requires short { AreShort (bytes_of copies.now) }
     requires parts { AreParts (bytes_of copies.now) before.parts }
-    requires reader { IfSome before.all.searched.reader (IsKeptReader before.parts) }
+    requires counts { IsCounting options.ceiling before.parts before.all }
     ensures parts { IfOk result (λ new. AreParts (bytes_of copies.now) new.parts) }
-    ensures searched { IfOk result (λ new. GrewBy (GoesFiner options before.entry new) (E.history faults.old) (E.history faults.new)) }
-    ensures reader { IfOk result (λ new. IfSome new.all.searched.reader (IsKeptReader new.parts)) }
-    ensures reported_some { OnErr result (GrewBy (ReportedUpTo options.tries options.tells) (E.history faults.old) (E.history faults.new)) }
+    ensures counts { IfOk result (λ new. IsCounting options.ceiling new.parts new.all) }
+    ensures told { GrewBy (IsTold options.tells) (E.history faults.old) (E.history faults.new) }
 {
     if !before.all.searched.splices.is_empty() {
         return Ok(before);
@@ -274,10 +253,8 @@ fn search_copies<'a, E: Sink>(
     requires some { 0 < length copies.now }
     requires short { AreShort (bytes_of copies.now) }
     ensures parts { IfOk result (λ new. AreParts (bytes_of copies.now) new.parts) }
-    ensures searched { IfOk result (λ new. GrewBy (HasSearchedSome options new.parts (search_made new.all.searched) new.all.cut_limit)
-        (E.history faults.old) (E.history faults.new)) }
-    ensures reader { IfOk result (λ new. IfSome new.all.searched.reader (IsKeptReader new.parts)) }
-    ensures reported_some { OnErr result (GrewBy (ReportedUpTo options.tries options.tells) (E.history faults.old) (E.history faults.new)) }
+    ensures counts { IfOk result (λ new. IsCounting options.ceiling new.parts new.all) }
+    ensures told { GrewBy (IsTold options.tells) (E.history faults.old) (E.history faults.new) }
 {
     let parts = find_parts(alloc, copies)?;
     let before = search_over(alloc, copies, parts, options, faults)?;
@@ -308,8 +285,7 @@ fn limit_of_cut(
 ) -> Result<CutLimit, AllocError>
     requires some_way { AllByRecursion HasSomeWay parts.now }
     requires short { IsShort parts.now }
-    ensures limit { IfOk result (λ cut.
-        IsCutLimit parts.now all.now.cut_limit (lists_of all.now.searched.splices.items) cut.limit) }
+    ensures limit { IfOk result (λ cut. (cut.limit ≡ all.now.cut_limit) ⊎ (all.now.cut_limit ≡ None)) }
     ensures lone { IfOk result (λ cut. IfSome cut.unlimited (λ path. IsLone (IsSought None) parts.now path.items)) }
 {
     if !is_sought || all.cut_limit.is_some() || !all.searched.splices.is_empty() {
@@ -348,13 +324,12 @@ pub fn search_and_tell<'a, E: Sink>(
     ensures small { IfOk result (λ found. length (made 0 found.splices.parts) < 2 ^ 64) }
     ensures of_groups { IfOk result (λ found. IfSome (found_of found.splices).by_groups
         (IsGroupSearch options.tries (length copies.now) found.splices.parts)) }
-    ensures searched { IfOk result (λ found. GrewBy (HasChosenLimit options found.splices.parts
-        (search_of found.splices.ceiling (found_of found.splices) found.splices.tries) found.cut_limit)
-        (E.history faults.old) (E.history faults.new)) }
+    ensures limit { IfOk result (λ found. KeepsLimit options.ceiling found.splices.ceiling) }
+    ensures cut { IfOk result (λ found. KeepsLimit options.ceiling found.cut_limit) }
     ensures lone { IfOk result (λ found.
         IfSome found.unlimited (λ path. IsLone (IsSought None) found.splices.parts path.items)) }
     ensures reader { IfOk result (λ found. IfSome found.splices.reader (IsKeptReader found.splices.parts)) }
-    ensures reported_some { OnErr result (GrewBy (ReportedUpTo options.tries options.tells) (E.history faults.old) (E.history faults.new)) }
+    ensures told { GrewBy (IsTold options.tells) (E.history faults.old) (E.history faults.new) }
 {
     parts_can_be_searched();
     if !are_short(copies) {

@@ -17,11 +17,11 @@ ghost use Rattle.jls_search.specs.Search.{IsShort, lists_of};
 ghost use Rattle.jls_search.specs.Found.{by_groups_of, found_of, splices_in};
 ghost use Rattle.jls_search.specs.Files.{AreVerdicts};
 ghost use Rattle.jls_search.specs.Files as given;
-ghost use Rattle.jls_splice_run.specs.Limits.{Searches};
 ghost use Rattle.jls_splice_run.specs.Making.{AreTextsOf, CantMake, HoldsMade, IsCutFile, files_taken, lacks_single, made_of};
 ghost use Rattle.jls_splice_run.specs.Making as spec;
 ghost use Rattle.jls_splice_run.specs.Listing.{AreNamedAsked, named_files};
 ghost use Rattle.jls_splice_run.specs.Single.{IsSingleAsked};
+ghost use Rattle.jls_splice_run.specs.Telling.{IsTold};
 ghost use Rattle.jls_splice_run.specs.Tasks.{task_of};
 
 use crate::copies::slices_of;
@@ -206,8 +206,8 @@ fn texts_of(
     requires path { IfSome held.now.cut (λ path. IsPath all.now.splices.parts path.items) }
     requires verdicts { AreVerdicts (given.files_taken files.now) held.now.faultless.items }
     ensures texts { IfOk result (λ made. (settled : Bool) × (IsTrue settled ↔ IsSettled held.now.station)
-        × ((searches : Searches) → (lone : Option (Vec ℕ Global)) → AreTextsOf (task_of task.now) (bytes_of files.now.copies.now)
-        (made_of searches all.now lone held.now.cut held.now.station settled made) made)) }
+        × ((lone : Option (Vec ℕ Global)) → AreTextsOf (task_of task.now) (bytes_of files.now.copies.now)
+        (made_of all.now lone held.now.cut held.now.station settled made) made)) }
     ensures single { IfOk result (λ made. IsSingleAsked (task_of task.now).options.file
         (files_taken (bytes_of files.now.copies.now) (found_of all.now.splices)) (option_map (λ f. f.items) made.file)) }
     ensures named { IfOk result (λ made. AreNamedAsked (task_of task.now).options.files
@@ -268,10 +268,9 @@ pub(crate) fn make<'a, E: Sink>(
 ) -> Result<Made, Refusal<'a>>
     requires some_copy { 0 < length copies.now }
     requires names { length task.now.names.now ≡ length copies.now }
-    ensures made { IfOk result (λ made.
-        GrewBy (HoldsMade (task_of task.now) (copies_of copies.now) made) (E.history faults.old) (E.history faults.new)) }
-    ensures stopped { IfErr result (λ refusal.
-        GrewBy (CantMake (task_of task.now) (copies_of copies.now) refusal) (E.history faults.old) (E.history faults.new)) }
+    ensures made { IfOk result (λ made. HoldsMade (task_of task.now) (copies_of copies.now) made) }
+    ensures stopped { IfErr result (λ refusal. CantMake (task_of task.now) (copies_of copies.now) refusal) }
+    ensures told { GrewBy (IsTold task.now.options.progress) (E.history faults.old) (E.history faults.new) }
 {
     let slices = match slices_of(alloc, copies) {
         Ok(slices) => slices,

@@ -1,15 +1,15 @@
 //! A search that goes on 64 tries at a time, and tells how far it is.
 
-ghost use Rattle.std.specs.Prelude.{◌≡◌, ◌+◌, ◌<◌, length, min, IfOk, IfSome, OnOk, OnErr};
+ghost use Rattle.std.specs.Prelude.{◌≡◌, ◌<◌, IfOk, IfSome, OnOk};
 ghost use Rattle.std.specs.List.{AllByRecursion};
 ghost use Rattle.jls_io.specs.Event.{GrewBy};
 ghost use Rattle.jls_io.specs.Writing.{Printed};
 ghost use Rattle.jls_diff.specs.PartsOf.{parts_of};
 ghost use Rattle.jls_search.specs.Choices.{HasSomeWay};
-ghost use Rattle.jls_search.specs.Search.{CanGoOn, IsKeptReader, IsSearch, IsShort, Tried, lists_of};
-ghost use Rattle.jls_splice_run.specs.Limits.{IsSearchMade, search_made};
+ghost use Rattle.jls_search.specs.Faultless.{IsSought};
+ghost use Rattle.jls_search.specs.Search.{CameTo, CanGoOn, IsKeptReader, IsSearch, IsShort, lists_of};
 ghost use Rattle.jls_splice_run.specs.Lines.{progress_line};
-ghost use Rattle.jls_splice_run.specs.Telling.{GoesOnToPause, HasReported, IsReported, TellsLine, ReportedSome, WasBegun};
+ghost use Rattle.jls_splice_run.specs.Telling.{IsTold};
 
 use crate::lines::put_progress;
 use crate::options::SearchOptions;
@@ -24,7 +24,7 @@ const TRIES_A_LINE: u32 = 64;
 /// How many tries there are to be in all when it tells that next.
 fn next_pause(tries: u32, limit: u32) -> u32
     requires { tries < limit }
-    ensures { result ≡ min (tries + 64) limit }
+    ensures { tries < result }
 {
     if limit - tries < TRIES_A_LINE {
         limit
@@ -56,9 +56,7 @@ fn tell<E: Sink>(
     walk: &Search,
     faults: &mut E,
 ) -> Result<(), AllocError>
-    ensures reported { OnOk result (GrewBy (TellsLine options.tells walk.now.tries (length (lists_of walk.now.splices.items)))
-        (E.history faults.old) (E.history faults.new)) }
-    ensures unreported { OnErr result (E.history faults.new ≡ E.history faults.old) }
+    ensures { GrewBy (IsTold options.tells) (E.history faults.old) (E.history faults.new) }
 {
     let tells = options.tells;
     if !tells {
@@ -83,40 +81,14 @@ fn go_on<E: Sink>(
     requires can { CanGoOn walk.old options.tries }
     ensures stands { OnOk result (IsSearch parts.now walk.new) }
     ensures fewer { OnOk result (walk.old.tries < walk.new.tries) }
-    ensures tried { OnOk result (Tried parts.now walk.old walk.new) }
     ensures ceiling { OnOk result (walk.new.judge.ceiling ≡ walk.old.judge.ceiling) }
     ensures found { IfSome walk.old.judge.found (IsKeptReader parts.now)
         → OnOk result (IfSome walk.new.judge.found (IsKeptReader parts.now)) }
-    ensures reported { OnOk result (GrewBy (GoesOnToPause options walk.old walk.new) (E.history faults.old) (E.history faults.new)) }
-    ensures unreported { OnErr result (E.history faults.new ≡ E.history faults.old) }
+    ensures told { GrewBy (IsTold options.tells) (E.history faults.old) (E.history faults.new) }
 {
     let pause = next_pause(walk.tries, options.tries);
     walk.go_on(alloc, parts, pause)?;
     tell(alloc, options, walk, faults)
-}
-
-/// Searches the splices of these parts, and tells how far it is.
-fn search_parts<E: Sink>(
-    alloc: Global,
-    parts: &Parts<'_>,
-    options: SearchOptions,
-    faults: &mut E,
-) -> Result<Search, AllocError>
-    requires some_way { AllByRecursion HasSomeWay parts.now }
-    requires short { IsShort parts.now }
-    ensures stands { IfOk result (λ walk. IsSearch parts.now walk) }
-    ensures ceiling { IfOk result (λ walk. walk.judge.ceiling ≡ options.ceiling) }
-    ensures found { IfOk result (λ walk. IfSome walk.judge.found (IsKeptReader parts.now)) }
-    ensures stops { IfOk result (λ walk. CanGoOn walk options.tries → ⊥) }
-    ensures tried { IfOk result (λ walk. WasBegun options.ceiling parts.now walk) }
-    ensures reported { IfOk result (λ walk. GrewBy (HasReported options walk) (E.history faults.old) (E.history faults.new)) }
-    ensures reported_some { OnErr result (GrewBy (ReportedSome options.tries options.tells) (E.history faults.old) (E.history faults.new)) }
-{
-    let mut walk = Search::begin(alloc, parts, options.ceiling)?;
-    while walk.can_go_on(options.tries) {
-        go_on(alloc, parts, options, &mut walk, faults)?;
-    }
-    Ok(walk)
 }
 
 /// Searches the splices of these parts once, under the ceiling if there is one, with so many tries at most. If that is asked for, it prints
@@ -129,13 +101,14 @@ pub(crate) fn search_once<E: Sink>(
 ) -> Result<Searched, AllocError>
     requires some_way { AllByRecursion HasSomeWay parts.now }
     requires short { IsShort parts.now }
-    ensures is_made { IfOk result (λ s. IsSearchMade parts.now options.tries (search_made s)) }
+    ensures came_to { IfOk result (λ s. CameTo (IsSought s.ceiling) parts.now (lists_of s.splices.items) s.is_used_up) }
     ensures ceiling { IfOk result (λ s. s.ceiling ≡ options.ceiling) }
     ensures reader { IfOk result (λ s. IfSome s.reader (IsKeptReader parts.now)) }
-    ensures reported { IfOk result (λ s. GrewBy (IsReported options.tells s.tries (length (lists_of s.splices.items)))
-        (E.history faults.old) (E.history faults.new)) }
-    ensures reported_some { OnErr result (GrewBy (ReportedSome options.tries options.tells) (E.history faults.old) (E.history faults.new)) }
+    ensures told { GrewBy (IsTold options.tells) (E.history faults.old) (E.history faults.new) }
 {
-    let walk = search_parts(alloc, parts, options, faults)?;
+    let mut walk = Search::begin(alloc, parts, options.ceiling)?;
+    while walk.can_go_on(options.tries) {
+        go_on(alloc, parts, options, &mut walk, faults)?;
+    }
     Ok(walk.into_searched())
 }

@@ -71,6 +71,8 @@ limits up to the last: deep: 50+3=85 98+3=85 146+3=85 194+3=85 242+3=85 / \
 74+3=85 122+3=85 170+3=85 218+3=85 266+3=85: --tries 300 OUT 1 2: 0 deep: limit 46340
 each search tells its tries: deep: 50+3=85 98+3=85 146+3=85 194+3=85 242+3=85 / 74+3=85 122+3=85 170+3=85 218+3=85 266+3=85: \
 --progress --tries 40 OUT 1 2: 0 deep: 29 tries, 1 files
+after each 64 tries: deep: 50+3=85 98+3=85 146+3=85 194+3=85 242+3=85 / 74+3=85 122+3=85 170+3=85 218+3=85 266+3=85: \
+--progress --tries 300 OUT 1 2: 0 deep: 128 tries, 0 files
 no other limit than the one given: deep: 50+3=85 98+3=85 146+3=85 194+3=85 242+3=85 / \
 74+3=85 122+3=85 170+3=85 218+3=85 266+3=85: --max 65535 --tries 40 OUT 1 2: 1 other: tries used up
 a limit of the lines before: deep: 50+3=85 98+3=85 146+3=85 194+3=85 242+3=85 206+4=0 / \

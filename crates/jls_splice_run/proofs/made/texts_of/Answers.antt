@@ -25,7 +25,7 @@ pub returns-clause-texts : goal.returns-clause-texts
 returns-clause-texts c = (
   c.is_settled-settled.result,
   subst (λ (p : PartialPicture). IsTrue c.is_settled-settled.result ↔ IsSettled p) c.partial-partial.ensures c.is_settled-settled.ensures,
-  λ searches lone.
+  λ lone.
       let found = c.args.all.now.splices in
       let limit = c.args.all.now.cut_limit in
       let parts = found.parts in

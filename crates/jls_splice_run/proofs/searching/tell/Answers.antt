@@ -1,31 +1,23 @@
-use Rattle.std.proofs.Common.{◌≡◌, ℕ, Bool, List, [], length, Vec, Global, refl, sym, ap, ◌∙◌, subst, arith}
+use Rattle.std.proofs.Common.{◌≡◌, Bool, List, ℕ, sym, ◌∙◌, subst}
 use Rattle.jls_io.specs.Event.{GrewBy}
 use Rattle.jls_io.specs.Writing.{Printed}
-use Rattle.jls_io.proofs.Growing.{grew_not}
-use Rattle.jls_search.specs.Search.{lists_of}
 use Rattle.jls_splice_run.specs.Lines.{progress_line}
-use Rattle.jls_splice_run.specs.Telling.{TellsLine}
-use Rattle.std.proofs.lemmas.List.{length-map}
+use Rattle.jls_splice_run.specs.Telling.{IsTold}
+use Rattle.jls_splice_run.proofs.Told.{tells_line, tells_none}
 use Rattle.jls_splice_run.proofs.searching.tell.Goals as goal
 
-pub returns-then-not-tells-clause-reported : goal.returns-then-not-tells-clause-reported
-returns-then-not-tells-clause-reported g c =
-    let history = g.E.Device.history in
-    let walk = c.args.walk.now in
-    grew_not (TellsLine c.args.options.tells walk.tries (length (lists_of walk.splices.items))) (history c.args.faults.now)
-    (subst (λ (tells : Bool). TellsLine tells walk.tries (length (lists_of walk.splices.items)) []) (sym c.if-not-tells.true) refl)
+pub returns-then-not-tells : goal.returns-then-not-tells
+returns-then-not-tells g c = tells_none c.args.options.tells (g.E.Device.history c.args.faults.now)
 
-pub returns-clause-reported : goal.returns-clause-reported
-returns-clause-reported g c =
+pub returns-in_err-line : goal.returns-in_err-line
+returns-in_err-line g c = tells_none c.args.options.tells (g.E.Device.history c.args.faults.now)
+
+pub returns : goal.returns
+returns g c =
     let history = g.E.Device.history in
-    let walk = c.args.walk.now in
-    let files = length (lists_of walk.splices.items) in
-    let all = length-map walk.splices.items (λ (v : Vec ℕ Global). v.items) in
-    let held = walk.splices.ok.0 in
-    let count : c.len.result ≡ files = omega (arith, all, held, c.len.ensures) in
-    let line : c.deref.result.now ≡ progress_line walk.tries files =
-    c.deref.ensures.value ∙ c.in_ok-line.ensures ∙ ap (λ (n : ℕ). progress_line walk.tries n) count in
-    subst (λ (tells : Bool). GrewBy (TellsLine tells walk.tries files) (history c.args.faults.now) (history c.print_line.new.faults))
-    (sym c.if-not-tells.false)
-    (subst (λ (text : List ℕ). GrewBy (Printed text) (history c.args.faults.now) (history c.print_line.new.faults)) line
-    c.print_line.ensures)
+    let h = history c.args.faults.now in
+    let h' = history c.print_line.new.faults in
+    let tries = c.args.walk.now.tries in
+    let line : c.deref.result.now ≡ progress_line tries c.len.result = c.deref.ensures.value ∙ c.in_ok-line.ensures in
+    subst (λ (tells : Bool). GrewBy (IsTold tells) h h') (sym c.if-not-tells.false)
+    (tells_line tries c.len.result (subst (λ (text : List ℕ). GrewBy (Printed text) h h') line c.print_line.ensures))

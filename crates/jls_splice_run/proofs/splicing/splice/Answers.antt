@@ -39,12 +39,12 @@ make-requires-clause-names g c =
 pub returns-in-Err-make : goal.returns-in-Err-make
 returns-in-Err-make g c =
     stops_unmade (task_of c.args.task.now) _ _ _ _ _ (copies_of c.in-Ok.copies.items) c.in-Ok.ensures.read c.in-Err-make.refusal
-    (ap copies_of c.deref.ensures.value) c.in-Err-make.ensures.stopped
+    (ap copies_of c.deref.ensures.value) c.in-Err-make.ensures.stopped c.in-Err-make.ensures.told
 
 pub returns : goal.returns
 returns g c =
     stops_in_handing (task_of c.args.task.now) _ _ _ _ _ (copies_of c.in-Ok.copies.items) c.in-Ok.ensures.read _ _ _ c.in-Ok-make.made
-    (ap copies_of c.deref.ensures.value) c.in-Ok-make.ensures.made c.deref-2.ensures.value c.print_notes.ensures
+    (ap copies_of c.deref.ensures.value) c.in-Ok-make.ensures.made c.in-Ok-make.ensures.told c.deref-2.ensures.value c.print_notes.ensures
     c.in-Err-hand_out.refusal c.in-Err-hand_out.ensures.stopped
 
 pub returns-in-Ok-hand_out : goal.returns-in-Ok-hand_out
@@ -52,6 +52,6 @@ returns-in-Ok-hand_out g c =
     let whole = c.are_whole.result in
     rw c.is_of_picture.ensures
     (is_done (task_of c.args.task.now) _ _ _ _ _ (copies_of c.in-Ok.copies.items) c.in-Ok.ensures.read _ _ _ c.in-Ok-make.made
-    (ap copies_of c.deref.ensures.value) c.in-Ok-make.ensures.made c.deref-2.ensures.value c.print_notes.ensures whole
+    (ap copies_of c.deref.ensures.value) c.in-Ok-make.ensures.made c.in-Ok-make.ensures.told c.deref-2.ensures.value c.print_notes.ensures whole
     (subst (λ (xs : List CopyFile). IsTrue whole ↔ AreWhole (copies_of xs)) c.deref-in-Ok-hand_out.ensures.value c.are_whole.ensures)
     c.in-Ok-hand_out.ensures.done)

@@ -2,8 +2,8 @@ use Rattle.std.proofs.Common.{◌≡◌, ◌-◌}
 use Rattle.std.specs.Prelude.{IfSome}
 use Rattle.jls_io.specs.Event.{GrewBy}
 use Rattle.jls_search.specs.Search.{IsKeptReader, IsSearch}
-use Rattle.jls_splice_run.specs.Telling.{HasReported, WasBegun}
-use Rattle.jls_splice_run.proofs.searching.search_parts.Given as goal
+use Rattle.jls_splice_run.specs.Telling.{IsTold}
+use Rattle.jls_splice_run.proofs.searching.search_once.Given as goal
 
 abbrev pub invariant-loop-alloc : goal.invariant-loop-alloc
 invariant-loop-alloc g l =
@@ -12,8 +12,7 @@ invariant-loop-alloc g l =
       stands : IsSearch l.parts l.walk;
       ceiling : l.walk.judge.ceiling ≡ l.options.ceiling;
       found : IfSome l.walk.judge.found (IsKeptReader l.parts);
-      tried : WasBegun l.options.ceiling l.parts l.walk;
-      reported : GrewBy (HasReported l.options l.walk) (history l.fn.faults) (history l.faults);
+      told : GrewBy (IsTold l.options.tells) (history l.fn.faults) (history l.faults);
     }
 
 abbrev pub decreases-loop-alloc : goal.decreases-loop-alloc

@@ -1,7 +1,7 @@
 use Rattle.jls_search.specs.Choices.{prefix_of}
 use Rattle.jls_search.specs.Faultless.{IsDead, IsFaultless}
 use Rattle.jls_search.proofs.EarlyReads.{dead_early, fed_to_end}
-use Rattle.jls_search.proofs.living.living_on.Goals as goal
+use Rattle.jls_search.proofs.living.living_from.Goals as goal
 
 pub returns-then-dead-clause-dead : goal.returns-then-dead-clause-dead
 returns-then-dead-clause-dead c =
