@@ -1,13 +1,18 @@
 /* jls_salvage.h: what damaged lossless JPEG-LS files still give (ITU-T T.87), and what several of them give together.
 
    Each function reads whole buffers of the caller's, and answers a number of `enum jls_answer`. A buffer is a pointer and the number of
-   its elements; at 0 elements the pointer may be NULL. Buffers that a function writes must not overlap another one. The library keeps
-   nothing between two calls, so threads may call it at once, on buffers of their own. It takes memory by malloc and gives all back.
+   its elements. At 0 elements the pointer may be NULL; otherwise no pointer may be NULL. What a pointer points at is aligned as its type
+   wants it. A buffer that a function writes must not overlap another one, a structure, nor what it reads. The library keeps nothing
+   between two calls, so threads may call it at once, on buffers of their own. It takes memory by malloc and gives all back.
+
+   A library that was built by `make library CFLAGS='-O1 -DJLS_CHECKS'` looks at these rules. At a pointer that breaks one it writes a line
+   to stderr, which names the function and the argument, and calls abort. Another library trusts its caller.
 
    A structure that begins with `size` can grow in a later version under the same soname. The caller sets `size` to the structure's size, as
-   JLS_INFO and JLS_HEADER do, and the library writes no more bytes than that.
+   JLS_INFO, JLS_HEADER and JLS_LAYOUT do. The library writes no more bytes than that, and none that it doesn't know. Of a jls_layout all
+   bytes that the library doesn't know have to be 0.
 
-   Each function can answer JLS_PROCESSOR and JLS_BAD_SIZE too. On such a processor it answers nothing but the first. */
+   Each function that has an answer can answer JLS_PROCESSOR. One with a structure that begins with `size` can answer JLS_BAD_SIZE too. */
 #ifndef JLS_SALVAGE_H
 #define JLS_SALVAGE_H
 
@@ -29,7 +34,8 @@ enum jls_answer {
     JLS_DONE = 0,
     JLS_OUT_OF_MEMORY = 1, /* nothing was written */
     JLS_NO_PICTURE = 2,    /* the copy has no frame: `fault` and `end_offset` of jls_info say why */
-    JLS_SHORT_ROOM = 3,    /* a buffer is too short: `samples`, `lines` and `bytes` of jls_info say how long they must be */
+    JLS_SHORT_ROOM = 3,    /* a buffer is too short: `samples`, `lines` and `bytes` of jls_info say how long they must be; of jls_read_as
+                              see there */
     JLS_NO_PARTIAL = 4,    /* the bytes, of jls_join the first, are no partial picture: `fault` and `end_offset` of jls_info say why */
     JLS_NO_SECOND_PARTIAL = 5, /* the second bytes of jls_join are none: the same */
     JLS_SHAPES_DIFFER = 6,     /* the partial pictures of jls_join have different shapes: nothing was written */
@@ -116,20 +122,21 @@ typedef struct jls_info {
     uint8_t fault; /* enum jls_fault */
 } jls_info;
 
-/* What the headers of a copy say, up to its first scan. */
+/* What the headers of a copy say, up to its first scan. What stands behind a fault, or behind EOI, says nothing. */
 typedef struct jls_header {
     uint32_t size;             /* what the caller sets: sizeof(jls_header) */
     uint32_t unsupported;      /* enum jls_unsupported */
     uint64_t samples;          /* width * height * components: the numbers that jls_read writes */
     uint64_t lines;            /* height * components */
-    uint64_t end_offset;       /* where a fault of the headers is, in bytes; otherwise where the first scan's data begin */
+    uint64_t end_offset;       /* where a fault of the headers is, in bytes; otherwise where the first scan's data begin; otherwise, of
+                                  a copy without a scan, where it ends */
     uint32_t restart_interval; /* in lines, or 0 for none */
     uint16_t width, height;
     uint8_t precision; /* bits of a sample, from 2 to 16 */
     uint8_t components;
-    uint8_t interleave;  /* of the first scan: 0 for a component, 1 by line, 2 by sample */
+    uint8_t interleave;    /* of the first scan: 0 for a component, 1 by line, 2 by sample; 0 without a scan */
     uint8_t near_lossless; /* NEAR of the first scan: 0 is lossless */
-    uint8_t fault;       /* enum jls_fault */
+    uint8_t fault;         /* enum jls_fault: of a segment before the first scan's data, at JLS_DONE too */
 } jls_header;
 
 /* How samples stand in a buffer. Those of a line follow one another, by component or by pixel. */
@@ -138,14 +145,16 @@ typedef struct jls_layout {
     uint8_t bytes;       /* of a sample: 1, or 2 in the order of the processor */
     uint8_t interleaved; /* whether the components of a pixel stand beside each other; otherwise the lines of a component follow those of
                             the one before */
-    uint64_t stride;     /* from the first sample of a line to the first of the next, in samples, or 0 for no gap */
+    uint64_t stride;     /* from the first sample of a line to the first of the next, in samples, or 0 for no gap. With
+                            height * components lines, or height where interleaved, and `line` samples in each, a buffer needs
+                            (lines - 1) * stride + line samples */
 } jls_layout;
 
 /* Structures whose size is set, as in `jls_info info = JLS_INFO;`. */
 #ifdef __cplusplus
-#define JLS_INFO {sizeof(jls_info)}
-#define JLS_HEADER {sizeof(jls_header)}
-#define JLS_LAYOUT {sizeof(jls_layout)}
+#define JLS_INFO {sizeof(jls_info), 0, 0, 0, 0, 0, 0, 0, 0, 0, 0, 0, 0, 0, 0, 0}
+#define JLS_HEADER {sizeof(jls_header), 0, 0, 0, 0, 0, 0, 0, 0, 0, 0, 0, 0}
+#define JLS_LAYOUT {sizeof(jls_layout), 0, 0, 0}
 #else
 #define JLS_INFO {.size = sizeof(jls_info)}
 #define JLS_HEADER {.size = sizeof(jls_header)}
@@ -200,8 +209,11 @@ uint32_t jls_check(const uint8_t *copy, size_t size, jls_info *info, jls_piece *
 uint32_t jls_read(const uint8_t *copy, size_t size, jls_info *info, uint16_t *samples, size_t sample_room, uint8_t *statuses,
                   size_t status_room);
 
-/* Reads a copy as jls_read does, and puts its samples as `layout` says. What stands between lines stays as it was.
-   Answers what jls_read answers, JLS_BAD_LAYOUT, or JLS_LARGE_SAMPLE where samples of more than 8 bits don't fit into a byte. */
+/* Reads a copy as jls_read does, and puts its samples as `layout` says. What stands between lines stays as it was. Samples of two bytes
+   may stand at any address. `sample_room` is how many samples the buffer has, those between lines among them. It takes memory for the
+   picture once more.
+   Answers what jls_read answers, JLS_BAD_LAYOUT, or JLS_LARGE_SAMPLE where samples of more than 8 bits don't fit into a byte. At
+   JLS_SHORT_ROOM `samples` of `info` doesn't count what stands between lines: jls_layout says how long the buffer must be. */
 uint32_t jls_read_as(const uint8_t *copy, size_t size, jls_info *info, const jls_layout *layout, void *samples, size_t sample_room,
                      uint8_t *statuses, size_t status_room);
 
@@ -231,7 +243,8 @@ uint32_t jls_lines(const uint8_t *partial, size_t size, jls_info *info, uint16_t
    *file_size is written. */
 uint32_t jls_write(const jls_frame *frame, const uint16_t *samples, size_t count, uint8_t *file, size_t room, uint64_t *file_size);
 
-/* Writes samples that stand as `layout` says. `count` is how many samples the buffer has, those between lines among them.
+/* Writes samples that stand as `layout` says, also at an odd address. `count` is how many samples the buffer has, those between lines among
+   them. It takes memory for the picture once more.
    Answers what jls_write answers, or JLS_BAD_LAYOUT. At JLS_BAD_FRAME the buffer may be too short for the frame. */
 uint32_t jls_write_as(const jls_frame *frame, const jls_layout *layout, const void *samples, size_t count, uint8_t *file, size_t room,
                       uint64_t *file_size);

@@ -1,5 +1,6 @@
 # The library, for the Makefile: libjls_salvage.a and libjls_salvage.so.2, from its object in dist/ with a C compiler. Where dist/ has
-# no such object, it is left out.
+# no such object, it is left out. make library BUILD=/tmp/checked CFLAGS='-O1 -DJLS_CHECKS' builds one that stops a program which breaks the
+# rules of jls_salvage.h for pointers, with a line that names the function and the argument.
 
 AR ?= ar
 SONAME = libjls_salvage.so.2
@@ -15,7 +16,7 @@ ifeq ($(PACKED),)
 FUNCTIONS = jls_check jls_join jls_lines jls_partial jls_read jls_write
 OBJCOPY ?= $(or $(shell $(CC) -print-prog-name=objcopy 2> /dev/null),objcopy)
 PARTS = memory calls layouts texts
-$(BUILD)/libjls_salvage.o: $(PARTS:%=library/%.c) library/processor.h include/jls_salvage.h dist/SHA256SUMS $(BUILD)/.how | ready
+$(BUILD)/libjls_salvage.o: $(PARTS:%=library/%.c) library/processor.h library/misuse.h include/jls_salvage.h dist/SHA256SUMS $(BUILD)/.how | ready
 	@command -v $(OBJCOPY) > /dev/null || { echo 'make: there is no $(OBJCOPY), which Debian has in binutils' >&2; exit 1; }
 	gzip -dc dist/$(PROCESSOR)/libjls_salvage.o.gz > $(BUILD)/.libjls_salvage.o
 	$(OBJCOPY) $(foreach name,$(FUNCTIONS),--redefine-sym $(name)=proved_$(name)) $(BUILD)/.libjls_salvage.o

@@ -9,7 +9,7 @@ import site
 import sys
 from typing import Any, Tuple
 
-from ._types import Answer, Bytes, Coding, Fault, MissingLibrary, NoPartial, NoPicture, OldProcessor, ShapesDiffer
+from ._types import Answer, Bytes, Error, Fault, MissingLibrary, NoPartial, NoPicture, OldProcessor, ShapesDiffer
 
 _SONAME = "libjls_salvage.so.2"
 #: The oldest version of the library that has all that is called here, as `jls_version` tells it.
@@ -160,12 +160,7 @@ def judge(answer: int, found: Any) -> Answer:
         raise NoPartial(Fault(found.fault), found.end_offset)
     if answer == Answer.SHAPES_DIFFER:
         raise ShapesDiffer
-    return Answer(answer)
-
-
-def coding_of(found: Any) -> Coding:
-    """What isn't supported of a copy. A later version of the library may know more: these are named by the number alone."""
     try:
-        return Coding(found.unsupported)
+        return Answer(answer)
     except ValueError:
-        return Coding.SUPPORTED
+        raise Error(f"libjls_salvage: answer {answer}, which this version of the package doesn't know") from None

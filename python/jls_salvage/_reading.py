@@ -4,10 +4,11 @@ from __future__ import annotations
 import array
 import ctypes
 import functools
+import operator
 import os
 from typing import Any, Callable, Sequence, Tuple, Union
 
-from ._library import Buffer, InfoStruct, LineStruct, PieceStruct, coding_of, header_struct, info_struct, judge, library
+from ._library import Buffer, InfoStruct, LineStruct, PieceStruct, header_struct, info_struct, judge, library
 from ._types import Answer, Bytes, Coding, End, Error, Fault, Header, Info, NoPicture, Picture, Piece, Unsupported
 
 MOST_PIECES = 4096
@@ -16,7 +17,7 @@ MOST_PIECES = 4096
 def _info(found: InfoStruct, pieces: Sequence[Piece] = ()) -> Info:
     return Info(
         found.width, found.height, found.precision, found.components, found.lines, found.missing, found.settled, found.disputed,
-        found.faulty_pieces, End(found.end), found.end_offset, Fault(found.fault), coding_of(found), pieces,
+        found.faulty_pieces, End(found.end), found.end_offset, Fault(found.fault), Coding(found.unsupported), pieces,
     )  # fmt: skip
 
 
@@ -27,7 +28,7 @@ def header(copy: Bytes) -> Header:
     judge(library().jls_read_header(data.address, data.size, ctypes.byref(found)), found)
     return Header(
         found.width, found.height, found.precision, found.components, found.restart_interval, found.interleave, found.near_lossless,
-        coding_of(found), Fault(found.fault), found.end_offset,
+        Coding(found.unsupported), Fault(found.fault), found.end_offset,
     )  # fmt: skip
 
 
@@ -45,7 +46,7 @@ def _room(count: int) -> Tuple[Any, int]:
     try:
         import numpy
     except ImportError:
-        room = array.array("H", bytes(2 * count))
+        room = array.array("H", (0,)) * count
         return room, room.buffer_info()[0]
     samples = numpy.zeros(count, dtype=numpy.uint16)
     return samples, samples.ctypes.data
@@ -81,7 +82,7 @@ def read(copy: Bytes) -> Picture:
         raise Error(f"libjls_salvage: {answer.name}")
     picture = Picture(_info(found), statuses[: found.lines], samples[: found.samples])
     if answer == Answer.UNSUPPORTED:
-        raise Unsupported(coding_of(found), found.end_offset, picture)
+        raise Unsupported(Coding(found.unsupported), found.end_offset, picture)
     return picture
 
 
@@ -97,7 +98,7 @@ def _written(call: Callable[[Any, int, int], Any], found: InfoStruct, room: int)
         out = (ctypes.c_uint8 * room)()
         answer = judge(call(ctypes.byref(found), ctypes.addressof(out), room), found)
         if answer == Answer.UNSUPPORTED:
-            raise Unsupported(coding_of(found), found.end_offset)
+            raise Unsupported(Coding(found.unsupported), found.end_offset)
         if answer == Answer.DONE:
             return ctypes.string_at(out, found.bytes)
         if found.bytes <= room:
@@ -108,6 +109,7 @@ def _written(call: Callable[[Any, int, int], Any], found: InfoStruct, room: int)
 def partial(copy: Bytes, source: int) -> bytes:
     """Reads a copy, which may be damaged, and gives it as a partial picture: the bytes of a .jlsp file. `source` is a number of 32 bits for
     the copy. Raises `NoPicture` where there is no frame, `Unsupported` where it has a coding that isn't read, and MemoryError."""
+    source = operator.index(source)
     if not 0 <= source < 2**32:
         raise ValueError("a source has 32 bits")
     data, found = Buffer(copy), info_struct()

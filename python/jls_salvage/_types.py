@@ -40,7 +40,7 @@ class Answer(enum.IntEnum):
 
 
 class _Told(enum.IntEnum):
-    """A number that the library tells in words."""
+    """A number that the library tells in words. A later version of the library may have more numbers."""
 
     text: str
 
@@ -49,6 +49,17 @@ class _Told(enum.IntEnum):
         member._value_ = value
         member.text = text
         return member
+
+    @classmethod
+    def _missing_(cls, value: object) -> Any:
+        if not isinstance(value, int) or value < 0:
+            return None
+        member = int.__new__(cls, value)
+        member._value_, member._name_, member.text = value, f"NUMBER_{value}", f"number {value}"
+        return member
+
+    def __reduce_ex__(self, protocol: Any) -> Any:
+        return type(self), (int(self),)
 
     def __str__(self) -> str:
         return self.text
@@ -126,6 +137,9 @@ class OldProcessor(Error, RuntimeError):
     def __init__(self) -> None:
         super().__init__("this processor is below x86-64-v2: libjls_salvage needs SSE4.2 and POPCNT")
 
+    def __reduce__(self) -> Any:
+        return type(self), ()
+
 
 class Faulty(Error, ValueError):
     """Bytes that can't be read: `fault` is their first fault, and `offset` the place of it."""
@@ -135,6 +149,9 @@ class Faulty(Error, ValueError):
     def __init__(self, fault: Fault, offset: int) -> None:
         super().__init__(f"{self.what}: {fault} at offset {offset}")
         self.fault, self.offset = fault, offset
+
+    def __reduce__(self) -> Any:
+        return type(self), (self.fault, self.offset)
 
 
 class NoPicture(Faulty):
@@ -157,12 +174,18 @@ class Unsupported(Error, ValueError):
         super().__init__(f"not supported: {coding} at offset {offset}")
         self.coding, self.offset, self.picture = coding, offset, picture
 
+    def __reduce__(self) -> Any:
+        return type(self), (self.coding, self.offset, self.picture)
+
 
 class ShapesDiffer(Error, ValueError):
     """Two partial pictures have different shapes, and so can't be joined."""
 
     def __init__(self) -> None:
         super().__init__("the shapes differ")
+
+    def __reduce__(self) -> Any:
+        return type(self), ()
 
 
 class NotWritable(Error, ValueError):
@@ -181,7 +204,7 @@ class Piece:
 
 @dataclass(frozen=True)
 class Header:
-    """What the headers of a copy say, up to its first scan."""
+    """What the headers of a copy say, up to its first scan. Where `fault` isn't `Fault.NONE`, they end at `end_offset`, before its data."""
 
     width: int
     height: int
@@ -215,7 +238,7 @@ class Info:
     pieces: Sequence[Piece] = ()
 
 
-@dataclass(frozen=True)
+@dataclass(frozen=True, eq=False)
 class Picture:
     """The lines of a copy or of a partial picture: `statuses` has a byte for each, and `samples` a number of 16 bits for each sample. Line
     y of component c is number c * height + y. The samples of a line that is missing or disputed are zeros. Of a partial picture
@@ -225,6 +248,14 @@ class Picture:
     statuses: bytearray
     samples: Any
     readings: Sequence[int] = ()
+
+    def __eq__(self, other: object) -> bool:
+        if not isinstance(other, Picture):
+            return NotImplemented
+        told = self.info == other.info and self.statuses == other.statuses and list(self.readings) == list(other.readings)
+        return told and bool(self.samples.tobytes() == other.samples.tobytes())
+
+    __hash__ = None  # type: ignore[assignment]  # the buffers of a picture can change
 
     def number(self, component: int, line: int) -> int:
         """The number of a line among all."""

@@ -5,6 +5,10 @@
     pydicom_handler.register()
     pydicom.dcmread("file.dcm").pixel_array          # raises DamagedFrame where lines are missing
     pydicom_handler.masked_array(dataset)            # the same array, in which they are masked
+
+After a refusal pydicom asks its other handlers, which may take damage for samples. This leaves it none:
+
+    pydicom.config.pixel_data_handlers = [pydicom_handler]
 """
 from __future__ import annotations
 
@@ -28,6 +32,9 @@ class DamagedFrame(jls_salvage.Error, ValueError):
         more = f" and {len(lines) - 8} more" if len(lines) > 8 else ""
         super().__init__(f"frame {frame} is damaged: no samples of line {named}{more}")
         self.frame, self.lines = frame, lines
+
+    def __reduce__(self) -> Any:
+        return type(self), (self.frame, self.lines)
 
 
 def is_available() -> bool:
@@ -71,9 +78,13 @@ def _refuse_shape(dataset: Any, frame: bytes) -> None:
 def _pictures(dataset: Any) -> Iterator[jls_salvage.Picture]:
     from pydicom.encaps import generate_pixel_data_frame
 
-    for frame in generate_pixel_data_frame(dataset.PixelData, int(getattr(dataset, "NumberOfFrames", 1) or 1)):
+    wanted, found = int(getattr(dataset, "NumberOfFrames", 1) or 1), 0
+    for frame in generate_pixel_data_frame(dataset.PixelData, wanted):
         _refuse_shape(dataset, frame)
+        found += 1
         yield jls_salvage.read(frame)
+    if found != wanted:
+        raise jls_salvage.Error(f"the data set has {found} frames, and says {wanted}")
 
 
 def _type_of(dataset: Any) -> Any:

@@ -63,6 +63,22 @@ static struct bytes damaged(struct bytes from) {
 /* Whether a copy was read. */
 static int is_read(uint32_t answer) { return answer == JLS_DONE || answer == JLS_UNSUPPORTED; }
 
+/* Samples as they are laid out are written to the file that jls_write makes of them, in just its room. */
+static void written(const jls_info *read, const uint16_t *samples, const jls_layout *layout, const void *out, uint64_t count) {
+    jls_frame frame = {read->width, read->height, (uint16_t)(chance() % 4), read->precision, read->components, (uint8_t)(chance() % 2)};
+    uint64_t size = 0, again = 0;
+    calls++;
+    want("no size of a file", jls_write(&frame, samples, read->samples, NULL, 0, &size) == JLS_SHORT_ROOM);
+    uint8_t *file = fenced(size), *other = fenced(size);
+    want("no file", jls_write(&frame, samples, read->samples, file, size, &again) == JLS_DONE && again == size);
+    want("a file in short room", jls_write_as(&frame, layout, out, count, other, size - 1, &again) == JLS_SHORT_ROOM && again == size);
+    want("samples that aren't there", jls_write_as(&frame, layout, out, count - 1, other, size, &again) == JLS_BAD_FRAME);
+    want("no file of a layout", jls_write_as(&frame, layout, out, count, other, size, &again) == JLS_DONE && again == size);
+    want("another file", memcmp(file, other, size) == 0);
+    release(file, size);
+    release(other, size);
+}
+
 /* The headers of a copy, and its samples by pixel and with a gap between lines: what jls_read says must agree. */
 static void laid_out(struct bytes copy, const jls_info *read, const uint16_t *samples) {
     jls_header header = JLS_HEADER;
@@ -77,19 +93,23 @@ static void laid_out(struct bytes copy, const jls_info *read, const uint16_t *sa
     if (layout.interleaved) lines = read->height;
     layout.stride = chance() % 2 == 0 ? 0 : line + chance() % 5;
     uint64_t stride = layout.stride == 0 ? line : layout.stride, count = (lines - 1) * stride + line;
-    uint8_t *out = fenced(layout.bytes * count), *statuses = fenced(read->lines);
+    uint64_t odd = chance() % 2; /* samples of two bytes may stand at any address */
+    uint8_t *out = fenced(layout.bytes * count + odd), *statuses = fenced(read->lines);
     jls_info info = JLS_INFO;
     want("room that is short", jls_read_as(copy.at, copy.size, &info, &layout, out, count - 1, statuses, read->lines) == JLS_SHORT_ROOM);
     answer = jls_read_as(copy.at, copy.size, &info, &layout, out, count, statuses, read->lines);
     want("no samples as they are laid out", is_read(answer) && memcmp(&info, read, sizeof info) == 0);
+    const uint16_t *planes = samples;
     for (uint64_t component = 0; component < read->components; component++)
         for (uint64_t y = 0; y < read->height; y++)
             for (uint64_t x = 0; x < read->width; x++) {
                 uint64_t at = layout.interleaved ? y * stride + x * read->components + component : (component * read->height + y) * stride + x;
-                uint16_t sample = layout.bytes == 1 ? out[at] : ((uint16_t *)(void *)out)[at];
+                uint16_t sample = out[at];
+                if (layout.bytes == 2) memcpy(&sample, out + 2 * at, 2);
                 if (sample != *samples++) want("another sample", 0);
             }
-    release(out, layout.bytes * count);
+    written(read, planes, &layout, out, count);
+    release(out, layout.bytes * count + odd);
     release(statuses, read->lines);
 }
 

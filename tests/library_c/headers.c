@@ -39,6 +39,7 @@ static void wants(const char *what, const char *text, jls_header wanted, uint32_
 #define GREY "FF F7 00 0B 08 00 02 00 03 01 01 11 00 "
 #define RED_GREEN_BLUE "FF F7 00 11 0C 00 02 00 03 03 01 11 00 02 11 00 03 11 00 "
 #define SCAN "FF DA 00 08 01 01 00 00 00 00 "
+#define LOSSY_SCAN "FF DA 00 08 01 01 00 05 02 00 "
 
 static void of_headers(void) {
     jls_header grey = {.samples = 6, .lines = 2, .width = 3, .height = 2, .precision = 8, .components = 1, .end_offset = 25};
@@ -69,6 +70,30 @@ static void of_headers(void) {
     wants("nothing", "", (jls_header){.fault = JLS_FAULT_ENDED, .end_offset = 0}, JLS_NO_PICTURE);
     other = (jls_header){.fault = JLS_FAULT_SAMPLING, .unsupported = JLS_SUBSAMPLED, .end_offset = 2};
     wants("subsampled", "FF D8 FF F7 00 0B 08 00 02 00 03 01 01 21 00 " SCAN, other, JLS_NO_PICTURE);
+    other = grey, other.end_offset = 32, other.restart_interval = 66051;
+    wants("a restart interval of three bytes", "FF D8 FF DD 00 05 01 02 03 " GREY SCAN, other, JLS_DONE);
+    other = (jls_header){.fault = JLS_FAULT_LENGTH, .end_offset = 2};
+    wants("a restart interval of one byte", "FF D8 FF DD 00 03 01 " GREY SCAN, other, JLS_NO_PICTURE);
+    wants("a restart interval of five bytes", "FF D8 FF DD 00 07 00 00 00 00 01 " GREY SCAN, other, JLS_NO_PICTURE);
+    other = grey, other.end_offset = 39;
+    wants("a scan in an application segment", "FF D8 FF E0 00 0C FF DA 00 08 01 01 00 05 02 00 " GREY SCAN, other, JLS_DONE);
+    /* what stands behind the end of a copy, or behind a fault, says nothing */
+    other = grey, other.end_offset = 15;
+    wants("a frame alone", "FF D8 " GREY, other, JLS_DONE);
+    wants("an end without a scan", "FF D8 " GREY "FF D9", other, JLS_DONE);
+    wants("a scan behind the end", "FF D8 " GREY "FF D9 00 04 00 00 FF DD 00 04 00 07 " LOSSY_SCAN, other, JLS_DONE);
+    other.end_offset = 16;
+    wants("a scan behind an end with fill bytes", "FF D8 " GREY "FF FF D9 00 04 00 00 FF DD 00 04 00 07 " LOSSY_SCAN, other, JLS_DONE);
+    other.end_offset = 15, other.fault = JLS_FAULT_SECOND_FRAME;
+    wants("a scan behind a second frame", "FF D8 " GREY GREY "FF DD 00 04 00 07 " LOSSY_SCAN, other, JLS_DONE);
+    other.fault = JLS_FAULT_UNKNOWN_MARKER;
+    wants("a scan behind another coding's frame", "FF D8 " GREY "FF C0 00 04 00 00 FF DD 00 04 00 07 " LOSSY_SCAN, other, JLS_DONE);
+    other.fault = JLS_FAULT_LENGTH;
+    wants("a scan without components", "FF D8 " GREY "FF DA 00 06 00 05 01 00", other, JLS_DONE);
+    wants("two starts", "FF D8 FF D8 00 02 " GREY SCAN, (jls_header){.fault = JLS_FAULT_UNKNOWN_MARKER, .end_offset = 2}, JLS_NO_PICTURE);
+    other = grey, other.unsupported = JLS_NEAR_LOSSLESS, other.fault = JLS_FAULT_LOSSY, other.end_offset = 17, other.near_lossless = 5;
+    other.interleave = 2;
+    wants("a lossy scan behind fill bytes", "FF D8 " GREY "FF FF " LOSSY_SCAN, other, JLS_UNSUPPORTED);
     other = grey, other.fault = JLS_FAULT_ENDED, other.end_offset = 20;
     wants("a header that is cut off", "FF D8 " GREY "FF DA 00 08 01", other, JLS_DONE);
 }
@@ -102,6 +127,18 @@ static void of_layouts(void) {
         want("a layout that there isn't", jls_read_as(file, size, &info, &bad[at], wide, 12, statuses, 4) == JLS_BAD_LAYOUT);
         want("it was written", jls_write_as(&frame, &bad[at], planes, 12, other, sizeof other, &other_size) == JLS_BAD_LAYOUT);
     }
+    const jls_frame none[] = {{.height = 2, .precision = 8, .components = 1}, {.width = 3, .precision = 8, .components = 1}, {.width = 3, .height = 2, .precision = 8}};
+    for (size_t at = 0; at < sizeof none / sizeof *none; at++)
+        want("a frame of nothing", jls_write_as(&none[at], &layout, planes, 12, other, sizeof other, &other_size) == JLS_BAD_FRAME);
+    struct { jls_layout layout; uint64_t unknown; } later = {.layout = {.size = sizeof later, .bytes = 2}};
+    want("a layout of a later version", jls_read_as(file, size, &info, &later.layout, wide, 12, statuses, 4) == JLS_DONE);
+    later.unknown = 1;
+    want("with what isn't known", jls_read_as(file, size, &info, &later.layout, wide, 12, statuses, 4) == JLS_BAD_LAYOUT);
+    want("the same, written", jls_write_as(&frame, &later.layout, planes, 12, other, sizeof other, &other_size) == JLS_BAD_LAYOUT);
+    uint8_t odd[25];
+    want("samples at an odd address", jls_read_as(file, size, &info, &layout, odd + 1, 12, statuses, 4) == JLS_DONE);
+    want("others there", memcmp(odd + 1, planes, 24) == 0);
+    want("written from there", jls_write_as(&frame, &layout, odd + 1, 12, other, sizeof other, &other_size) == JLS_DONE && other_size == size);
     layout.size = 8;
     want("a short layout", jls_read_as(file, size, &info, &layout, wide, 12, statuses, 4) == JLS_BAD_SIZE);
     const jls_frame deep = {.width = 1, .height = 1, .precision = 9, .components = 1};
@@ -119,11 +156,33 @@ static void of_sizes(void) {
     memset(&unset, 0, sizeof unset), memset(&header, 0, sizeof header);
     want("no size", jls_check(copy.at, copy.size, &unset, NULL, 0) == JLS_BAD_SIZE && unset.width == 0);
     want("no size of a header", jls_read_header(copy.at, copy.size, &header) == JLS_BAD_SIZE && header.width == 0);
+    jls_header first = JLS_HEADER, second;
+    memset(&second, 0x5A, sizeof second), second.size = sizeof second;
+    want("two headers", jls_read_header(copy.at, copy.size, &first) == JLS_DONE && jls_read_header(copy.at, copy.size, &second) == JLS_DONE);
+    want("all bytes of a header are written", memcmp(&first, &second, sizeof first) == 0);
     want("a longer one", jls_check(copy.at, copy.size, &longer.info, NULL, 0) == JLS_DONE && longer.info.size == sizeof longer);
     want("what lies behind", longer.behind == 7 && longer.info.width == 3);
 }
 
+#define AT(structure, field, offset) want(#structure " has " #field " elsewhere", offsetof(structure, field) == (offset))
+
+/* Where fields are: a program that was built with 1.2.0 finds them there. */
+static void of_places(void) {
+    AT(jls_info, unsupported, 4), AT(jls_info, samples, 8), AT(jls_info, bytes, 16), AT(jls_info, faulty_pieces, 24);
+    AT(jls_info, end_offset, 32), AT(jls_info, lines, 40), AT(jls_info, missing, 48), AT(jls_info, settled, 56), AT(jls_info, disputed, 64);
+    AT(jls_info, width, 72), AT(jls_info, height, 74), AT(jls_info, precision, 76), AT(jls_info, components, 77), AT(jls_info, end, 78);
+    AT(jls_info, fault, 79), AT(jls_header, unsupported, 4), AT(jls_header, samples, 8), AT(jls_header, lines, 16);
+    AT(jls_header, end_offset, 24), AT(jls_header, restart_interval, 32), AT(jls_header, width, 36), AT(jls_header, height, 38);
+    AT(jls_header, precision, 40), AT(jls_header, components, 41), AT(jls_header, interleave, 42), AT(jls_header, near_lossless, 43);
+    AT(jls_header, fault, 44), AT(jls_layout, bytes, 4), AT(jls_layout, interleaved, 5), AT(jls_layout, stride, 8);
+    AT(jls_piece, offset, 0), AT(jls_piece, interval, 8), AT(jls_piece, scan, 12), AT(jls_piece, kind, 13);
+    AT(jls_line, readings, 0), AT(jls_line, status, 8), AT(jls_frame, width, 0), AT(jls_frame, height, 2), AT(jls_frame, restart_interval, 4);
+    AT(jls_frame, precision, 6), AT(jls_frame, components, 7), AT(jls_frame, interleaved, 8);
+    want("an element has another size", sizeof(jls_piece) == 16 && sizeof(jls_line) == 16 && sizeof(jls_frame) == 10);
+}
+
 int main(void) {
+    of_places();
     of_headers();
     of_layouts();
     of_sizes();

@@ -27,7 +27,8 @@ static uint8_t copy[ROOM], partial[ROOM], other[ROOM], out[ROOM], blank[ROOM];
 static uint16_t samples[ROOM];
 static jls_line lines[4096];
 static size_t size, partial_size, other_size;
-static jls_info info;
+static jls_info info = JLS_INFO;
+static jls_header header = JLS_HEADER;
 static jls_frame frame;
 static const jls_layout layout = {.size = sizeof layout, .bytes = 2};
 static uint16_t picture[ROOM];
@@ -41,22 +42,22 @@ static uint32_t call(int which) {
     case 4: return jls_lines(partial, partial_size, &info, samples, ROOM, lines, 4096);
     case 5: return jls_read_as(copy, size, &info, &layout, samples, ROOM, out, ROOM);
     case 6: return jls_write_as(&frame, &layout, picture, (size_t)frame.width * frame.height, out, ROOM, &info.bytes);
+    case 7: return jls_read_header(copy, size, &header);
     default: return jls_write(&frame, picture, (size_t)frame.width * frame.height, out, ROOM, &info.bytes);
     }
 }
 
 static int is_untouched(void) {
-    jls_info marked;
-    memset(&marked, 0xA5, sizeof marked);
-    return memcmp(&info, &marked, sizeof info) == 0 && memcmp(out, blank, ROOM) == 0 && memcmp(samples, blank, ROOM) == 0
-           && memcmp(lines, blank, sizeof lines) == 0;
+    return memcmp(&info, blank, sizeof info) == 0 && memcmp(&header, blank, sizeof header) == 0 && memcmp(out, blank, ROOM) == 0
+           && memcmp(samples, blank, ROOM) == 0 && memcmp(lines, blank, sizeof lines) == 0;
 }
 
 /* Refuses the first request, then the second, and so on; with many of them some are left out. */
 static void refuse(int which) {
     uint32_t answer = JLS_OUT_OF_MEMORY;
     for (long number = 0; answer == JLS_OUT_OF_MEMORY; number += 1 + number / 16) {
-        memset(&info, 0xA5, sizeof info), memset(out, 0xA5, ROOM), memset(samples, 0xA5, sizeof samples), memset(lines, 0xA5, sizeof lines);
+        memset(&info, 0xA5, sizeof info), memset(&header, 0xA5, sizeof header);
+        memset(out, 0xA5, ROOM), memset(samples, 0xA5, sizeof samples), memset(lines, 0xA5, sizeof lines);
         left = number;
         answer = call(which);
         int enough = left > 0 || refusals == 0;
@@ -81,7 +82,8 @@ int main(int count, char **names) {
         other_size = info.bytes;
         frame = (jls_frame){(uint16_t)(3 + 7 * at), (uint16_t)(9 + at), (uint16_t)(at % 3), 16, 1, 0};
         for (size_t sample = 0; sample < 4096; sample++) picture[sample] = (uint16_t)(sample * sample * 40503u >> 7);
-        for (int which = 0; which < 8; which++) refuse(which), all++;
+        for (int which = 0; which < 9; which++) refuse(which), all++;
     }
+    want("no file gives a picture, so nothing was tried", all > 0);
     return printf("%ld calls, %d differ\n", all, differ), differ != 0;
 }

@@ -1,0 +1,118 @@
+/* misuse: breaks each rule of jls_salvage.h for pointers, in a process of its own, against a library that was built with -DJLS_CHECKS. Each
+   has to be stopped by abort, after the line on stderr that names the function and the argument. It prints each difference. */
+#define _GNU_SOURCE
+#include <jls_salvage.h>
+#include <signal.h>
+#include <stdio.h>
+#include <stdlib.h>
+#include <string.h>
+#include <sys/resource.h>
+#include <sys/wait.h>
+#include <unistd.h>
+
+static const uint8_t copy[] = {0xFF, 0xD8, 0xFF, 0xF7, 0, 11, 8, 0, 1, 0, 1, 1, 1, 0x11, 0, 0xFF, 0xDA, 0, 8, 1, 1, 0, 0, 0, 0, 0x80, 0xFF, 0xD9};
+static union { uint8_t bytes[256]; uint16_t samples[128]; jls_piece pieces[4]; jls_line lines[4]; jls_info info; jls_header header; uint64_t size; } one, two;
+static const jls_frame frame = {.width = 1, .height = 1, .precision = 8, .components = 1};
+static const jls_layout bytes = {.size = sizeof bytes, .bytes = 1}, pairs = {.size = sizeof pairs, .bytes = 2};
+static jls_info info;
+static uint64_t size;
+
+#define COPY copy, sizeof copy
+#define WRONG(expression, told)                   \
+    case __LINE__: return run ? (void)(expression) : (void)0, told
+#define NULLS(expression, function, argument) WRONG(expression, "libjls_salvage: " function ": " argument " is NULL\n")
+
+/* Runs the case of this line of the source, or doesn't, and answers what has to be told; NULL where no case stands there. */
+static const char *told_of(int line, int run) {
+    switch (line) {
+    NULLS(jls_check(NULL, 1, &info, NULL, 0), "jls_check", "copy");
+    NULLS(jls_check(COPY, NULL, NULL, 0), "jls_check", "info");
+    NULLS(jls_check(COPY, &info, NULL, 1), "jls_check", "pieces");
+    NULLS(jls_read(NULL, 1, &info, NULL, 0, NULL, 0), "jls_read", "copy");
+    NULLS(jls_read(COPY, NULL, NULL, 0, NULL, 0), "jls_read", "info");
+    NULLS(jls_read(COPY, &info, NULL, 1, one.bytes, 1), "jls_read", "samples");
+    NULLS(jls_read(COPY, &info, one.samples, 1, NULL, 1), "jls_read", "statuses");
+    NULLS(jls_read_header(NULL, 1, &one.header), "jls_read_header", "copy");
+    NULLS(jls_read_header(COPY, NULL), "jls_read_header", "header");
+    NULLS(jls_read_as(NULL, 1, &info, &bytes, NULL, 0, NULL, 0), "jls_read_as", "copy");
+    NULLS(jls_read_as(COPY, NULL, &bytes, NULL, 0, NULL, 0), "jls_read_as", "info");
+    NULLS(jls_read_as(COPY, &info, NULL, one.bytes, 1, two.bytes, 1), "jls_read_as", "layout");
+    NULLS(jls_read_as(COPY, &info, &bytes, NULL, 1, two.bytes, 1), "jls_read_as", "samples");
+    NULLS(jls_read_as(COPY, &info, &bytes, one.bytes, 1, NULL, 1), "jls_read_as", "statuses");
+    NULLS(jls_partial(NULL, 1, 1, &info, NULL, 0), "jls_partial", "copy");
+    NULLS(jls_partial(COPY, 1, NULL, NULL, 0), "jls_partial", "info");
+    NULLS(jls_partial(COPY, 1, &info, NULL, 1), "jls_partial", "partial");
+    NULLS(jls_join(NULL, 1, COPY, &info, NULL, 0), "jls_join", "first");
+    NULLS(jls_join(COPY, NULL, 1, &info, NULL, 0), "jls_join", "second");
+    NULLS(jls_join(COPY, COPY, NULL, NULL, 0), "jls_join", "info");
+    NULLS(jls_join(COPY, COPY, &info, NULL, 1), "jls_join", "joined");
+    NULLS(jls_lines(NULL, 1, &info, NULL, 0, NULL, 0), "jls_lines", "partial");
+    NULLS(jls_lines(COPY, NULL, NULL, 0, NULL, 0), "jls_lines", "info");
+    NULLS(jls_lines(COPY, &info, NULL, 1, one.lines, 1), "jls_lines", "samples");
+    NULLS(jls_lines(COPY, &info, one.samples, 1, NULL, 1), "jls_lines", "lines");
+    NULLS(jls_write(NULL, one.samples, 1, two.bytes, 9, &size), "jls_write", "frame");
+    NULLS(jls_write(&frame, NULL, 1, two.bytes, 9, &size), "jls_write", "samples");
+    NULLS(jls_write(&frame, one.samples, 1, NULL, 9, &size), "jls_write", "file");
+    NULLS(jls_write(&frame, one.samples, 1, two.bytes, 9, NULL), "jls_write", "file_size");
+    NULLS(jls_write_as(NULL, &bytes, one.bytes, 1, two.bytes, 9, &size), "jls_write_as", "frame");
+    NULLS(jls_write_as(&frame, NULL, one.bytes, 1, two.bytes, 9, &size), "jls_write_as", "layout");
+    NULLS(jls_write_as(&frame, &bytes, NULL, 1, two.bytes, 9, &size), "jls_write_as", "samples");
+    NULLS(jls_write_as(&frame, &bytes, one.bytes, 1, NULL, 9, &size), "jls_write_as", "file");
+    NULLS(jls_write_as(&frame, &bytes, one.bytes, 1, two.bytes, 9, NULL), "jls_write_as", "file_size");
+    WRONG(jls_check(one.bytes, 256, &info, one.pieces, 1), "libjls_salvage: jls_check: pieces overlaps copy\n");
+    WRONG(jls_check(one.bytes, 256, &one.info, NULL, 0), "libjls_salvage: jls_check: info overlaps copy\n");
+    WRONG(jls_read(COPY, &info, one.samples, 2, one.bytes + 3, 1), "libjls_salvage: jls_read: statuses overlaps samples\n");
+    WRONG(jls_read(one.bytes + 3, 9, &info, one.samples, 2, two.bytes, 1), "libjls_salvage: jls_read: samples overlaps copy\n");
+    WRONG(jls_read_as(COPY, &info, &pairs, one.samples, 2, one.bytes + 3, 1), "libjls_salvage: jls_read_as: statuses overlaps samples\n");
+    WRONG(jls_read_header(one.bytes, 256, &one.header), "libjls_salvage: jls_read_header: header overlaps copy\n");
+    WRONG(jls_partial(one.bytes, 9, 1, &info, one.bytes + 8, 9), "libjls_salvage: jls_partial: partial overlaps copy\n");
+    WRONG(jls_join(COPY, one.bytes, 9, &info, one.bytes, 9), "libjls_salvage: jls_join: joined overlaps second\n");
+    WRONG(jls_lines(COPY, &info, one.samples, 9, one.lines, 1), "libjls_salvage: jls_lines: lines overlaps samples\n");
+    WRONG(jls_write(&frame, one.samples, 1, one.bytes + 1, 9, &size), "libjls_salvage: jls_write: file overlaps samples\n");
+    WRONG(jls_write(&frame, one.samples, 1, two.bytes, 9, &two.size), "libjls_salvage: jls_write: file_size overlaps file\n");
+    WRONG(jls_write_as(&frame, &bytes, one.bytes, 9, one.bytes + 8, 9, &size), "libjls_salvage: jls_write_as: file overlaps samples\n");
+    WRONG(jls_read(COPY, &info, (uint16_t *)(void *)(one.bytes + 1), 2, two.bytes, 1), "libjls_salvage: jls_read: samples is not aligned\n");
+    WRONG(jls_check(COPY, (jls_info *)(void *)(one.bytes + 4), NULL, 0), "libjls_salvage: jls_check: info is not aligned\n");
+    WRONG(jls_check(copy, SIZE_MAX, &info, NULL, 0), "libjls_salvage: jls_check: copy ends behind all memory\n");
+    WRONG(jls_read(COPY, &info, one.samples, SIZE_MAX / 2, two.bytes, 1), "libjls_salvage: jls_read: samples ends behind all memory\n");
+    /* and what breaks none: the same bytes twice that are only read, buffers side by side, bytes at an odd address, no elements */
+    WRONG(jls_join(COPY, COPY, &info, NULL, 0), "");
+    WRONG(jls_read(COPY, &info, one.samples, 2, one.bytes + 4, 1), "");
+    WRONG(jls_read_as(COPY, &info, &pairs, one.bytes + 1, 2, one.bytes + 5, 1), "");
+    WRONG(jls_check(NULL, 0, &info, NULL, 0), "");
+    WRONG(jls_write(&frame, NULL, 0, NULL, 0, &size), "");
+    default: return NULL;
+    }
+}
+
+/* Whether the process of this case is stopped and tells what it has to; or runs, and tells nothing. */
+static int is_right(int line, const char *wanted) {
+    int ends[2], status = 0;
+    char told[256] = "";
+    if (pipe(ends) != 0) exit(98);
+    pid_t child = fork();
+    if (child == 0) {
+        setrlimit(RLIMIT_CORE, &(struct rlimit){0, 0});
+        dup2(ends[1], 2);
+        told_of(line, 1);
+        _exit(0);
+    }
+    close(ends[1]);
+    size_t length = 0;
+    for (ssize_t more = 1; more > 0; length += more > 0 ? (size_t)more : 0) more = read(ends[0], told + length, sizeof told - 1 - length);
+    close(ends[0]);
+    waitpid(child, &status, 0);
+    int stopped = WIFSIGNALED(status) && WTERMSIG(status) == SIGABRT, runs = WIFEXITED(status) && WEXITSTATUS(status) == 0;
+    return (*wanted != 0 ? stopped : runs) && strcmp(told, wanted) == 0;
+}
+
+int main(void) {
+    int cases = 0, differ = 0;
+    for (int line = 1; line < __LINE__; line++) {
+        const char *wanted = told_of(line, 0);
+        if (wanted == NULL) continue;
+        cases++;
+        if (!is_right(line, wanted)) differ++, printf("line %d doesn't tell: %s\n", line, wanted);
+    }
+    return printf("%d cases, %d differ\n", cases, differ), differ != 0 || cases < 50;
+}
