@@ -15,6 +15,7 @@ from archive_cases import ARCHIVE, PROGRAM, PROGRAMS, SPLICE, get, put
 sys.path.insert(0, os.path.join(archive_cases.TOP, "commands"))
 
 from jls_tools import archive_plain, dicom_info
+from jls_tools.library import SONAME
 from jls_tools.programs import Programs
 
 Check = Tuple[str, bool]
@@ -123,7 +124,7 @@ def counting(work: str, name: str, program: str) -> str:
 
 def checks_of_library(work: str) -> Iterator[Check]:
     """Equal files that read start no program where the library is; without it the same comes of them, and of damaged ones too."""
-    library = os.path.join(os.path.dirname(PROGRAM), "libjls_salvage.so.1")
+    library = os.path.join(os.path.dirname(PROGRAM), SONAME)
     if not os.path.exists(library):
         print("left out: files that read, as there is no libjls_salvage beside jls-salvage")
         return

@@ -6,7 +6,7 @@ import re
 import shutil
 import subprocess
 import sys
-from typing import Any, Optional, Sequence
+from typing import Any, Sequence
 
 from . import library
 
@@ -35,9 +35,9 @@ class Report:
         self.settled = self.missing = self.disputed = 0
         self.missing_lines: list[tuple[int, ...]] = []  # (component, first, last)
         self.disputed_lines: list[tuple[int, ...]] = []  # (component, line, readings)
-        self.promise: Optional[str] = None  # the words after "promise", if that line is there
-        self.before: Optional[int] = None  # the offset of the line "before", if it is there
-        self.end: Optional[str] = None  # the words after "end"
+        self.promise: str | None = None  # the words after "promise", if that line is there
+        self.before: int | None = None  # the offset of the line "before", if it is there
+        self.end: str | None = None  # the words after "end"
         for line in self.lines:
             self.take(line)
 
@@ -57,8 +57,8 @@ class Report:
         elif word in ("promise", "end"):
             setattr(self, word, rest)
         elif word == "before":
-            offset = re.match(r"\d+", rest)
-            self.before = int(offset.group()) if offset else None
+            offset = rest.partition(",")[0]
+            self.before = int(offset) if offset.isdigit() else None
 
     @property
     def shape(self) -> str:
@@ -82,7 +82,7 @@ class Outcome:
         self.report = Report(printed)
 
     @property
-    def fault(self) -> Optional[int]:
+    def fault(self) -> int | None:
         """The number of the fault at which the reading of a copy ended; nothing if there is none."""
         found = FAULT.search(self.printed) or FAULT.search(self.faults)
         return int(found.group(1) or found.group(2)) if found else None
@@ -144,10 +144,16 @@ class Programs:
         return Outcome(done.returncode, printed, faults)
 
     def has_option(self, option: str) -> bool:
-        """Whether jls-splice has an option."""
-        return option in self.run([self.splice_program, "--help"]).printed
+        """Whether jls-splice has an option. It is asked once."""
+        if self.help is None:
+            self.help = self.run([self.splice_program, "--help"]).printed
+        return option in self.help
 
     def check(self, name: str, folder: str | None = None) -> Outcome:
+        """What a copy is. Of one that is whole the library says the same as the program, without a process."""
+        whole = self.library.whole_at(os.path.join(folder or ".", name)) if self.library else None
+        if whole:
+            return Outcome(0, whole.printed(), "")
         return self.run([self.salvage, "check", name], folder)
 
     def show(self, name: str, folder: str | None = None) -> Outcome:
@@ -167,5 +173,5 @@ class Programs:
         """Mends copies: OUT gets the partial picture, and `file` the mended file. Options are further words, such as --tries 100."""
         words = [self.splice_program, *options, *(["--file", file] if file else []), out, *names]
         outcome = self.run(words, folder)
-        written = file is not None and os.path.exists(os.path.join(folder or ".", file))
+        written = file is not None and file != "" and os.path.exists(os.path.join(folder or ".", file))
         return Splice(outcome, written)
