@@ -70,6 +70,11 @@ def trees_for(work: str) -> List[str]:
     return [f"{work}/a", f"{work}/b"]
 
 
+def heeds_interrupts() -> None:
+    """A process that is begun so ends by SIGINT, whatever the one before it does."""
+    signal.signal(signal.SIGINT, signal.SIG_DFL)
+
+
 def begun(work: str, words: List[str], **more: Any) -> subprocess.Popen[str]:
     """A run that has come to the picture, in whose program it sleeps, and has done all notes."""
     for name in ("asleep", "asleep.new"):
@@ -96,7 +101,8 @@ def checks_of_signals(work: str) -> Iterator[Check]:
     trees = trees_for(work)
     for number, status in ((signal.SIGINT, 130), (signal.SIGTERM, 143)):
         name, out = number.name, f"{work}/{number.name}"
-        run = begun(work, ["--jobs", "1", out, *trees], start_new_session=True)
+        # who calls the tests may ignore SIGINT, as a shell does for what it runs in the background
+        run = begun(work, ["--jobs", "1", out, *trees], start_new_session=True, preexec_fn=heeds_interrupts)
         os.killpg(run.pid, number) if number == signal.SIGINT else run.send_signal(number)
         time.sleep(0.05)
         if run.poll() is None:
