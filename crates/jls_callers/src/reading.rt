@@ -4,7 +4,7 @@ ghost use Rattle.std.specs.Prelude.{◌≡◌, ◌∷◌, [], List, None, IfOk};
 ghost use Rattle.jls_io.specs.Event.{GrewBy, bytes_given};
 ghost use Rattle.jls_partial.specs.Partial.{PartialPicture};
 ghost use Rattle.jls_partial.specs.Text.{IsTextOf};
-ghost use Rattle.jls_headline.specs.Collected.{Collected};
+ghost use Rattle.jls_headline.specs.Collected.{Knowledge, Collected};
 ghost use Rattle.jls_headline.specs.Sources.{SourcedCopy, sourced_copy};
 
 use jls_copy::{CopyFault, CopyReader};
@@ -19,7 +19,7 @@ pub fn read_in_memory(
     source: Option<u32>,
     bytes: &[u8],
 ) -> Result<Partial, CopyFault>
-    ensures { IfOk result (λ partial. Collected partial (sourced_copy source bytes.now ∷ []) []) }
+    ensures { (known : Knowledge) → IfOk result (λ partial. Collected known partial (sourced_copy source bytes.now ∷ []) []) }
 {
     if bytes.len() > 1 << 61 {
         return Err(CopyFault::OutOfMemory);
@@ -46,11 +46,12 @@ pub fn read_any<S: Source>(
     source: Option<u32>,
     device: &mut S,
 ) -> Result<InputRead, InputFault>
-    ensures copy { IfOk result (λ given. (given.copy ≡ None → ⊥) → GrewBy
-        (λ reads. Collected given.partial (sourced_copy source (bytes_given reads) ∷ []) [])
+    ensures copy { (known : Knowledge) → IfOk result (λ given. (given.copy ≡ None → ⊥) → GrewBy
+        (λ reads. Collected known given.partial (sourced_copy source (bytes_given reads) ∷ []) [])
         (S.history device.old) (S.history device.new)) }
-    ensures text { (p : PartialPicture) (copies over : List SourcedCopy) → Collected p copies over → IfOk result (λ given. GrewBy
-        (λ reads. IsTextOf (bytes_given reads) p → Collected given.partial copies over)
+    ensures text { (known : Knowledge) (p : PartialPicture) (copies over : List SourcedCopy) → Collected known p copies over
+        → IfOk result (λ given. GrewBy
+        (λ reads. IsTextOf (bytes_given reads) p → Collected known given.partial copies over)
         (S.history device.old) (S.history device.new)) }
 {
     read_input(alloc, source, device)

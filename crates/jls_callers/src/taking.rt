@@ -7,7 +7,7 @@ ghost use Rattle.jls_station.specs.declared.take_copy.TakeFault.TheVariants as T
 ghost use Rattle.jls_partial.specs.Partial.{PartialPicture};
 ghost use Rattle.jls_station.specs.Given.{CopyReport};
 ghost use Rattle.jls_station.specs.TakingCopies.{CopyGives};
-ghost use Rattle.jls_headline.specs.Collected.{Collected};
+ghost use Rattle.jls_headline.specs.Collected.{Knowledge, Collected};
 ghost use Rattle.jls_headline.specs.Sources.{SourcedCopy, sourced_copy};
 
 use jls_io::Source;
@@ -22,7 +22,8 @@ pub fn take_first<S: Source>(
     source: Option<u32>,
     first: &mut S,
 ) -> Result<Station, TakeFault>
-    ensures { IfOk result (λ station. GrewBy (λ reads. Collected station (sourced_copy source (bytes_given reads) ∷ []) [])
+    ensures { (known : Knowledge)
+        → IfOk result (λ station. GrewBy (λ reads. Collected known station (sourced_copy source (bytes_given reads) ∷ []) [])
         (S.history first.old) (S.history first.new)) }
 {
     let mut station = Station::new(alloc, shape);
@@ -36,19 +37,20 @@ pub fn take_next<S: Source>(
     source: Option<u32>,
     device: &mut S,
 ) -> Result<TakeReport, TakeFault>
-    ensures taken { (copies over : List SourcedCopy) → Collected station.old copies over → IfOk result (λ _. GrewBy
-        (λ reads. Collected station.new (copies ++ sourced_copy source (bytes_given reads) ∷ []) over)
+    ensures taken { (known : Knowledge) (copies over : List SourcedCopy) → Collected known station.old copies over
+        → IfOk result (λ _. GrewBy
+        (λ reads. Collected known station.new (copies ++ sourced_copy source (bytes_given reads) ∷ []) over)
         (S.history device.old) (S.history device.new)) }
-    ensures refused { (copies over : List SourcedCopy) → Collected station.old copies over
-        → IfErr result (λ fault. (fault ≡ TakeFault.OutOfMemory → ⊥) → Collected station.new copies over) }
-    ensures ran_out { (copies over : List SourcedCopy) → Collected station.old copies over
+    ensures refused { (known : Knowledge) (copies over : List SourcedCopy) → Collected known station.old copies over
+        → IfErr result (λ fault. (fault ≡ TakeFault.OutOfMemory → ⊥) → Collected known station.new copies over) }
+    ensures ran_out { (known : Knowledge) (copies over : List SourcedCopy) → Collected known station.old copies over
         → IfErr result (λ fault. fault ≡ TakeFault.OutOfMemory → GrewBy
-        (λ reads. Collected station.new copies (over ++ sourced_copy source (bytes_given reads) ∷ []))
+        (λ reads. Collected known station.new copies (over ++ sourced_copy source (bytes_given reads) ∷ []))
         (S.history device.old) (S.history device.new)) }
     // If memory ran out, the reads gave a whole copy, or the history goes on as if the call had not been made.
-    ensures ran_out_early { (copies over : List SourcedCopy) → Collected station.old copies over
+    ensures ran_out_early { (known : Knowledge) (copies over : List SourcedCopy) → Collected known station.old copies over
         → IfErr result (λ fault. fault ≡ TakeFault.OutOfMemory → GrewBy
-        (λ reads. Collected station.new copies over ⊎ ((p : PartialPicture) × (report : CopyReport) × CopyGives source p report reads))
+        (λ reads. Collected known station.new copies over ⊎ ((p : PartialPicture) × (report : CopyReport) × CopyGives source p report reads))
         (S.history device.old) (S.history device.new)) }
 {
     station.take_copy(source, device)
@@ -56,12 +58,14 @@ pub fn take_next<S: Source>(
 
 /// A station takes what another holds.
 pub fn take_other(station: &mut Station, other: &Station) -> Result<(), MergeFault>
-    ensures taken { (copies over more further : List SourcedCopy) → Collected station.old copies over → Collected other.now more further
-        → OnOk result (Collected station.new (copies ++ more) (over ++ further)) }
-    ensures refused { (copies over : List SourcedCopy) → Collected station.old copies over
-        → IsErrOf result ShapeDiffers → Collected station.new copies over }
-    ensures ran_out { (copies over more further : List SourcedCopy) → Collected station.old copies over → Collected other.now more further
-        → IsErrOf result OutOfMemory → Collected station.new copies (over ++ (more ++ further)) }
+    ensures taken { (known : Knowledge) (copies over more further : List SourcedCopy) → Collected known station.old copies over
+        → Collected known other.now more further
+        → OnOk result (Collected known station.new (copies ++ more) (over ++ further)) }
+    ensures refused { (known : Knowledge) (copies over : List SourcedCopy) → Collected known station.old copies over
+        → IsErrOf result ShapeDiffers → Collected known station.new copies over }
+    ensures ran_out { (known : Knowledge) (copies over more further : List SourcedCopy) → Collected known station.old copies over
+        → Collected known other.now more further
+        → IsErrOf result OutOfMemory → Collected known station.new copies (over ++ (more ++ further)) }
 {
     station.take(other.partial())
 }

@@ -3,7 +3,7 @@
 ghost use Rattle.std.specs.Prelude.{◌++◌, ℕ, List, OnOk, OnErr, IfOk, IsErrOf};
 ghost use Rattle.jls_partial.specs.Text.{IsTextOf};
 ghost use Rattle.jls_partial.specs.declared.text_merging.MergeTextFault.TheVariants.{ShapeDiffers};
-ghost use Rattle.jls_headline.specs.Collected.{Collected};
+ghost use Rattle.jls_headline.specs.Collected.{Knowledge, Collected};
 ghost use Rattle.jls_headline.specs.Sources.{SourcedCopy};
 
 use jls_headline::cut_texts_are_held;
@@ -23,7 +23,8 @@ pub fn text_of(alloc: Global, station: &Station) -> Result<Vec<u8>, AllocError>
 /// A station again, from the text of another.
 pub fn read_back(alloc: Global, other: &Station, bytes: &[u8]) -> Result<Station, TextFault>
     requires { IsTextOf bytes.now other.now }
-    ensures { (copies over : List SourcedCopy) → Collected other.now copies over → IfOk result (λ station. Collected station copies over) }
+    ensures { (known : Knowledge) (copies over : List SourcedCopy) → Collected known other.now copies over
+        → IfOk result (λ station. Collected known station copies over) }
 {
     let _other = other.partial();
     let partial = Partial::from_bytes(alloc, bytes)?;
@@ -37,10 +38,12 @@ pub fn take_its_text(
     bytes: &[u8],
 ) -> Result<(), MergeTextFault>
     requires { IsTextOf bytes.now other.now }
-    ensures taken { (copies over more further : List SourcedCopy) → Collected station.old copies over → Collected other.now more further
-        → OnOk result (Collected station.new (copies ++ more) (over ++ further)) }
-    ensures ran_out { (copies over more further : List SourcedCopy) → Collected station.old copies over → Collected other.now more further
-        → OnErr result (Collected station.new copies (over ++ (more ++ further))) }
+    ensures taken { (known : Knowledge) (copies over more further : List SourcedCopy) → Collected known station.old copies over
+        → Collected known other.now more further
+        → OnOk result (Collected known station.new (copies ++ more) (over ++ further)) }
+    ensures ran_out { (known : Knowledge) (copies over more further : List SourcedCopy) → Collected known station.old copies over
+        → Collected known other.now more further
+        → OnErr result (Collected known station.new copies (over ++ (more ++ further))) }
 {
     let _other = other.partial();
     station.take_text(bytes)
@@ -52,9 +55,10 @@ pub fn take_cut_text(
     other: &Station,
     prefix: &[u8],
 ) -> Result<(), MergeTextFault>
-    ensures { (following : List ℕ) (copies over more further : List SourcedCopy) → IsTextOf (prefix.now ++ following) other.now
-        → Collected station.old copies over → Collected other.now more further
-        → OnErr result (Collected station.new copies (over ++ (more ++ further))) }
+    ensures { (known : Knowledge) (following : List ℕ) (copies over more further : List SourcedCopy)
+        → IsTextOf (prefix.now ++ following) other.now
+        → Collected known station.old copies over → Collected known other.now more further
+        → OnErr result (Collected known station.new copies (over ++ (more ++ further))) }
 {
     cut_texts_are_held();
     let _other = other.partial();
@@ -63,8 +67,8 @@ pub fn take_cut_text(
 
 /// A station refuses a text of another shape, whatever text it is.
 pub fn take_text_of_another_shape(station: &mut Station, text: &[u8]) -> Result<(), MergeTextFault>
-    ensures { (copies over : List SourcedCopy) → Collected station.old copies over
-        → IsErrOf result ShapeDiffers → Collected station.new copies over }
+    ensures { (known : Knowledge) (copies over : List SourcedCopy) → Collected known station.old copies over
+        → IsErrOf result ShapeDiffers → Collected known station.new copies over }
 {
     station.take_text(text)
 }

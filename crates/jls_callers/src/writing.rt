@@ -1,6 +1,6 @@
 //! Callers that write the picture of a station, and its report.
 
-ghost use Rattle.std.specs.Prelude.{◌≡◌, ℕ, List, IsTrue, IfOk};
+ghost use Rattle.std.specs.Prelude.{◌≡◌, ℕ, List, IsTrue, Ok, IfOk};
 ghost use Rattle.std.specs.List.{AllByRecursion};
 ghost use Rattle.jls_io.specs.Event.{GrewBy};
 ghost use Rattle.jls_io.specs.Writing.{Wrote};
@@ -20,7 +20,7 @@ use jls_headline::same_copies_give_the_picture;
 use jls_io::Sink;
 use jls_report::Report;
 use jls_station::Station;
-use jls_write::{Options, Picture, write_jls, write_pnm};
+use jls_write::{Options, Picture, PictureFault, write_jls, write_pnm};
 use std::alloc::{AllocError, Global};
 
 /// Writes the picture of a station as JPEG-LS, if each line is settled and the options fit. If it answers true, the sink
@@ -54,6 +54,16 @@ pub fn write_station<W: Sink>(
         }
         Err(_) => false,
     }
+}
+
+/// The picture of a station, if each line is settled.
+pub fn station_picture(station: &Station) -> Result<Picture<'_>, PictureFault>
+    ensures damaged { (pic : WholePicture) (copies : List SourcedCopy) → IsPicture pic → CollectedFrom station.now copies
+        → AllByRecursion (Damaged pic) (copies_of copies) → EachLineSurvives pic (copies_of copies) → result ≡ Ok pic }
+{
+    same_copies_give_the_picture();
+    let held = station.partial();
+    Picture::of(held)
 }
 
 /// Writes the picture of a station as PNM, if each line is settled. If it answers true, the sink took all of it.

@@ -17,7 +17,7 @@ use Rattle.jls_copy.specs.declared.end.End.TheVariants.{Eoi}
 use Rattle.jls_copy.specs.declared.piece.PieceKind.TheVariants as kind
 use Rattle.jls_write.specs.Picture.{picture_of}
 use Rattle.jls_write.specs.WrittenFile.{written_file}
-use Rattle.jls_headline.specs.Collected.{Collected, CollectedFrom, CollectedUnder}
+use Rattle.jls_headline.specs.Collected.{no_knowledge, Collected, CollectedFrom, CollectedUnder}
 use Rattle.jls_headline.specs.Headline.{WritesThePicture}
 use Rattle.jls_headline.specs.ReadsAs.{ReadsAsOnly}
 use Rattle.jls_headline.specs.Sources.{SourcedCopy, sourced_copy}
@@ -110,7 +110,7 @@ pub station_comes_back : ReadsAsOnly (written_file (picture_of station) options)
 station_comes_back = file_comes_back first_read second_read first_reads second_reads
 
 -- a station for which memory ran out over the first copy, and which holds its line
-ran_out : Collected (union (nothing_known shape) first_read.partial) [] (sourced_copy None first ∷ [])
+ran_out : Collected no_knowledge (union (nothing_known shape) first_read.partial) [] (sourced_copy None first ∷ [])
 ran_out = ran_out_over_first first_read first_reads
 
 -- no calls that took the first copy under no source came to its line with the source 7

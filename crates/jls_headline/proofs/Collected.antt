@@ -31,10 +31,12 @@ use Rattle.jls_station.specs.declared.take_copy.TakeFault.TheVariants as fault
 use Rattle.jls_copy_laws.specs.Gives.{GivesReading}
 use Rattle.jls_copy_laws.proofs.Members.{none_in, in_map, of_map, all_at, all_append, all_prefix}
 use Rattle.jls_station.proofs.ReadBytes.{all_reads}
-use Rattle.jls_headline.specs.Stations.{HasShape, ReadingsOf}
-use Rattle.jls_headline.specs.Sources.{SourcedCopy, copies_of}
+use Rattle.jls_headline.specs.Stations.{HasShape, ReadingsOf, HoldsExactly, AreAmong, IsSameCopy}
+use Rattle.jls_headline.specs.Sources.{SourcedCopy, copies_of, HoldsExactlyUnder}
 use Rattle.jls_headline.specs.Sources.{sourced_copy}
-use Rattle.jls_headline.specs.Collected.{HoldsEntry, Collected, new_station, reader_finished, copy_input, text_input, text_back, same_again}
+use Rattle.jls_headline.specs.Collected.{HoldsEntry, Knowledge, no_knowledge, of_readings, of_sources, IsKnown}
+use Rattle.jls_headline.specs.Collected.{CollectedFrom, CollectedUnder}
+use Rattle.jls_headline.specs.Collected.{Collected, is_known, new_station, reader_finished, copy_input, text_input, text_back, same_again}
 use Rattle.jls_headline.specs.Collected.{copy_taken, copy_refused, copy_ran_out, partial_taken, partial_ran_out, text_taken, text_ran_out}
 use Rattle.jls_headline.specs.Collected.{text_cut_short}
 use Rattle.jls_headline.specs.CollectedLaws.{CollectedHoldsExactly, CollectedHoldsExactlyUnder}
@@ -49,8 +51,9 @@ use Rattle.jls_headline.proofs.Unions.{in_the_end}
 pub no_text : {P : Type 0} (bytes : List ℕ) → is_text bytes ≡ false → is_text bytes ≡ true → P
 no_text bytes e f = (let d : false ≡ true = sym e ∙ f in absurd cc)
 
--- what is kept by these five steps is kept by all calls
-module _ (P : PartialPicture → List SourcedCopy → List SourcedCopy → Type 0)
+-- what is kept by these steps is kept by all calls
+module _ (known : Knowledge) (P : PartialPicture → List SourcedCopy → List SourcedCopy → Type 0)
+    (begins : (p : PartialPicture) (copies : List SourcedCopy) → IsKnown known p copies → P p copies [])
     (nothing : (s : PictureShape) → P (nothing_known s) [] [])
     (one : (copy : SourcedCopy) (read : ReadCopy) → AreBytes copy.bytes → CopyReads copy.bytes read
     → P (marked copy.source read.partial) (copy ∷ []) [])
@@ -99,7 +102,8 @@ module _ (P : PartialPicture → List SourcedCopy → List SourcedCopy → Type 
   input_text p _ _ _ is (by_text source bytes q is') = one_text bytes p q is is'
   input_text p _ _ _ is (by_copy source bytes read stop none reads) = no_text bytes none (ap is_text is.bytes_are)
 
-  pub by_calls : (p : PartialPicture) (copies over : List SourcedCopy) → Collected p copies over → P p copies over
+  pub by_calls : (p : PartialPicture) (copies over : List SourcedCopy) → Collected known p copies over → P p copies over
+  by_calls _ _ _ (is_known p copies h) = begins p copies h
   by_calls _ _ _ (new_station shape station is) = subst (λ (p : PartialPicture). P p [] []) (sym is) (nothing shape)
   by_calls _ _ _ (reader_finished source bytes read p low reads is) =
       subst (λ (q : PartialPicture). P q (sourced_copy source bytes ∷ []) []) (sym is) (one (sourced_copy source bytes) read low reads)
@@ -196,7 +200,7 @@ prefix_has_marks p q ks held m h =
 abbrev GivesOwn : SourcedCopy → Reading → Type 0
 GivesOwn copy r = GivesReading copy.bytes r
 
-abbrev AllOfOneShape : PictureShape → List SourcedCopy → Type 0
+abbrev pub AllOfOneShape : PictureShape → List SourcedCopy → Type 0
 AllOfOneShape shape copies = AllByRecursion (λ (copy : SourcedCopy). HasShape shape copy.bytes) copies
 
 of_bytes : (copies : List SourcedCopy) (r : Reading) → ReadingsOf (copies_of copies) r → GivenBy GivesOwn is_read union_read copies r
@@ -207,36 +211,38 @@ of_bytes copies r (bytes, c, g) =
 to_bytes : (copies : List SourcedCopy) (r : Reading) → GivenBy GivesOwn is_read union_read copies r → ReadingsOf (copies_of copies) r
 to_bytes copies r (copy, c, g) = (copy.bytes, in_map (λ (copy : SourcedCopy). copy.bytes) copies copy c, g)
 
-are_of_shape : (shape : PictureShape) (copies : List SourcedCopy) → AllOfOneShape shape copies
+pub are_of_shape : (shape : PictureShape) (copies : List SourcedCopy) → AllOfOneShape shape copies
     → AllByRecursion (HasShape shape) (copies_of copies)
 are_of_shape shape [] h = tt
 are_of_shape shape (copy ∷ copies) h = (h.0, are_of_shape shape copies h.1)
 
--- the copies have the shape; what is held, and from which sources
+pub of_one_shape : (shape : PictureShape) (copies : List SourcedCopy) → AllByRecursion (HasShape shape) (copies_of copies)
+    → AllOfOneShape shape copies
+of_one_shape shape [] h = tt
+of_one_shape shape (copy ∷ copies) h = (h.0, of_one_shape shape copies h.1)
+
+-- the copies have the shape, and what is held
 record After (p : PartialPicture) (copies over : List SourcedCopy) : Type 0 where
   shapes : AllOfOneShape p.shape copies
   readings : Holds GivesOwn is_read union_read p copies over
-  marks : Holds GivesMark is_marked union_marked p copies over
+
+after_known : (p : PartialPicture) (copies : List SourcedCopy) → HoldsExactly p (copies_of copies) → After p copies []
+after_known p copies h = record {
+  shapes = of_one_shape p.shape copies h.are_copies;
+  readings = at_first GivesOwn is_read union_read p copies
+      (λ r. (λ x. of_bytes copies r ((h.readings r).0 x), λ g. (h.readings r).1 (to_bytes copies r g)));
+}
 
 after_new : (s : PictureShape) → After (nothing_known s) [] []
 after_new s = record {
   shapes = tt;
   readings = (λ r g. absurd (none_in g.0 g.1), λ r h. (let none : false ≡ true = sym (contains-empty reading_cmp r) ∙ h in absurd cc));
-  marks =
-      (λ m g. absurd (none_in g.0 g.1), λ m h. (let none : false ≡ true = sym (contains-empty (mark_cmp reading_cmp) m) ∙ h in absurd cc));
 }
 
 after_copy : (copy : SourcedCopy) (read : ReadCopy) → AreBytes copy.bytes → CopyReads copy.bytes read
     → After (marked copy.source read.partial) (copy ∷ []) []
 after_copy copy read low reads =
-    let h = copy_holds_under copy read low reads in
-    let p = marked copy.source read.partial in
-    record {
-      shapes = (h.readings.are_copies.0, tt);
-      readings = at_first GivesOwn is_read union_read p (copy ∷ [])
-          (λ r. (λ x. of_bytes (copy ∷ []) r ((h.readings.readings r).0 x), λ g. (h.readings.readings r).1 (to_bytes (copy ∷ []) r g)));
-      marks = at_first GivesMark is_marked union_marked p (copy ∷ []) (λ m. h.sources m.0 m.1);
-    }
+    after_known (marked copy.source read.partial) (copy ∷ []) (copy_holds_under copy read low reads).readings
 
 after_both : (p q : PartialPicture) (copies over more further : List SourcedCopy) → After p copies over → After q more further
     → q.shape ≡ p.shape
@@ -244,7 +250,6 @@ after_both : (p q : PartialPicture) (copies over more further : List SourcedCopy
 after_both p q copies over more further h k e = record {
   shapes = all_append _ copies more h.shapes (subst (λ s. AllOfOneShape s more) e k.shapes);
   readings = both_collected GivesOwn is_read union_read p q copies over more further h.readings k.readings;
-  marks = both_collected GivesMark is_marked union_marked p q copies over more further h.marks k.marks;
 }
 
 after_part : (p q new : PartialPicture) (copies over more further : List SourcedCopy) → After p copies over → After q more further
@@ -253,8 +258,6 @@ after_part p q new copies over more further h k between = record {
   shapes = subst (λ s. AllOfOneShape s copies) (ap (λ (z : PartialPicture). z.shape) between.0) h.shapes;
   readings = part_collected GivesOwn is_read union_read p q new copies over more further h.readings k.readings
       (between_keeps GivesOwn is_read union_read p q new between) (between_only GivesOwn is_read union_read p q new between);
-  marks = part_collected GivesMark is_marked union_marked p q new copies over more further h.marks k.marks
-      (between_keeps GivesMark is_marked union_marked p q new between) (between_only GivesMark is_marked union_marked p q new between);
 }
 
 after_prefix : (p q : PartialPicture) (ks : List (Reading × List ℕ)) (copies over more further : List SourcedCopy) → After p copies over
@@ -263,25 +266,70 @@ after_prefix p q ks copies over more further h k held = record {
   shapes = h.shapes;
   readings = part_collected GivesOwn is_read union_read p q (with_all p ks) copies over more further h.readings k.readings
       (prefix_keeps_readings p ks) (prefix_has_readings p q ks held);
-  marks = part_collected GivesMark is_marked union_marked p q (with_all p ks) copies over more further h.marks k.marks
-      (prefix_keeps_marks p ks) (prefix_has_marks p q ks held);
 }
 
 after_more : (p : PartialPicture) (copies over more : List SourcedCopy) → After p copies over → After p copies (over ++ more)
 after_more p copies over more h = record {
   shapes = h.shapes;
   readings = over_more GivesOwn is_read union_read p copies over more h.readings;
-  marks = over_more GivesMark is_marked union_marked p copies over more h.marks;
 }
 
-after_calls : (p : PartialPicture) (copies over : List SourcedCopy) → Collected p copies over → After p copies over
-after_calls = by_calls After after_new after_copy after_both after_part after_prefix after_more
+-- each knowledge tells of the readings
+pub readings_known : (known : Knowledge) (p : PartialPicture) (copies : List SourcedCopy) → IsKnown known p copies
+    → HoldsExactly p (copies_of copies)
+readings_known no_knowledge p copies h = absurd h
+readings_known of_readings p copies h = h
+readings_known of_sources p copies h = h.readings
+
+after_calls : (known : Knowledge) (p : PartialPicture) (copies over : List SourcedCopy) → Collected known p copies over
+    → After p copies over
+after_calls known =
+    by_calls known After (λ p copies h. after_known p copies (readings_known known p copies h)) after_new after_copy after_both after_part
+    after_prefix after_more
+
+-- from which sources -----------------------------------------------------------------------------------------------
+
+abbrev Marked : PartialPicture → List SourcedCopy → List SourcedCopy → Type 0
+Marked p copies over = Holds GivesMark is_marked union_marked p copies over
+
+marked_known : (p : PartialPicture) (copies : List SourcedCopy) → HoldsExactlyUnder p copies → Marked p copies []
+marked_known p copies h = at_first GivesMark is_marked union_marked p copies (λ m. h.sources m.0 m.1)
+
+marked_new : (s : PictureShape) → Marked (nothing_known s) [] []
+marked_new s =
+    (λ m g. absurd (none_in g.0 g.1), λ m h. (let none : false ≡ true = sym (contains-empty (mark_cmp reading_cmp) m) ∙ h in absurd cc))
+
+marked_copy : (copy : SourcedCopy) (read : ReadCopy) → AreBytes copy.bytes → CopyReads copy.bytes read
+    → Marked (marked copy.source read.partial) (copy ∷ []) []
+marked_copy copy read low reads = marked_known (marked copy.source read.partial) (copy ∷ []) (copy_holds_under copy read low reads)
+
+marked_both : (p q : PartialPicture) (copies over more further : List SourcedCopy) → Marked p copies over → Marked q more further
+    → q.shape ≡ p.shape → Marked (union p q) (copies ++ more) (over ++ further)
+marked_both p q copies over more further h k e = both_collected GivesMark is_marked union_marked p q copies over more further h k
+
+marked_part : (p q new : PartialPicture) (copies over more further : List SourcedCopy) → Marked p copies over → Marked q more further
+    → IsBetween union p new (union p q) → Marked new copies (over ++ (more ++ further))
+marked_part p q new copies over more further h k between =
+    part_collected GivesMark is_marked union_marked p q new copies over more further h k
+    (between_keeps GivesMark is_marked union_marked p q new between) (between_only GivesMark is_marked union_marked p q new between)
+
+marked_prefix : (p q : PartialPicture) (ks : List (Reading × List ℕ)) (copies over more further : List SourcedCopy) → Marked p copies over
+    → Marked q more further → AllByRecursion (HoldsEntry q) ks → Marked (with_all p ks) copies (over ++ (more ++ further))
+marked_prefix p q ks copies over more further h k held =
+    part_collected GivesMark is_marked union_marked p q (with_all p ks) copies over more further h k (prefix_keeps_marks p ks)
+    (prefix_has_marks p q ks held)
+
+marked_calls : (p : PartialPicture) (copies over : List SourcedCopy) → Collected of_sources p copies over → Marked p copies over
+marked_calls =
+    by_calls of_sources Marked marked_known marked_new marked_copy marked_both marked_part marked_prefix
+    (over_more GivesMark is_marked union_marked)
 
 -- The laws -------------------------------------------------------------------------------------------------------
 
-pub collected_holds : CollectedHoldsExactly
-collected_holds p copies (over, collected, among) =
-    let h = after_calls p copies over collected in
+history_holds : (known : Knowledge) (p : PartialPicture) (copies over : List SourcedCopy) → Collected known p copies over
+    → AreAmong IsSameCopy (copies_of over) (copies_of copies) → HoldsExactly p (copies_of copies)
+history_holds known p copies over collected among =
+    let h = after_calls known p copies over collected in
     record {
       are_copies = are_of_shape p.shape copies h.shapes;
       readings = λ r. (
@@ -294,10 +342,24 @@ collected_holds p copies (over, collected, among) =
     exactly h = in_the_end GivesOwn is_read union_read p copies over h.readings
         (λ r g. of_bytes copies r (among_gives (copies_of over) (copies_of copies) r among (to_bytes over r g)))
 
+pub collected_holds : CollectedHoldsExactly
+collected_holds p copies (over, collected, among) = history_holds of_readings p copies over collected among
+
 pub collected_holds_under : CollectedHoldsExactlyUnder
-collected_holds_under p copies (over, collected, among) =
-    let h = after_calls p copies over collected in
-    record {
-      readings = collected_holds p copies (over, collected, among_aside over copies among);
-      sources = λ r source. in_the_end GivesMark is_marked union_marked p copies over h.marks (among_mark over copies among) (r, source);
-    }
+collected_holds_under p copies (over, collected, among) = record {
+  readings = history_holds of_sources p copies over collected (among_aside over copies among);
+  sources = λ r source. in_the_end GivesMark is_marked union_marked p copies over (marked_calls p copies over collected)
+      (among_mark over copies among) (r, source);
+}
+
+-- Histories that begin from what is known --------------------------------------------------------------------------
+
+pub known_from : (p : PartialPicture) (copies : List SourcedCopy) → HoldsExactly p (copies_of copies) → CollectedFrom p copies
+known_from p copies h = ([], is_known p copies h, λ copy c. absurd (none_in copy c))
+
+pub known_under : (p : PartialPicture) (copies : List SourcedCopy) → HoldsExactlyUnder p copies → CollectedUnder p copies
+known_under p copies h = ([], is_known p copies h, λ copy c. absurd (none_in copy c))
+
+-- where the sources are known, so are the readings
+pub collected_aside : (p : PartialPicture) (copies : List SourcedCopy) → CollectedUnder p copies → CollectedFrom p copies
+collected_aside p copies h = known_from p copies (collected_holds_under p copies h).readings

@@ -15,8 +15,9 @@ use Rattle.jls_headline.specs.Sources.{SourcedCopy, copies_of}
 use Rattle.jls_headline.specs.Sources.{sourced_copy}
 use Rattle.jls_headline.proofs.LostIntervals.{surviving_lines_are_given}
 use Rattle.jls_headline.proofs.SourcedStations.{copy_holds_under}
-use Rattle.jls_headline.specs.Collected.{new_station, reader_finished, partial_taken, CollectedFrom, CollectedUnder}
+use Rattle.jls_headline.specs.Collected.{is_known, new_station, reader_finished, partial_taken, CollectedFrom, CollectedUnder}
 use Rattle.jls_headline.proofs.Collected.{collected_holds, collected_holds_under}
+use Rattle.jls_headline.proofs.KnownReadings.{marked_later_from, marked_later_under}
 use Rattle.jls_headline.proofs.CollectedPictures.{damaged_copies_write_the_picture}
 use Rattle.jls_headline.proofs.TwoLineCopies.{shape, pic, is_picture, first, second, first_data, second_data, first_scans, second_scans}
 use Rattle.jls_headline.proofs.TwoLineExamples.{shape_read, line_0, both_are_damaged, each_line_survives}
@@ -67,7 +68,35 @@ no_source n e = (let bad = e in cc)
 of_none : (copy : SourcedCopy) (bytes : List ℕ) (n : ℕ) → sourced_copy None bytes ≡ copy → copy.source ≡ Some n → ⊥
 of_none copy bytes n e f = no_source n (ap (λ (c : SourcedCopy). c.source) e ∙ f)
 
--- What holds exactly the readings of copies needs no history: it can have sources of which no copy was taken. So `Collected` says more
+-- What was read of the first copy, and marked later. Its readings are those of the copy, so a history of readings passes through it, and a
+-- station takes it for the copy
+module _ (a : ReadCopy) (ra : CopyReads first a) where
+  pub marked_from : CollectedFrom (with_source a.partial 7) (sourced_copy None first ∷ [])
+  marked_from =
+      marked_later_from a.partial (sourced_copy None first ∷ []) 7
+      ([], reader_finished None first a a.partial (bytes_of_test first refl) ra refl, λ copy c. absurd (none_in copy c))
+
+  pub marked_is_taken : CollectedFrom (union (nothing_known shape) (with_source a.partial 7)) (sourced_copy None first ∷ [])
+  marked_is_taken = (
+    [],
+    partial_taken (nothing_known shape) (union (nothing_known shape) (with_source a.partial 7)) (with_source a.partial 7) [] []
+        (sourced_copy None first ∷ []) []
+        (new_station shape (nothing_known shape) refl)
+        (is_known (with_source a.partial 7) (sourced_copy None first ∷ [])
+        (collected_holds (with_source a.partial 7) (sourced_copy None first ∷ []) marked_from))
+        (subst (λ (s : PictureShape). same_shape shape s ≡ true) (sym (shape_read first (first_data ∷ []) a first_scans ra))
+        (shape_itself shape))
+        refl,
+    λ copy c. absurd (none_in copy c),
+  )
+
+  -- of its sources it is known that the copy was read under none, and then under that one
+  pub marked_under : CollectedUnder (with_source a.partial 7) (sourced_copy None first ∷ sourced_copy (Some 7) first ∷ [])
+  marked_under =
+      marked_later_under a.partial (sourced_copy None first ∷ []) 7
+      ([], reader_finished None first a a.partial (bytes_of_test first refl) ra refl, λ copy c. absurd (none_in copy c))
+
+-- under no source alone no calls came to it, and it isn't known to hold just that
 pub held_and_marked : (a : ReadCopy) → CopyReads first a → CollectedUnder (with_source a.partial 7) (sourced_copy None first ∷ []) → ⊥
 held_and_marked a ra collected =
     let holds = collected_holds_under (with_source a.partial 7) (sourced_copy None first ∷ []) collected in

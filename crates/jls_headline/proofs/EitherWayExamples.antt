@@ -18,7 +18,7 @@ use Rattle.jls_copy_laws.proofs.CopyScans.{one_list_of_scans}
 use Rattle.jls_headline.specs.Damaged.{AreNumbers, numbered_pieces, HasPictureLines, DamagedScan, Damaged, SurvivesInScan, picture_reading}
 use Rattle.jls_headline.specs.Damaged.{Survives, EachLineSurvives}
 use Rattle.jls_headline.specs.Stations.{ReadingsOf, HasShape, HoldsExactly, IsSameCopy, AreAmong, SameCopies}
-use Rattle.jls_headline.specs.Collected.{Collected, new_station, CollectedFrom, CollectedUnder}
+use Rattle.jls_headline.specs.Collected.{of_readings, Collected, new_station, CollectedFrom, CollectedUnder}
 use Rattle.jls_headline.specs.ReadsAs.{GivesPicture, ReadsAs, ReadsAsOnly, FilesReadAs}
 use Rattle.jls_headline.specs.HeadlineLaws.{SayTheSame}
 use Rattle.jls_headline.specs.Sources.{sourced_copy}
@@ -153,7 +153,7 @@ holds_not_third holds =
 not_collected_from_third : CollectedFrom known (sourced_copy None third ∷ []) → ⊥
 not_collected_from_third collected = holds_not_third (collected_holds known (sourced_copy None third ∷ []) collected)
 
-not_collected_of_third : Collected known (sourced_copy None third ∷ []) [] → ⊥
+not_collected_of_third : Collected of_readings known (sourced_copy None third ∷ []) [] → ⊥
 not_collected_of_third collected = not_collected_from_third ([], collected, λ copy c. absurd (none_in copy c))
 
 says_the_same : SayTheSame known known

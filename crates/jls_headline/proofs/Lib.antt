@@ -10,6 +10,7 @@ mod Unions
 pub mod Stations
 pub mod SourcedStations
 pub mod Collected
+pub mod KnownReadings
 mod CutTexts
 pub mod Pictures
 pub mod WrittenFiles

@@ -23,7 +23,7 @@ use Rattle.jls_write.specs.Picture.{WholePicture, line_of, settled_line, picture
 use Rattle.jls_headline.specs.Damaged.{HasPictureLines, picture_reading}
 use Rattle.jls_headline.specs.Stations.{HoldsExactly}
 use Rattle.jls_headline.specs.Sources.{sourced_copy}
-use Rattle.jls_headline.specs.Collected.{Collected, new_station, reader_finished, partial_ran_out, CollectedFrom}
+use Rattle.jls_headline.specs.Collected.{no_knowledge, Collected, new_station, reader_finished, partial_ran_out, CollectedFrom}
 use Rattle.jls_headline.specs.ReadsAs.{GivesPicture, ReadsAs}
 use Rattle.jls_copy_laws.proofs.FileExamples.{is_head}
 use Rattle.jls_copy_laws.proofs.Members.{none_in, bytes_of_test}
@@ -104,7 +104,7 @@ between p q e =
       partial_laws.idempotent (union p q),
     )
 
-pub ran_out_over_first : (a : ReadCopy) → CopyReads first a → Collected (union known a.partial) [] (sourced_copy None first ∷ [])
+pub ran_out_over_first : (a : ReadCopy) → CopyReads first a → Collected no_knowledge (union known a.partial) [] (sourced_copy None first ∷ [])
 ran_out_over_first a reads =
     partial_ran_out known (union known a.partial) a.partial [] [] (sourced_copy None first ∷ []) [] (new_station shape known refl)
     (reader_finished None first a a.partial (bytes_of_test first refl) reads refl)

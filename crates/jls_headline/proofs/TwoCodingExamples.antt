@@ -43,7 +43,7 @@ use Rattle.jls_write.specs.WholePictures.{IsPicture}
 use Rattle.jls_copy_laws.specs.CopyScans.{ScanPiece, ScanWithData, HasScans}
 use Rattle.jls_copy_laws.proofs.CopyScans.{course_has_scans}
 use Rattle.jls_copy_laws.proofs.Members.{none_in, bytes_of_test}
-use Rattle.jls_headline.specs.Collected.{new_station, reader_finished, partial_taken, Collected, CollectedFrom}
+use Rattle.jls_headline.specs.Collected.{of_readings, new_station, reader_finished, partial_taken, Collected, CollectedFrom}
 use Rattle.jls_headline.specs.Damaged.{AreNumbers, Damaged, Survives, EachLineSurvives}
 use Rattle.jls_headline.specs.Headline.{WritesThePicture}
 use Rattle.jls_headline.specs.Sources.{SourcedCopy, sourced_copy, copies_of}
@@ -440,10 +440,10 @@ line_copy = sourced_copy None by_line
 abbrev plane_copy : SourcedCopy
 plane_copy = sourced_copy None by_plane
 
-line_alone : Collected line_read.partial (line_copy ∷ []) []
+line_alone : Collected of_readings line_read.partial (line_copy ∷ []) []
 line_alone = reader_finished None by_line line_read line_read.partial (bytes_of_test by_line refl) line_reads refl
 
-plane_alone : Collected plane_read.partial (plane_copy ∷ []) []
+plane_alone : Collected of_readings plane_read.partial (plane_copy ∷ []) []
 plane_alone = reader_finished None by_plane plane_read plane_read.partial (bytes_of_test by_plane refl) plane_reads refl
 
 -- one takes the copy by line, and then that by plane

@@ -16,7 +16,7 @@ use Rattle.jls_headline.specs.Damaged.{picture_reading}
 use Rattle.jls_headline.specs.ReadsAs.{ReadsAs}
 use Rattle.jls_headline.specs.Stations.{HoldsExactly}
 use Rattle.jls_headline.specs.Sources.{SourcedCopy, sourced_copy, HoldsExactlyUnder}
-use Rattle.jls_headline.specs.Collected.{Collected, reader_finished, partial_taken, same_again}
+use Rattle.jls_headline.specs.Collected.{Knowledge, Collected, reader_finished, partial_taken, same_again}
 use Rattle.jls_headline.proofs.LostIntervals.{surviving_lines_are_given, damaged_copies_give_exactly}
 use Rattle.jls_headline.proofs.TwoLineCopies.{shape, pic, first, third}
 use Rattle.jls_headline.proofs.TwoLineExamples.{both_are_damaged, line_0, line_1_is_lost, third_gives_another}
@@ -68,16 +68,17 @@ ends_an_interval_early reads =
 
 -- What no law on histories sees: a `take_copy` that reads fewer bytes, under a contract that allows it. Whatever bytes the reads gave, if
 -- the station took what they read as, these other calls give the same history: `CopyReader::finish` after these bytes, and `Station::take`
-reads_less : (source : Option ℕ) (old new : PartialPicture) (bytes : List ℕ) (read : ReadCopy) (copies over : List SourcedCopy)
-    → Collected old copies over → AllByRecursion (λ b. b < 256) bytes → CopyReads bytes read
+reads_less : (known : Knowledge) (source : Option ℕ) (old new : PartialPicture) (bytes : List ℕ) (read : ReadCopy) (copies over : List SourcedCopy)
+    → Collected known old copies over → AllByRecursion (λ b. b < 256) bytes → CopyReads bytes read
     → has_same_shape old (marked source read.partial) ≡ true → new ≡ union old (marked source read.partial)
-    → Collected new (copies ++ sourced_copy source bytes ∷ []) over
-reads_less source old new bytes read copies over g low reads same is =
+    → Collected known new (copies ++ sourced_copy source bytes ∷ []) over
+reads_less known source old new bytes read copies over g low reads same is =
     let given = marked source read.partial in
-    subst (Collected new (copies ++ sourced_copy source bytes ∷ [])) (append-nil over)
+    subst (Collected known new (copies ++ sourced_copy source bytes ∷ [])) (append-nil over)
     (partial_taken old new given copies over (sourced_copy source bytes ∷ []) [] g
     (reader_finished source bytes read given low reads refl) same is)
 
 -- nor one that refuses a copy for another reason than there is, and leaves the station as it was
-refuses_for_any_reason : (old : PartialPicture) (copies over : List SourcedCopy) → Collected old copies over → Collected old copies over
-refuses_for_any_reason old copies over g = same_again old old copies over g refl
+refuses_for_any_reason : (known : Knowledge) (old : PartialPicture) (copies over : List SourcedCopy) → Collected known old copies over
+    → Collected known old copies over
+refuses_for_any_reason known old copies over g = same_again old old copies over g refl

@@ -17,7 +17,7 @@ mod lost_intervals;
 mod scans;
 mod trimmed;
 
-pub use calls::{collected_copies_are_held, cut_texts_are_held};
+pub use calls::{collected_copies_are_held, cut_texts_are_held, marked_copies_are_held};
 pub use headline::{
     bytes_after_the_end_change_nothing, files_read_as_one, same_copies_give_the_picture,
     same_copies_write_the_same_bytes, written_pictures_read_back,

@@ -17,9 +17,9 @@ use Rattle.jls_salvage_run.proofs.InputBytes.{AreGiven, inputs_of_join}
 use Rattle.jls_copy_laws.proofs.Members.{none_in}
 use Rattle.jls_headline.specs.Stations.{HoldsExactly, AreAmong, IsSameCopy}
 use Rattle.jls_headline.specs.Sources.{SourcedCopy, sourced_copy, copies_of, IsSameUnder}
-use Rattle.jls_headline.specs.Collected.{Collected, reader_finished, text_back, partial_taken, CollectedFrom, CollectedUnder}
+use Rattle.jls_headline.specs.Collected.{Knowledge, of_readings, of_sources, Collected, reader_finished, text_back, partial_taken, CollectedFrom, CollectedUnder}
 use Rattle.jls_run_laws.specs.RunLaws.{DoneJoin, InputsStand, InputStandsFor, InputStandsUnder, RunsAreCollected, RunsAreCollectedUnder}
-use Rattle.jls_headline.proofs.Collected.{no_text, collected_holds}
+use Rattle.jls_headline.proofs.Collected.{no_text, collected_holds, collected_aside}
 use Rattle.jls_headline.proofs.SourcedStations.{among_aside}
 
 -- All inputs -----------------------------------------------------------------------------------------------------
@@ -66,9 +66,9 @@ among_append IsSame over further copies more h k copy c =
       | inr y ↦ (let m = k copy y in (m.0, Contains-append_right copies more m.0 m.1, m.2))
     ]
 
-joined_collected : (p q : PartialPicture) (copies over more further : List SourcedCopy) → Collected p copies over → Collected q more further
-    → q.shape ≡ p.shape → Collected (union p q) (copies ++ more) (over ++ further)
-joined_collected p q copies over more further g k shape =
+joined_collected : (known : Knowledge) (p q : PartialPicture) (copies over more further : List SourcedCopy) → Collected known p copies over
+    → Collected known q more further → q.shape ≡ p.shape → Collected known (union p q) (copies ++ more) (over ++ further)
+joined_collected known p q copies over more further g k shape =
     let same : has_same_shape p q ≡ true = subst (λ (s : PictureShape). same_shape p.shape s ≡ true) (sym shape) (shape_itself p.shape) in
     partial_taken p (union p q) q copies over more further g k same refl
 
@@ -79,7 +79,7 @@ pub union_from : (p q : PartialPicture) (copies more : List SourcedCopy) → Col
     → CollectedFrom (union p q) (copies ++ more)
 union_from p q copies more (over, g, among) (further, k, among') shape = (
   over ++ further,
-  joined_collected p q copies over more further g k shape,
+  joined_collected of_readings p q copies over more further g k shape,
   subst (λ xs. AreAmong IsSameCopy xs (copies_of (copies ++ more))) (sym (map-append bytes_of over further))
       (subst (AreAmong IsSameCopy (copies_of over ++ copies_of further)) (sym (map-append bytes_of copies more))
       (among_append IsSameCopy (copies_of over) (copies_of further) (copies_of copies) (copies_of more) among among')),
@@ -89,13 +89,9 @@ pub union_under : (p q : PartialPicture) (copies more : List SourcedCopy) → Co
     → q.shape ≡ p.shape → CollectedUnder (union p q) (copies ++ more)
 union_under p q copies more (over, g, among) (further, k, among') shape = (
   over ++ further,
-  joined_collected p q copies over more further g k shape,
+  joined_collected of_sources p q copies over more further g k shape,
   among_append IsSameUnder over further copies more among among',
 )
-
--- under their sources, so without them
-pub collected_aside : (p : PartialPicture) (copies : List SourcedCopy) → CollectedUnder p copies → CollectedFrom p copies
-collected_aside p copies (over, g, among) = (over, g, among_aside over copies among)
 
 -- a copy that was read whole
 pub copy_under : (source : Option ℕ) (bytes : List ℕ) (p : PartialPicture) → AreBytes bytes → is_text bytes ≡ false
@@ -114,11 +110,11 @@ given_holds source bytes p low none given =
     collected_holds p copies (collected_aside p copies (copy_under source bytes p low none given))
 
 -- what an input gives that is the text of something collected
-text_given : (source : Option ℕ) (bytes : List ℕ) (p q : PartialPicture) (copies over : List SourcedCopy) → Collected q copies over
-    → IsTextOf bytes q → GivesPartial source bytes p → Collected p copies over
-text_given source bytes p q copies over collected is (g, gives, e) = by g gives e
+text_given : (known : Knowledge) (source : Option ℕ) (bytes : List ℕ) (p q : PartialPicture) (copies over : List SourcedCopy)
+    → Collected known q copies over → IsTextOf bytes q → GivesPartial source bytes p → Collected known p copies over
+text_given known source bytes p q copies over collected is (g, gives, e) = by g gives e
   where
-    by : (g : Given) → Gives source bytes g → g.partial ≡ p → Collected p copies over
+    by : (g : Given) → Gives source bytes g → g.partial ≡ p → Collected known p copies over
     by _ (by_text _ _ q' is') e = text_back q p copies over bytes collected is (subst (IsTextOf bytes) e is')
     by _ (by_copy _ _ read stop copied reads) e = no_text bytes copied (ap is_text is.bytes_are)
 
@@ -127,13 +123,13 @@ given_from : (source : Option ℕ) (bytes : List ℕ) (p : PartialPicture) (copi
 given_from source bytes p copies low given (inl (none, is)) =
     subst (CollectedFrom p) (sym is) (collected_aside p (sourced_copy source bytes ∷ []) (copy_under source bytes p low none given))
 given_from source bytes p copies low given (inr (q, is, (over, collected, among))) =
-    (over, text_given source bytes p q copies over collected is given, among)
+    (over, text_given of_readings source bytes p q copies over collected is given, among)
 
 given_under : (source : Option ℕ) (bytes : List ℕ) (p : PartialPicture) (copies : List SourcedCopy) → AreBytes bytes
     → GivesPartial source bytes p → InputStandsUnder source bytes copies → CollectedUnder p copies
 given_under source bytes p copies low given (inl (none, is)) = subst (CollectedUnder p) (sym is) (copy_under source bytes p low none given)
 given_under source bytes p copies low given (inr (q, is, (over, collected, among))) =
-    (over, text_given source bytes p q copies over collected is given, among)
+    (over, text_given of_sources source bytes p q copies over collected is given, among)
 
 -- the inputs of a run, with what each gave
 pub given_in : (run : DoneJoin) → AreGiven run.source (input_bytes run.events) (partials run.is_done.taken.givens)

@@ -43,8 +43,8 @@ use Rattle.jls_headline.specs.Sources.{sourced_copy}
 use Rattle.jls_headline.specs.Sources.{SourcedCopy}
 use Rattle.jls_headline.specs.Stations.{HoldsExactly}
 use Rattle.jls_headline.specs.Collected.{reader_finished, CollectedUnder}
-use Rattle.jls_headline.proofs.Collected.{collected_holds}
-use Rattle.jls_run_laws.proofs.CollectedRuns.{collected_aside, union_under}
+use Rattle.jls_headline.proofs.Collected.{collected_holds, collected_aside}
+use Rattle.jls_run_laws.proofs.CollectedRuns.{union_under}
 use Rattle.jls_run_laws.proofs.JoinThenWrite.{text_of_copies}
 use Rattle.jls_headline.proofs.LostIntervals.{surviving_lines_are_given}
 use Rattle.jls_headline.proofs.Held.{is_at_line}

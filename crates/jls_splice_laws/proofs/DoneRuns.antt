@@ -56,7 +56,7 @@ status_is true false e = absurd (omega (arith, e))
 status_is false false e = absurd (omega (arith, e))
 
 -- a run that is done ends with status 4 only if a copy was not read to its end
-not_whole : (promises whole : Bool) → exit_status (finished promises whole) ≡ 4 → IsTrue whole → ⊥
+pub not_whole : (promises whole : Bool) → exit_status (finished promises whole) ≡ 4 → IsTrue whole → ⊥
 not_whole true true e is = omega (arith, e)
 not_whole false true e is = omega (arith, e)
 not_whole promises false e is = absurd cc
@@ -73,7 +73,7 @@ none_printed events (inl h) = none_written events h.are_writes h.they_took
 none_printed events (inr (count, h)) = let lt = h.not_all in absurd (omega (arith, lt))
 
 module _ (words : List Text) (a : Asked) (asks : AskFor words a) where
-  was_done : (copies : List CopyBytes) (m : Made) (reading writing report telling noting line : List Event)
+  pub was_done : (copies : List CopyBytes) (m : Made) (reading writing report telling noting line : List Event)
       → AreCopiesRead a.copies copies reading → IsMade a (bytes_read copies) m → IsTold a.options.progress telling
       → Printed (notes a (bytes_read copies) m) noting → HandsAll (texts a copies m) writing report → Printed [] line
       → DidMake words a (reading ++ writing) report ((telling ++ noting) ++ line)
@@ -141,7 +141,7 @@ module _ (words : List Text) (a : Asked) (asks : AskFor words a) where
       )
   did_fail _ _ _ _ (no_names faults told) e = absurd (omega (arith, e))
 
-  one_asked : (b : Asked) → AskFor words b → b ≡ a
+  pub one_asked : (b : Asked) → AskFor words b → b ≡ a
   one_asked b other = let e : Some b ≡ Some a = sym other.asks ∙ asks.asks in cc
 
 pub spliced_runs_are_done : SplicedRunsAreDone

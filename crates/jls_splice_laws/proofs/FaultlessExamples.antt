@@ -81,7 +81,7 @@ each_line zero (suc (suc line)) k l = absurd (omega (arith, l))
 each_line (suc component) line k l = absurd (omega (arith, k))
 
 -- it has no fault
-file_is_faultless : IsFaultless file
+pub file_is_faultless : IsFaultless file
 file_is_faultless = record {
   course = course;
   is_course = is_course;

@@ -8,5 +8,7 @@ pub mod HeldFiles
 pub mod SplicedCopies
 pub mod CutFiles
 pub mod DoneRuns
+mod FailedRuns
+mod MadeExamples
 mod HandedFiles
 mod StoppedRuns

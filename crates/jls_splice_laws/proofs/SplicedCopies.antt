@@ -1,10 +1,10 @@
 -- What the files of searched copies settle.
-use Rattle.std.proofs.Common.{ℕ, List, ◌++◌}
+use Rattle.std.proofs.Common.{ℕ, List, [], ◌++◌}
 use Rattle.jls_search.specs.Search.{files_of}
 use Rattle.jls_splice_laws.specs.SpliceLaws.{SearchedSplicesGiveNoOther}
-use Rattle.jls_headline.specs.Collected.{CollectedFrom}
+use Rattle.jls_headline.specs.Collected.{of_readings, CollectedFrom}
 use Rattle.jls_headline.specs.CollectedLaws.{CollectedHoldsExactlyUnder}
-use Rattle.jls_headline.proofs.SourcedStations.{among_aside}
+use Rattle.jls_copy_laws.proofs.Members.{none_in}
 use Rattle.jls_splice_laws.specs.SplicingLaws.{under, SplicedCopiesGiveNoOther}
 use Rattle.jls_splice_laws.proofs.HeldFiles.{files_alone, files_are_held}
 
@@ -13,7 +13,7 @@ spliced_copies_give_no_other never holds ceiling copies parts source station w p
     let files : List (List ℕ) = files_of parts w.found in
     let held = files_are_held holds source w.shape (copies ++ files) station w.takes in
     let read : CollectedFrom station (under source held.taken) =
-    (held.read.0, held.read.1, among_aside held.read.0 (under source held.taken) held.read.2) in
+    ([], held.read of_readings, λ copy c. absurd (none_in copy c)) in
     (never ceiling copies parts w.found w.shape held.taken (record {
       some_copy = w.some_copy;
       are_parts = w.are_parts;

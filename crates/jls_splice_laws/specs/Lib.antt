@@ -6,3 +6,4 @@ pub mod SpliceLaws
 pub mod SplicingLaws
 pub mod CutLaws
 pub mod RunLaws
+pub mod Failures

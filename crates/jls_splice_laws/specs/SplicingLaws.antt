@@ -1,11 +1,11 @@
 -- The laws of stations that took the copies of a picture and the splices that a search found.
-use Rattle.std.specs.Prelude.{◌≡◌, ℕ, ◌<◌, false, List, ◌++◌, length, map, Option}
+use Rattle.std.specs.Prelude.{◌≡◌, ℕ, ◌<◌, false, List, [], ◌++◌, length, map, Option}
 use Rattle.jls_values.specs.Shape.{PictureShape}
 use Rattle.jls_partial.specs.Partial.{PartialPicture, nothing_known}
 use Rattle.jls_partial.specs.Status.{IsSettled}
 use Rattle.jls_write.specs.Picture.{WholePicture, picture_of}
 use Rattle.jls_write.specs.WholePictures.{IsPicture}
-use Rattle.jls_headline.specs.Collected.{CollectedUnder}
+use Rattle.jls_headline.specs.Collected.{Knowledge, Collected}
 use Rattle.jls_headline.specs.Sources.{SourcedCopy, sourced_copy, HoldsExactlyUnder}
 use Rattle.jls_diff.specs.Parts.{Part, AreParts, IsSplice}
 use Rattle.jls_search.specs.Faultless.{IsSought, IsWithin}
@@ -23,7 +23,7 @@ under source files = map (sourced_copy source) files
 pub record HoldsFiles (source : Option ℕ) (shape : PictureShape) (files : List (List ℕ)) (station : PartialPicture) : Type 0 where
   pub taken : List (List ℕ)
   pub of_shape : AreFilesOfShape shape files taken
-  pub read : CollectedUnder station (under source taken)
+  pub read : (known : Knowledge) → Collected known station (under source taken) []
   pub exactly : HoldsExactlyUnder station (under source taken)
 
 -- what `settle_files` gives does so

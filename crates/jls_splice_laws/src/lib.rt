@@ -7,7 +7,7 @@
 //! - `cut`: the cut file, where no splice is a file without a fault
 //! - `runs`: runs of `jls-splice`
 //!
-//! Definitions: `WholeFiles`, `Searches`, `Taken`, `SpliceLaws`, `SplicingLaws`, `CutLaws`, `RunLaws`.
+//! Definitions: `WholeFiles`, `Searches`, `Taken`, `SpliceLaws`, `SplicingLaws`, `CutLaws`, `RunLaws`, `Failures`.
 #![tactic(auto)]
 
 mod cut;
@@ -18,8 +18,8 @@ mod splicing;
 
 pub use cut::cut_lines_are_the_picture;
 pub use runs::{
-    spliced_runs_are_done, spliced_runs_give_no_other, spliced_runs_hand_out_the_file,
-    spliced_runs_take_the_cut,
+    spliced_runs_are_done, spliced_runs_end_with_4, spliced_runs_give_no_other,
+    spliced_runs_hand_out_the_file, spliced_runs_take_the_cut,
 };
 pub use searches::searches_lose_nothing;
 pub use settled::{faultless_splices_are_taken, splices_give_no_other, whole_files_survive};

@@ -2,6 +2,7 @@
 
 ghost use Rattle.jls_splice_laws.specs.RunLaws.{FailedReadsCauseStatus4, SplicedRunsAreDone, SplicedRunsGiveNoOther};
 ghost use Rattle.jls_splice_laws.specs.RunLaws.{SplicedRunsHandOutTheFile, SplicedRunsTakeTheCut};
+ghost use Rattle.jls_splice_laws.specs.Failures.{RunsEndWith4, SplicedFailuresCauseStatus4, SplicedBrokenReadsCauseStatus4};
 
 use crate::settled::whole_files_survive;
 use crate::splicing::spliced_copies_give_no_other;
@@ -12,6 +13,17 @@ use crate::splicing::spliced_copies_give_no_other;
 pub fn spliced_runs_are_done()
     ensures done { SplicedRunsAreDone }
     ensures failed_reads { FailedReadsCauseStatus4 }
+{}
+
+/// A law: the words of `jls-splice` ask for something, and the run ends with status 4. Then what they ask for was done with all that was
+/// read, though some copy was not read to its end. Or the run stopped, and its last line says why. Either a copy was not opened; or the
+/// first copy was not read to its end, and no copy has a frame in what was read; or an output can't be created or written. This is the
+/// report output, OUT, that of `--file` or one of `--files`, and those before it have all that is theirs. So something failed, or as many
+/// reads were made as one copy can have. Where nothing failed but reads, no output stopped the run, and each copy was opened.
+pub fn spliced_runs_end_with_4()
+    ensures ends { RunsEndWith4 }
+    ensures failures { SplicedFailuresCauseStatus4 }
+    ensures broken_reads { SplicedBrokenReadsCauseStatus4 }
 {}
 
 /// A law: a run prints `promise picture` only where the search that counts was not cut off and found a file, and each line is settled. Take

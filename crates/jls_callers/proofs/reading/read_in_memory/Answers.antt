@@ -9,7 +9,7 @@ use Rattle.jls_headline.specs.Collected.{reader_finished}
 use Rattle.jls_callers.proofs.reading.read_in_memory.Goals as goal
 
 pub returns-in-None : goal.returns-in-None
-returns-in-None c =
+returns-in-None c = λ known.
     let bytes = c.args.bytes.now in
     let read = c.in_ok-read.read in
     let fed : c.feed.new.self ≡ Some bytes = c.in-Ok.ensures.ok ∙ ap (λ (o : Option (List ℕ)). after o bytes) c.new-reader.ensures in
@@ -18,7 +18,7 @@ returns-in-None c =
     (c.into_partial-partial.ensures ∙ sym (ap (λ (s : Option ℕ). marked s read.partial) c.in-None.is))
 
 pub returns-in-Ok-mark : goal.returns-in-Ok-mark
-returns-in-Ok-mark c =
+returns-in-Ok-mark c = λ known.
     let bytes = c.args.bytes.now in
     let read = c.in_ok-read.read in
     let fed : c.feed.new.self ≡ Some bytes = c.in-Ok.ensures.ok ∙ ap (λ (o : Option (List ℕ)). after o bytes) c.new-reader.ensures in

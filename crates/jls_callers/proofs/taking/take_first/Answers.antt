@@ -3,7 +3,7 @@ use Rattle.jls_headline.specs.Collected.{new_station, copy_taken}
 use Rattle.jls_callers.proofs.taking.take_first.Goals as goal
 
 pub returns : goal.returns
-returns g c =
+returns g c = λ known.
     let taken = c.in_ok-take_copy.ensures.taken in
     record {
       events = taken.events;

@@ -5,19 +5,19 @@ use Rattle.jls_callers.proofs.Answered.{ok_both}
 use Rattle.jls_callers.proofs.taking.take_other.Goals as goal
 
 pub returns-clause-taken : goal.returns-clause-taken
-returns-clause-taken c = λ copies over more further g k.
+returns-clause-taken c = λ known copies over more further g k.
     let old = c.args.station.now in
     let new = c.take.new.self in
     let other = c.partial.result.now in
-    ok_both c.take.result (new ≡ union old other) (has_same_shape old other ≡ true) (Collected new (copies ++ more) (over ++ further))
+    ok_both c.take.result (new ≡ union old other) (has_same_shape old other ≡ true) (Collected known new (copies ++ more) (over ++ further))
     c.take.ensures.ok c.take.ensures.ok_same_shape
     (λ is same. partial_taken old new other copies over more further g
-    (subst (λ (p : PartialPicture). Collected p more further) (sym c.partial.ensures) k) same is)
+    (subst (λ (p : PartialPicture). Collected known p more further) (sym c.partial.ensures) k) same is)
 
 pub returns-clause-ran_out : goal.returns-clause-ran_out
-returns-clause-ran_out c = λ copies over more further g k e.
+returns-clause-ran_out c = λ known copies over more further g k e.
     partial_ran_out c.args.station.now c.take.new.self c.partial.result.now copies over more further g
-    (subst (λ (p : PartialPicture). Collected p more further) (sym c.partial.ensures) k) (c.take.ensures.out_of_memory e)
+    (subst (λ (p : PartialPicture). Collected known p more further) (sym c.partial.ensures) k) (c.take.ensures.out_of_memory e)
 
 pub returns-clause-refused : goal.returns-clause-refused
-returns-clause-refused c = λ copies over g e. same_again c.args.station.now c.take.new.self copies over g (c.take.ensures.unchanged e)
+returns-clause-refused c = λ known copies over g e. same_again c.args.station.now c.take.new.self copies over g (c.take.ensures.unchanged e)

@@ -6,12 +6,12 @@ use Rattle.jls_callers.proofs.Answered.{err_then}
 use Rattle.jls_callers.proofs.texts.take_cut_text.Goals as goal
 
 pub returns : goal.returns
-returns c = λ following copies over more further is collected other's.
+returns c = λ known following copies over more further is collected other's.
     let old = c.args.station.now in
     let new = c.take_text.new.self in
     let other = c.args.other.now in
     let bytes = c.args.prefix.now in
     err_then c.take_text.result (TakesPrefix old new (text_prefix bytes))
-    (Collected new copies (over ++ (more ++ further))) c.take_text.ensures.prefix
+    (Collected known new copies (over ++ (more ++ further))) c.take_text.ensures.prefix
     (λ t. text_cut_short old new other copies over more further bytes collected other's
     (c.cut_texts_are_held.ensures other bytes following is) t)

@@ -1,0 +1,330 @@
+-- Runs that end with status 4.
+use Rattle.std.proofs.Common.{◌≡◌, ◌+◌, ℕ, Bool, true, false, List, [], ◌∷◌, ◌++◌, length, Option, Some, None, Err, get_or, refl, sym, ap, ◌∙◌}
+use Rattle.std.proofs.Common.{subst, arith, inl, inr, filter}
+use Rattle.std.specs.Prelude.{◌⊎◌, ◌||◌, IsTrue}
+use Rattle.std.specs.List.{AllByRecursion, list_any}
+use Rattle.std.proofs.lemmas.Bool.{or_left, or_right}
+use Rattle.std.proofs.lemmas.List.{length-append}
+use Rattle.std.proofs.lemmas.List.Elements.{filter-append}
+use Rattle.std.proofs.lemmas.List.Folds.{list_any-append}
+use Rattle.clap.specs.Words.{Text}
+use Rattle.jls_io.specs.Event.{Event, gave, opened, not_opened, read_failed, write_failed, created, is_read, is_failed_opening}
+use Rattle.jls_io.specs.Event.{is_failed_write}
+use Rattle.jls_io.specs.Writing.{Printed, WrotePrefix}
+use Rattle.jls_io.specs.Outputs.{HandsOut}
+use Rattle.jls_write.proofs.Lending.{or_false}
+use Rattle.jls_marker.specs.declared.fault.MarkerFault.{MarkerFault}
+use Rattle.jls_station.specs.CopyFiles.{CopyBytes, AreCopiesRead, IsTextPrefix, StopsAtCopy}
+use Rattle.jls_station.specs.CopyFiles.{not_there, partial_picture, between_reads, after_the_last}
+use Rattle.jls_station.specs.Reading.{GoesOn, StopsWith, IsRead}
+use Rattle.jls_station.specs.declared.copy.CopyCause.{CopyCause}
+use Rattle.jls_station.specs.declared.copy.CopyCause.TheVariants as copy
+use Rattle.jls_station.specs.declared.input.ReadStop.{ReadStop}
+use Rattle.jls_station.specs.declared.input.ReadStop.TheVariants.{Whole, Failed, Turns}
+use Rattle.jls_search.specs.Shapes.{HasNoFrame, IsShapeFound}
+use Rattle.jls_search.specs.declared.shape_found.ShapeFound.{ShapeFound}
+use Rattle.jls_search.specs.declared.shape_found.ShapeFound.TheVariants.{Taken, Differ, NoFrame}
+use Rattle.jls_cli.specs.Outcomes.{status_of_cause, finished, exit_status}
+use Rattle.jls_cli.specs.Outputs as outputs
+use Rattle.jls_cli.specs.Outputs.{StopsAtOutput}
+use Rattle.jls_cli.specs.SpliceAsking.{Asked, AskFor}
+use Rattle.jls_cli.specs.declared.outcome.Cause.{Cause}
+use Rattle.jls_cli.specs.declared.outcome.Cause.TheVariants as cause
+use Rattle.jls_cli.specs.declared.outcome.Refusal.{Refusal}
+use Rattle.jls_splice_run.specs.Copies.{AreWhole, StopsAtCopies, bytes_read, cause_of, stops_read}
+use Rattle.jls_splice_run.specs.Handing.{StopsInHanding, StopsAtNumber, StopsAtSingleFile, Texts, at_file, at_files, at_output, at_report}
+use Rattle.jls_splice_run.specs.Handing.{number_cut, number_not_there}
+use Rattle.jls_splice_run.specs.Listing.{NamedFile}
+use Rattle.jls_splice_run.specs.Making.{CantMake, IsRefusedFor, is_of_picture, no_picture_cause, promise_on}
+use Rattle.jls_splice_run.specs.Runs.{Performs, came_of, no_names, at_copies, not_made, not_handed, done}
+use Rattle.jls_splice_run.specs.Runs.{performed, named_twice, numbered_out, misused, helped, help_cut, nothing_begun, nothing_asked}
+use Rattle.jls_splice_laws.specs.Failures.{StopsUnopened, StopsUnread, StopsAtAnOutput, StopsWith4, IsToldLast, DidInPart, RunsEndWith4}
+use Rattle.jls_splice_laws.specs.Failures.{is_failure, HadFailure, NothingElseFailed}
+use Rattle.jls_splice_laws.specs.Failures.{SplicedFailuresCauseStatus4, SplicedBrokenReadsCauseStatus4}
+use Rattle.jls_splice_laws.proofs.DoneRuns.{was_done, not_whole, one_asked}
+
+-- Why it stops ---------------------------------------------------------------------------------------------------
+
+not_4 : {P : Type 0} (r : Refusal) (c : Cause) (n : ℕ) → r.cause ≡ c → status_of_cause c ≡ n → status_of_cause r.cause ≡ 4 → (n ≡ 4 → ⊥) → P
+not_4 r c n is status e other = absurd (other (sym status ∙ sym (ap status_of_cause is) ∙ e))
+
+unopened : (name : List ℕ) (c : CopyCause) (last : List Event) → StopsAtCopy name c last → status_of_cause (cause_of c) ≡ 4
+    → (c ≡ copy.NotOpened) × (last ≡ not_opened name ∷ [])
+unopened _ _ _ (not_there name) e = (refl, refl)
+unopened _ _ _ (partial_picture name bytes stop reads is text) e = absurd (omega (arith, e))
+unopened _ _ _ (between_reads name reads is) e = absurd (omega (arith, e))
+unopened _ _ _ (after_the_last name c events is) e = absurd (omega (arith, e))
+
+stops_unopened : (names : List (List ℕ)) (r : Refusal) (events : List Event) → StopsAtCopies names r events → status_of_cause r.cause ≡ 4
+    → StopsUnopened names r events
+stops_unopened names r events h e =
+    let s = h.stops in
+    let last = unopened h.refusal.name.now h.refusal.cause s.last s.stops (sym (ap status_of_cause h.cause_is) ∙ e) in
+    record {
+      before = s.before;
+      after = s.after;
+      among = subst (λ (n : List ℕ). names ≡ s.before ++ n ∷ s.after) (sym h.name_is) s.among;
+      cause_is = h.cause_is ∙ ap cause_of last.0;
+      copies = s.copies;
+      reading = s.reading;
+      read = s.read;
+      desk_is = s.events_are ∙ ap (λ (es : List Event). s.reading ++ es) (last.1 ∙ ap (λ (n : List ℕ). not_opened n ∷ []) (sym h.name_is));
+    }
+
+not_read_cause : (stop : ReadStop) (f : MarkerFault) (offset : ℕ) → (stop ≡ Whole → ⊥) → no_picture_cause stop f offset ≡ cause.NotRead
+not_read_cause Whole f offset not = absurd (not refl)
+not_read_cause Failed f offset not = refl
+not_read_cause Turns f offset not = refl
+
+record Unread (names : List (List ℕ)) (stops : List ReadStop) (copies : List (List ℕ)) (r : Refusal) : Type 0 where
+  name_is : r.name.now ≡ get_or names 0 []
+  cause_is : r.cause ≡ cause.NotRead
+  in_part : get_or stops 0 Whole ≡ Whole → ⊥
+  no_frame : AllByRecursion HasNoFrame copies
+
+unread : (names : List (List ℕ)) (stops : List ReadStop) (copies splices : List (List ℕ)) (found : ShapeFound) (r : Refusal)
+    → IsShapeFound copies splices found → IsRefusedFor names stops found r → status_of_cause r.cause ≡ 4 → Unread names stops copies r
+unread names stops copies splices (Taken shape) r is h e = absurd h
+unread names stops copies splices (Differ number) r is h e = not_4 r cause.ShapeDiffers 3 h.1 refl e (λ x. omega (arith, x))
+unread names stops copies splices (NoFrame f offset) r is h e = record {
+  name_is = h.0;
+  cause_is = h.1 ∙ not_read_cause (get_or stops 0 Whole) f offset not;
+  in_part = not;
+  no_frame = is.1.0;
+}
+  where
+    not : get_or stops 0 Whole ≡ Whole → ⊥
+    not whole =
+        not_4 r (cause.NoPicture f offset) 3 (h.1 ∙ ap (λ (s : ReadStop). no_picture_cause s f offset) whole) refl e
+        (λ x. omega (arith, x))
+
+stops_unread : (a : Asked) (copies : List CopyBytes) (r : Refusal) (desk : List Event) → AreCopiesRead a.copies copies desk
+    → CantMake a copies r → status_of_cause r.cause ≡ 4 → StopsUnread a.copies r desk
+stops_unread a copies r desk read (inl want) e = not_4 r cause.OutOfMemory 5 want.1 refl e (λ x. omega (arith, x))
+stops_unread a copies r desk read (inr (ceiling, f, found, inl want)) e =
+    not_4 r cause.OutOfMemory 5 want.1 refl e (λ x. omega (arith, x))
+stops_unread a copies r desk read (inr (ceiling, f, found, inr (shape, is, refused))) e =
+    let u = unread a.copies (stops_read copies) (bytes_read copies) _ shape r is refused e in
+    record {
+      name_is = u.name_is;
+      cause_is = u.cause_is;
+      copies = copies;
+      read = read;
+      first_in_part = u.in_part;
+      no_frame = u.no_frame;
+    }
+
+module _ (words : List Text) (a : Asked) (asks : AskFor words a) where
+  abbrev EndsWith4 : List Event → List Event → List Event → Type 0
+  EndsWith4 desk report faults =
+      DidInPart words a desk report faults ⊎ ((r : Refusal) × IsToldLast r faults × StopsWith4 a r desk report)
+
+  ends_with_4 : (status : ℕ) (desk report faults : List Event) → Performs a status desk report faults → status ≡ 4
+      → EndsWith4 desk report faults
+  unfolding was_done
+  ends_with_4 _ _ _ _ (came_of _ _ _ _ line (at_copies r desk stops) told) e =
+      inr (r, ([], line, refl, told), inl (inl (stops_unopened a.copies r desk stops e), refl))
+  ends_with_4 _ _ _ _ (came_of _ _ _ _ line (not_made r copies desk faults read cant tells) told) e =
+      inr (r, (faults, line, refl, told), inl (inr (stops_unread a copies r desk read cant e), refl))
+  ends_with_4 _ _ _ _ (came_of _ _ _ _ line (not_handed r copies m reading desk report faults noting read made tells noted stops) told) e =
+      inr (
+        r,
+        (faults ++ noting, line, refl, told),
+        inr (record {
+          copies = copies;
+          made = m;
+          reading = reading;
+          handing = desk;
+          desk_is = refl;
+          read = read;
+          is_made = made;
+          stops = stops;
+        }),
+      )
+  ends_with_4 _ _ _ _
+      (came_of _ _ _ _ line (done copies m whole reading desk report faults noting read made tells noted handed is_read) none) e =
+      inl (
+        was_done words a asks copies m reading desk report faults noting line read made tells noted handed none,
+        λ are. not_whole (is_of_picture (promise_on m)) whole e (is_read.1 are),
+      )
+  ends_with_4 _ _ _ _ (no_names faults told) e = absurd (omega (arith, e))
+
+pub runs_end_with_4 : RunsEndWith4
+runs_end_with_4 words a _ _ _ _ asks (performed b status desk report faults other not_file not_numbered h) e =
+    ends_with_4 words a asks status desk report faults
+    (subst (λ (x : Asked). Performs x status desk report faults) (one_asked words a asks b other) h) e
+runs_end_with_4 words a _ _ _ _ asks (named_twice b faults other is line) e = absurd (omega (arith, e))
+runs_end_with_4 words a _ _ _ _ asks (numbered_out b faults other not_file is line) e = absurd (omega (arith, e))
+runs_end_with_4 words a _ _ _ _ asks (misused k usage faults refused is line) e = absurd (omega (arith, e))
+runs_end_with_4 words a _ _ _ _ asks (helped k help report refused is wrote) e = absurd (omega (arith, e))
+runs_end_with_4 words a _ _ _ _ asks (help_cut k help count report faults refused is wrote line) e = absurd (refused.not_taken asks.taken)
+runs_end_with_4 words a _ _ _ _ asks (nothing_begun faults line) e = absurd (omega (arith, e))
+runs_end_with_4 words a _ _ _ _ asks (nothing_asked faults nothing line) e = absurd (omega (arith, e))
+
+-- What failed ----------------------------------------------------------------------------------------------------
+
+reads_both : (a b : List Event) → length (filter is_read (a ++ b)) ≡ length (filter is_read a) + length (filter is_read b)
+reads_both a b = ap length (filter-append is_read a b) ∙ length-append (filter is_read a) (filter is_read b)
+
+failed_left : (a b : List Event) → HadFailure a → HadFailure (a ++ b)
+failed_left a b (inl e) = inl (list_any-append is_failure a b ∙ or_left (list_any is_failure a) (list_any is_failure b) e)
+failed_left a b (inr le) = inr (omega (arith, reads_both a b, le))
+
+failed_right : (a b : List Event) → HadFailure b → HadFailure (a ++ b)
+failed_right a b (inl e) = inl (list_any-append is_failure a b ∙ or_right (list_any is_failure a) (list_any is_failure b) e)
+failed_right a b (inr le) = inr (omega (arith, reads_both a b, le))
+
+failed_as : (a b : List Event) → a ≡ b → HadFailure b → HadFailure a
+failed_as a b e h = subst HadFailure (sym e) h
+
+-- ---- a copy that was not read to its end
+
+all_reads : (E : List ℕ → Type 0) (fed : List ℕ) (reads : List Event) → GoesOn E fed reads → length (filter is_read reads) ≡ length reads
+all_reads E fed [] h = refl
+all_reads E fed (gave room bytes ∷ more) h = let r = all_reads E (fed ++ bytes) more h.3 in omega (arith, r)
+all_reads E fed (e ∷ more) h = absurd h
+
+module _ (E : List ℕ → Type 0) where
+  last_failed : (bytes : List ℕ) (on last : List Event) (stop : ReadStop) → StopsWith E bytes last stop → (stop ≡ Whole → ⊥)
+      → GoesOn E [] on
+      → (stop ≡ Turns → length (on ++ last) ≡ 4294967295) → HadFailure (on ++ last)
+  last_failed bytes on last Whole h not g all = absurd (not refl)
+  last_failed bytes on [] Turns h not g all =
+      failed_left on [] (inr (let n = all refl in omega (arith, all_reads E [] on g, length-append on [], n)))
+  last_failed bytes on (read_failed ∷ []) Failed h not g all = failed_right on (read_failed ∷ []) (inl refl)
+  last_failed bytes on (read_failed ∷ []) stop h not g all = absurd h
+  last_failed bytes on (gave room [] ∷ []) stop h not g all = absurd h
+  last_failed bytes on last stop h not g all = absurd h
+
+  read_in_part : (reads : List Event) (bytes : List ℕ) (stop : ReadStop) → IsRead E reads bytes stop → (stop ≡ Whole → ⊥) → HadFailure reads
+  read_in_part reads bytes stop h not =
+      failed_as reads (h.on ++ h.last) h.reads_are
+      (last_failed bytes h.on h.last stop h.stops not h.goes_on (λ e. ap length (sym h.reads_are) ∙ h.used_up e))
+
+whole_or_not : (stop : ReadStop) → (stop ≡ Whole) ⊎ (stop ≡ Whole → ⊥)
+whole_or_not Whole = inl refl
+whole_or_not Failed = inr (λ e. absurd cc)
+whole_or_not Turns = inr (λ e. absurd cc)
+
+failed_in_part : (names : List (List ℕ)) (copies : List CopyBytes) (events : List Event) → AreCopiesRead names copies events
+    → (AreWhole copies → ⊥) → HadFailure events
+failed_in_part [] [] events read not = absurd (not tt)
+failed_in_part [] (c ∷ copies) events read not = absurd read
+failed_in_part (name ∷ names) [] events read not = absurd read
+failed_in_part (name ∷ names) (c ∷ copies) events (mine, more, e, is, rest) not =
+    failed_as events (mine ++ more) e (elim (whole_or_not c.stop) [
+      | inl whole ↦ failed_right mine more (failed_in_part names copies more rest (λ are. not (whole, are)))
+      | inr part ↦ failed_left mine more (failed_as mine (opened name ∷ is.reads) is.events_are
+          (failed_right (opened name ∷ []) is.reads (read_in_part IsTextPrefix is.reads c.bytes c.stop is.is_read part)))
+    ])
+
+first_not_whole : (copies : List CopyBytes) → (get_or (stops_read copies) 0 Whole ≡ Whole → ⊥) → AreWhole copies → ⊥
+first_not_whole [] not are = not refl
+first_not_whole (c ∷ copies) not are = not are.0
+
+-- ---- an output
+
+cut_failed : (bytes : List ℕ) (count : ℕ) (events : List Event) → WrotePrefix bytes count events → HadFailure events
+cut_failed bytes count events h =
+    failed_as events (h.writes ++ write_failed ∷ []) h.events_are (failed_right h.writes (write_failed ∷ []) (inl refl))
+
+output_failed : (name bytes : List ℕ) (r : Refusal) (events : List Event) → StopsAtOutput name bytes r events → HadFailure events
+output_failed name bytes r _ (outputs.not_there _ _) = inl refl
+output_failed name bytes r _ (outputs.cut count writes _ _ h) = failed_right (created name ∷ []) writes (cut_failed bytes count writes h)
+
+single_failed : (name file : Option (List ℕ)) (r : Refusal) (events : List Event) → StopsAtSingleFile name file r events
+    → HadFailure events
+single_failed (Some name) (Some bytes) r events h = output_failed name bytes r events h
+single_failed (Some name) None r events h = absurd h
+single_failed None file r events h = absurd h
+
+number_failed : (prefix : List ℕ) (number : ℕ) (file : NamedFile) (r : Refusal) (events : List Event)
+    → StopsAtNumber prefix number file r events → HadFailure events
+number_failed prefix number file r _ (number_not_there named is) = inl refl
+number_failed prefix number file r _ (number_cut count writes named is h) =
+    failed_right (created file.name ∷ []) writes (cut_failed file.bytes count writes h)
+
+handing_failed : (t : Texts) (r : Refusal) (desk report : List Event) → StopsInHanding t r desk report → HadFailure desk ⊎ HadFailure report
+handing_failed t r _ report (at_report _ h) = inr (cut_failed t.lines h.count report h.wrote)
+handing_failed t r desk _ (at_output _ report wrote h) = inl (output_failed t.out t.text r desk h)
+handing_failed t r _ _ (at_file writing more report wrote handed h) =
+    inl (failed_right writing more (single_failed t.file_name t.file r more h))
+handing_failed t r _ _ (at_files writing more rest report wrote handed one h) =
+    inl (failed_right (writing ++ more) rest (failed_as rest (h.handing ++ h.stop) h.events_are
+    (failed_right h.handing h.stop (number_failed t.prefix _ h.file r h.stop h.stops))))
+
+unopened_failed : (names : List Text) (r : Refusal) (desk : List Event) → StopsUnopened names r desk → HadFailure desk
+unopened_failed names r desk h =
+    failed_as desk (h.reading ++ not_opened r.name.now ∷ []) h.desk_is
+    (failed_right h.reading (not_opened r.name.now ∷ []) (inl refl))
+
+stops_failed : (a : Asked) (r : Refusal) (desk report : List Event) → StopsWith4 a r desk report → HadFailure desk ⊎ HadFailure report
+stops_failed a r desk report (inl (inl h, none)) = inl (unopened_failed a.copies r desk h)
+stops_failed a r desk report (inl (inr h, none)) =
+    inl (failed_in_part a.copies h.copies desk h.read (first_not_whole h.copies h.first_in_part))
+stops_failed a r desk report (inr h) =
+    elim (handing_failed _ r h.handing report h.stops) [
+      | inl f ↦ inl (failed_as desk (h.reading ++ h.handing) h.desk_is (failed_right h.reading h.handing f))
+      | inr f ↦ inr f
+    ]
+
+pub failures_cause_status_4 : SplicedFailuresCauseStatus4
+failures_cause_status_4 words a status desk report faults asks run e =
+    elim (runs_end_with_4 words a status desk report faults asks run e) [
+      | inl (did, part) ↦ inl (failed_as desk (did.reading ++ did.writing) did.desk_is
+          (failed_left did.reading did.writing (failed_in_part a.copies did.copies did.reading did.read part)))
+      | inr (r, told, stops) ↦ stops_failed a r desk report stops
+    ]
+
+-- Nothing failed but reads ---------------------------------------------------------------------------------------
+
+abbrev Other : Event → Bool
+Other e = is_failed_opening e || is_failed_write e
+
+parts_fine : (a b : List Event) → NothingElseFailed (a ++ b) → NothingElseFailed a × NothingElseFailed b
+parts_fine a b h = or_false (list_any Other a) (list_any Other b) (sym (list_any-append Other a b) ∙ h)
+
+not_cut : (bytes : List ℕ) (count : ℕ) (events : List Event) → WrotePrefix bytes count events → NothingElseFailed events → ⊥
+not_cut bytes count events h fine =
+    let last : true ≡ false = (parts_fine h.writes (write_failed ∷ []) (subst NothingElseFailed h.events_are fine)).1 in cc
+
+not_at_output : (name bytes : List ℕ) (r : Refusal) (events : List Event) → StopsAtOutput name bytes r events → NothingElseFailed events
+    → ⊥
+not_at_output name bytes r _ (outputs.not_there _ _) fine = cc
+not_at_output name bytes r _ (outputs.cut count writes _ _ h) fine = not_cut bytes count writes h fine
+
+not_at_single : (name file : Option (List ℕ)) (r : Refusal) (events : List Event) → StopsAtSingleFile name file r events
+    → NothingElseFailed events → ⊥
+not_at_single (Some name) (Some bytes) r events h fine = not_at_output name bytes r events h fine
+not_at_single (Some name) None r events h fine = h
+not_at_single None file r events h fine = h
+
+not_at_number : (prefix : List ℕ) (number : ℕ) (file : NamedFile) (r : Refusal) (events : List Event)
+    → StopsAtNumber prefix number file r events → NothingElseFailed events → ⊥
+not_at_number prefix number file r _ (number_not_there named is) fine = cc
+not_at_number prefix number file r _ (number_cut count writes named is h) fine = not_cut file.bytes count writes h fine
+
+not_in_handing : (t : Texts) (r : Refusal) (desk report : List Event) → StopsInHanding t r desk report → NothingElseFailed desk
+    → NothingElseFailed report → ⊥
+not_in_handing t r _ report (at_report _ h) fine quiet = not_cut t.lines h.count report h.wrote quiet
+not_in_handing t r desk _ (at_output _ report wrote h) fine quiet = not_at_output t.out t.text r desk h fine
+not_in_handing t r _ _ (at_file writing more report wrote handed h) fine quiet =
+    not_at_single t.file_name t.file r more h (parts_fine writing more fine).1
+not_in_handing t r _ _ (at_files writing more rest report wrote handed one h) fine quiet =
+    not_at_number t.prefix _ h.file r h.stop h.stops
+    (parts_fine h.handing h.stop (subst NothingElseFailed h.events_are (parts_fine (writing ++ more) rest fine).1)).1
+
+not_unopened : (names : List Text) (r : Refusal) (desk : List Event) → StopsUnopened names r desk → NothingElseFailed desk → ⊥
+not_unopened names r desk h fine =
+    let last : true ≡ false =
+    (parts_fine h.reading (not_opened r.name.now ∷ []) (subst NothingElseFailed h.desk_is fine)).1 in cc
+
+pub broken_reads_cause_status_4 : SplicedBrokenReadsCauseStatus4
+broken_reads_cause_status_4 words a status desk report faults asks run e fine quiet =
+    elim (runs_end_with_4 words a status desk report faults asks run e) [
+      | inl did ↦ inl did
+      | inr (r, told, inl (inl h, none)) ↦ absurd (not_unopened a.copies r desk h fine)
+      | inr (r, told, inl (inr h, none)) ↦ inr (r, told, h, none)
+      | inr (r, told, inr h) ↦ absurd (not_in_handing _ r h.handing report h.stops
+          (parts_fine h.reading h.handing (subst NothingElseFailed h.desk_is fine)).1 quiet)
+    ]
