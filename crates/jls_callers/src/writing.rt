@@ -58,7 +58,7 @@ pub fn write_station<W: Sink>(
 
 /// The picture of a station, if each line is settled.
 pub fn station_picture(station: &Station) -> Result<Picture<'_>, PictureFault>
-    ensures damaged { (pic : WholePicture) (copies : List SourcedCopy) → IsPicture pic → CollectedFrom station.now copies
+    ensures { (pic : WholePicture) (copies : List SourcedCopy) → IsPicture pic → CollectedFrom station.now copies
         → AllByRecursion (Damaged pic) (copies_of copies) → EachLineSurvives pic (copies_of copies) → result ≡ Ok pic }
 {
     same_copies_give_the_picture();

@@ -1,6 +1,5 @@
 -- What is marked later, or given a reading again that it holds, is known to hold the readings of the same copies.
 use Rattle.std.proofs.Common.{◌≡◌, ℕ, true, false, List, [], ◌∷◌, ◌++◌, map, Some, sym, ap, ◌∙◌, subst, inl, inr}
-use Rattle.std.specs.Prelude.{◌↔◌}
 use Rattle.std.specs.List.{Contains, list_any}
 use Rattle.std.specs.Cmp.{both_ways}
 use Rattle.std.specs.Ordering.{eq_by_cmp}
@@ -37,7 +36,7 @@ pub marked_later_from : MarksKeepTheCopies
 marked_later_from p copies source h =
     known_from (with_source p source) copies (holds_marked p copies source (collected_holds p copies h))
 
-again : ℕ → SourcedCopy → SourcedCopy
+abbrev again : ℕ → SourcedCopy → SourcedCopy
 again source copy = sourced_copy (Some source) copy.bytes
 
 again_of_shape : (shape : PictureShape) (source : ℕ) (copies : List SourcedCopy) → AllOfOneShape shape copies

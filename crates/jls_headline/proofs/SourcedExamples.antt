@@ -1,6 +1,6 @@
 -- A station that took the two copies of two lines under sources: it was collected under them, and holds exactly their readings, each under
 -- the source of the copy that gives it.
-use Rattle.std.proofs.Common.{◌≡◌, ℕ, true, List, [], ◌∷◌, Option, Some, None, refl, sym, ap, ◌∙◌, arith, inl, inr}
+use Rattle.std.proofs.Common.{◌≡◌, ℕ, true, List, [], ◌∷◌, Option, Some, None, refl, sym, ap, ◌∙◌, inl, inr}
 use Rattle.jls_values.specs.OrderedSet as set
 use Rattle.jls_partial.specs.Partial.{PartialPicture, nothing_known, union}
 use Rattle.jls_partial.specs.Reading.{Reading}
@@ -8,7 +8,7 @@ use Rattle.jls_station.specs.Given.{marked}
 use Rattle.jls_copy_laws.proofs.Members.{is_first, first_or_rest, none_in, bytes_of_test}
 use Rattle.jls_headline.specs.Collected.{new_station, reader_finished, partial_taken, CollectedUnder}
 use Rattle.jls_headline.specs.Damaged.{picture_reading}
-use Rattle.jls_headline.specs.Sources.{SourcedCopy, sourced_copy, GivesUnder, HoldsExactlyUnder}
+use Rattle.jls_headline.specs.Sources.{SourcedCopy, sourced_copy, HoldsExactlyUnder}
 use Rattle.jls_headline.proofs.ClosedExamples.{first_read, second_read, first_reads, second_reads}
 use Rattle.jls_headline.proofs.Collected.{collected_holds_under}
 use Rattle.jls_headline.proofs.LostIntervals.{surviving_lines_are_given}

@@ -3,9 +3,8 @@
 -- codes are by hand (T.87 A.7): a sample at the start of an interval is coded as the end of a run that has no sample. Its error is e = 0
 -- for 0 (a whole run, 1), 1 for 1, 9 for 9 and -1 for 255. After the bit 0 of the run stands the code with k = 2 of 2|e| - 1, or of
 -- 2|e| - 2 where e is below 0: 0 1 01 for 1, 0 00001 01 for 9, 0 1 00 for 255. The plain coder of interop/ writes these pieces too.
-use Rattle.std.proofs.Common.{◌≡◌, ℕ, zero, suc, false, List, [], ◌∷◌, length, take, Some, None, refl, sym, ap, lit<, lit≤, arith, inl}
-use Rattle.std.proofs.Common.{subst}
-use Rattle.std.specs.List.{AllByRecursion, Contains}
+use Rattle.std.proofs.Common.{◌≡◌, ℕ, zero, suc, false, List, [], ◌∷◌, length, take, Some, None, refl, sym, lit<, lit≤, arith, inl}
+use Rattle.std.specs.List.{AllByRecursion}
 use Rattle.jls_values.specs.OrderedSet as set
 use Rattle.jls_values.specs.Params.{least_from}
 use Rattle.jls_values.specs.Shape.{PictureShape}
@@ -33,14 +32,14 @@ use Rattle.jls_marker.specs.Scan.{Scan}
 use Rattle.jls_partial.specs.Partial.{PartialPicture, nothing_known, union, without_sources}
 use Rattle.jls_partial.specs.Reading.{reading_cmp}
 use Rattle.jls_copy.specs.CopyReads.{CopyReads}
-use Rattle.jls_copy.specs.Course.{by_marker, CopyUnit, segment, scan, Course, IsCourse, with_soi, at_eoi, for_good}
+use Rattle.jls_copy.specs.Course.{by_marker, segment, scan, Course, IsCourse, with_soi, at_eoi, for_good}
 use Rattle.jls_copy.specs.Pieces.{pieces, PieceOutcome, Lines, Fault, readings, records}
 use Rattle.jls_copy.specs.ReadCopy.{ReadCopy}
 use Rattle.jls_copy.specs.declared.end.End.TheVariants.{Eoi}
 use Rattle.jls_copy.specs.declared.piece.PieceKind.TheVariants as kind
 use Rattle.jls_write.specs.Picture.{WholePicture}
 use Rattle.jls_write.specs.WholePictures.{IsPicture}
-use Rattle.jls_copy_laws.specs.CopyScans.{ScanPiece, ScanWithData, HasScans}
+use Rattle.jls_copy_laws.specs.CopyScans.{ScanWithData, HasScans}
 use Rattle.jls_copy_laws.proofs.CopyScans.{course_has_scans}
 use Rattle.jls_copy_laws.proofs.Members.{none_in, bytes_of_test}
 use Rattle.jls_headline.specs.Collected.{of_readings, new_station, reader_finished, partial_taken, Collected, CollectedFrom}

@@ -3,7 +3,7 @@ use Rattle.jls_partial.specs.Partial.{PartialPicture, with_reading}
 use Rattle.jls_headline.specs.Collected.{CollectedFrom, CollectedUnder, is_known}
 use Rattle.jls_headline.specs.Sources.{copies_of, HoldsExactlyUnder}
 use Rattle.jls_headline.specs.Stations.{HoldsExactly}
-use Rattle.jls_copy_laws.proofs.Members.{none_in}
+use Rattle.jls_values.proofs.Lists.{none_in}
 use Rattle.jls_callers.proofs.Answered.{ok_both}
 use Rattle.jls_callers.proofs.marking.insert_last.Goals as goal
 
