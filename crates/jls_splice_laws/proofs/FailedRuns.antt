@@ -1,6 +1,6 @@
 -- Runs that end with status 4.
-use Rattle.std.proofs.Common.{◌≡◌, ◌+◌, ℕ, Bool, true, false, List, [], ◌∷◌, ◌++◌, length, Option, Some, None, Err, get_or, refl, sym, ap, ◌∙◌}
-use Rattle.std.proofs.Common.{subst, arith, inl, inr, filter}
+use Rattle.std.proofs.Common.{◌≡◌, ◌+◌, ℕ, Bool, true, false, List, [], ◌∷◌, ◌++◌, length, Option, Some, None, Err}
+use Rattle.std.proofs.Common.{get_or, refl, sym, ap, ◌∙◌, subst, arith, inl, inr, filter}
 use Rattle.std.specs.Prelude.{◌⊎◌, ◌||◌, IsTrue}
 use Rattle.std.specs.List.{AllByRecursion, list_any}
 use Rattle.std.proofs.lemmas.Bool.{or_left, or_right}
@@ -90,7 +90,7 @@ unread names stops copies splices (NoFrame f offset) r is h e = record {
   name_is = h.0;
   cause_is = h.1 ∙ not_read_cause (get_or stops 0 Whole) f offset not;
   in_part = not;
-  no_frame = is.1.0;
+  no_frame = is.1;
 }
   where
     not : get_or stops 0 Whole ≡ Whole → ⊥
@@ -245,8 +245,8 @@ number_failed prefix number file r _ (number_cut count writes named is h) =
     failed_right (created file.name ∷ []) writes (cut_failed file.bytes count writes h)
 
 handing_failed : (t : Texts) (r : Refusal) (desk report : List Event) → StopsInHanding t r desk report → HadFailure desk ⊎ HadFailure report
-handing_failed t r _ report (at_report _ h) = inr (cut_failed t.lines h.count report h.wrote)
-handing_failed t r desk _ (at_output _ report wrote h) = inl (output_failed t.out t.text r desk h)
+handing_failed t r _ _ (at_report report h) = inr (cut_failed t.lines h.count report h.wrote)
+handing_failed t r _ _ (at_output desk report wrote h) = inl (output_failed t.out t.text r desk h)
 handing_failed t r _ _ (at_file writing more report wrote handed h) =
     inl (failed_right writing more (single_failed t.file_name t.file r more h))
 handing_failed t r _ _ (at_files writing more rest report wrote handed one h) =
@@ -306,8 +306,8 @@ not_at_number prefix number file r _ (number_cut count writes named is h) fine =
 
 not_in_handing : (t : Texts) (r : Refusal) (desk report : List Event) → StopsInHanding t r desk report → NothingElseFailed desk
     → NothingElseFailed report → ⊥
-not_in_handing t r _ report (at_report _ h) fine quiet = not_cut t.lines h.count report h.wrote quiet
-not_in_handing t r desk _ (at_output _ report wrote h) fine quiet = not_at_output t.out t.text r desk h fine
+not_in_handing t r _ _ (at_report report h) fine quiet = not_cut t.lines h.count report h.wrote quiet
+not_in_handing t r _ _ (at_output desk report wrote h) fine quiet = not_at_output t.out t.text r desk h fine
 not_in_handing t r _ _ (at_file writing more report wrote handed h) fine quiet =
     not_at_single t.file_name t.file r more h (parts_fine writing more fine).1
 not_in_handing t r _ _ (at_files writing more rest report wrote handed one h) fine quiet =
@@ -319,12 +319,17 @@ not_unopened names r desk h fine =
     let last : true ≡ false =
     (parts_fine h.reading (not_opened r.name.now ∷ []) (subst NothingElseFailed h.desk_is fine)).1 in cc
 
+only_unread : (a : Asked) (r : Refusal) (desk report : List Event) → StopsWith4 a r desk report → NothingElseFailed desk
+    → NothingElseFailed report → StopsUnread a.copies r desk × (report ≡ [])
+only_unread a r desk report (inl (inl h, none)) fine quiet = absurd (not_unopened a.copies r desk h fine)
+only_unread a r desk report (inl (inr h, none)) fine quiet = (h, none)
+only_unread a r desk report (inr h) fine quiet =
+    absurd (not_in_handing _ r h.handing report h.stops
+    (parts_fine h.reading h.handing (subst NothingElseFailed h.desk_is fine)).1 quiet)
+
 pub broken_reads_cause_status_4 : SplicedBrokenReadsCauseStatus4
 broken_reads_cause_status_4 words a status desk report faults asks run e fine quiet =
     elim (runs_end_with_4 words a status desk report faults asks run e) [
       | inl did ↦ inl did
-      | inr (r, told, inl (inl h, none)) ↦ absurd (not_unopened a.copies r desk h fine)
-      | inr (r, told, inl (inr h, none)) ↦ inr (r, told, h, none)
-      | inr (r, told, inr h) ↦ absurd (not_in_handing _ r h.handing report h.stops
-          (parts_fine h.reading h.handing (subst NothingElseFailed h.desk_is fine)).1 quiet)
+      | inr (r, told, stops) ↦ (let s = only_unread a r desk report stops fine quiet in inr (r, told, s.0, s.1))
     ]

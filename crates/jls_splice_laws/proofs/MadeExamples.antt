@@ -19,11 +19,12 @@ use Rattle.jls_io.specs.Event.{Event, opened, gave, created, took, bytes_taken}
 use Rattle.jls_io.specs.Writing.{Wrote, Printed}
 use Rattle.jls_copy.specs.CopyReads.{CopyReads}
 use Rattle.jls_copy_laws.specs.Gives.{GivesReading}
-use Rattle.jls_copy.specs.Course.{by_marker, Course, IsCourse}
+use Rattle.jls_copy.specs.Course.{by_marker, Course, IsCourse, without_units}
+use Rattle.jls_marker.specs.declared.fault.MarkerFault.TheVariants as fault
 use Rattle.jls_copy.specs.Pieces.{PieceOutcome, Lines, pieces, readings, records}
 use Rattle.jls_copy.specs.ReadCopy.{ReadCopy}
 use Rattle.jls_copy.specs.ScanData.{ClosedPiece}
-use Rattle.jls_copy.specs.declared.end.End.TheVariants.{Eoi}
+use Rattle.jls_copy.specs.declared.end.End.TheVariants.{Eoi, Header}
 use Rattle.jls_copy_laws.proofs.Members.{none_in, is_first, first_or_rest, bytes_of_test}
 use Rattle.jls_write.specs.Picture.{line_of, picture_of}
 use Rattle.jls_station.specs.CopyFiles.{CopyBytes, IsCopyRead, IsTextPrefix, AreCopiesRead}
@@ -103,7 +104,7 @@ is_found : IsFound None (file ∷ other ∷ []) found
 is_found = record {
   are_parts = are_parts;
   came_to = came_to;
-  searched = (λ some. absurd some, λ why. elim why [ inl e ↦ absurd cc | inr e ↦ absurd cc ]);
+  searched = (λ some. absurd cc, λ why. elim why [ inl e ↦ absurd cc | inr e ↦ absurd cc ]);
   by_groups = tt;
 }
 
@@ -154,7 +155,7 @@ file_bytes : AllByRecursion (λ b. b < 256) file
 file_bytes = bytes_of_test file refl
 
 other_has_no_frame : HasNoFrame other
-other_has_no_frame = (_, no_soi tail, refl)
+other_has_no_frame = (without_units 0 (Header fault.NoSoi 0), no_soi tail, refl)
 
 -- What is made of it -----------------------------------------------------------------------------------------------
 
@@ -219,7 +220,8 @@ only_the_line r (bytes, c, g) =
 same_line : (component line : ℕ) (r : Reading) → IsLineOf pic r → r.component ≡ component → r.line ≡ line
     → r ≡ picture_reading pic component line
 same_line component line r is c l =
-    let samples : r.samples ≡ line_of pic component line = is.2 ∙ (λ i. line_of pic (c i) (l i)) in
+    let moved : line_of pic r.component r.line ≡ line_of pic component line = λ i. line_of pic (c i) (l i) in
+    let samples : r.samples ≡ line_of pic component line = is.2 ∙ moved in
     λ i. record { component = c i; line = l i; samples = samples i }
 
 one_line : (component line : ℕ) → component < 1 → line < 2 → readings_at station component line ≡ line_of pic component line ∷ []
@@ -355,7 +357,6 @@ nothing_printed : Printed [] []
 nothing_printed = inl (record { are_writes = tt; they_took = refl })
 
 pub did_make : DidMake words asked (reading ++ ((writing ++ []) ++ [])) report ([] ++ [])
-unfolding clap_on_literals
 did_make = record {
   asks = asks;
   copies = copies;
@@ -383,5 +384,5 @@ performs_with_0 =
 
 pub runs_with_0 : Run words 0 (reading ++ ((writing ++ []) ++ [])) report (([] ++ []) ++ [])
 runs_with_0 =
-    performed asked 0 (reading ++ ((writing ++ []) ++ [])) report (([] ++ []) ++ []) asks (λ is. absurd cc) (λ is. (let e = is.1 in absurd cc))
-    performs_with_0
+    performed asked 0 (reading ++ ((writing ++ []) ++ [])) report (([] ++ []) ++ []) asks (λ is. absurd cc)
+    (λ is. (let e = is.1 in absurd cc)) performs_with_0

@@ -94,8 +94,8 @@ SplicedFailuresCauseStatus4 =
     (words : List Text) (a : Asked) (status : ℕ) (desk report faults : List Event) → AskFor words a
     → Run words status desk report faults → status ≡ 4 → HadFailure desk ⊎ HadFailure report
 
--- Where nothing failed but reads, it was done with all that was read; or the first copy was not read to its end, no copy has a frame in what
--- was read, and nothing was handed out
+-- Where nothing failed but reads, it was done with all that was read. Or the first copy was not read to its end, no copy has a frame in
+-- what was read, and nothing was handed out
 abbrev pub SplicedBrokenReadsCauseStatus4 : Type 0
 SplicedBrokenReadsCauseStatus4 =
     (words : List Text) (a : Asked) (status : ℕ) (desk report faults : List Event) → AskFor words a
