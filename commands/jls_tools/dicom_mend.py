@@ -8,9 +8,10 @@ import tempfile
 from collections.abc import Sequence
 from typing import Optional
 
-from jls_tools import dicom_gaps, partial_picture
-from jls_tools.dicom_align import Copy
+from jls_tools import dicom_bad, dicom_bad_lists, dicom_gaps, partial_picture
+from jls_tools.dicom_align import Copy, merged
 from jls_tools.dicom_alone import Stranger
+from jls_tools.dicom_bad import Range
 from jls_tools.dicom_finished import faults_of
 from jls_tools.dicom_frames import DELIMITER, FramePlace, Shape, by_search, paired_by_bytes
 from jls_tools.dicom_instance import Instances, TwoInstances
@@ -18,10 +19,11 @@ from jls_tools.dicom_kinds import NoKind, other_kinds
 from jls_tools.dicom_layout import contradiction, forbidden, has_shape, is_through, laid_out
 from jls_tools.dicom_lost import Lost, equal_in_most, most_of
 from jls_tools.dicom_outputs import put_frames_folder, take_away, why_kept
+from jls_tools.dicom_placed import alone, in_no_copy
 from jls_tools.dicom_result import FAILED, NOT_SUPPORTED, NOT_WHOLE, REFUSED, WHOLE, FrameResult, MendOptions, MendResult, Place
 from jls_tools.dicom_sum import BySum
 from jls_tools.dicom_tails import without_tails
-from jls_tools.dicom_transfers import undone
+from jls_tools.dicom_transfers import moved, undone
 from jls_tools.dicom_versions import versions_of
 from jls_tools.dicom_write import packed, put_frames, store, top_level
 from jls_tools.mending import FrameMender, Mended, is_connected, is_spliced, shapes_of
@@ -75,6 +77,7 @@ class Mending:
         if self.options.header is not None and self.options.header not in self.paths:
             raise Refused(f"--header names {self.options.header}, which is none of the copies", 2)
         self.texts = [read(path) for path in self.paths]
+        self.bad = self.bad_places()
         self.look_at_kinds()
         try:
             instances = Instances(self.texts, self.options.same)
@@ -91,6 +94,20 @@ class Mending:
         finally:
             shutil.rmtree(folder, ignore_errors=True)
 
+    def bad_places(self) -> list[list[Range]]:
+        """For each copy what lists name as bad in it."""
+        found: list[list[Range]] = [[] for _ in self.paths]
+        for at, path in self.options.bad:
+            try:
+                ranges, behind = dicom_bad_lists.of_copy(path, len(self.texts[at]))
+            except dicom_bad_lists.BadList as fault:
+                raise Refused(str(fault)) from fault
+            found[at] = merged([*found[at], *ranges])
+            if behind:
+                places = "a place" if behind == 1 else f"{behind} places"
+                self.result.notes.append(f"{path} names {places} behind the end of {self.paths[at]}, which has {len(self.texts[at])} bytes")
+        return found
+
     def look_at_kinds(self) -> None:
         """Leaves out copies of another transfer syntax, undoes transfers as text, cuts tails. Refuses what has no DICOM file of JPEG-LS."""
         try:
@@ -99,11 +116,14 @@ class Mending:
             raise (Unsupported if fault.is_other else Refused)(str(fault)) from fault
         self.result.left_out = [(self.paths[at], why) for at, why in sorted(others.items())]
         self.paths = [path for at, path in enumerate(self.paths) if at not in others]
+        self.bad = [ranges for at, ranges in enumerate(self.bad) if at not in others]
         texts = [text for at, text in enumerate(self.texts) if at not in others]
         for at, text in undone(texts).items():
+            self.bad[at] = moved(self.bad[at], texts[at])
             texts[at] = text
             note = f"a transfer put a carriage return before each line feed of {self.paths[at]}: that was undone"
             self.result.notes.append(note)
+        self.seen = [dicom_bad.seen(text) for text in texts]
         self.tails = without_tails(texts)
         self.texts = self.tails.texts
 
@@ -112,14 +132,18 @@ class Mending:
         certain = [at for at in instances.certain if at not in instances.rests]
         named = next((at for at, path in enumerate(self.paths) if path == self.options.header), None)
         self.versions = versions_of(self.texts, certain, named)
-        self.texts = self.versions.texts(self.texts, certain)
+        texts = self.versions.texts(self.texts, certain)
+        for at, (before, text) in enumerate(zip(self.texts, texts)):
+            if text != before:
+                self.bad[at], self.seen[at] = (self.versions.moved(ranges, before) for ranges in (self.bad[at], self.seen[at]))
+        self.texts = texts
 
     # Copies ----------------------------------------------------------------------------
 
     def mend_all(self, instances: Instances) -> None:
         """Mends with all that may be copies; then again without those that turn out to be none."""
         chosen = sorted([*instances.certain, *instances.uncertain, *instances.rests])
-        self.is_alone = False
+        self.is_alone = len(self.paths) == 1
         while True:
             self.take(chosen)
             strangers = self.strangers(instances, chosen)
@@ -169,10 +193,11 @@ class Mending:
             texts = [self.texts[at][self.rests.get(at, (0, 0))[0] :] for at in chosen]  # a foreign beginning has frames of its own
             self.streams = paired_by_bytes([[text[begin:end] for begin, end in by_search(text)] for text in texts])
             self.own = [dict(enumerate(streams)) for streams in self.streams]
+        self.bad_in_all, self.seen_in_all = in_no_copy(self.copies), in_no_copy(self.copies, True)
         self.mended: list[Mended] = []
         for number, streams in enumerate(self.streams):
             begin = self.layout.places[number].begin if self.layout.places else 0
-            self.mended.append(self.mended_frame(number, streams, begin))
+            self.mended.append(self.beside_bad(self.mended_frame(number, streams, begin), streams))
             if self.options.progress:
                 self.options.progress(number + 1, len(self.streams))
         self.refuse_unsupported()
@@ -189,10 +214,22 @@ class Mending:
         other = self.mender.mend(number, kept, begin)
         return other if other.is_whole else mended
 
+    def beside_bad(self, mended: Mended, streams: list[bytes]) -> Mended:
+        """A frame as it is mended, or what there is of it beside bytes that are bad in all copies."""
+        number = mended.result.number
+        place = self.layout.places[number] if self.layout.places else None
+        if place is None:
+            return mended
+        bad = dicom_bad.within(self.seen_in_all, place.fragments)
+        is_sure = bool(dicom_bad.within(self.bad_in_all, place.fragments))
+        note = dicom_bad.note_of(dicom_bad.in_both(self.seen_in_all, place.fragments))
+        return self.mender.mend_beside(mended, self.kept.get(number) or streams, bad, note, is_sure)
+
     def mended_by_most(self, number: int, begin: int) -> Optional[Mended]:
         """A Mended of three copies or more: what most of them have, if it is whole; or nothing."""
         place = self.layout.places[number] if self.layout.places else None
-        if place is None or any(copy.lacks(place.begin, place.end) for copy in self.copies):
+        lost = [(copy, [*copy.absent, *copy.bad]) for copy in self.copies]
+        if place is None or any(begin < place.end and place.begin < end for _, ranges in lost for begin, end in ranges):
             return None
         own = self.own[number]
         stream = equal_in_most(own, self.copies) or most_of(list(own.values()))
@@ -201,11 +238,11 @@ class Mending:
 
     def copy_at(self, at: int) -> Copy:
         """A copy. One whose beginning a foreign file has overwritten has only the rest."""
-        text = self.texts[at]
+        text, known = self.texts[at], (self.bad[at], self.seen[at])
         if at not in self.rests:
-            return Copy(self.paths[at], text)
+            return Copy(self.paths[at], text, [], b"", *known)
         until, beside = self.rests[at]
-        return Copy(self.paths[at], self.texts[beside][:until] + text[until:], [(0, until)], text[:until])
+        return Copy(self.paths[at], self.texts[beside][:until] + text[until:], [(0, until)], text[:until], *known)
 
     def own_streams(self, place: FramePlace, texts: Sequence[bytes]) -> dict[int, bytes]:
         """{copy: its stream of a frame}, of copies that have some of it. `texts` are the bytes of the copies."""
@@ -265,7 +302,13 @@ class Mending:
             if result.kind == "missing" and result.missing == 0 and self.shape:
                 result.missing = self.shape.rows * self.shape.components
 
+    def fragments(self) -> list[Range]:
+        return [fragment for place in self.layout.places for fragment in place.fragments]
+
     def note_breaks(self) -> None:
+        for number, ranges in alone(self.copies, self.fragments()).items():
+            size, path = sum(end - begin for begin, end in ranges), self.copies[number].path
+            self.result.notes.append(f"{size} bytes outside of frames, the first at {ranges[0][0]}, rest on {path}: others are bad there")
         for begin, end in self.layout.breaks:
             self.result.notes.append(f"no copy has what stands at {begin}: the next that reads is at {end}")
         if self.layout.structure.is_cut:
@@ -286,6 +329,8 @@ class Mending:
             return "a place is undecided"
         if any(not self.is_in_pixels(begin, end) for begin, end in self.layout.breaks):
             return "the header is broken where no copy has it"
+        if (bad := dicom_bad.outside(self.bad_in_all, self.fragments())) and self.options.header is None:
+            return f"a list names what stands at {bad[0][0]} as bad in each copy"
         if self.layout.structure.is_cut:
             return "the file ends before its last element does"
         if not self.tails.is_decided:
@@ -344,7 +389,8 @@ class Mending:
         """Whether each copy has the bytes of this range of the finished file. What follows Pixel Data can have been moved."""
         shift = moved if begin >= self.layout.structure.end_of_pixels() + moved else 0
         begin, end = begin - shift, end - shift
-        return not any(copy.lacks(begin, end) for copy in self.copies) and len({copy.data[begin:end] for copy in self.copies}) == 1
+        is_bad = any(first < end and begin < last for copy in self.copies for first, last in [*copy.absent, *copy.bad])
+        return not is_bad and len({copy.data[begin:end] for copy in self.copies}) == 1
 
     def store(self, data: bytes, status: int) -> None:
         store(data, self.out, self.folder)

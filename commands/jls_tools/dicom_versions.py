@@ -56,6 +56,14 @@ class Versions:
             return list(texts)
         return [version.in_place_of(text) if at in copies and at not in version.copies else text for at, text in enumerate(texts)]
 
+    def moved(self, ranges: Sequence[tuple[int, int]], text: bytes) -> list[tuple[int, int]]:
+        """Where ranges of a copy stand when it has got the header that was taken; those of its own header are gone."""
+        begin = pixels_of(text)[0]
+        if self.taken is None or begin is None:
+            return list(ranges)
+        shift = len(self.taken.head) - begin
+        return [(max(first, begin) + shift, last + shift) for first, last in ranges if last > begin]
+
     def fault(self) -> Optional[str]:
         """Why no file can be written with the header that was taken, or nothing."""
         if self.is_open:
