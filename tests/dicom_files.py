@@ -98,7 +98,7 @@ class Bench:
             with open(name, "wb") as file:
                 file.write(data)
         out = f"{self.folder}/{self.count}-out.dcm"
-        words = [word.replace("COPY0", names[0]).replace("COPY1", names[1]) for word in words]
+        words = [word.replace("COPY0", names[0]).replace("COPY1", names[min(1, len(names) - 1)]) for word in words]
         status, printed, faults = called("mend", *words, out, *names)
         got = [get(name) for name in names] == list(copies)
         return status if got else "a copy was changed", get(out), printed, faults, out

@@ -76,6 +76,7 @@ class Mending:
             raise Refused(kept, FAILED)
         if self.options.header is not None and self.options.header not in self.paths:
             raise Refused(f"--header names {self.options.header}, which is none of the copies", 2)
+        self.is_one = len(self.paths) == 1
         self.texts = [read(path) for path in self.paths]
         self.bad = self.bad_places()
         self.look_at_kinds()
@@ -183,6 +184,7 @@ class Mending:
         self.own = [self.own_streams(place, [copy.data for copy in self.copies]) for place in self.layout.places]
         filled = self.own
         self.kept: dict[int, list[bytes]] = {}
+        self.origins: dict[bytes, tuple[int, Range]] = {}  # of streams that are found by search: the copy, and where they stand in it
         if self.layout.has_header and is_through(self.layout.structure):
             lost = Lost(self.copies, self.layout)
             texts = lost.filled()
@@ -190,8 +192,7 @@ class Mending:
             self.kept = {place.number: lost.of_this_file(place, filled[place.number]) for place in self.layout.places}
         self.streams = [list(dict.fromkeys(own.values())) for own in filled]
         if not self.layout.places:
-            texts = [self.texts[at][self.rests.get(at, (0, 0))[0] :] for at in chosen]  # a foreign beginning has frames of its own
-            self.streams = paired_by_bytes([[text[begin:end] for begin, end in by_search(text)] for text in texts])
+            self.streams = paired_by_bytes([self.searched(at) for at in chosen])
             self.own = [dict(enumerate(streams)) for streams in self.streams]
         self.bad_in_all, self.seen_in_all = in_no_copy(self.copies), in_no_copy(self.copies, True)
         self.mended: list[Mended] = []
@@ -214,16 +215,29 @@ class Mending:
         other = self.mender.mend(number, kept, begin)
         return other if other.is_whole else mended
 
+    def searched(self, at: int) -> list[bytes]:
+        """The streams of a copy that begin as frames do. A foreign beginning has frames of its own."""
+        text, start = self.texts[at], self.rests.get(at, (0, 0))[0]
+        found = []
+        for begin, end in by_search(text[start:]):
+            found.append(text[start + begin : start + end])
+            self.origins[found[-1]] = (at, (start + begin, start + end))
+        return found
+
     def beside_bad(self, mended: Mended, streams: list[bytes]) -> Mended:
         """A frame as it is mended, or what there is of it beside bytes that are bad in all copies."""
         number = mended.result.number
-        place = self.layout.places[number] if self.layout.places else None
-        if place is None:
-            return mended
-        bad = dicom_bad.within(self.seen_in_all, place.fragments)
-        is_sure = bool(dicom_bad.within(self.bad_in_all, place.fragments))
-        note = dicom_bad.note_of(dicom_bad.in_both(self.seen_in_all, place.fragments))
-        return self.mender.mend_beside(mended, self.kept.get(number) or streams, bad, note, is_sure)
+        if not self.layout.places:
+            known = [self.origins[stream] for stream in streams]
+            lists = [[dicom_bad.within(self.bad[at], [part]), dicom_bad.within(self.seen[at], [part])] for at, part in known]
+            bad = dicom_bad.in_all([merged([*listed, *seen]) for listed, seen in lists])
+            places = [(begin + known[0][1][0], end) for begin, end in bad]
+            is_sure = bool(dicom_bad.in_all([listed for listed, _ in lists]))
+        else:
+            parts = self.layout.places[number].fragments
+            bad, places = dicom_bad.within(self.seen_in_all, parts), dicom_bad.in_both(self.seen_in_all, parts)
+            is_sure = bool(dicom_bad.within(self.bad_in_all, parts))
+        return self.mender.mend_beside(mended, self.kept.get(number) or streams, bad, dicom_bad.note_of(places), is_sure)
 
     def mended_by_most(self, number: int, begin: int) -> Optional[Mended]:
         """A Mended of three copies or more: what most of them have, if it is whole; or nothing."""
@@ -269,7 +283,8 @@ class Mending:
         self.shape = shapes_of(self.mended, self.streams)
         self.name_counts()
         self.header = self.layout.header(self.shape, len(self.mended))
-        self.header.find_alone(self.strange)
+        if not self.is_one:
+            self.header.find_alone(self.strange)
         if self.options.header is not None:
             names = [copy.path for copy in self.copies]
             if self.options.header not in names:
