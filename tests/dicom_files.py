@@ -51,7 +51,9 @@ def frame(rng, bits, width, height, folder):
 class File:
     """A DICOM file with these frames, an icon, a private element, and padding after Pixel Data."""
 
-    def __init__(self, frames, bits, width, height, uid=UID, syntax=SYNTAX, stored=None):
+    def __init__(
+        self, frames: list[bytes], bits: int, width: int, height: int, uid: str = UID, syntax: str = SYNTAX, stored: int | None = None
+    ) -> None:
         meta = element(0x20001, "OB", b"\0\1") + element(0x20002, "UI", CLASS) + element(0x20003, "UI", uid)
         meta += element(0x20010, "UI", syntax)
         meta = element(0x20000, "UL", struct.pack("<I", len(meta))) + meta

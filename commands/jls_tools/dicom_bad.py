@@ -6,7 +6,6 @@ reads whole is never cut for such a look.
 from __future__ import annotations
 
 import bisect
-import functools
 import re
 from collections.abc import Iterable, Iterator, Sequence
 
@@ -66,7 +65,10 @@ def in_both(one: Sequence[Range], other: Sequence[Range]) -> list[Range]:
 
 def in_all(lists: Sequence[Sequence[Range]]) -> list[Range]:
     """What stands in each of several lists of ranges, each in order."""
-    return list(functools.reduce(in_both, lists)) if lists else []
+    found = list(lists[0]) if lists else []
+    for other in lists[1:]:
+        found = in_both(found, other)
+    return found
 
 
 def within(ranges: Sequence[Range], parts: Iterable[Range]) -> list[Range]:
