@@ -1,12 +1,14 @@
 """Checks of bytes that are known to be bad: sectors that a disk or ddrescue filled, and lists of `--bad`."""
 import os
 import re
+import struct
 import subprocess
 import sys
 
-from dicom_files import HERE, PROGRAMS, File, called, changed, frame, get
+from dicom_files import CLASS, HERE, PROGRAMS, SYNTAX, File, called, changed, element, frame, get, with_value
 
 sys.path.append(os.path.join(HERE, "commands"))
+from jls_tools import dicom_bad as dicom_bad_places  # noqa: E402
 from jls_tools import partial_picture  # noqa: E402
 
 SIDE, SECTOR, INTERVAL = 80, 512, 8
@@ -91,6 +93,28 @@ def checks_of_bad_sectors(bench, folder, rng):
     yield "a sector in each: the same file", bench.mend(both)[:2] == (0, true)
 
 
+def checks_of_seen(rng):
+    """Which sectors of a file look bad: by hand, with what stands beside them and behind the last border."""
+    noise = rng.randbytes(SECTOR)
+    text = FILLS["a text"]
+    cases = {
+        "nothing": (b"", []),
+        "noise": (noise * 3, []),
+        "a sector": (noise + bytes(SECTOR) + noise, [(512, 1024)]),
+        "two, of another kind each": (noise + text + bytes(SECTOR), [(512, 1536)]),
+        "a rest behind a bad sector": (noise + bytes(SECTOR + 3), [(512, 1027)]),
+        "a rest of a text behind it": (noise + (b"BAD-SECTOR " * 60)[: SECTOR + 25], [(512, 1049)]),
+        "another rest": (noise + bytes(SECTOR) + b"\xff\xd9", [(512, 1024)]),
+        "a short rest behind noise": (noise + bytes(63), []),
+        "a long one": (noise + bytes(64), [(512, 576)]),
+        "a text of 128 letters": (noise + (bytes(range(32, 127)) + bytes(range(64, 97))) * 4, [(512, 1024)]),
+        "a text that comes twice": (noise + (bytes(range(32, 127)) + bytes(range(126, 31, -1)) + bytes(range(61, 127))) * 2, []),
+        "bytes again and again": (noise + b"\xff\x7f" * 256, []),
+    }
+    for name, (data, wanted) in cases.items():
+        yield f"{name}: {wanted} ({dicom_bad_places.seen(data)})", dicom_bad_places.seen(data) == wanted
+
+
 def checks_of_bad_intervals(bench, folder, rng):
     """With restart intervals, of each that has a bad sector the lines before it come back, and the others."""
     made = file_of(rng, folder, INTERVAL)
@@ -109,6 +133,41 @@ def checks_of_bad_intervals(bench, folder, rng):
         found = lines_in(f"{path}.frames/frame-0000.jlsp")
         is_true = found.items() <= whole.items()
         yield f"intervals, bad {bad}: {len(wanted)} lines ({status}, {printed})", status == 1 and is_true and wanted == set(found)
+    yield from checks_of_strange_intervals(bench, folder, rng)
+
+
+def checks_of_strange_intervals(bench, folder, rng):
+    """Bad bytes that are restart markers and an interval of another place are not read; nor is what follows bad bytes without a marker."""
+    made = file_of(rng, folder, 4)
+    stream, begin = made.frames[0], made.items[0] + 8
+    whole, borders = head_of(stream, len(stream), folder), [found.start() for found in re.finditer(b"\xff[\xd0-\xd7]", stream)]
+    strange = stream[borders[1] : borders[2] + 2]  # the third interval, between markers as the eleventh has them
+    bad = (borders[9] - 20, borders[9] - 20 + len(strange) + 120)
+    copy = changed(made.bytes, (begin + bad[0], bytes(bad[1] - bad[0])), (begin + bad[0] + 30, strange))
+    words = ("--bad", f"1:{put(f'{folder}/strange', f'{begin + bad[0]} {bad[1] - bad[0]}')}")
+    _, _, printed, _, path = bench.mend([copy], *words)
+    found = lines_in(f"{path}.frames/frame-0000.jlsp")
+    yield f"an interval of another place: nothing of it ({printed})", found.items() <= whole.items() and len(found) > SIDE // 2
+    plain = file_of(rng, folder)
+    at, inside = border_in(plain)
+    places, inside = (at - 2 * SECTOR, at), inside - 2 * SECTOR
+    _, _, printed, _, path = bench.mend([changed(plain.bytes, *((place, bytes(SECTOR)) for place in places))])
+    is_head = lines_in(f"{path}.frames/frame-0000.jlsp") == head_of(plain.frames[0], inside, folder)
+    yield f"two bad sectors without a marker between them: the head ({printed})", is_head and "and in another place" in printed
+
+
+def checks_of_bad_beginnings(bench, folder, rng):
+    """A foreign file over the beginning of one copy, and a sector that is bad in both."""
+    made = file_of(rng, folder)
+    true, (at, inside) = made.bytes, border_in(made)
+    meta = element(0x20002, "UI", CLASS) + element(0x20003, "UI", "1.2.3.9.9") + element(0x20010, "UI", SYNTAX)
+    data = element(0x20000, "UL", struct.pack("<I", len(meta))) + meta
+    data += element(0x80016, "UI", CLASS) + element(0x80018, "UI", "1.2.3.9.9")
+    foreign = (bytes(128) + b"DICM" + data + element(0x91001, "OB", rng.randbytes(1 << 12)))[:SECTOR]
+    copies = [changed(true, (at, bytes(SECTOR)), (len(true) - 20, b"x")), changed(foreign + true[SECTOR:], (at, bytes(SECTOR)))]
+    _, _, printed, _, path = bench.mend(copies)
+    is_head = lines_in(f"{path}.frames/frame-0000.jlsp") == head_of(made.frames[0], inside, folder)
+    yield f"a foreign beginning, and a sector bad in both: the head ({printed})", is_head and "has overwritten its beginning" in printed
 
 
 def checks_of_one_copy(bench, made, folder, rng):
@@ -171,7 +230,28 @@ def checks_of_lists(bench, folder, rng):
     sent[0] = sent[0].replace(b"Doe^Jane", b"Eoe^Jane")
     status, out, printed, _, _ = bench.mend(sent, "--bad", f"1:{moved}")
     is_undone = "carriage return before each line feed" in printed
-    yield f"a copy sent as text: its own offsets ({status}, {printed})", not is_undone or (status, out == true) == (0, True)
+    yield f"a copy sent as text: its own offsets ({status}, {printed})", (is_undone, status, out == true) == (True, 0, True)
+    yield from checks_of_lists_and_rules(bench, made, folder)
+
+
+def checks_of_lists_and_rules(bench, made, folder):
+    """A list against what every copy has, and where copies have other headers."""
+    true, at = made.bytes, border_in(made)[0]
+    wrong = changed(true, (140, b"\x01"))  # the group length
+    status, out, printed, _, _ = bench.mend([wrong, changed(wrong, (made.items[0] + 200, bytes(8)))])
+    yield f"a group length that all have: it is the writer's ({status}, {printed})", (status, out == wrong) == (0, True)
+    listed = put(f"{folder}/group", "132 12\n")
+    status, out, printed, _, _ = bench.mend([wrong, changed(wrong, (made.items[0] + 200, bytes(8)))], "--bad", f"1:{listed}")
+    yield f"one that rests on one copy: it isn't ({status}, {printed})", (status, out) == (1, None)
+    other = with_value(made, bytes(range(100)))[0]
+    places = [(f"{folder}/of-{number}", place) for number, place in enumerate((at, at + len(other) - len(true)), 1)]
+    words = [word for number, (name, place) in enumerate(places, 1) for word in ("--bad", f"{number}:{put(name, f'{place} {SECTOR}')}")]
+    for copies in ([true, other], [true, other, other]):
+        words += ["--bad", words[-1].replace("2:", "3:")] if len(copies) == 3 else []
+        _, _, printed, _, path = bench.mend(copies, *words)
+        found = lines_in(f"{path}.frames/frame-0000.jlsp")
+        is_head = found == head_of(made.frames[0], at - made.items[0] - 8, folder)
+        yield f"two headers, {len(copies)} copies: the head of the frame ({printed})", is_head and "versions, " in printed
 
 
 def checks_of_bad_lists(bench, made, folder):
@@ -218,4 +298,4 @@ def checks_of_bad_lists(bench, made, folder):
     yield f"behind the end: told ({status}, {printed}, {faults})", (status, out == made.bytes, told) == (0, True, True)
 
 
-BAD = [checks_of_bad_sectors, checks_of_bad_intervals, checks_of_one_copy, checks_of_lists, checks_of_bad_lists]
+BAD = [checks_of_bad_sectors, checks_of_seen, checks_of_bad_beginnings, checks_of_bad_intervals, checks_of_one_copy, checks_of_lists, checks_of_bad_lists]

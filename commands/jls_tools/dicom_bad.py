@@ -43,8 +43,8 @@ def seen(data: bytes) -> list[Range]:
     found: list[Range] = []
     for at in range(0, len(data), SECTOR):
         sector = data[at : at + SECTOR]
-        is_beside = bool(found) and found[-1][1] == at and sector[:1] in data[at - LONGEST_TEXT : at]
-        if is_filled(sector) and (len(sector) >= LEAST_REST or is_beside):
+        goes_on = len(sector) < SECTOR and bool(found) and found[-1][1] == at and is_filled(data[-SECTOR:])
+        if goes_on or len(sector) >= LEAST_REST and is_filled(sector):
             found.append((at, at + len(sector)))
     return merged(found)
 

@@ -242,8 +242,7 @@ class Mending:
     def mended_by_most(self, number: int, begin: int) -> Optional[Mended]:
         """A Mended of three copies or more: what most of them have, if it is whole; or nothing."""
         place = self.layout.places[number] if self.layout.places else None
-        lost = [(copy, [*copy.absent, *copy.bad]) for copy in self.copies]
-        if place is None or any(begin < place.end and place.begin < end for _, ranges in lost for begin, end in ranges):
+        if place is None or any(copy.lacks(place.begin, place.end) for copy in self.copies):
             return None
         own = self.own[number]
         stream = equal_in_most(own, self.copies) or most_of(list(own.values()))
