@@ -298,4 +298,37 @@ def checks_of_bad_lists(bench, made, folder):
     yield f"behind the end: told ({status}, {printed}, {faults})", (status, out == made.bytes, told) == (0, True, True)
 
 
-BAD = [checks_of_bad_sectors, checks_of_seen, checks_of_bad_beginnings, checks_of_bad_intervals, checks_of_one_copy, checks_of_lists, checks_of_bad_lists]
+def checks_of_doubtful(bench, made, rng):
+    """Sectors of the header that look lost in each copy, and a hole in a text that one copy alone has: no OUT, unless --header says so."""
+    text = bytes(rng.choice(b"abcdefgh ijklm.nop=") for _ in range(3000))
+    true, _ = with_value(made, text)
+    frames = [at + len(true) - len(made.bytes) + 70 for at in made.items]
+    begin = true.index(text) // SECTOR * SECTOR + 2 * SECTOR
+
+    def told(name, file, places, wanted, why=""):
+        copies = [changed(file, *each) for each in places]
+        status, out, printed, _, _ = bench.mend(copies)
+        yield f"{name}: {wanted} ({status}, {printed})", (status, out == file) == (wanted, not wanted) and why in printed
+        if wanted:
+            yield f"{name}: --header takes it", bench.mend(copies, "--header", "COPY0")[0] == 0
+
+    both = [[(frames[0], bytes(8))], [(frames[1], bytes(8))]]
+    for name, fill, before in (("zeros", bytes(SECTOR), bytes(6)), ("a text", FILLS["a text"], b"ECTOR ")):
+        lost = changed(true, (begin, fill))
+        yield from told(f"a sector of {name} in each copy", lost, both, 1, f"a sector at {begin} looks lost in each copy")
+        lost = changed(true, (begin - 6, before + fill))
+        yield from told(f"{name} that don't begin at a border", lost, both, 0)
+        lost = changed(true, (begin, fill + fill[: SECTOR // 2][SECTOR % 11 :]))
+        yield from told(f"{name} that don't end at one", lost, both, 0)
+    hole, noise = changed(true, (begin + 100, bytes(64))), rng.randbytes(SECTOR)
+    yield from told("a hole in a text, and noise there", hole, [[], [(begin, noise)]], 1, f"a text has a hole at {begin + 100}")
+    yield from told("a hole that both have", hole, both, 0)
+    yield from told("a hole that two of three have", hole, [[], [(frames[0], bytes(8))], [(begin, noise)]], 0)
+    short = changed(true, (begin + 100, bytes(15)))
+    yield from told("a short one, and noise there", short, [[], [(begin, noise)]], 0)
+    beside = changed(true, (begin + 100, bytes(64)), (begin + 170, b"\0\1"))
+    yield from told("zeros with other bytes behind them, and noise there", beside, [[], [(begin, noise)]], 0)
+
+
+BAD = [checks_of_bad_sectors, checks_of_seen, checks_of_bad_beginnings, checks_of_bad_intervals, checks_of_one_copy]
+BAD += [checks_of_lists, checks_of_bad_lists, checks_of_doubtful]

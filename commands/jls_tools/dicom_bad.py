@@ -26,16 +26,19 @@ END = 1 << 62  # behind all
 MOST_PARTS = 32  # of a codestream that are read
 
 
-def is_text_again(sector: bytes) -> bool:
-    """Whether a sector is one short text again and again."""
+def period_of(sector: bytes) -> int:
+    """After how many bytes a sector repeats, if it is one value, 1, or one short text again and again; else 0."""
+    if sector.count(sector[:1]) == len(sector):
+        return 1
     if not TEXT_BEGIN.match(sector):
-        return False
+        return 0
     period = sector.find(sector[:KNOWN_BY], 1, LONGEST_TEXT + KNOWN_BY)
-    return period > 0 and sector[period:] == sector[:-period] and bool(TEXT.match(sector))
+    is_again = period > 0 and sector[period:] == sector[:-period] and bool(TEXT.match(sector))
+    return period if is_again else 0
 
 
 def is_filled(sector: bytes) -> bool:
-    return sector.count(sector[:1]) == len(sector) or is_text_again(sector) or bool(LOCATION.match(sector))
+    return period_of(sector) > 0 or bool(LOCATION.match(sector))
 
 
 def seen(data: bytes) -> list[Range]:

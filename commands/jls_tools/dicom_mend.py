@@ -12,6 +12,7 @@ from jls_tools import dicom_bad, dicom_bad_lists, dicom_gaps, partial_picture
 from jls_tools.dicom_align import Copy, merged
 from jls_tools.dicom_alone import Stranger
 from jls_tools.dicom_bad import Range
+from jls_tools.dicom_doubtful import hole_in_text, lost_in_each
 from jls_tools.dicom_finished import faults_of
 from jls_tools.dicom_frames import DELIMITER, FramePlace, Shape, by_search, paired_by_bytes
 from jls_tools.dicom_instance import Instances, TwoInstances
@@ -343,6 +344,9 @@ class Mending:
             return "a place is undecided"
         if any(not self.is_in_pixels(begin, end) for begin, end in self.layout.breaks):
             return "the header is broken where no copy has it"
+        fault = self.doubtful() if self.options.header is None else None
+        if fault is not None:
+            return fault
         if (bad := dicom_bad.outside(self.bad_in_all, self.fragments())) and self.options.header is None:
             return f"a list names what stands at {bad[0][0]} as bad in each copy"
         if self.layout.structure.is_cut:
@@ -353,6 +357,14 @@ class Mending:
             return f"frame {odd.number} is {NOT_SUPPORTED}: {odd.note}"
         fault = contradiction(self.header, self.shape, len(self.mended))
         return fault if fault or self.options.header is not None else forbidden(self.header)
+
+    def doubtful(self) -> Optional[str]:
+        """Damage of the header that shows by itself, and that no copy contradicts."""
+        at = lost_in_each(self.copies, self.fragments())
+        if at is not None:
+            return f"a sector at {at} looks lost in each copy"
+        at = hole_in_text(self.header.places(), bytes(self.data))
+        return None if at is None else f"a text has a hole at {at}, and one copy alone has it"
 
     def is_in_pixels(self, begin: int, end: int) -> bool:
         structure = self.layout.structure

@@ -1,0 +1,48 @@
+"""Damage that no copy contradicts and that shows by itself: sectors that look lost in each copy, and holes in texts of one copy alone."""
+from __future__ import annotations
+
+import re
+from collections.abc import Iterable, Sequence
+from typing import Optional
+
+from jls_tools.dicom_align import Copy
+from jls_tools.dicom_bad import Range, in_both, outside, period_of
+from jls_tools.dicom_media import SECTOR
+from jls_tools.dicom_placed import in_no_copy
+from jls_tools.dicom_result import Place
+
+# One value that is no letter, sixteen times and more, with a text of 32 letters on both sides
+HOLE = re.compile(rb"(?<=[\t\n\r\x20-\x7e]{32})([\0\x7f-\xff])\1{15,}(?=[\t\n\r\x20-\x7e]{32})", re.S)
+BESIDE = 64  # bytes of the file beside a place, in which the text around a hole stands
+
+
+def lost_in_each(copies: Sequence[Copy], frames: Sequence[Range]) -> Optional[int]:
+    """Where sectors outside of frames look filled, from border to border, in each copy that has them. Values of a file end elsewhere."""
+    common = outside(in_no_copy(copies, True), frames)
+    for copy in copies:
+        for begin, end in in_both(copy.seen, common):
+            if (begin, end) in copy.seen and end - begin >= SECTOR and ends_at_borders(copy.data, begin, end):
+                return begin
+    return None
+
+
+def ends_at_borders(data: bytes, begin: int, end: int) -> bool:
+    """Whether what fills a range goes on neither before nor behind it."""
+    if begin == 0 or end == len(data):
+        return False
+    first, last = period_of(data[begin : begin + SECTOR]), period_of(data[end - SECTOR : end])
+    goes_on = first > 0 and data[begin - 1] == data[begin - 1 + first] or last > 0 and data[end] == data[end - last]
+    return not goes_on
+
+
+def hole_in_text(places: Iterable[Place], data: bytes) -> Optional[int]:
+    """Where a hole stands in a text, in what was taken of one copy alone."""
+    for place in places:
+        if place.taken is None or len(place.values) < 2 or len(place.values[place.taken][0]) != 1:
+            continue
+        first = max(0, place.offset - BESIDE)
+        for found in HOLE.finditer(data[first : place.offset + place.length + BESIDE]):
+            begin, end = first + found.start(), first + found.end()
+            if begin < place.offset + place.length and place.offset < end:
+                return begin
+    return None
