@@ -330,5 +330,41 @@ def checks_of_doubtful(bench, made, rng):
     yield from told("zeros with other bytes behind them, and noise there", beside, [[], [(begin, noise)]], 0)
 
 
+def checks_of_touching(bench, made, rng):
+    """Damage of two copies that touches in the header: no OUT, unless it does so at a border of sectors."""
+    true, at = made.bytes, made.bytes.index(b"ORIGINAL") + 2
+    noise = bytes(rng.choice(b"\x01\x02\x03\x04\x05") for _ in range(40))
+    head = true.index(struct.pack("<HH", 8, 8) + b"CS")
+    border = true[:head] + element(0x80005, "CS", "\\".join(["ISO_IR 100"] * 40)) + true[head:]
+    for name, file, places, size, wanted in (
+        ("one byte between", true, (at, at + 21), 20, 1),
+        ("seven bytes between", true, (at, at + 27), 20, 1),
+        ("eight bytes between", true, (at, at + 28), 20, 0),
+        ("a short one", true, (at, at + 16), 15, 0),
+        ("at a border", border, (SECTOR - 20, SECTOR), 20, 0),
+        ("beside a border", border, (SECTOR - 30, SECTOR - 9), 20, 1),
+    ):
+        copies = [changed(file, (place, noise[number : number + size])) for number, place in enumerate(places)]
+        status, out, printed, _, _ = bench.mend(copies)
+        told = not wanted or f"has to touch at {places[1]}, inside of a sector" in printed
+        yield f"{name}: {wanted} ({status}, {printed})", (status, out == file, told) == (wanted, not wanted, True)
+
+
+def checks_of_rests(bench, made):
+    """A line says how many places nothing but one copy tells."""
+    true, lost = made.bytes, changed(made.bytes, (made.bytes.index(b"ORIGINAL"), b"\1\2\3"))
+    both = changed(lost, (made.bytes.index(b"20200131"), b"\1\2\3"))
+    line = "on one copy: only a checksum can tell if it is true\n"
+    for name, copies, told in (
+        ("one place", [true, lost], f"\na place rests {line}"),
+        ("two places", [true, both], f"\n2 places rest {line}"),
+        ("three copies", [true, changed(true, (made.items[0] + 70, bytes(8))), lost], ""),
+        ("equal copies", [true, true], ""),
+    ):
+        status, out, printed, _, _ = bench.mend(copies)
+        is_told = told in printed and (bool(told) or line not in printed)
+        yield f"{name} ({status}, {printed})", (status, out == true, is_told) == (0, True, True)
+
+
 BAD = [checks_of_bad_sectors, checks_of_seen, checks_of_bad_beginnings, checks_of_bad_intervals, checks_of_one_copy]
-BAD += [checks_of_lists, checks_of_bad_lists, checks_of_doubtful]
+BAD += [checks_of_lists, checks_of_bad_lists, checks_of_doubtful, checks_of_touching, checks_of_rests]

@@ -1,9 +1,13 @@
-"""Damage that no copy contradicts and that shows by itself: sectors that look lost in each copy, and holes in texts of one copy alone."""
+"""Damage that no copy contradicts and that shows by itself.
+
+Sectors look lost in each copy; a text that one copy alone has has a hole; or what was taken changes from one copy to another where these
+differ throughout: then damage of both has to end at one place, as it does at borders of sectors alone.
+"""
 from __future__ import annotations
 
 import re
 from collections.abc import Iterable, Sequence
-from typing import Optional
+from typing import TYPE_CHECKING, Optional
 
 from jls_tools.dicom_align import Copy
 from jls_tools.dicom_bad import Range, in_both, outside, period_of
@@ -11,8 +15,13 @@ from jls_tools.dicom_media import SECTOR
 from jls_tools.dicom_placed import in_no_copy
 from jls_tools.dicom_result import Place
 
+if TYPE_CHECKING:
+    from jls_tools.dicom_header import Header
+
 # One value that is no letter, sixteen times and more, with a text of 32 letters on both sides
 HOLE = re.compile(rb"(?<=[\t\n\r\x20-\x7e]{32})([\0\x7f-\xff])\1{15,}(?=[\t\n\r\x20-\x7e]{32})", re.S)
+NEAR = 8  # so many equal bytes between two places, at least, show that damage ends there
+LONG = 16  # bytes on each side of a change
 BESIDE = 64  # bytes of the file beside a place, in which the text around a hole stands
 
 
@@ -45,4 +54,22 @@ def hole_in_text(places: Iterable[Place], data: bytes) -> Optional[int]:
             begin, end = first + found.start(), first + found.end()
             if begin < place.offset + place.length and place.offset < end:
                 return begin
+    return None
+
+
+def change_at(header: Header) -> Optional[int]:
+    """Where what was taken changes from one copy to another inside of a stretch in which they differ, and at no border of sectors."""
+    chosen, runs = header.chosen(), header.runs.runs
+    parts: list[tuple[int, int, set[int]]] = []  # what was taken of the same copies: its begin, its end, these copies
+    for number in sorted(header.parts):
+        run, own = runs[number], header.holders(number) if number in chosen else set()
+        if parts and run.begin - parts[-1][1] < NEAR and parts[-1][2] & own:
+            parts[-1] = (parts[-1][0], run.end, parts[-1][2] & own)
+        else:
+            parts.append((run.begin, run.end, own))
+    for (first, border, one), (begin, last, other) in zip(parts, parts[1:]):
+        is_beside = begin - border < NEAR and bool(one) and bool(other)
+        is_long = border - first >= LONG and last - begin >= LONG
+        if is_beside and is_long and border // SECTOR == begin // SECTOR and border % SECTOR and begin % SECTOR:
+            return begin
     return None

@@ -12,7 +12,7 @@ from jls_tools import dicom_bad, dicom_bad_lists, dicom_gaps, partial_picture
 from jls_tools.dicom_align import Copy, merged
 from jls_tools.dicom_alone import Stranger
 from jls_tools.dicom_bad import Range
-from jls_tools.dicom_doubtful import hole_in_text, lost_in_each
+from jls_tools.dicom_doubtful import change_at, hole_in_text, lost_in_each
 from jls_tools.dicom_finished import faults_of
 from jls_tools.dicom_frames import DELIMITER, FramePlace, Shape, by_search, paired_by_bytes
 from jls_tools.dicom_instance import Instances, TwoInstances
@@ -364,7 +364,10 @@ class Mending:
         if at is not None:
             return f"a sector at {at} looks lost in each copy"
         at = hole_in_text(self.header.places(), bytes(self.data))
-        return None if at is None else f"a text has a hole at {at}, and one copy alone has it"
+        if at is not None:
+            return f"a text has a hole at {at}, and one copy alone has it"
+        at = change_at(self.header)
+        return None if at is None else f"damage of two copies has to touch at {at}, inside of a sector"
 
     def is_in_pixels(self, begin: int, end: int) -> bool:
         structure = self.layout.structure
@@ -395,10 +398,18 @@ class Mending:
         self.result.is_guessed = self.header.is_guessed
         fault = self.fault_of(data)
         if fault is None:
+            self.note_rest()
             self.store(data + self.tails.ways[0], WHOLE)
         else:
             self.result.notes.append(f"OUT is not written: {fault}")
             self.write_frames()
+
+    def note_rest(self) -> None:
+        """Says how many places nothing but one copy tells."""
+        count = sum(place.taken is not None and len(place.values[place.taken][0]) == 1 for place in self.header.places())
+        if count:
+            what = "a place rests" if count == 1 else f"{count} places rest"
+            self.result.notes.append(f"{what} on one copy: only a checksum can tell if it is true")
 
     def fault_of(self, data: bytes) -> Optional[str]:
         """What forbids status 0 in the finished file. What every copy has is its writer's: that is noted."""
