@@ -9,13 +9,13 @@ from typing import Optional
 
 from jls_tools import dicom_bad
 from jls_tools.dicom_align import Copy
-from jls_tools.dicom_file import JPEG_LS, NEAR_LOSSLESS, PIXEL_DATA, SYNTAXES, syntax_name, syntax_of
+from jls_tools.dicom_file import JPEG_LS, NEAR_LOSSLESS, SYNTAXES, syntax_name, syntax_of
 from jls_tools.dicom_frames import by_search, other_coding, shape_of
-from jls_tools.dicom_header import COLUMNS, FRAMES, ROWS, SAMPLES, STORED
 from jls_tools.dicom_instance import identity_of
 from jls_tools.dicom_layout import Layout
 from jls_tools.dicom_mend import read
 from jls_tools.dicom_result import FAILED, NOT_SUPPORTED, NOT_WHOLE, REFUSED, WHOLE, FrameResult, MendOptions
+from jls_tools.dicom_tags import COLUMNS, FRAMES, PIXEL_DATA, ROWS, SAMPLES, STORED
 from jls_tools.mending import FrameMender, Mended
 from jls_tools.programs import Programs
 

@@ -12,10 +12,11 @@ from dataclasses import dataclass, field
 from typing import Optional
 
 from jls_tools.dicom_align import ANCHOR, equal_length
-from jls_tools.dicom_file import PIXEL_DATA, UNDEFINED, tag_name
-from jls_tools.dicom_finished import FIRST, Reading, of_meta, of_uids
+from jls_tools.dicom_file import UNDEFINED, tag_name
+from jls_tools.dicom_finished import Reading, of_meta, of_uids
 from jls_tools.dicom_most import header_end
 from jls_tools.dicom_result import VersionTable
+from jls_tools.dicom_tags import FIRST, PIXEL_DATA
 
 PIXELS_BEGIN = re.compile(rb"\xe0\x7f\x10\x00O[BW]\x00\x00\xff\xff\xff\xff")
 DELIMITER_BYTES = 8

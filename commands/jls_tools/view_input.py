@@ -5,10 +5,9 @@ import os
 from collections.abc import Sequence
 
 from . import archive_names, dicom_file, dicom_info, partial_picture, view_splice
+from .dicom_tags import SIGN
 from .partial_picture import PartialPicture
 from .programs import Programs
-
-PIXEL_REPRESENTATION = 0x00280103  # 1: signed
 
 
 class NoPicture(Exception):
@@ -63,7 +62,7 @@ def put(path: str, frame: int, folder: str, name: str) -> tuple[bool, str]:
         raise NoPicture(f"{shown}: it has {len(file.frames)} frames, and --frame counts from 0", 2)
     with open(os.path.join(folder, name), "wb") as out:
         out.write(file.frames[frame][1])
-    return file.number(PIXEL_REPRESENTATION) == 1, f"{shown}: frame {frame}"
+    return file.number(SIGN) == 1, f"{shown}: frame {frame}"
 
 
 def read_splice(paths: Sequence[str], frame: int, folder: str) -> tuple[list[PartialPicture], bool]:
