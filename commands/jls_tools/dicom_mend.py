@@ -419,6 +419,8 @@ class Mending:
                 return fault.text
             self.result.notes.append(f"{fault.text}: every copy has it so")
         if tail := self.tails.ways[0]:
+            if tail.strip(tail[:1]) and self.options.header is None:
+                return f"{len(tail)} bytes stand after the last element of every copy, and are no padding"
             self.result.notes.append(f"{len(tail)} bytes stand after the last element: every copy has them")
         return None
 
