@@ -9,7 +9,8 @@ from dicom_files import CLASS, HERE, PROGRAMS, SYNTAX, File, called, changed, el
 
 sys.path.append(os.path.join(HERE, "commands"))
 from jls_tools import dicom_bad as dicom_bad_places  # noqa: E402
-from jls_tools import partial_picture  # noqa: E402
+from jls_tools import dicom_doubtful, partial_picture  # noqa: E402
+from jls_tools.dicom_align import Copy  # noqa: E402
 
 SIDE, SECTOR, INTERVAL = 80, 512, 8
 PLACE = b"\n# position 0x00000800 sector 0x00000004 status - "
@@ -350,6 +351,30 @@ def checks_of_touching(bench, made, rng):
         yield f"{name}: {wanted} ({status}, {printed})", (status, out == file, told) == (wanted, not wanted, True)
 
 
+def checks_of_moved(bench, made, rng):
+    """A longer header of a foreign file with the same UID over one copy: two others don't seem to have lost bytes."""
+    true, size = made.bytes, struct.unpack_from("<I", made.bytes, 140)[0]
+    longer = changed(true, (140, struct.pack("<I", size + 2)))
+    for tag in (0x20002, 0x80016):
+        longer = longer.replace(element(tag, "UI", CLASS), element(tag, "UI", f"{CLASS}.4"))
+    foreign = changed(longer[:SECTOR] + true[SECTOR:], (SECTOR + 70, rng.randbytes(16)))
+    others = [changed(true, (made.items[0] + 70, bytes(8))), changed(true, (SECTOR, bytes(SECTOR)))]
+    status, out, printed, _, _ = bench.mend([foreign, *others])
+    is_safe = out in (None, true) and (status == 0) == (out is not None)
+    yield f"a longer header over one of three: nothing false ({status}, {printed})", is_safe
+    data, inner, cut = bytes(1000), [(100, 102)], [(500, 1000)]
+    for name, absent, bad, wanted in (
+        ("two of three lack the same bytes", [inner, inner, []], [], 100),
+        ("two of four", [inner, inner, [], []], [], None),
+        ("one of two", [inner, []], [], None),
+        ("two that lack others", [inner, [(100, 103)], []], [], None),
+        ("two that are cut", [cut, cut, []], [], None),
+        ("three of five, by lists", [inner, inner, inner, [], []], inner, None),
+    ):
+        found = dicom_doubtful.lost_in_most([Copy("", data, own, b"", bad if own else []) for own in absent])
+        yield f"{name}: {wanted} ({found})", found == wanted
+
+
 def checks_of_rests(bench, made):
     """A line says how many places nothing but one copy tells."""
     true, lost = made.bytes, changed(made.bytes, (made.bytes.index(b"ORIGINAL"), b"\1\2\3"))
@@ -367,4 +392,4 @@ def checks_of_rests(bench, made):
 
 
 BAD = [checks_of_bad_sectors, checks_of_seen, checks_of_bad_beginnings, checks_of_bad_intervals, checks_of_one_copy]
-BAD += [checks_of_lists, checks_of_bad_lists, checks_of_doubtful, checks_of_touching, checks_of_rests]
+BAD += [checks_of_lists, checks_of_bad_lists, checks_of_doubtful, checks_of_touching, checks_of_moved, checks_of_rests]

@@ -1,11 +1,13 @@
 """Damage that no copy contradicts and that shows by itself.
 
-Sectors look lost in each copy; a text that one copy alone has has a hole; or what was taken changes from one copy to another where these
-differ throughout: then damage of both has to end at one place, as it does at borders of sectors alone.
+Sectors look lost in each copy; a text that one copy alone has has a hole; most copies lack the same bytes, so that the others may have too
+many; or what was taken changes from one copy to another where these differ throughout: then damage of both has to end at one place, as it
+does at borders of sectors alone.
 """
 from __future__ import annotations
 
 import re
+from collections import Counter
 from collections.abc import Iterable, Sequence
 from typing import TYPE_CHECKING, Optional
 
@@ -54,6 +56,15 @@ def hole_in_text(places: Iterable[Place], data: bytes) -> Optional[int]:
             begin, end = first + found.start(), first + found.end()
             if begin < place.offset + place.length and place.offset < end:
                 return begin
+    return None
+
+
+def lost_in_most(copies: Sequence[Copy]) -> Optional[int]:
+    """Where most copies lost the same bytes, and go on behind them: a foreign file that stands over another copy can have moved it."""
+    inner = (pair for copy in copies for pair in copy.absent if 0 < pair[0] and pair[1] < len(copy.data) and not in_both([pair], copy.bad))
+    for (begin, _), count in Counter(inner).items():
+        if count > 1 and count * 2 > len(copies):
+            return begin
     return None
 
 

@@ -12,7 +12,7 @@ from jls_tools import dicom_bad, dicom_bad_lists, dicom_gaps, partial_picture
 from jls_tools.dicom_align import Copy, merged
 from jls_tools.dicom_alone import Stranger
 from jls_tools.dicom_bad import Range
-from jls_tools.dicom_doubtful import change_at, hole_in_text, lost_in_each
+from jls_tools.dicom_doubtful import change_at, hole_in_text, lost_in_each, lost_in_most
 from jls_tools.dicom_finished import faults_of
 from jls_tools.dicom_frames import DELIMITER, FramePlace, Shape, by_search, paired_by_bytes
 from jls_tools.dicom_instance import Instances, TwoInstances
@@ -366,6 +366,9 @@ class Mending:
         at = hole_in_text(self.header.places(), bytes(self.data))
         if at is not None:
             return f"a text has a hole at {at}, and one copy alone has it"
+        at = lost_in_most(self.copies)
+        if at is not None:
+            return f"most copies lack the same bytes at {at}"
         at = change_at(self.header)
         return None if at is None else f"damage of two copies has to touch at {at}, inside of a sector"
 
