@@ -74,15 +74,23 @@ def in_all(lists: Sequence[Sequence[Range]]) -> list[Range]:
     return found
 
 
+def clipped(ranges: Sequence[Range], begin: int, end: int) -> list[Range]:
+    """What of some ranges, in order, stands in another one."""
+    found = []
+    for at in range(max(0, bisect.bisect_left(ranges, (begin, begin)) - 1), len(ranges)):
+        first, last = ranges[at]
+        if first >= end:
+            break
+        if begin < last:
+            found.append((max(begin, first), min(end, last)))
+    return found
+
+
 def within(ranges: Sequence[Range], parts: Iterable[Range]) -> list[Range]:
     """Where ranges of a file, in order, stand in what these parts of it make together."""
     found, done = [], 0
     for first, last in parts:
-        for begin, end in ranges[bisect.bisect_left(ranges, (first, first)) - 1 if ranges and ranges[0][0] < first else 0 :]:
-            if begin >= last:
-                break
-            if first < end:
-                found.append((max(begin, first) - first + done, min(end, last) - first + done))
+        found += [(begin - first + done, end - first + done) for begin, end in clipped(ranges, first, last)]
         done += last - first
     return merged(found)
 

@@ -47,7 +47,7 @@ class OneFile:
     def mended(self, mender: FrameMender, number: int) -> Mended:
         """A frame as far as it reads, up to sectors that look bad."""
         stream, parts = self.frames[number][1], self.parts[number]
-        note = dicom_bad.note_of(dicom_bad.in_both(self.seen, parts))
+        note = dicom_bad.note_of([pair for part in parts for pair in dicom_bad.clipped(self.seen, *part)])
         return mender.mend_beside(mender.mend(number, [stream]), [stream], dicom_bad.within(self.seen, parts), note)
 
     def value(self, tag: int) -> Optional[bytes]:

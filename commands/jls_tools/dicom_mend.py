@@ -236,7 +236,8 @@ class Mending:
             is_sure = bool(dicom_bad.in_all([listed for listed, _ in lists]))
         else:
             parts = self.layout.places[number].fragments
-            bad, places = dicom_bad.within(self.seen_in_all, parts), dicom_bad.in_both(self.seen_in_all, parts)
+            bad = dicom_bad.within(self.seen_in_all, parts)
+            places = [pair for part in parts for pair in dicom_bad.clipped(self.seen_in_all, *part)]
             is_sure = bool(dicom_bad.within(self.bad_in_all, parts))
         return self.mender.mend_beside(mended, self.kept.get(number) or streams, bad, dicom_bad.note_of(places), is_sure)
 
