@@ -7,11 +7,11 @@ _jls_dicom() {
         return
     fi
     case "$before" in
-        --max | --tries | --sha256 | --with-gaps) return ;;
+        --max | --tries | --bad | --sha256 | --with-gaps) return ;;
     esac
     if [[ $word == -* && $before != --header ]]; then
         local options='--quiet --help'
-        [ "$command" != mend ] || options="--max --tries --header --same --sha256 --with-gaps --no-names $options"
+        [ "$command" != mend ] || options="--max --tries --header --same --bad --sha256 --with-gaps --no-names $options"
         mapfile -t COMPREPLY < <(compgen -W "$options" -- "$word")
     else
         mapfile -t COMPREPLY < <(compgen -f -- "$word")

@@ -51,7 +51,9 @@ def frame(rng, bits, width, height, folder):
 class File:
     """A DICOM file with these frames, an icon, a private element, and padding after Pixel Data."""
 
-    def __init__(self, frames, bits, width, height, uid=UID, syntax=SYNTAX, stored=None):
+    def __init__(
+        self, frames: list[bytes], bits: int, width: int, height: int, uid: str = UID, syntax: str = SYNTAX, stored: int | None = None
+    ) -> None:
         meta = element(0x20001, "OB", b"\0\1") + element(0x20002, "UI", CLASS) + element(0x20003, "UI", uid)
         meta += element(0x20010, "UI", syntax)
         meta = element(0x20000, "UL", struct.pack("<I", len(meta))) + meta
@@ -98,7 +100,7 @@ class Bench:
             with open(name, "wb") as file:
                 file.write(data)
         out = f"{self.folder}/{self.count}-out.dcm"
-        words = [word.replace("COPY0", names[0]).replace("COPY1", names[1]) for word in words]
+        words = [word.replace("COPY0", names[0]).replace("COPY1", names[min(1, len(names) - 1)]) for word in words]
         status, printed, faults = called("mend", *words, out, *names)
         got = [get(name) for name in names] == list(copies)
         return status if got else "a copy was changed", get(out), printed, faults, out

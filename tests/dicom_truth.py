@@ -166,6 +166,9 @@ def checks_of_tails(bench, made, neighbour):
     both = [true + zeros, damaged(made) + zeros]
     yield case(bench, "a tail in each copy", both, 0, true + zeros, "every copy has them")
     yield case(bench, "the same, and a sum without it", both, 0, true, "matched", ["--sha256", hashlib.sha256(true).hexdigest()])
+    both = [true + noise, damaged(made) + noise]
+    yield case(bench, "a tail of noise in each copy", both, 1, b"", "of every copy, and are no padding")
+    yield case(bench, "a tail of noise in each copy, and --header", both, 0, true + noise, "every copy has them", ("--header", "COPY0"))
     sums = ["--sha256", hashlib.sha256(true + noise).hexdigest()]
     yield case(bench, "a tail that one copy lacks, and a sum with it", [true, damaged(made) + noise], 0, true + noise, "matched", sums)
     alone = [true[: len(true) // 2], true + noise]

@@ -3,24 +3,20 @@ from __future__ import annotations
 
 import dataclasses
 import os
-from typing import Any, Iterator, List, Sequence
+import shutil
+from typing import Iterator, List, Sequence
 
 from . import archive_bad, archive_names, archive_plain, archive_versions, dicom_command, dicom_file, dicom_info, dicom_mend
 from . import dicom_result, mending
 from .archive_desk import Copy, Desk
 from .archive_rows import Row
 from .dicom_result import FrameResult, MendResult
+from .mending import Mended
 from .programs import ProgramFailed
 from .unsupported import NOT_SUPPORTED
 
 FRAMES = ".frames"
 MOST_CHECKED = 16  # frames of a file whose bad bytes are looked for
-# modules without types
-mend_copies: Any = dicom_mend.mend
-one_file: Any = dicom_info.OneFile
-refusal_of: Any = dicom_info.refusal_of
-frame_mender: Any = mending.FrameMender
-mended_lines: Any = dicom_command.mended_lines
 
 
 def take(row: Row, frames: Sequence[FrameResult]) -> None:
@@ -45,7 +41,7 @@ def log_of(desk: Desk, row: Row, copies: Sequence[Copy], result: MendResult) -> 
     """What mending came to, in the lines of `jls-dicom mend`."""
     told = dataclasses.replace(result, folder=None)  # it has another name in the end
     lines = [f"copy {archive_names.printable(copy.path)}" for copy in copies]
-    lines += mended_lines(told, row.path, False, not desk.options.no_names, dicom_command.LONG_VALUES)
+    lines += dicom_command.mended_lines(told, row.path, False, not desk.options.no_names, dicom_command.LONG_VALUES)
     lines += [archive_names.printable(result.refusal)] if result.refusal else []
     return "".join(f"{line}\n" for line in lines)
 
@@ -69,7 +65,7 @@ def mend_files(desk: Desk, row: Row, copies: Sequence[Copy]) -> Row:
     """DICOM files that differ: OUT gets the mended file if it is whole. Otherwise its frames that came back stand beside OUT."""
     options = dicom_result.MendOptions(sha256=desk.expected.get("sha256"), tries=desk.options.tries)
     out = desk.name("mended") + ".dcm"
-    result: MendResult = mend_copies([copy.path for copy in copies], desk.place(out), options, desk.programs)
+    result = dicom_mend.mend([copy.path for copy in copies], desk.place(out), options, desk.programs)
     if result.status == dicom_result.FAILED:
         raise ProgramFailed(str(result.refusal), 4)
     take(row, result.frames)
@@ -139,7 +135,7 @@ def look(desk: Desk, row: Row, copy: Copy) -> Row:
     if syntax is not None:
         return row.end("copied", 0, f"it: no JPEG-LS lossless: {dicom_file.syntax_name(syntax)}")
     try:
-        return look_at(desk, row, one_file(copy.path))
+        return look_at(desk, row, dicom_info.OneFile(copy.path))
     except (OSError, ProgramFailed, MemoryError):
         raise
     except Exception as fault:
@@ -161,14 +157,14 @@ def reads_plainly(desk: Desk, row: Row, data: bytes) -> bool:
     return True
 
 
-def look_at(desk: Desk, row: Row, file: Any) -> Row:
+def look_at(desk: Desk, row: Row, file: dicom_info.OneFile) -> Row:
     """Says of a file whether its frames read."""
-    refusal = refusal_of("it", file)
+    refusal = dicom_info.refusal_of("it", file)
     if refusal:
         is_broken = not file.is_dicom or file.layout.breaks or file.layout.structure.is_cut
         return row.end("does not read" if is_broken else "copied", 3 if is_broken else 0, refusal)
-    mender = frame_mender(desk.programs, desk.folder, dicom_result.MendOptions())
-    mended = [mender.mend(number, [stream]) for number, (_, stream) in enumerate(file.frames)]
+    mender = mending.FrameMender(desk.programs, desk.folder, dicom_result.MendOptions())
+    mended = [file.mended(mender, number) for number in range(len(file.frames))]
     odd = sorted({frame.result.note for frame in mended if frame.result.kind == NOT_SUPPORTED})
     if odd and all(frame.is_whole or frame.result.kind == NOT_SUPPORTED for frame in mended):
         row.frames = len(mended)
@@ -182,12 +178,25 @@ def look_at(desk: Desk, row: Row, file: Any) -> Row:
     drawn = max(lost, key=lambda frame: loss(frame.result))
     if drawn.partial:
         desk.draw(row, drawn.partial)
+    keep_parts(desk, row, lost)
     if not any(frame.result.settled for frame in mended):
         return row.end("does not read", 3, "; ".join(notes))
     return row.end(words_for([frame.result for frame in lost]), 1, "; ".join(notes))
 
 
-def tell_of(desk: Desk, row: Row, file: Any, lost: List[int]) -> None:
+def keep_parts(desk: Desk, row: Row, lost: Sequence[Mended]) -> None:
+    """Keeps what there is of frames that aren't whole beside OUT."""
+    kept = [(frame.result.number, frame.partial) for frame in lost if frame.partial and frame.result.settled]
+    if not kept:
+        return
+    part = desk.place(desk.name("frames"))
+    os.mkdir(part)
+    for number, partial in kept:
+        shutil.copyfile(partial, os.path.join(part, f"frame-{number:04}.jlsp"))
+    row.outputs.append(desk.places.put(part, "partial", row.path + FRAMES))
+
+
+def tell_of(desk: Desk, row: Row, file: dicom_info.OneFile, lost: List[int]) -> None:
     """Where bytes of a damaged file are bad, and whose picture it is."""
     ranges = []
     for number in lost[:MOST_CHECKED]:

@@ -4,9 +4,11 @@ from __future__ import annotations
 import os
 from typing import Optional, Sequence, Set, Tuple
 
-from . import archive_bad, archive_desk
+from . import archive_bad, archive_desk, dicom_bad
 from .archive_desk import Copy, Desk
 from .archive_rows import Row
+from .dicom_result import FrameResult, MendOptions
+from .mending import FrameMender, Mended
 from .programs import Outcome, Report, Splice
 from .unsupported import NOT_SUPPORTED, unsupported
 
@@ -39,16 +41,34 @@ def look(desk: Desk, row: Row, copy: Copy) -> Row:
     if odd is not None:
         row.frames, row.shape = 1, report.shape
         return row.end(NOT_SUPPORTED, 0, odd)
+    beside = beside_bad(desk, copy, report) if outcome.status == 1 else None
+    if beside:
+        row.say(beside.result.note)
+        report = desk.programs.show(str(beside.partial), desk.folder).report
     row.take(report)
     result = result_of(report, outcome.status)
     row.end(result, status_of(outcome, report), outcome.faults.replace(name, "it"))
     if row.status and copy.data is not None:
-        row.bad = archive_bad.of_ranges(archive_bad.ranges_in(copy.data, report.lines), len(copy.data))
-    if result in ("lines missing", "lines disputed"):
+        row.bad = archive_bad.of_ranges(archive_bad.ranges_in(copy.data, outcome.report.lines), len(copy.data))
+    if beside:
+        desk.keep_partial(row, os.path.basename(str(beside.partial)), row.path + PART)
+    elif result in ("lines missing", "lines disputed"):
         partial = desk.name("partial")
         if desk.sure(desk.programs.join(partial, [name], desk.folder)).status <= 1:
             desk.keep_partial(row, partial, row.path + PART)
     return row
+
+
+def beside_bad(desk: Desk, copy: Copy, report: Report) -> Optional[Mended]:
+    """What there is of a picture beside sectors that look bad, if that is more than what is read of it as it is."""
+    data = copy.data
+    if data is None:
+        with open(copy.path, "rb") as file:
+            data = file.read()
+    bad, as_it_is = dicom_bad.seen(data), Mended(FrameResult(0, "lines", report.settled, report.missing, report.disputed))
+    mender = FrameMender(desk.programs, desk.folder, MendOptions())
+    found = mender.mend_beside(as_it_is, [data], bad, dicom_bad.note_of(bad))
+    return None if found is as_it_is else found
 
 
 def unsupported_of(desk: Desk, name: str, outcome: Outcome) -> Optional[str]:

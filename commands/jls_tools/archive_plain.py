@@ -8,12 +8,12 @@ from __future__ import annotations
 import struct
 from typing import List, NamedTuple, Optional
 
-from .dicom_file import ITEM, ITEM_END, JPEG_LS, PIXEL_DATA, SEQUENCE_END, SYNTAXES, UNDEFINED
+from .dicom_file import JPEG_LS, SYNTAXES, UNDEFINED
 from .dicom_file import Element, header_of, skip_undefined, text_of
+from .dicom_tags import FRAMES, ITEM, ITEM_END, PIXEL_DATA, SEQUENCE_END, SYNTAX
 from .dicom_values import is_uid
 
 PREAMBLE, MAGIC = 128, b"DICM"
-SYNTAX, FRAMES = 0x00020010, 0x00280008
 EOI = b"\xff\xd9"
 IMPLICIT = "1.2.840.10008.1.2"
 NOT_WALKED = ("1.2.840.10008.1.2.1.99", "1.2.840.10008.1.2.2")  # deflated, big endian

@@ -7,7 +7,7 @@ from __future__ import annotations
 
 import re
 from collections.abc import Iterable, Iterator, Sequence
-from dataclasses import dataclass, field
+from dataclasses import dataclass, field, replace
 from typing import Optional
 
 from jls_tools.dicom_media import MOST_LOST
@@ -31,12 +31,17 @@ SHIFTED = 64  # so many bytes more are equal, at least, where copies of one leng
 
 @dataclass
 class Copy:
-    """A copy on the axis. `absent` are the ranges of the axis that it has not; `foreign` is what was written over its beginning."""
+    """A copy on the axis. `absent` are the ranges of the axis that it has not; `foreign` is what was written over its beginning.
+
+    `bad` are ranges that a list names as bad, and `seen` those that look so: of the copy itself, and on the axis once they are `placed`.
+    """
 
     path: str
     data: bytes
     absent: list[tuple[int, int]] = field(default_factory=list)
     foreign: bytes = b""
+    bad: Sequence[tuple[int, int]] = ()
+    seen: Sequence[tuple[int, int]] = ()
 
     def lacks(self, begin: int, end: int) -> bool:
         return any(first < end and begin < last for first, last in self.absent)
@@ -177,7 +182,7 @@ def insert_gaps(copy: Copy, gaps: Iterable[tuple[int, int, int]], source: bytes)
     for begin, end in old:
         move = sum(count for offset, count, _ in gaps if offset <= begin)
         moved.append((begin + move, end + move))
-    return Copy(copy.path, b"".join(parts), merged(absent + moved), copy.foreign)
+    return replace(copy, data=b"".join(parts), absent=merged(absent + moved))
 
 
 def merged(ranges: Iterable[tuple[int, int]]) -> list[tuple[int, int]]:
@@ -277,7 +282,7 @@ def in_one_place(copy: Copy, other: Copy, gaps: Sequence[tuple[int, int]]) -> Op
         return None
     gap = (first + at, first + at + len(whole) - len(own))
     data = copy.data[:first] + own[:at] + other.data[slice(*gap)] + own[at:] + copy.data[last:]
-    return Copy(copy.path, data, merged([pair for pair in copy.absent if pair not in gaps] + [gap]), copy.foreign)
+    return replace(copy, data=data, absent=merged([pair for pair in copy.absent if pair not in gaps] + [gap]))
 
 
 def fewest(own: bytes, whole: bytes) -> tuple[int, int]:

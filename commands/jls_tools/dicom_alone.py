@@ -13,23 +13,40 @@ from typing import TYPE_CHECKING
 
 from jls_tools.dicom_align import Copy, may_stand_elsewhere, merged
 from jls_tools.dicom_csa import is_chain
-from jls_tools.dicom_file import PIXEL_DATA, Element, tag_name, text_of
+from jls_tools.dicom_file import Element, tag_name, text_of
 from jls_tools.dicom_media import SECTOR
 from jls_tools.dicom_result import Place
 from jls_tools.dicom_sectors import BESIDE, has_noise_within, is_noise, is_plain
 from jls_tools.dicom_structure import Step
+from jls_tools.dicom_tags import (
+    CHARACTER_SET,
+    CLASS,
+    CLASS_IN_META,
+    COLUMNS,
+    FRAMES,
+    GROUP_LENGTH,
+    HIGH,
+    INSTANCE,
+    INSTANCE_IN_META,
+    PADDING,
+    PIXEL_DATA,
+    ROWS,
+    SAMPLES,
+    SIGN,
+    STORED,
+    SYNTAX,
+    VERSION,
+)
 from jls_tools.dicom_values import DIGITS_AND_DOTS, FREE_TEXTS, TEXTS, allows, is_doubtful, is_of_standard, strangeness
 
 if TYPE_CHECKING:
     from jls_tools.dicom_header import Header
 
-PADDING = 0xFFFCFFFC
 # Group length, transfer syntax, Samples per Pixel, Number of Frames, Rows and Columns: the file or its frames say what they have to be
-CONFIRMED = frozenset((0x00020000, 0x00020010, 0x00280002, 0x00280008, 0x00280010, 0x00280011, PIXEL_DATA))
-VERSION, STORED, HIGH, SIGN = 0x00020001, 0x00280101, 0x00280102, 0x00280103
-CHARACTER_SET, ONLY_ASCII = 0x00080005, ("", "ISO_IR 6")  # without one, texts have the letters of ASCII (PS3.5, 6.1.2)
+CONFIRMED = frozenset((GROUP_LENGTH, SYNTAX, SAMPLES, FRAMES, ROWS, COLUMNS, PIXEL_DATA))
+ONLY_ASCII = ("", "ISO_IR 6")  # without one, texts have the letters of ASCII (PS3.5, 6.1.2)
 ONLY_VERSION = b"\0\1"  # of the meta information (PS3.10, 7.1)
-PAIRS = ((0x00020002, 0x00080016), (0x00020003, 0x00080018))
+PAIRS = ((CLASS_IN_META, CLASS), (INSTANCE_IN_META, INSTANCE))
 ONE_ALONE = "one copy alone has it"
 CLEAR = 32  # so many bytes beside a loss are equal in all copies, where its place is clear
 KINDS = 8  # of so many different bytes, at least, the end of a copy that is cut shows where it stands

@@ -58,6 +58,14 @@ def sum_of(text: str) -> str:
     return text
 
 
+def bad_of(text: str) -> tuple[int, str]:
+    """(a copy by its place, from 0; the path of a list)."""
+    number, colon, path = text.partition(":")
+    if not (colon and path and number.isascii() and number.isdigit() and 0 < int(number[:9])):
+        raise argparse.ArgumentTypeError(f"{text} is not the number of a copy, from 1 on, a colon and a list")
+    return int(number[:9]) - 1, path
+
+
 def sample_of(text: str) -> int:
     if not text.isdigit() or int(text) > 65535:
         raise argparse.ArgumentTypeError("a sample is a number from 0 to 65535")
@@ -85,12 +93,13 @@ def add_mend(command: argparse.ArgumentParser) -> None:
     command.add_argument("--tries", type=int, metavar="N", help="the most that jls-splice tries for a frame")
     command.add_argument("--header", metavar="COPY", help="where copies differ and nothing decides, take what this copy has")
     command.add_argument("--same", action="store_true", help="the copies are of one instance, whatever their UIDs say")
+    command.add_argument("--bad", type=bad_of, action="append", default=[], metavar="N:LIST", help="a list of bad places of the Nth copy")
     command.add_argument("--sha256", type=sum_of, metavar="SUM", help="the checksum that the undamaged file had")
     command.add_argument("--with-gaps", type=sample_of, metavar="VALUE", help="write a file with lost lines filled, under new UIDs")
     command.add_argument("--no-names", action="store_true", help="leave values that can have a name out of lines and OUT.log")
     command.add_argument("--quiet", action="store_true", help="no progress on a terminal, and no lines on places and whole frames")
     command.add_argument("out", metavar="OUT", help="the file to write; it must not be there")
-    command.add_argument("copies", metavar="COPY", nargs="+", help="two files or more")
+    command.add_argument("copies", metavar="COPY", nargs="+", help="files; of one copy alone no header is taken without --header")
 
 
 class Progress:
@@ -151,8 +160,10 @@ def mended_lines(
 
 def check_words(words: argparse.Namespace, programs: Programs) -> Optional[str]:
     """What argparse doesn't see; a text, or nothing."""
-    if len(words.copies) < 2:
-        return "mend takes two copies or more"
+    for at, path in words.bad:
+        if at >= len(words.copies):
+            copies = "one copy" if len(words.copies) == 1 else f"{len(words.copies)} copies"
+            return f"--bad {at + 1}:{printable(path)}: {copies} named"
     if words.tries is not None and words.tries < 1:
         return "--tries takes a number from 1 on"
     if words.max is not None and not programs.has_option("--max"):
@@ -166,7 +177,7 @@ def run_mend(words: argparse.Namespace, programs: Programs) -> int:
         say(fault)
         return USAGE
     progress = Progress(words.quiet)
-    options = MendOptions(words.max, words.header, words.same, words.sha256, words.with_gaps, words.tries, progress)
+    options = MendOptions(words.max, words.header, words.same, words.sha256, words.with_gaps, words.tries, words.bad, progress)
     try:
         result = mend(words.copies, words.out, options, programs)
     finally:

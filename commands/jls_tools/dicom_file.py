@@ -6,12 +6,11 @@ import struct
 from collections.abc import Iterator
 from typing import Optional, Union
 
+from jls_tools.dicom_tags import INSTANCE, INSTANCE_IN_META, ITEM, ITEM_END, PIXEL_DATA, SEQUENCE_END, SYNTAX
 from jls_tools.dicom_values import is_uid
 
 JPEG_LS = "1.2.840.10008.1.2.4.80"
 NEAR_LOSSLESS = "1.2.840.10008.1.2.4.81"
-PIXEL_DATA = 0x7FE00010
-ITEM, ITEM_END, SEQUENCE_END = 0xFFFEE000, 0xFFFEE00D, 0xFFFEE0DD
 UNDEFINED = 0xFFFFFFFF
 # VRs with a length of four bytes after two reserved ones, and those with a length of two (PS3.5, 7.1.2)
 LONG_VRS = frozenset(b"OB OD OF OL OV OW SQ SV UC UN UR UT UV".split())
@@ -153,9 +152,9 @@ def uid_at(data: bytes, tag: int) -> Optional[str]:
 
 def instance_of(data: bytes) -> tuple[Optional[str], Optional[str]]:
     """The two SOP Instance UIDs of a file, of its meta information and of its data set; None for one that does not read."""
-    return uid_at(data, 0x00020003), uid_at(data, 0x00080018)
+    return uid_at(data, INSTANCE_IN_META), uid_at(data, INSTANCE)
 
 
 def syntax_of(data: bytes) -> Optional[str]:
     """The transfer syntax UID, or None."""
-    return uid_at(data, 0x00020010)
+    return uid_at(data, SYNTAX)

@@ -10,16 +10,30 @@ from collections.abc import Iterator
 from dataclasses import dataclass, field
 from typing import Optional
 
-from jls_tools.dicom_file import ITEM, ITEM_END, PIXEL_DATA, SEQUENCE_END, UNDEFINED, Element, header_of, tag_name, text_of
-from jls_tools.dicom_frames import EXTENDED_LENGTHS, EXTENDED_TABLE, codestream_end, table_of
+from jls_tools.dicom_file import UNDEFINED, Element, header_of, tag_name, text_of
+from jls_tools.dicom_frames import codestream_end, table_of
+from jls_tools.dicom_tags import (
+    CLASS,
+    CLASS_IN_META,
+    EXTENDED_LENGTHS,
+    EXTENDED_TABLE,
+    FIRST,
+    GROUP_LENGTH,
+    HIGH,
+    INSTANCE,
+    INSTANCE_IN_META,
+    ITEM,
+    ITEM_END,
+    PHOTOMETRIC,
+    PIXEL_DATA,
+    SEQUENCE_END,
+    SIGN,
+    SYNTAX,
+)
 from jls_tools.dicom_values import allows
 
-FIRST = 132  # the first element
 DATA_SET, SEQUENCE, OBJECT, PIXELS = "data set", "sequence", "item", "pixels"
 META = 2  # the group of the meta information
-GROUP_LENGTH = 0x00020000
-CLASS_IN_META, INSTANCE_IN_META, SYNTAX = 0x00020002, 0x00020003, 0x00020010
-CLASS, INSTANCE = 0x00080016, 0x00080018
 UIDS = (
     (CLASS_IN_META, "SOP Class UID of the meta information"),
     (INSTANCE_IN_META, "SOP Instance UID of the meta information"),
@@ -29,7 +43,7 @@ UIDS = (
 )
 TWINS = ((CLASS_IN_META, CLASS, "SOP Class UIDs"), (INSTANCE_IN_META, INSTANCE, "SOP Instance UIDs"))
 # Those that the frames do not say
-OF_PICTURE = ((0x00280004, "Photometric Interpretation"), (0x00280102, "High Bit"), (0x00280103, "Pixel Representation"))
+OF_PICTURE = ((PHOTOMETRIC, "Photometric Interpretation"), (HIGH, "High Bit"), (SIGN, "Pixel Representation"))
 MOST_PADDING = 1  # bytes between a frame's EOI and the end of its item
 
 

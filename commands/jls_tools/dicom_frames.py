@@ -9,6 +9,7 @@ from typing import TYPE_CHECKING, Optional
 
 from jls_tools.dicom_align import Copy
 from jls_tools.dicom_file import UNDEFINED
+from jls_tools.dicom_tags import EXTENDED_TABLE
 
 if TYPE_CHECKING:
     from jls_tools.dicom_structure import Structure
@@ -18,7 +19,6 @@ BEGIN = re.compile(rb"\xff\xd8(?=\xff[\xf7\xf8\xe0-\xef\xfe\xdd\xff])")
 DELIMITER = b"\xfe\xff\xdd\xe0\0\0\0\0"
 ITEM_TAG = b"\xfe\xff\x00\xe0"
 USUAL_RESET = 64
-EXTENDED_TABLE, EXTENDED_LENGTHS = 0x7FE00001, 0x7FE00002
 Fragment = tuple[int, int, int, bool]  # where its header begins, where its value begins, where it ends, whether the header reads
 
 

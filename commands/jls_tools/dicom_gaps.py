@@ -9,11 +9,11 @@ from collections.abc import Iterable, Sequence
 from typing import Union
 
 from jls_tools import partial_picture
-from jls_tools.dicom_file import ITEM, UNDEFINED, tag_bytes
+from jls_tools.dicom_file import UNDEFINED, tag_bytes
 from jls_tools.dicom_frames import Shape
+from jls_tools.dicom_tags import CLASS, GROUP_LENGTH, INSTANCE, INSTANCE_IN_META, ITEM
 
 IMAGE_TYPE, DESCRIPTION, SOURCES = 0x00080008, 0x00082111, 0x00082112
-CLASS, INSTANCE, INSTANCE_IN_META, META_LENGTH = 0x00080016, 0x00080018, 0x00020003, 0x00020000
 OF_CLASS, OF_INSTANCE = 0x00081150, 0x00081155
 LONGEST_DESCRIPTION = 1024
 TRANSFORM = re.compile(rb"\xff\xe8\0\x07mrfx.", re.S)  # APP8 that names a colour transform
@@ -69,8 +69,8 @@ def derived(elements: Elements, description: str) -> Elements:
         (INSTANCE_IN_META, element(INSTANCE_IN_META, b"UI", uid, b"\0")),
     ):
         elements = put(elements, tag, value)
-    size = sum(len(value) for tag, value in elements if tag >> 16 == 2 and tag != META_LENGTH)
-    return put(elements, META_LENGTH, element(META_LENGTH, b"UL", struct.pack("<I", size)))
+    size = sum(len(value) for tag, value in elements if tag >> 16 == 2 and tag != GROUP_LENGTH)
+    return put(elements, GROUP_LENGTH, element(GROUP_LENGTH, b"UL", struct.pack("<I", size)))
 
 
 def description_of(frames: Iterable[tuple[int, list[str]]]) -> str:

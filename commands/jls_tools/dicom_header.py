@@ -9,7 +9,7 @@ from collections.abc import Callable, Collection, Iterable, Iterator, Sequence
 from typing import Optional
 
 from jls_tools.dicom_align import Copy
-from jls_tools.dicom_alone import ONLY_VERSION, PADDING, VERSION, Stranger, held_by_one, places_alone
+from jls_tools.dicom_alone import ONLY_VERSION, Stranger, held_by_one, places_alone
 from jls_tools.dicom_csa import Chains
 from jls_tools.dicom_decider import Decider
 from jls_tools.dicom_file import JPEG_LS, UNDEFINED, Element, tag_name, text_of
@@ -19,15 +19,30 @@ from jls_tools.dicom_runs import Run, Runs
 from jls_tools.dicom_sectors import is_noise_alone
 from jls_tools.dicom_structure import Structure
 from jls_tools.dicom_tables import Table, Tables
+from jls_tools.dicom_tags import (
+    ALLOCATED,
+    CLASS,
+    CLASS_IN_META,
+    COLUMNS,
+    FRAMES,
+    GROUP_LENGTH,
+    HIGH,
+    INSTANCE,
+    INSTANCE_IN_META,
+    LARGEST,
+    PADDING,
+    ROWS,
+    SAMPLES,
+    SIGN,
+    SMALLEST,
+    STORED,
+    SYNTAX,
+    VERSION,
+)
 from jls_tools.dicom_terms import KNOWN, has_terms, is_made_of, is_term
 from jls_tools.dicom_uids import are_denied
 from jls_tools.dicom_values import NOT_IN_TEXT, TEXTS, allows, is_written
 
-GROUP_LENGTH, CLASS_IN_META, INSTANCE_IN_META, SYNTAX = 0x00020000, 0x00020002, 0x00020003, 0x00020010
-CLASS, INSTANCE = 0x00080016, 0x00080018
-FRAMES, SAMPLES, ROWS, COLUMNS = 0x00280008, 0x00280002, 0x00280010, 0x00280011
-ALLOCATED, STORED, HIGH, SIGN = 0x00280100, 0x00280101, 0x00280102, 0x00280103
-SMALLEST, LARGEST = 0x00280106, 0x00280107
 BITS = [[allocated, stored, stored - 1] for allocated in (8, 16) for stored in range(1, allocated + 1)]  # allocated, stored, the high one
 TWINS = ((CLASS_IN_META, CLASS), (INSTANCE_IN_META, INSTANCE))
 MOST_TOGETHER = 4096

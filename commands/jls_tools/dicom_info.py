@@ -7,15 +7,16 @@ import tempfile
 from collections.abc import Callable, Iterator, Sequence
 from typing import Optional
 
+from jls_tools import dicom_bad
 from jls_tools.dicom_align import Copy
-from jls_tools.dicom_file import JPEG_LS, NEAR_LOSSLESS, PIXEL_DATA, SYNTAXES, syntax_name, syntax_of
+from jls_tools.dicom_file import JPEG_LS, NEAR_LOSSLESS, SYNTAXES, syntax_name, syntax_of
 from jls_tools.dicom_frames import by_search, other_coding, shape_of
-from jls_tools.dicom_header import COLUMNS, FRAMES, ROWS, SAMPLES, STORED
 from jls_tools.dicom_instance import identity_of
 from jls_tools.dicom_layout import Layout
 from jls_tools.dicom_mend import read
 from jls_tools.dicom_result import FAILED, NOT_SUPPORTED, NOT_WHOLE, REFUSED, WHOLE, FrameResult, MendOptions
-from jls_tools.mending import FrameMender
+from jls_tools.dicom_tags import COLUMNS, FRAMES, PIXEL_DATA, ROWS, SAMPLES, STORED
+from jls_tools.mending import FrameMender, Mended
 from jls_tools.programs import Programs
 
 NO_LINE = "damaged: no line decodes; jls-splice needs a second copy"
@@ -32,13 +33,22 @@ class OneFile:
         copy = Copy(path, self.data)
         self.layout = Layout([copy])
         self.how = "by items"
+        self.seen = dicom_bad.seen(self.data)
         if self.layout.places:
+            self.parts = [place.fragments for place in self.layout.places]
             self.frames = [(place.begin, unpadded(place.stream(self.data))) for place in self.layout.places]
             if not self.layout.is_exact:
                 self.how = "by items, some of which don't read" if self.layout.breaks else "by items, until the file ends"
         else:
             self.how = "by search"
-            self.frames = [(begin, unpadded(self.data[begin:end])) for begin, end in by_search(self.data)]
+            self.parts = [[part] for part in by_search(self.data)]
+            self.frames = [(begin, unpadded(self.data[begin:end])) for ((begin, end),) in self.parts]
+
+    def mended(self, mender: FrameMender, number: int) -> Mended:
+        """A frame as far as it reads, up to sectors that look bad."""
+        stream, parts = self.frames[number][1], self.parts[number]
+        note = dicom_bad.note_of([pair for part in parts for pair in dicom_bad.clipped(self.seen, *part)])
+        return mender.mend_beside(mender.mend(number, [stream]), [stream], dicom_bad.within(self.seen, parts), note)
 
     def value(self, tag: int) -> Optional[bytes]:
         for element in self.layout.structure.elements:
@@ -115,7 +125,7 @@ def info(path: str, programs: Programs, progress: Optional[Callable[[int, int], 
     try:
         mender = FrameMender(programs, folder, MendOptions())
         for number, (offset, stream) in enumerate(file.frames):
-            result = mender.mend(number, [stream]).result
+            result = file.mended(mender, number).result
             lines.append(f"{result.line()}, {len(stream)} bytes at {offset}")
             results.append(result)
             if progress:

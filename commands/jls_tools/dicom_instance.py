@@ -8,16 +8,16 @@ from dataclasses import dataclass
 from typing import Optional
 
 from jls_tools.dicom_align import Copy, differing
-from jls_tools.dicom_file import PIXEL_DATA, UNDEFINED, instance_of, walk
+from jls_tools.dicom_file import UNDEFINED, instance_of, walk
 from jls_tools.dicom_media import BEFORE_BORDER, SECTOR
 from jls_tools.dicom_runs import Runs
-from jls_tools.dicom_structure import FIRST, Walk
+from jls_tools.dicom_structure import Walk
+from jls_tools.dicom_tags import FIRST, INSTANCE, PIXEL_DATA
 
 BLOCK = 128
 STRETCH, SHORT, STEP = 256, 64, 16
 DENSE = 8  # one byte in so many differs where another file's beginning was written
 ITEM_BYTES, END_BYTES = b"\xfe\xff\x00\xe0", b"\xfe\xff\xdd\xe0\0\0\0\0"
-INSTANCE = 0x00080018
 LARGEST_BEGINNING = 1 << 16  # bytes of a foreign beginning whose end is sought at borders of sectors
 MOST_PLACES = 8
 HEAD = 12  # bytes of an element's header, at most

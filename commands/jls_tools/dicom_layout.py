@@ -7,12 +7,14 @@ from typing import Optional
 from jls_tools.dicom_align import SHIFTED, Copy, differing, on_one_axis, size_of
 from jls_tools.dicom_alone import is_against_rules
 from jls_tools.dicom_file import JPEG_LS, Element, tag_name
-from jls_tools.dicom_frames import EXTENDED_LENGTHS, EXTENDED_TABLE, Fragments, FramePlace, Shape, shape_of
-from jls_tools.dicom_header import ALLOCATED, BY_MOST, COLUMNS, FRAMES, ROWS, SAMPLES, STORED, SYNTAX, TWINS, Header
+from jls_tools.dicom_frames import Fragments, FramePlace, Shape, shape_of
+from jls_tools.dicom_header import BY_MOST, TWINS, Header
 from jls_tools.dicom_most import agreed
+from jls_tools.dicom_placed import placed
 from jls_tools.dicom_runs import FINEST, Runs
 from jls_tools.dicom_structure import Structure, Walk
 from jls_tools.dicom_tables import Table
+from jls_tools.dicom_tags import ALLOCATED, COLUMNS, EXTENDED_LENGTHS, EXTENDED_TABLE, FRAMES, ROWS, SAMPLES, STORED, SYNTAX
 from jls_tools.dicom_values import DIGITS_AND_DOTS, NOT_IN_TEXT, TEXTS, is_doubtful, is_written
 from jls_tools.dicom_write import expected_tables
 
@@ -94,18 +96,18 @@ def rank(structure: Structure) -> tuple[bool, bool, bool, int]:
 
 def laid_out(copies: Sequence[Copy]) -> tuple[list[Copy], Layout]:
     """The copies on one axis, and their Layout. Where it breaks, or far fewer bytes differ then, they lost bytes at different places."""
-    placed = on_one_axis(copies)
-    layout = Layout(placed)
+    found = placed(on_one_axis(copies))
+    layout = Layout(found)
     apart = size_of(layout.ranges)
     if not is_through(layout.structure) or apart >= SHIFTED:
-        shifted = on_one_axis(copies, True)
+        shifted = placed(on_one_axis(copies, True))
         if is_through(layout.structure) and size_of(differing([copy.data for copy in shifted])) * FAR_MORE > apart:
-            return placed, layout
-        if [copy.absent for copy in shifted] != [copy.absent for copy in placed]:
+            return found, layout
+        if [copy.absent for copy in shifted] != [copy.absent for copy in found]:
             other = Layout(shifted)
             if is_through(other.structure):
                 return shifted, other
-    return placed, layout
+    return found, layout
 
 
 def has_shape(header: Header, stream: bytes) -> Optional[bool]:

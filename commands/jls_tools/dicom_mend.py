@@ -8,9 +8,11 @@ import tempfile
 from collections.abc import Sequence
 from typing import Optional
 
-from jls_tools import dicom_gaps, partial_picture
-from jls_tools.dicom_align import Copy
+from jls_tools import dicom_bad, dicom_bad_lists, dicom_gaps, partial_picture
+from jls_tools.dicom_align import Copy, merged
 from jls_tools.dicom_alone import Stranger
+from jls_tools.dicom_bad import Range
+from jls_tools.dicom_doubtful import change_at, hole_in_text, lost_in_each, lost_in_most
 from jls_tools.dicom_finished import faults_of
 from jls_tools.dicom_frames import DELIMITER, FramePlace, Shape, by_search, paired_by_bytes
 from jls_tools.dicom_instance import Instances, TwoInstances
@@ -18,10 +20,11 @@ from jls_tools.dicom_kinds import NoKind, other_kinds
 from jls_tools.dicom_layout import contradiction, forbidden, has_shape, is_through, laid_out
 from jls_tools.dicom_lost import Lost, equal_in_most, most_of
 from jls_tools.dicom_outputs import put_frames_folder, take_away, why_kept
+from jls_tools.dicom_placed import alone, in_no_copy
 from jls_tools.dicom_result import FAILED, NOT_SUPPORTED, NOT_WHOLE, REFUSED, WHOLE, FrameResult, MendOptions, MendResult, Place
 from jls_tools.dicom_sum import BySum
 from jls_tools.dicom_tails import without_tails
-from jls_tools.dicom_transfers import undone
+from jls_tools.dicom_transfers import moved, undone
 from jls_tools.dicom_versions import versions_of
 from jls_tools.dicom_write import packed, put_frames, store, top_level
 from jls_tools.mending import FrameMender, Mended, is_connected, is_spliced, shapes_of
@@ -74,7 +77,9 @@ class Mending:
             raise Refused(kept, FAILED)
         if self.options.header is not None and self.options.header not in self.paths:
             raise Refused(f"--header names {self.options.header}, which is none of the copies", 2)
+        self.is_one = len(self.paths) == 1
         self.texts = [read(path) for path in self.paths]
+        self.bad = self.bad_places()
         self.look_at_kinds()
         try:
             instances = Instances(self.texts, self.options.same)
@@ -91,6 +96,20 @@ class Mending:
         finally:
             shutil.rmtree(folder, ignore_errors=True)
 
+    def bad_places(self) -> list[list[Range]]:
+        """For each copy what lists name as bad in it."""
+        found: list[list[Range]] = [[] for _ in self.paths]
+        for at, path in self.options.bad:
+            try:
+                ranges, behind = dicom_bad_lists.of_copy(path, len(self.texts[at]))
+            except dicom_bad_lists.BadList as fault:
+                raise Refused(str(fault)) from fault
+            found[at] = merged([*found[at], *ranges])
+            if behind:
+                places = "a place" if behind == 1 else f"{behind} places"
+                self.result.notes.append(f"{path} names {places} behind the end of {self.paths[at]}, which has {len(self.texts[at])} bytes")
+        return found
+
     def look_at_kinds(self) -> None:
         """Leaves out copies of another transfer syntax, undoes transfers as text, cuts tails. Refuses what has no DICOM file of JPEG-LS."""
         try:
@@ -99,11 +118,14 @@ class Mending:
             raise (Unsupported if fault.is_other else Refused)(str(fault)) from fault
         self.result.left_out = [(self.paths[at], why) for at, why in sorted(others.items())]
         self.paths = [path for at, path in enumerate(self.paths) if at not in others]
+        self.bad = [ranges for at, ranges in enumerate(self.bad) if at not in others]
         texts = [text for at, text in enumerate(self.texts) if at not in others]
         for at, text in undone(texts).items():
+            self.bad[at] = moved(self.bad[at], texts[at])
             texts[at] = text
             note = f"a transfer put a carriage return before each line feed of {self.paths[at]}: that was undone"
             self.result.notes.append(note)
+        self.seen = [dicom_bad.seen(text) for text in texts]
         self.tails = without_tails(texts)
         self.texts = self.tails.texts
 
@@ -112,14 +134,18 @@ class Mending:
         certain = [at for at in instances.certain if at not in instances.rests]
         named = next((at for at, path in enumerate(self.paths) if path == self.options.header), None)
         self.versions = versions_of(self.texts, certain, named)
-        self.texts = self.versions.texts(self.texts, certain)
+        texts = self.versions.texts(self.texts, certain)
+        for at, (before, text) in enumerate(zip(self.texts, texts)):
+            if text != before:
+                self.bad[at], self.seen[at] = (self.versions.moved(ranges, before) for ranges in (self.bad[at], self.seen[at]))
+        self.texts = texts
 
     # Copies ----------------------------------------------------------------------------
 
     def mend_all(self, instances: Instances) -> None:
         """Mends with all that may be copies; then again without those that turn out to be none."""
         chosen = sorted([*instances.certain, *instances.uncertain, *instances.rests])
-        self.is_alone = False
+        self.is_alone = len(self.paths) == 1
         while True:
             self.take(chosen)
             strangers = self.strangers(instances, chosen)
@@ -159,6 +185,7 @@ class Mending:
         self.own = [self.own_streams(place, [copy.data for copy in self.copies]) for place in self.layout.places]
         filled = self.own
         self.kept: dict[int, list[bytes]] = {}
+        self.origins: dict[bytes, tuple[int, Range]] = {}  # of streams that are found by search: the copy, and where they stand in it
         if self.layout.has_header and is_through(self.layout.structure):
             lost = Lost(self.copies, self.layout)
             texts = lost.filled()
@@ -166,13 +193,13 @@ class Mending:
             self.kept = {place.number: lost.of_this_file(place, filled[place.number]) for place in self.layout.places}
         self.streams = [list(dict.fromkeys(own.values())) for own in filled]
         if not self.layout.places:
-            texts = [self.texts[at][self.rests.get(at, (0, 0))[0] :] for at in chosen]  # a foreign beginning has frames of its own
-            self.streams = paired_by_bytes([[text[begin:end] for begin, end in by_search(text)] for text in texts])
+            self.streams = paired_by_bytes([self.searched(at) for at in chosen])
             self.own = [dict(enumerate(streams)) for streams in self.streams]
+        self.bad_in_all, self.seen_in_all = in_no_copy(self.copies), in_no_copy(self.copies, True)
         self.mended: list[Mended] = []
         for number, streams in enumerate(self.streams):
             begin = self.layout.places[number].begin if self.layout.places else 0
-            self.mended.append(self.mended_frame(number, streams, begin))
+            self.mended.append(self.beside_bad(self.mended_frame(number, streams, begin), streams))
             if self.options.progress:
                 self.options.progress(number + 1, len(self.streams))
         self.refuse_unsupported()
@@ -189,6 +216,31 @@ class Mending:
         other = self.mender.mend(number, kept, begin)
         return other if other.is_whole else mended
 
+    def searched(self, at: int) -> list[bytes]:
+        """The streams of a copy that begin as frames do. A foreign beginning has frames of its own."""
+        text, start = self.texts[at], self.rests.get(at, (0, 0))[0]
+        found = []
+        for begin, end in by_search(text[start:]):
+            found.append(text[start + begin : start + end])
+            self.origins[found[-1]] = (at, (start + begin, start + end))
+        return found
+
+    def beside_bad(self, mended: Mended, streams: list[bytes]) -> Mended:
+        """A frame as it is mended, or what there is of it beside bytes that are bad in all copies."""
+        number = mended.result.number
+        if not self.layout.places:
+            known = [self.origins[stream] for stream in streams]
+            lists = [[dicom_bad.within(self.bad[at], [part]), dicom_bad.within(self.seen[at], [part])] for at, part in known]
+            bad = dicom_bad.in_all([merged([*listed, *seen]) for listed, seen in lists])
+            places = [(begin + known[0][1][0], end) for begin, end in bad]
+            is_sure = bool(dicom_bad.in_all([listed for listed, _ in lists]))
+        else:
+            parts = self.layout.places[number].fragments
+            bad = dicom_bad.within(self.seen_in_all, parts)
+            places = [pair for part in parts for pair in dicom_bad.clipped(self.seen_in_all, *part)]
+            is_sure = bool(dicom_bad.within(self.bad_in_all, parts))
+        return self.mender.mend_beside(mended, self.kept.get(number) or streams, bad, dicom_bad.note_of(places), is_sure)
+
     def mended_by_most(self, number: int, begin: int) -> Optional[Mended]:
         """A Mended of three copies or more: what most of them have, if it is whole; or nothing."""
         place = self.layout.places[number] if self.layout.places else None
@@ -201,11 +253,11 @@ class Mending:
 
     def copy_at(self, at: int) -> Copy:
         """A copy. One whose beginning a foreign file has overwritten has only the rest."""
-        text = self.texts[at]
+        text, known = self.texts[at], (self.bad[at], self.seen[at])
         if at not in self.rests:
-            return Copy(self.paths[at], text)
+            return Copy(self.paths[at], text, [], b"", *known)
         until, beside = self.rests[at]
-        return Copy(self.paths[at], self.texts[beside][:until] + text[until:], [(0, until)], text[:until])
+        return Copy(self.paths[at], self.texts[beside][:until] + text[until:], [(0, until)], text[:until], *known)
 
     def own_streams(self, place: FramePlace, texts: Sequence[bytes]) -> dict[int, bytes]:
         """{copy: its stream of a frame}, of copies that have some of it. `texts` are the bytes of the copies."""
@@ -232,7 +284,8 @@ class Mending:
         self.shape = shapes_of(self.mended, self.streams)
         self.name_counts()
         self.header = self.layout.header(self.shape, len(self.mended))
-        self.header.find_alone(self.strange)
+        if not self.is_one:
+            self.header.find_alone(self.strange)
         if self.options.header is not None:
             names = [copy.path for copy in self.copies]
             if self.options.header not in names:
@@ -265,7 +318,13 @@ class Mending:
             if result.kind == "missing" and result.missing == 0 and self.shape:
                 result.missing = self.shape.rows * self.shape.components
 
+    def fragments(self) -> list[Range]:
+        return [fragment for place in self.layout.places for fragment in place.fragments]
+
     def note_breaks(self) -> None:
+        for number, ranges in alone(self.copies, self.fragments()).items():
+            size, path = sum(end - begin for begin, end in ranges), self.copies[number].path
+            self.result.notes.append(f"{size} bytes outside of frames, the first at {ranges[0][0]}, rest on {path}: others are bad there")
         for begin, end in self.layout.breaks:
             self.result.notes.append(f"no copy has what stands at {begin}: the next that reads is at {end}")
         if self.layout.structure.is_cut:
@@ -286,6 +345,11 @@ class Mending:
             return "a place is undecided"
         if any(not self.is_in_pixels(begin, end) for begin, end in self.layout.breaks):
             return "the header is broken where no copy has it"
+        fault = self.doubtful() if self.options.header is None else None
+        if fault is not None:
+            return fault
+        if (bad := dicom_bad.outside(self.bad_in_all, self.fragments())) and self.options.header is None:
+            return f"a list names what stands at {bad[0][0]} as bad in each copy"
         if self.layout.structure.is_cut:
             return "the file ends before its last element does"
         if not self.tails.is_decided:
@@ -294,6 +358,20 @@ class Mending:
             return f"frame {odd.number} is {NOT_SUPPORTED}: {odd.note}"
         fault = contradiction(self.header, self.shape, len(self.mended))
         return fault if fault or self.options.header is not None else forbidden(self.header)
+
+    def doubtful(self) -> Optional[str]:
+        """Damage of the header that shows by itself, and that no copy contradicts."""
+        at = lost_in_each(self.copies, self.fragments())
+        if at is not None:
+            return f"a sector at {at} looks lost in each copy"
+        at = hole_in_text(self.header.places(), bytes(self.data))
+        if at is not None:
+            return f"a text has a hole at {at}, and one copy alone has it"
+        at = lost_in_most(self.copies)
+        if at is not None:
+            return f"most copies lack the same bytes at {at}"
+        at = change_at(self.header)
+        return None if at is None else f"damage of two copies has to touch at {at}, inside of a sector"
 
     def is_in_pixels(self, begin: int, end: int) -> bool:
         structure = self.layout.structure
@@ -324,10 +402,18 @@ class Mending:
         self.result.is_guessed = self.header.is_guessed
         fault = self.fault_of(data)
         if fault is None:
+            self.note_rest()
             self.store(data + self.tails.ways[0], WHOLE)
         else:
             self.result.notes.append(f"OUT is not written: {fault}")
             self.write_frames()
+
+    def note_rest(self) -> None:
+        """Says how many places nothing but one copy tells."""
+        count = sum(place.taken is not None and len(place.values[place.taken][0]) == 1 for place in self.header.places())
+        if count:
+            what = "a place rests" if count == 1 else f"{count} places rest"
+            self.result.notes.append(f"{what} on one copy: only a checksum can tell if it is true")
 
     def fault_of(self, data: bytes) -> Optional[str]:
         """What forbids status 0 in the finished file. What every copy has is its writer's: that is noted."""
@@ -337,6 +423,8 @@ class Mending:
                 return fault.text
             self.result.notes.append(f"{fault.text}: every copy has it so")
         if tail := self.tails.ways[0]:
+            if tail.strip(tail[:1]) and self.options.header is None:
+                return f"{len(tail)} bytes stand after the last element of every copy, and are no padding"
             self.result.notes.append(f"{len(tail)} bytes stand after the last element: every copy has them")
         return None
 
@@ -344,7 +432,8 @@ class Mending:
         """Whether each copy has the bytes of this range of the finished file. What follows Pixel Data can have been moved."""
         shift = moved if begin >= self.layout.structure.end_of_pixels() + moved else 0
         begin, end = begin - shift, end - shift
-        return not any(copy.lacks(begin, end) for copy in self.copies) and len({copy.data[begin:end] for copy in self.copies}) == 1
+        is_bad = any(first < end and begin < last for copy in self.copies for first, last in [*copy.absent, *copy.bad])
+        return not is_bad and len({copy.data[begin:end] for copy in self.copies}) == 1
 
     def store(self, data: bytes, status: int) -> None:
         store(data, self.out, self.folder)

@@ -9,8 +9,9 @@ from dataclasses import dataclass
 from typing import Optional
 
 from jls_tools.dicom_align import Copy
-from jls_tools.dicom_file import PIXEL_DATA, Element
-from jls_tools.dicom_finished import FIRST, Reading
+from jls_tools.dicom_file import Element
+from jls_tools.dicom_finished import Reading
+from jls_tools.dicom_tags import FIRST, PIXEL_DATA
 from jls_tools.dicom_values import TEXTS, is_doubtful
 
 LOST_TEXT = bytes(8)  # in a text they are damage

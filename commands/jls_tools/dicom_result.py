@@ -1,7 +1,7 @@
 """What mending a DICOM file came to: the words between `jls-dicom mend` and whoever calls it."""
 from __future__ import annotations
 
-from collections.abc import Callable
+from collections.abc import Callable, Sequence
 from dataclasses import dataclass, field
 
 # The statuses that a MendResult has; a ProgramFailed of programs.py stands for all others
@@ -19,6 +19,7 @@ class MendOptions:
     sha256: str | None = None
     with_gaps: int | None = None
     tries: int | None = None
+    bad: Sequence[tuple[int, str]] = ()  # (a copy by its place, from 0; a list of bad places in it)
     progress: Callable[[int, int], object] | None = None  # called with (frames done, frames)
 
 

@@ -13,11 +13,11 @@ import re
 from collections.abc import Iterable, Iterator, Mapping
 from typing import Any, Optional, Union
 
-from jls_tools.dicom_file import ITEM, ITEM_END, PIXEL_DATA, SEQUENCE_END, UNDEFINED, Element, header_of
+from jls_tools.dicom_file import UNDEFINED, Element, header_of
 from jls_tools.dicom_runs import Runs
+from jls_tools.dicom_tags import FIRST, ITEM, ITEM_END, PIXEL_DATA, SEQUENCE_END
 from jls_tools.dicom_values import TEXTS, allows, is_written, strangeness
 
-FIRST = 132  # the first element
 MOST_COMBINATIONS = 64
 MOST_NODES = 100000  # a state and its steps take some kilobytes
 MOST_LOOKS = 100000  # so many ways through a header or value are looked at, at most; others take some thousands

@@ -4,10 +4,9 @@ from __future__ import annotations
 from collections.abc import Collection
 from typing import TYPE_CHECKING, Optional
 
-from jls_tools.dicom_file import PIXEL_DATA
-from jls_tools.dicom_frames import EXTENDED_TABLE
 from jls_tools.dicom_media import BESIDE_TABLE
 from jls_tools.dicom_result import Place
+from jls_tools.dicom_tags import EXTENDED_TABLE, PIXEL_DATA
 
 if TYPE_CHECKING:
     from jls_tools.dicom_header import Header

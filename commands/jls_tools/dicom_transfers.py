@@ -23,3 +23,8 @@ def undone(texts: Sequence[bytes]) -> dict[int, bytes]:
         if as_text(text) and any(len(other) == len(binary) for number, other in enumerate(texts) if number != at):
             found[at] = binary
     return found
+
+
+def moved(ranges: Sequence[tuple[int, int]], text: bytes) -> list[tuple[int, int]]:
+    """Where ranges of a copy as it was transferred stand in what it was before."""
+    return [(begin - text.count(b"\r\n", 0, begin + 1), end - text.count(b"\r\n", 0, end)) for begin, end in ranges]

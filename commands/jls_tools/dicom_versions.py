@@ -12,10 +12,11 @@ from dataclasses import dataclass, field
 from typing import Optional
 
 from jls_tools.dicom_align import ANCHOR, equal_length
-from jls_tools.dicom_file import PIXEL_DATA, UNDEFINED, tag_name
-from jls_tools.dicom_finished import FIRST, Reading, of_meta, of_uids
+from jls_tools.dicom_file import UNDEFINED, tag_name
+from jls_tools.dicom_finished import Reading, of_meta, of_uids
 from jls_tools.dicom_most import header_end
 from jls_tools.dicom_result import VersionTable
+from jls_tools.dicom_tags import FIRST, PIXEL_DATA
 
 PIXELS_BEGIN = re.compile(rb"\xe0\x7f\x10\x00O[BW]\x00\x00\xff\xff\xff\xff")
 DELIMITER_BYTES = 8
@@ -55,6 +56,14 @@ class Versions:
         if version is None:
             return list(texts)
         return [version.in_place_of(text) if at in copies and at not in version.copies else text for at, text in enumerate(texts)]
+
+    def moved(self, ranges: Sequence[tuple[int, int]], text: bytes) -> list[tuple[int, int]]:
+        """Where ranges of a copy stand when it has got the header that was taken; those of its own header are gone."""
+        begin = pixels_of(text)[0]
+        if self.taken is None or begin is None:
+            return list(ranges)
+        shift = len(self.taken.head) - begin
+        return [(max(first, begin) + shift, last + shift) for first, last in ranges if last > begin]
 
     def fault(self) -> Optional[str]:
         """Why no file can be written with the header that was taken, or nothing."""

@@ -8,9 +8,10 @@ from collections.abc import Iterator, Sequence
 from typing import Optional
 
 from jls_tools.dicom_align import Copy
-from jls_tools.dicom_file import ITEM, PIXEL_DATA, SEQUENCE_END, UNDEFINED, tag_bytes
-from jls_tools.dicom_frames import EXTENDED_LENGTHS, EXTENDED_TABLE, FramePlace
+from jls_tools.dicom_file import UNDEFINED, tag_bytes
+from jls_tools.dicom_frames import FramePlace
 from jls_tools.dicom_structure import Structure
+from jls_tools.dicom_tags import EXTENDED_LENGTHS, EXTENDED_TABLE, ITEM, PIXEL_DATA, SEQUENCE_END
 
 MOST_TRIED = 4096
 NO_TABLE_FROM = 1 << 32

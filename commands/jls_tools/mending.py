@@ -9,6 +9,7 @@ from dataclasses import dataclass, field
 from typing import TypeVar
 
 from jls_tools.dicom_align import differing
+from jls_tools.dicom_bad import Range, parts_of
 from jls_tools.dicom_frames import Shape, has_usual_parameters, shape_of
 from jls_tools.dicom_media import SECTORS
 from jls_tools.dicom_result import FAILED, FrameResult, MendOptions
@@ -219,6 +220,46 @@ class FrameMender:
             if mended.is_whole:
                 return mended
         return None
+
+    def mend_beside(self, mended: Mended, streams: Sequence[bytes], bad: Sequence[Range], note: str, is_sure: bool = False) -> Mended:
+        """What a frame came to, or what there is of it beside bytes that are bad in all its copies, if that is more.
+
+        `is_sure` says that a list names them. Else they look so, and a frame that reads whole shows that they are not.
+        """
+        usable = [stream for stream in dict.fromkeys(streams) if stream.strip(b"\0")]
+        if not bad or not usable or mended.result.kind == NOT_SUPPORTED or mended.is_whole and not is_sure:
+            return mended
+        parts: list[str] = []
+        number = mended.result.number
+        made: list[str] = []
+        try:
+            for at, several in enumerate(parts_of(usable, bad)):
+                names = [self.put(self.name(number, f"-{at}-{of}.part"), stream) for of, stream in enumerate(several)]
+                made += names
+                parts += self.part_of(names, self.name(number, f"-{at}.spliced"))
+            made += parts
+            found = self.joined(number, parts, note)
+        finally:
+            self.drop(made)
+        if found is None:
+            return Mended(FrameResult(number, "missing", note=note)) if is_sure else mended
+        return found if is_sure or found.result.settled > mended.result.settled else mended
+
+    def part_of(self, names: Sequence[str], partial: str) -> list[str]:
+        """A file that has the lines of these: the only one of them, or what jls-splice makes of several; nothing if there is no picture."""
+        if len(names) == 1:
+            return list(names) if self.check(names[0]).report.width else []
+        self.sure(self.programs.splice(partial, names, None, self.folder, self.words))
+        return [partial] if os.path.exists(self.path(partial)) else []
+
+    def joined(self, number: int, parts: Sequence[str], note: str) -> Mended | None:
+        """All lines of the parts of a frame."""
+        partial = self.name(number, ".cut.jlsp")
+        if not parts or self.sure(self.programs.join(partial, parts, self.folder)).status > 1:
+            return None
+        report = self.programs.show(partial, self.folder).report
+        kind = "disputed" if report.disputed else "lines" if report.settled else "missing"
+        return Mended(self.result(number, kind, report, "lines", note), None, [], self.path(partial), report.shape)
 
     def check(self, name: str) -> Outcome:
         return self.sure(self.programs.check(name, self.folder))

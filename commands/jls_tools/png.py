@@ -1,26 +1,31 @@
 """Writes PNG files, without filters."""
+from __future__ import annotations
+
 import os
 import struct
 import zlib
+from collections.abc import Iterable, Iterator, Sequence
+from typing import Optional
 
 GRAY, RGB, INDEXED = 0, 2, 3
+Palette = Sequence[tuple[int, int, int]]
 
 
 class Form:
     """Width, height, bits of a sample, and the type of colour."""
 
-    def __init__(self, width, height, bits, colour):
+    def __init__(self, width: int, height: int, bits: int, colour: int) -> None:
         self.width = width
         self.height = height
         self.bits = bits
         self.colour = colour
 
 
-def chunk(kind, data):
+def chunk(kind: bytes, data: bytes) -> bytes:
     return struct.pack(">I", len(data)) + kind + data + struct.pack(">I", zlib.crc32(data, zlib.crc32(kind)))
 
 
-def chunks(form, rows, palette=None, level=1):
+def chunks(form: Form, rows: Iterable[bytes], palette: Optional[Palette] = None, level: int = 1) -> Iterator[bytes]:
     """The bytes of a PNG in turn. Rows are the bytes of their samples."""
     head = struct.pack(">IIBBBBB", form.width, form.height, form.bits, form.colour, 0, 0, 0)
     yield b"\x89PNG\r\n\x1a\n" + chunk(b"IHDR", head)
@@ -35,12 +40,12 @@ def chunks(form, rows, palette=None, level=1):
     yield chunk(b"IEND", b"")
 
 
-def encoded(form, rows, palette=None):
+def encoded(form: Form, rows: Iterable[bytes], palette: Optional[Palette] = None) -> bytes:
     """A whole PNG in memory, packed as small as it gets."""
     return b"".join(chunks(form, rows, palette, 9))
 
 
-def write(path, form, rows):
+def write(path: str, form: Form, rows: Iterable[bytes]) -> None:
     """A PNG file; it is there whole, or not at all. Until then its bytes are in a file beside it that the owner alone can read."""
     part = f"{path}.part-{os.getpid()}"
     mask = os.umask(0)

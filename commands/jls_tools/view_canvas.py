@@ -3,7 +3,7 @@ from __future__ import annotations
 
 import array
 import sys
-from typing import Iterable, Iterator
+from typing import Iterable, Iterator, Sequence
 
 from .partial_picture import PartialPicture, Reading
 
@@ -35,7 +35,7 @@ def range_of(picture: PartialPicture, signed: bool = False) -> tuple[int, int] |
     least, greatest = 1 << 16, -1
     for readings in settled or picture.readings.values():
         for reading in readings:
-            values = values_of(reading.samples)
+            values: Sequence[int] = values_of(reading.samples)
             if turned:
                 values = [value ^ turned for value in values]
             least, greatest = min(least, min(values)), max(greatest, max(values))

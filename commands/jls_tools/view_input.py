@@ -1,28 +1,31 @@
 """What jls-view draws: the partial picture that a file is, that a copy gives, or that a frame of a DICOM file gives."""
+from __future__ import annotations
+
 import os
+from collections.abc import Sequence
 
 from . import archive_names, dicom_file, dicom_info, partial_picture, view_splice
+from .dicom_tags import SIGN
+from .partial_picture import PartialPicture
 from .programs import Programs
-
-PIXEL_REPRESENTATION = 0x00280103  # 1: signed
 
 
 class NoPicture(Exception):
     """There is nothing to draw; the text is for the person, and `status` for the shell."""
 
-    def __init__(self, text, status=3):
+    def __init__(self, text: str, status: int = 3) -> None:
         super().__init__(text)
         self.status = status
 
 
-def is_dicom(path):
+def is_dicom(path: str) -> bool:
     try:
         return dicom_file.begins_as_dicom(path)
     except OSError:
         return False
 
 
-def given_by(name, folder, shown):
+def given_by(name: str, folder: str, shown: str) -> PartialPicture:
     """The partial picture that a copy gives. The copy has this name in the folder."""
     joined = Programs().join("joined", [name], folder)
     if not os.path.exists(os.path.join(folder, "joined")):
@@ -30,7 +33,7 @@ def given_by(name, folder, shown):
     return partial_picture.read(os.path.join(folder, "joined"))
 
 
-def read(path, frame, folder):
+def read(path: str, frame: int, folder: str) -> tuple[PartialPicture, bool]:
     """(the partial picture, whether its samples are signed). What isn't complete stands in the folder."""
     shown = archive_names.printable(path)
     with open(path, "rb") as file:
@@ -44,7 +47,7 @@ def read(path, frame, folder):
     return given_by("copy", folder, shown), is_signed
 
 
-def put(path, frame, folder, name):
+def put(path: str, frame: int, folder: str, name: str) -> tuple[bool, str]:
     """Puts a copy, or a frame of a DICOM file, into the folder. Answers whether the header of one says that samples are signed, and how the
     copy is named."""
     shown = archive_names.printable(path)
@@ -59,10 +62,10 @@ def put(path, frame, folder, name):
         raise NoPicture(f"{shown}: it has {len(file.frames)} frames, and --frame counts from 0", 2)
     with open(os.path.join(folder, name), "wb") as out:
         out.write(file.frames[frame][1])
-    return file.number(PIXEL_REPRESENTATION) == 1, f"{shown}: frame {frame}"
+    return file.number(SIGN) == 1, f"{shown}: frame {frame}"
 
 
-def read_splice(paths, frame, folder):
+def read_splice(paths: Sequence[str], frame: int, folder: str) -> tuple[list[PartialPicture], bool]:
     """(the pictures of several copies and of what came of them, whether samples are signed)."""
     names = [f"copy-{number}" for number in range(len(paths))]
     put_in = [put(path, frame, folder, name) for path, name in zip(paths, names)]

@@ -1,11 +1,17 @@
 """jls-view: from the words to the exit status."""
+from __future__ import annotations
+
 import argparse
+import io
 import os
 import shutil
 import sys
 import tempfile
+from collections.abc import Sequence
+from typing import NoReturn
 
 from . import archive_names, archive_signals, partial_picture, png, view_canvas, view_input, view_splice
+from .partial_picture import PartialPicture
 from .programs import ProgramFailed, Programs
 
 TEXT = """\
@@ -25,17 +31,17 @@ is shown. Above, the least sample of the settled lines is black and the greatest
 class Unusable(Exception):
     """The call can't be done; the text is for the person, and `status` for the shell."""
 
-    def __init__(self, text, status):
+    def __init__(self, text: str, status: int) -> None:
         super().__init__(text)
         self.status = status
 
 
 class Parser(argparse.ArgumentParser):
-    def error(self, message):
+    def error(self, message: str) -> NoReturn:
         raise Unusable(f"{message}\nTry jls-view --help.", 2)
 
 
-def number(text):
+def number(text: str) -> float:
     try:
         value = float(text)
     except ValueError:
@@ -45,19 +51,19 @@ def number(text):
     return value
 
 
-def count(text):
+def count(text: str) -> int:
     if not text.isascii() or not text.isdigit() or len(text) > 9:
         raise argparse.ArgumentTypeError(f"{text} is no number of a frame")
     return int(text)
 
 
-def scale(text):
+def scale(text: str) -> int:
     if not text.isascii() or not text.isdigit() or not 1 <= int(text[:9]) <= 64:
         raise argparse.ArgumentTypeError(f"{text} is no number from 1 to 64")
     return int(text)
 
 
-def parser():
+def parser() -> Parser:
     made = Parser(
         prog="jls-view",
         usage="jls-view [OPTIONS] IN.. OUT.png",
@@ -77,7 +83,7 @@ def parser():
     return made
 
 
-def check(words):
+def check(words: argparse.Namespace) -> None:
     """Whether the call can be done. Of the files the last is OUT.png, if there are several."""
     if not words.files:
         raise Unusable("it takes IN and OUT.png; try jls-view --help", 2)
@@ -95,13 +101,14 @@ def check(words):
                     raise Unusable(f"{archive_names.printable(place)} is a picture to salvage, and is not replaced", 4)
 
 
-def window_of(picture, words, is_signed):
+def window_of(picture: PartialPicture, words: argparse.Namespace, is_signed: bool) -> view_canvas.Window:
     if words.window:
-        return view_canvas.centred(picture, *words.window, is_signed)
+        centre, width = words.window
+        return view_canvas.centred(picture, centre, width, is_signed)
     return view_canvas.default(picture, is_signed)
 
 
-def draw(words, pictures, is_signed):
+def draw(words: argparse.Namespace, pictures: Sequence[PartialPicture], is_signed: bool) -> None:
     """Draws pictures side by side. The last is the result: it says which samples are black and white, and has the mask and the map."""
     picture = pictures[-1]
     if words.out:
@@ -117,7 +124,7 @@ def draw(words, pictures, is_signed):
             print(view_canvas.map_line(picture, component))
 
 
-def run(words):
+def run(words: argparse.Namespace) -> int:
     if words.version:
         programs = Programs()
         print(programs.run([programs.salvage, "--version"]).printed, end="")
@@ -140,9 +147,10 @@ def run(words):
     return 0
 
 
-def main():
+def main() -> int:
     archive_signals.catch_signals()
-    sys.stdout.reconfigure(errors="backslashreplace")
+    if isinstance(sys.stdout, io.TextIOWrapper):
+        sys.stdout.reconfigure(errors="backslashreplace")
     try:
         return run(parser().parse_intermixed_args())
     except (Unusable, view_input.NoPicture) as fault:

@@ -1,7 +1,11 @@
 """A thumbnail of a partial picture: small, and with its losses."""
+from __future__ import annotations
+
 import base64
+from typing import Optional
 
 from . import png, view_canvas
+from .partial_picture import PartialPicture
 
 SIDE, BAR = 64, 5  # columns and rows at most; columns of the bar on the right
 GRAYS = 14
@@ -11,14 +15,15 @@ INDEX = {view_canvas.DISPUTED: GRAYS, view_canvas.MISSING: GRAYS + 1}
 SETTLED_BAR = 5  # a gray
 
 
-def stretches(length, count):
+def stretches(length: int, count: int) -> list[tuple[int, int]]:
     """So many equal ranges of 0 to length."""
     return [(at * length // count, (at + 1) * length // count) for at in range(count)]
 
 
-def line_of(picture, first, end):
+def line_of(picture: PartialPicture, first: int, end: int) -> tuple[int, Optional[tuple[bytes, int]]]:
     """The worst state of these lines in any component, and a reading of the first component, of a settled line if there is one."""
-    worst, shown = view_canvas.SETTLED, None
+    worst = view_canvas.SETTLED
+    shown: Optional[tuple[bytes, int]] = None
     for line in range(first, end):
         for component in range(len(picture.ids)):
             readings = picture.of_line(component, line)
@@ -28,23 +33,23 @@ def line_of(picture, first, end):
     return worst, shown
 
 
-def pixels(values, lowest, highest):
+def pixels(values: list[int], lowest: int, highest: int) -> list[int]:
     span = max(highest - lowest, 1)
     return [(value - lowest) * (GRAYS - 1) // span for value in values]
 
 
-def packed(indexes):
+def packed(indexes: list[int]) -> bytes:
     """Two pixels a byte."""
     indexes = indexes + [0] * (len(indexes) % 2)
     return bytes(high << 4 | low for high, low in zip(indexes[::2], indexes[1::2]))
 
 
-def of(picture):
+def of(picture: PartialPicture) -> str:
     """The PNG in base 64. A line of it stands for several: it is orange if none of these has a reading, and the bar has the worst."""
     width, height = min(SIDE, picture.width), min(SIDE, picture.height)
     columns = [2 * first for first, _ in stretches(picture.width, width)]
     lines = [line_of(picture, first, end) for first, end in stretches(picture.height, height)]
-    values = [shown and [shown[0][at] << 8 | shown[0][at + 1] for at in columns] for _, shown in lines]
+    values = [[shown[0][at] << 8 | shown[0][at + 1] for at in columns] if shown else None for _, shown in lines]
     seen = [value for row in values if row for value in row] or [0]
     lowest, highest = min(seen), max(seen)
     rows = []

@@ -1,0 +1,86 @@
+"""Damage that no copy contradicts and that shows by itself.
+
+Sectors look lost in each copy; a text that one copy alone has has a hole; most copies lack the same bytes, so that the others may have too
+many; or what was taken changes from one copy to another where these differ throughout: then damage of both has to end at one place, as it
+does at borders of sectors alone.
+"""
+from __future__ import annotations
+
+import re
+from collections import Counter
+from collections.abc import Iterable, Sequence
+from typing import TYPE_CHECKING, Optional
+
+from jls_tools.dicom_align import Copy
+from jls_tools.dicom_bad import Range, in_both, outside, period_of
+from jls_tools.dicom_media import SECTOR
+from jls_tools.dicom_placed import in_no_copy
+from jls_tools.dicom_result import Place
+
+if TYPE_CHECKING:
+    from jls_tools.dicom_header import Header
+
+# One value that is no letter, sixteen times and more, with a text of 32 letters on both sides
+HOLE = re.compile(rb"(?<=[\t\n\r\x20-\x7e]{32})([\0\x7f-\xff])\1{15,}(?=[\t\n\r\x20-\x7e]{32})", re.S)
+NEAR = 8  # so many equal bytes between two places, at least, show that damage ends there
+LONG = 16  # bytes on each side of a change
+BESIDE = 64  # bytes of the file beside a place, in which the text around a hole stands
+
+
+def lost_in_each(copies: Sequence[Copy], frames: Sequence[Range]) -> Optional[int]:
+    """Where sectors outside of frames look filled, from border to border, in each copy that has them. Values of a file end elsewhere."""
+    common = outside(in_no_copy(copies, True), frames)
+    for copy in copies:
+        for begin, end in in_both(copy.seen, common):
+            if (begin, end) in copy.seen and end - begin >= SECTOR and ends_at_borders(copy.data, begin, end):
+                return begin
+    return None
+
+
+def ends_at_borders(data: bytes, begin: int, end: int) -> bool:
+    """Whether what fills a range goes on neither before nor behind it."""
+    if begin == 0 or end == len(data):
+        return False
+    first, last = period_of(data[begin : begin + SECTOR]), period_of(data[end - SECTOR : end])
+    goes_on = first > 0 and data[begin - 1] == data[begin - 1 + first] or last > 0 and data[end] == data[end - last]
+    return not goes_on
+
+
+def hole_in_text(places: Iterable[Place], data: bytes) -> Optional[int]:
+    """Where a hole stands in a text, in what was taken of one copy alone."""
+    for place in places:
+        if place.taken is None or len(place.values) < 2 or len(place.values[place.taken][0]) != 1:
+            continue
+        first = max(0, place.offset - BESIDE)
+        for found in HOLE.finditer(data[first : place.offset + place.length + BESIDE]):
+            begin, end = first + found.start(), first + found.end()
+            if begin < place.offset + place.length and place.offset < end:
+                return begin
+    return None
+
+
+def lost_in_most(copies: Sequence[Copy]) -> Optional[int]:
+    """Where most copies lost the same bytes, and go on behind them: a foreign file that stands over another copy can have moved it."""
+    inner = (pair for copy in copies for pair in copy.absent if 0 < pair[0] and pair[1] < len(copy.data) and not in_both([pair], copy.bad))
+    for (begin, _), count in Counter(inner).items():
+        if count > 1 and count * 2 > len(copies):
+            return begin
+    return None
+
+
+def change_at(header: Header) -> Optional[int]:
+    """Where what was taken changes from one copy to another inside of a stretch in which they differ, and at no border of sectors."""
+    chosen, runs = header.chosen(), header.runs.runs
+    parts: list[tuple[int, int, set[int]]] = []  # what was taken of the same copies: its begin, its end, these copies
+    for number in sorted(header.parts):
+        run, own = runs[number], header.holders(number) if number in chosen else set()
+        if parts and run.begin - parts[-1][1] < NEAR and parts[-1][2] & own:
+            parts[-1] = (parts[-1][0], run.end, parts[-1][2] & own)
+        else:
+            parts.append((run.begin, run.end, own))
+    for (first, border, one), (begin, last, other) in zip(parts, parts[1:]):
+        is_beside = begin - border < NEAR and bool(one) and bool(other)
+        is_long = border - first >= LONG and last - begin >= LONG
+        if is_beside and is_long and border // SECTOR == begin // SECTOR and border % SECTOR and begin % SECTOR:
+            return begin
+    return None
