@@ -51,7 +51,7 @@ pub(crate) const CEILING_HELP: &str =
     "Look only for files whose samples are N or less (0 to 65535)";
 
 pub(crate) const PROGRESS_HELP: &str =
-    "Prints on standard error how much was tried, after each 64 tries";
+    "Prints on standard error how much was tried, after 64 tries or more";
 
 pub(crate) const FILE_HELP: &str =
     "The file to write if exactly one file decodes whole: that file, byte for byte";
