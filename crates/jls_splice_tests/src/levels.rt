@@ -143,12 +143,17 @@ fn check_row(rt: &impl Abort, alloc: Global, copies: &[&[u8]], row: Row) -> Resu
     Ok(())
 }
 
+/// Makes two copies that differ at as many places as a row says, and checks it.
+fn check_places(rt: &impl Abort, alloc: Global, row: Row) -> Result<(), Fail> {
+    let first = flat_before(alloc, row.places, 1)?;
+    let second = flat_before(alloc, row.places, 2)?;
+    check_row(rt, alloc, &[first.as_slice(), second.as_slice()], row)
+}
+
 #[test]
 fn judges_ways(rt: HostRuntime) -> Result<(), Fail> {
     for row in ROWS {
-        let first = flat_before(rt.alloc(), row.places, 1)?;
-        let second = flat_before(rt.alloc(), row.places, 2)?;
-        check_row(&rt, rt.alloc(), &[first.as_slice(), second.as_slice()], row)?;
+        check_places(&rt, rt.alloc(), row)?;
     }
     Ok(())
 }
@@ -222,25 +227,32 @@ fn lets_the_weakest_go(rt: HostRuntime) -> Result<(), Fail> {
     Ok(())
 }
 
-/// How many files of 8 bits are found under a limit. Their greatest sample is 255.
+/// How many files are found under a limit. The search is not cut off.
+fn count_within(alloc: Global, copies: &[&[u8]], ceiling: Option<u16>) -> Result<usize, Fail> {
+    if copies.is_empty() || !are_short(copies) {
+        return Err(Fail::from("no copy, or too many bytes"));
+    }
+    let rules = LevelRules {
+        ceiling,
+        tries: 4096,
+        lets_go: false,
+    };
+    let (_, searched) = searched_by_levels(alloc, copies, rules)?;
+    if searched.is_used_up {
+        return Err(Fail::from("cut off"));
+    }
+    Ok(searched.splices.len())
+}
+
+/// The greatest sample of the file is 255.
 #[test]
 fn keeps_the_limit(rt: HostRuntime) -> Result<(), Fail> {
     let file = file_of(rt.alloc(), "eight")?.ok_or("no file")?;
     let first = copy_of(rt.alloc(), &file, "100+8=0", 0)?;
     let second = copy_of(rt.alloc(), &file, "400+8=0", 0)?;
     let copies = [first.as_slice(), second.as_slice()];
-    if !are_short(&copies) {
-        return Err(Fail::from("too many bytes"));
-    }
-    for (ceiling, count) in [(None, 1), (Some(255), 1), (Some(254), 0)] {
-        let rules = LevelRules {
-            ceiling,
-            tries: 4096,
-            lets_go: false,
-        };
-        let (_, searched) = searched_by_levels(rt.alloc(), &copies, rules)?;
-        assert_eq!(rt; searched.splices.len(), count);
-        assert!(rt; !searched.is_used_up);
-    }
+    assert_eq!(rt; count_within(rt.alloc(), &copies, None)?, 1);
+    assert_eq!(rt; count_within(rt.alloc(), &copies, Some(255))?, 1);
+    assert_eq!(rt; count_within(rt.alloc(), &copies, Some(254))?, 0);
     Ok(())
 }

@@ -5,8 +5,8 @@ use Rattle.jls_search.specs.LevelSearches.{IsLevelSearch}
 use Rattle.jls_splice_run.specs.Telling.{IsTold}
 use Rattle.jls_splice_run.proofs.searching.search_once.Given as goal
 
-abbrev pub invariant-loop-levels : goal.invariant-loop-levels
-invariant-loop-levels g l =
+abbrev pub invariant-levels : goal.invariant-levels
+invariant-levels g l =
     let history = g.E.Device.history in
     record {
       stands : IsLevelSearch l.parts l.search;
@@ -14,5 +14,5 @@ invariant-loop-levels g l =
       told : GrewBy (IsTold l.tells) (history l.fn.faults) (history l.faults);
     }
 
-abbrev pub decreases-loop-levels : goal.decreases-loop-levels
-decreases-loop-levels g l = length l.parts - l.search.count
+abbrev pub decreases-levels : goal.decreases-levels
+decreases-levels g l = length l.parts - l.search.count
