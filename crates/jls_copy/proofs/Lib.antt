@@ -46,4 +46,5 @@ mod FaultyPieces
 mod EndsOfCourse
 mod SettledPieces
 mod PrefixReadings
+mod PiecesInHand
 pub mod ReadGives

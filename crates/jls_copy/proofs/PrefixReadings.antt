@@ -136,7 +136,7 @@ record GoesOn (d : Course) (p : FoundPiece) : Type 0 where
   tail : List ℕ
   bytes : (lines : List (List ℕ)) → IsOutcomeAt p.plan p.number piece.bytes (Lines lines) → piece.bytes ≡ p.bytes ++ tail
 
-all_in : (P : FoundPiece → Type 0) (ps : List FoundPiece) (p : FoundPiece) → AllByRecursion P ps → Contains ps p → P p
+pub all_in : (P : FoundPiece → Type 0) (ps : List FoundPiece) (p : FoundPiece) → AllByRecursion P ps → Contains ps p → P p
 all_in P [] p h m = absurd (none_in p m)
 all_in P (q ∷ ps) p h m =
     elim (first_or_rest p q ps m) [ inl e ↦ subst P e h.0 | inr later ↦ all_in P ps p h.1 later ]

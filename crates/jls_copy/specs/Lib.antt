@@ -23,3 +23,4 @@ pub mod CopyReads
 pub mod TellingLaws
 pub mod CopyLaws
 pub mod Prefixes
+pub mod InHand

@@ -1,6 +1,7 @@
 //! The laws of what a copy gives. Each is a function that does nothing and whose contract is the law.
 
 ghost use Rattle.jls_copy.specs.CopyLaws.{BytesDecide, FinalEndsStay, OtherEndsChange};
+ghost use Rattle.jls_copy.specs.InHand.{PrefixesGoOn};
 ghost use Rattle.jls_copy.specs.Prefixes.{PrefixesKeepReadings, PrefixesSettlePieces, PrefixesStayBroken};
 ghost use Rattle.jls_copy.specs.TellingLaws.{RecordsAreOfFaultyPieces};
 
@@ -40,4 +41,10 @@ pub fn prefixes_keep_readings()
 /// offset, up to what they read as. Both have a frame, and end at the offset or after it.
 pub fn prefixes_settle_pieces()
     ensures { PrefixesSettlePieces }
+{}
+
+/// A law: where the piece in hand begins with the code of some lines, each list of bytes that begins so has a piece of that interval there.
+/// If that piece has data bits, it begins with the code of the same lines.
+pub fn prefixes_go_on()
+    ensures { PrefixesGoOn }
 {}

@@ -5,6 +5,7 @@
 //! - `cut_search`, `ff_search`: find the next place that can end a piece
 //! - `scan`, `piece`, `piece_decoder`: the current scan and piece. All bytes up to the next possible cut go to the decoder at once, which
 //!   stays on the heap
+//! - `piece_in_hand`: the piece in hand with its first lines, for a caller
 //! - `interval_shape`: the shape of an interval, as the decoder of a piece wants it
 //! - `fill`: counts fill bytes
 //! - `findings`: the readings and records so far
@@ -13,7 +14,7 @@
 //! - `course_laws`, `cut_laws`, `copy_laws`: the laws
 //!
 //! Definitions: `ScanData`, `Numbers`, `Course`, `IntervalOf`, `Pieces`, `CutPieces`, `ReadCopy`, `CopyReads`, `CutLaws`, `CourseLaws`,
-//! `CopyLaws`, `Prefixes`, `TellingLaws`. The other files are needed inside the crate only.
+//! `CopyLaws`, `Prefixes`, `InHand`, `TellingLaws`. The other files are needed inside the crate only.
 //!
 //! Not proved:
 //!
@@ -118,12 +119,13 @@ mod interval_shape;
 mod machine;
 mod piece;
 mod piece_decoder;
+mod piece_in_hand;
 mod place;
 mod reader;
 mod scan;
 
 pub use copy_laws::{
-    bytes_decide, final_ends_stay, other_ends_change, prefixes_keep_readings,
+    bytes_decide, final_ends_stay, other_ends_change, prefixes_go_on, prefixes_keep_readings,
     prefixes_settle_pieces, prefixes_stay_broken, records_are_of_faulty_pieces,
 };
 pub use course_laws::{
@@ -137,4 +139,5 @@ pub use cut_laws::{
 pub use cut_search::next_cut;
 pub use end::End;
 pub use piece::{PieceKind, PieceRecord};
+pub use piece_in_hand::PieceInHand;
 pub use reader::{CopyFault, CopyRead, CopyReader};

@@ -1,11 +1,12 @@
 //! The decoder of a piece, in a place that doesn't move.
 
-ghost use Rattle.std.specs.Prelude.{◌≡◌, ◌*◌, OnOk, IfOk, IfSome, IfNone, IsErr, true, MatchOption, MatchResult, Err};
+ghost use Rattle.std.specs.Prelude.{◌≡◌, ◌*◌, OnOk, IfOk, IfSome, IfNone, IsErr, true, MatchOption, MatchResult, Err, map};
 ghost use Rattle.jls_interval.specs.Reads.{ReadsNoMore};
 ghost use Rattle.jls_interval.specs.PieceFaults.{OutcomeIs};
 ghost use Rattle.jls_interval.specs.CutEnds.{CutEndIs};
 ghost use Rattle.jls_interval.specs.declared.decode_piece.PieceFault.TheVariants as PieceFault;
 ghost use Rattle.jls_interval.specs.IntervalBytes.{interval_asked};
+ghost use Rattle.jls_copy.specs.InHand.{AreFirst};
 ghost use Rattle.jls_copy.specs.PieceDecoder.{unfed};
 ghost use Rattle.jls_copy.specs.ReaderState.{with_bytes};
 
@@ -152,6 +153,17 @@ impl PieceDecoder {
         match self.made {
             Some(decoder) => Box::into_inner(decoder).finish_cut(),
             None => unfed_decoder(self.alloc, self.shape).finish_cut(),
+        }
+    }
+
+    /// The lines of the piece, or those that stand whole before its end.
+    pub(crate) fn first_lines(self) -> Result<Vec<Vec<u16>>, AllocError>
+        ensures { IfSome self.bytes (λ bytes. IfOk result
+            (λ lines. AreFirst (interval_asked self) bytes (map (λ line. line.items) lines.items))) }
+    {
+        match self.finish_cut()? {
+            CutEnd::Whole(lines) => lines.into_vecs(),
+            CutEnd::Head(lines, _) => lines.into_vecs(),
         }
     }
 }

@@ -1,7 +1,8 @@
 //! One copy of a picture, fed in slices of any size.
 
 ghost use Rattle.std.specs.Prelude.{◌≡◌, ◌+◌, ◌-◌, ◌≤◌, ◌<◌, ◌^◌, [], length, Some, None, IfSome, OnOk, OnErr, IsOk, IsSome};
-ghost use Rattle.std.specs.Prelude.{IsErr, IfOk, IfErr, IfNone, take, true};
+ghost use Rattle.std.specs.Prelude.{IsErr, IfOk, IfErr, IfNone, take, true, map};
+ghost use Rattle.jls_copy.specs.InHand.{IsInHand};
 ghost use Rattle.jls_copy.specs.Prefixes.{IsPast, IsPieceBroken, StaysFaulty};
 ghost use Rattle.jls_copy.specs.ReadCopy.{after};
 ghost use Rattle.jls_copy.specs.Conclusion as reader;
@@ -15,6 +16,7 @@ use crate::end::End;
 use crate::findings::Findings;
 use crate::machine::Machine;
 use crate::piece::PieceRecord;
+use crate::piece_in_hand::PieceInHand;
 use crate::place::CopyPosition;
 use jls_bits::PushedBytes;
 use jls_marker::{Headers, MarkerFault};
@@ -246,6 +248,19 @@ impl CopyReader {
             return false;
         }
         self.machine.place.is_past(offset)
+    }
+
+    /// The piece of scan data in hand, if its bytes so far begin with the code of one line at least of its interval. Each longer list of
+    /// bytes has a piece of that interval there (`prefixes_go_on`). `None` says nothing. The only refusal is out of memory, and the reader
+    /// stays as it is.
+    pub fn piece_in_hand(&self) -> Result<Option<PieceInHand>, AllocError>
+        ensures { IfOk result (λ found. IfSome found (λ p. IfSome self.now
+            (λ bytes. IsInHand bytes p.plan p.interval p.offset (map (λ line. line.items) p.lines.items)))) }
+    {
+        if self.failed {
+            return Ok(None);
+        }
+        self.machine.place.piece_in_hand()
     }
 
     /// What the copy gave, if the input ends here. `NoPicture` comes if no frame was taken. It has the fault that ended the copy, and its
