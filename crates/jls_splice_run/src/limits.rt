@@ -221,7 +221,13 @@ fn search_all<E: Sink>(
     ensures counts { IfOk result (λ all. IsCounting options.ceiling parts.now all) }
     ensures told { GrewBy (IsTold options.tells) (E.history faults.old) (E.history faults.new) }
 {
-    let first = search_once(alloc, parts, rules_of(options, false), options.tells, faults)?;
+    let first = search_once(
+        alloc,
+        parts,
+        rules_of(options, false),
+        options.tells,
+        faults,
+    )?;
     if !first.is_used_up {
         return Ok(CountingSearch {
             cut_limit: options.ceiling,

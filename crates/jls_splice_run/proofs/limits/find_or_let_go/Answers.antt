@@ -13,3 +13,6 @@ returns-clause-counts g c =
       limit_is = subst (λ (limit : Option ℕ). KeepsLimit given limit) (sym (e.ceiling ∙ c.rules_of.ensures)) (keeps_own given);
       cut_limit_is = c.requires.counts.cut_limit_is;
     }
+
+pub returns-then-not-is_empty-clause-told : goal.returns-then-not-is_empty-clause-told
+returns-then-not-is_empty-clause-told g c = tells_none c.args.options.tells (g.E.Device.history c.args.faults.now)

@@ -4,8 +4,8 @@ use Rattle.jls_splice_run.proofs.KeptLimits.{keeps_own}
 use Rattle.jls_splice_run.proofs.Told.{tells_on}
 use Rattle.jls_splice_run.proofs.limits.search_all.Goals as goal
 
-pub returns-then-not-is_used_up-clause-counts : goal.returns-then-not-is_used_up-clause-counts
-returns-then-not-is_used_up-clause-counts g c =
+pub returns-then-not-first-clause-counts : goal.returns-then-not-first-clause-counts
+returns-then-not-first-clause-counts g c =
     let given = c.args.options.ceiling in
     let e = c.in_ok-first.ensures in
     record {

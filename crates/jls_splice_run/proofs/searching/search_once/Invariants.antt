@@ -10,7 +10,7 @@ invariant-levels g l =
     let history = g.E.Device.history in
     record {
       stands : IsLevelSearch l.parts l.search;
-      rules : l.search.rules ≡ l.rules;
+      rules : l.search.rules ≡ l.fn.rules;
       told : GrewBy (IsTold l.tells) (history l.fn.faults) (history l.faults);
     }
 
