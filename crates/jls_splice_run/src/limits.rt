@@ -1,5 +1,6 @@
-//! All searches of a run. The first is the one asked for. If it has no ceiling and is cut off, others follow, each under the next ceiling
-//! of `LIMITS`.
+//! All searches of a run over some parts, in stages: levels that are given up where too many paths live; the same under each limit of
+//! `LIMITS` in turn, where the first was given up and no limit is asked for; and, where none of these found a file, levels that let paths
+//! go.
 
 ghost use Rattle.std.specs.Prelude.{◌≡◌, ◌<◌, ◌≤◌, ◌^◌, ◌⊎◌, List, None, length, IfOk, IfSome};
 ghost use Rattle.std.specs.List.{AllByRecursion};
@@ -21,7 +22,8 @@ use crate::shallow::{CutLimit, shallow_limit};
 use jls_diff::{Parts, find_finer_parts, find_parts};
 use jls_io::Sink;
 use jls_search::{
-    FoundSplices, Searched, are_of_one_coding, are_short, complete_by_groups, parts_can_be_searched,
+    FoundSplices, LevelRules, Searched, are_of_one_coding, are_short, complete_by_groups,
+    parts_can_be_searched,
 };
 use std::alloc::{AllocError, Global};
 
@@ -75,6 +77,17 @@ fn tries_after(most: u32, tries: u32) -> u32 {
     }
 }
 
+/// The rules of a search: those asked for, and whether it lets paths go.
+fn rules_of(options: SearchOptions, lets_go: bool) -> LevelRules
+    ensures { result.ceiling ≡ options.ceiling }
+{
+    LevelRules {
+        ceiling: options.ceiling,
+        tries: options.tries,
+        lets_go,
+    }
+}
+
 /// What searches in turn came to with one more that was not cut off.
 fn with_one_more(turned: Turned, searched: Searched, most: u32) -> Turned
     ensures { (parts : List Part) → IfSome turned.found (IsSearchOf parts) → IsSearchOf parts searched
@@ -113,12 +126,12 @@ fn search_in_turn<E: Sink>(
         found: None,
     };
     for limit in limits {
-        let under = SearchOptions {
+        let under = LevelRules {
             ceiling: Some(*limit),
             tries: turned.tries,
-            tells: options.tells,
+            lets_go: false,
         };
-        let searched = search_once(alloc, parts, under, faults)?;
+        let searched = search_once(alloc, parts, under, options.tells, faults)?;
         if searched.is_used_up {
             return Ok(turned);
         }
@@ -147,6 +160,55 @@ fn chosen(first: Searched, turned: Turned) -> CountingSearch
     }
 }
 
+/// What counts of a search that was cut off, and of those under limits in turn. If a limit is given there are no others.
+fn count_within_limits<E: Sink>(
+    alloc: Global,
+    parts: &Parts<'_>,
+    options: SearchOptions,
+    first: Searched,
+    faults: &mut E,
+) -> Result<CountingSearch, AllocError>
+    requires some_way { AllByRecursion HasSomeWay parts.now }
+    requires short { IsShort parts.now }
+    requires first { IsSearchOf parts.now first }
+    requires limit { first.ceiling ≡ options.ceiling }
+    ensures counts { IfOk result (λ all. IsCounting options.ceiling parts.now all) }
+    ensures told { GrewBy (IsTold options.tells) (E.history faults.old) (E.history faults.new) }
+{
+    if options.ceiling.is_some() {
+        return Ok(CountingSearch {
+            cut_limit: options.ceiling,
+            searched: first,
+        });
+    }
+    let turned = search_in_turn(alloc, parts, options, &LIMITS, faults)?;
+    Ok(chosen(first, turned))
+}
+
+/// Searches by levels that let paths go, if no file was found, and there are tries left for it.
+fn find_or_let_go<E: Sink>(
+    alloc: Global,
+    parts: &Parts<'_>,
+    options: SearchOptions,
+    all: CountingSearch,
+    faults: &mut E,
+) -> Result<CountingSearch, AllocError>
+    requires some_way { AllByRecursion HasSomeWay parts.now }
+    requires short { IsShort parts.now }
+    requires counts { IsCounting options.ceiling parts.now all }
+    ensures counts { IfOk result (λ all. IsCounting options.ceiling parts.now all) }
+    ensures told { GrewBy (IsTold options.tells) (E.history faults.old) (E.history faults.new) }
+{
+    if !all.searched.splices.is_empty() || all.searched.tries >= options.tries {
+        return Ok(all);
+    }
+    let searched = search_once(alloc, parts, rules_of(options, true), options.tells, faults)?;
+    Ok(CountingSearch {
+        cut_limit: all.cut_limit,
+        searched,
+    })
+}
+
 /// Makes all searches over these parts.
 fn search_all<E: Sink>(
     alloc: Global,
@@ -159,15 +221,21 @@ fn search_all<E: Sink>(
     ensures counts { IfOk result (λ all. IsCounting options.ceiling parts.now all) }
     ensures told { GrewBy (IsTold options.tells) (E.history faults.old) (E.history faults.new) }
 {
-    let first = search_once(alloc, parts, options, faults)?;
-    if options.ceiling.is_some() || !first.is_used_up {
+    let first = search_once(
+        alloc,
+        parts,
+        rules_of(options, false),
+        options.tells,
+        faults,
+    )?;
+    if !first.is_used_up {
         return Ok(CountingSearch {
             cut_limit: options.ceiling,
             searched: first,
         });
     }
-    let turned = search_in_turn(alloc, parts, options, &LIMITS, faults)?;
-    Ok(chosen(first, turned))
+    let all = count_within_limits(alloc, parts, options, first, faults)?;
+    find_or_let_go(alloc, parts, options, all, faults)
 }
 
 /// Parts of copies, and what the searches over them came to.

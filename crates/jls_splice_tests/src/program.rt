@@ -13,6 +13,12 @@ use std::test::Fail;
 /// What stands in a row after its name: the file; what is damaged in each copy; the words after the program's name, where `1..65` are the
 /// numbers from 1 to 65; the status; the picture that OUT is to be, or `other` where it is to be none of them, or `nothing` where no output
 /// is created; and a line that is printed.
+///
+/// How often a search of levels tries is counted by hand: at each place, each path that lives goes on by both ways. In *three intervals*
+/// each wrong way ends with its interval, so there are 2 tries at each of 3 places. In the rows of `deep` nothing dies without a limit, so
+/// that there are 2, 4, 8, 16 and 32 tries up to 62, which is above 40, and 64 more up to 126. Under the limits 5792 and 8191 one wrong way
+/// lives on behind the 4th, the 5th, the 8th and the 9th of ten places, so that there are 2 tries at six of them, and 4 at four: 28. These
+/// four, and that it is one under 255 to 724 and several under 11585, were counted with the coder of `interop/plain_coder.py`.
 const ROWS: &str = "\
 one place: eight: 100+8=0 / 400+8=0: OUT 1 2: 0 eight: splices 1
 two places: eight: 100+8=0 300+8=0 / 200+8=0 500+8=0: OUT 1 2: 0 eight: splices 1
@@ -30,7 +36,7 @@ in a COM segment: comment: 100+8=0 / 400+8=0: OUT 1 2: 0 comment: splices 1
 three scans: scans: 60+8=85 330+8=85 / 200+8=85: OUT 1 2: 0 scans: splices 1
 one interval: restarts: 45+3=0 / 70+3=0: OUT 1 2: 0 restarts: splices 1
 two intervals: restarts: 50+4=0 / 140+4=0: OUT 1 2: 0 restarts: splices 1
-three intervals, each way judged where it ends: restarts: 64+4=0 201+4=0 / 131+4=0: --progress OUT 1 2: 0 restarts: 7 tries, 1 files
+three intervals, each way judged where it ends: restarts: 64+4=0 201+4=0 / 131+4=0: --progress OUT 1 2: 0 restarts: 6 tries, 1 files
 one place in all: eight: 300+8=0 / 300+8=85: OUT 1 2: 1 other: missing 1 7-19
 where it is: eight: 300+8=0 / 300+8=85: OUT 1 2: 1 other: before 300
 one place in all, and others: eight: 100+8=0 300+8=0 / 200+8=0 300+8=85: OUT 1 2: 1 other: missing 1 7-19
@@ -70,9 +76,9 @@ and samples are up to 8191
 limits up to the last: deep: 50+3=85 98+3=85 146+3=85 194+3=85 242+3=85 / \
 74+3=85 122+3=85 170+3=85 218+3=85 266+3=85: --tries 300 OUT 1 2: 0 deep: limit 46340
 each search tells its tries: deep: 50+3=85 98+3=85 146+3=85 194+3=85 242+3=85 / 74+3=85 122+3=85 170+3=85 218+3=85 266+3=85: \
---progress --tries 40 OUT 1 2: 0 deep: 29 tries, 1 files
-after each 64 tries: deep: 50+3=85 98+3=85 146+3=85 194+3=85 242+3=85 / 74+3=85 122+3=85 170+3=85 218+3=85 266+3=85: \
---progress --tries 300 OUT 1 2: 0 deep: 128 tries, 0 files
+--progress --tries 40 OUT 1 2: 0 deep: 28 tries, 1 files
+at a level that comes to 64 tries more: deep: 50+3=85 98+3=85 146+3=85 194+3=85 242+3=85 / 74+3=85 122+3=85 170+3=85 218+3=85 266+3=85: \
+--progress --tries 300 OUT 1 2: 0 deep: 126 tries, 0 files
 no other limit than the one given: deep: 50+3=85 98+3=85 146+3=85 194+3=85 242+3=85 / \
 74+3=85 122+3=85 170+3=85 218+3=85 266+3=85: --max 65535 --tries 40 OUT 1 2: 1 other: tries used up
 a limit of the lines before: deep: 50+3=85 98+3=85 146+3=85 194+3=85 242+3=85 206+4=0 / \

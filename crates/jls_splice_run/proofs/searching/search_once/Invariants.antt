@@ -1,19 +1,18 @@
-use Rattle.std.proofs.Common.{◌≡◌, ◌-◌}
-use Rattle.std.specs.Prelude.{IfSome}
+use Rattle.std.proofs.Common.{◌≡◌, ◌-◌, length}
+use Rattle.jls_diff.specs.PartsOf.{parts_of}
 use Rattle.jls_io.specs.Event.{GrewBy}
-use Rattle.jls_search.specs.Search.{IsKeptReader, IsSearch}
+use Rattle.jls_search.specs.LevelSearches.{IsLevelSearch}
 use Rattle.jls_splice_run.specs.Telling.{IsTold}
 use Rattle.jls_splice_run.proofs.searching.search_once.Given as goal
 
-abbrev pub invariant-loop-alloc : goal.invariant-loop-alloc
-invariant-loop-alloc g l =
+abbrev pub invariant-levels : goal.invariant-levels
+invariant-levels g l =
     let history = g.E.Device.history in
     record {
-      stands : IsSearch l.parts l.walk;
-      ceiling : l.walk.judge.ceiling ≡ l.options.ceiling;
-      found : IfSome l.walk.judge.found (IsKeptReader l.parts);
-      told : GrewBy (IsTold l.options.tells) (history l.fn.faults) (history l.faults);
+      stands : IsLevelSearch l.parts l.search;
+      rules : l.search.rules ≡ l.fn.rules;
+      told : GrewBy (IsTold l.tells) (history l.fn.faults) (history l.faults);
     }
 
-abbrev pub decreases-loop-alloc : goal.decreases-loop-alloc
-decreases-loop-alloc g l = l.options.tries - l.walk.tries
+abbrev pub decreases-levels : goal.decreases-levels
+decreases-levels g l = length l.parts - l.search.count

@@ -7,17 +7,16 @@ use Rattle.jls_splice_run.proofs.Told.{tells_line, tells_none}
 use Rattle.jls_splice_run.proofs.searching.tell.Goals as goal
 
 pub returns-then-not-tells : goal.returns-then-not-tells
-returns-then-not-tells g c = tells_none c.args.options.tells (g.E.Device.history c.args.faults.now)
+returns-then-not-tells g c = tells_none c.args.tells (g.E.Device.history c.args.faults.now)
 
 pub returns-in_err-line : goal.returns-in_err-line
-returns-in_err-line g c = tells_none c.args.options.tells (g.E.Device.history c.args.faults.now)
+returns-in_err-line g c = tells_none c.args.tells (g.E.Device.history c.args.faults.now)
 
 pub returns : goal.returns
 returns g c =
     let history = g.E.Device.history in
     let h = history c.args.faults.now in
     let h' = history c.print_line.new.faults in
-    let tries = c.args.walk.now.tries in
-    let line : c.deref.result.now ≡ progress_line tries c.len.result = c.deref.ensures.value ∙ c.in_ok-line.ensures in
+    let line : c.deref.result.now ≡ progress_line c.args.tries c.args.files = c.deref.ensures.value ∙ c.in_ok-line.ensures in
     subst (λ (tells : Bool). GrewBy (IsTold tells) h h') (sym c.if-not-tells.false)
-    (tells_line tries c.len.result (subst (λ (text : List ℕ). GrewBy (Printed text) h h') line c.print_line.ensures))
+    (tells_line c.args.tries c.args.files (subst (λ (text : List ℕ). GrewBy (Printed text) h h') line c.print_line.ensures))
