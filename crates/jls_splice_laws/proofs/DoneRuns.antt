@@ -73,7 +73,7 @@ none_printed events (inl h) = none_written events h.are_writes h.they_took
 none_printed events (inr (count, h)) = let lt = h.not_all in absurd (omega (arith, lt))
 
 module _ (words : List Text) (a : Asked) (asks : AskFor words a) where
-  pub was_done : (copies : List CopyBytes) (m : Made) (reading writing report telling noting line : List Event)
+  unfoldable pub was_done : (copies : List CopyBytes) (m : Made) (reading writing report telling noting line : List Event)
       → AreCopiesRead a.copies copies reading → IsMade a (bytes_read copies) m → IsTold a.options.progress telling
       → Printed (notes a (bytes_read copies) m) noting → HandsAll (texts a copies m) writing report → Printed [] line
       → DidMake words a (reading ++ writing) report ((telling ++ noting) ++ line)
