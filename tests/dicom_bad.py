@@ -321,6 +321,9 @@ def checks_of_doubtful(bench, made, rng):
         yield from told(f"{name} that don't begin at a border", lost, both, 0)
         lost = changed(true, (begin, fill + fill[: SECTOR // 2][SECTOR % 11 :]))
         yield from told(f"{name} that don't end at one", lost, both, 0)
+    wide = changed(true, (begin - 20, bytes(SECTOR + 40)))
+    strange = [[(begin - 40, rng.randbytes(40)), (begin + SECTOR, rng.randbytes(40))], [(frames[1], bytes(8))], [(frames[2], bytes(8))]]
+    yield from told("zeros beside damage of one of three", wide, strange, 0)
     hole, noise = changed(true, (begin + 100, bytes(64))), rng.randbytes(SECTOR)
     yield from told("a hole in a text, and noise there", hole, [[], [(begin, noise)]], 1, f"a text has a hole at {begin + 100}")
     yield from told("a hole that both have", hole, both, 0)

@@ -27,12 +27,15 @@ LONG = 16  # bytes on each side of a change
 BESIDE = 64  # bytes of the file beside a place, in which the text around a hole stands
 
 
-def lost_in_each(copies: Sequence[Copy], frames: Sequence[Range]) -> Optional[int]:
-    """Where sectors outside of frames look filled, from border to border, in each copy that has them. Values of a file end elsewhere."""
+def lost_in_each(copies: Sequence[Copy], frames: Sequence[Range], data: bytes) -> Optional[int]:
+    """Where sectors outside of frames look filled, from border to border, in each copy that has them. Values of a file end elsewhere.
+
+    `data` is the file with what was decided: beside the sectors a copy can have damage that hides that its values go on.
+    """
     common = outside(in_no_copy(copies, True), frames)
     for copy in copies:
         for begin, end in in_both(copy.seen, common):
-            if (begin, end) in copy.seen and end - begin >= SECTOR and ends_at_borders(copy.data, begin, end):
+            if (begin, end) in copy.seen and end - begin >= SECTOR and ends_at_borders(data, begin, end):
                 return begin
     return None
 

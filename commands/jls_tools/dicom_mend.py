@@ -361,10 +361,11 @@ class Mending:
 
     def doubtful(self) -> Optional[str]:
         """Damage of the header that shows by itself, and that no copy contradicts."""
-        at = lost_in_each(self.copies, self.fragments())
+        data = bytes(self.data)
+        at = lost_in_each(self.copies, self.fragments(), data)
         if at is not None:
             return f"a sector at {at} looks lost in each copy"
-        at = hole_in_text(self.header.places(), bytes(self.data))
+        at = hole_in_text(self.header.places(), data)
         if at is not None:
             return f"a text has a hole at {at}, and one copy alone has it"
         at = lost_in_most(self.copies)
