@@ -2,7 +2,7 @@
 use Rattle.std.proofs.Common.{◌≡◌, ℕ, zero, suc, ◌+◌, ◌-◌, Bool, true, false, List, [], ◌∷◌, ◌++◌, length, take, drop, refl, sym, ap}
 use Rattle.std.proofs.Common.{◌∙◌, subst, arith, length-append, replicate, get_or}
 use Rattle.std.proofs.lemmas.Bool.{false≢true}
-use Rattle.jls_carry_laws.specs.Edits.{Edit, edited, AreRefilled, held_by_either}
+use Rattle.jls_held.specs.Edits.{Edit, edited, AreRefilled, held_by_either}
 use Rattle.jls_carry_laws.specs.Laws.{RefilledEditsKeepHeldBytes, BytesAreHeldByEither}
 
 -- the bytes xs and ys are the same where the marks say so

@@ -6,8 +6,8 @@ use Rattle.std.proofs.lemmas.Bool.{and_parts, and_cases, and_from, ltb-true, lt-
 use Rattle.std.proofs.lemmas.Bool.{true≢false}
 use Rattle.jls_interval.specs.Lines.{IntervalShape}
 use Rattle.jls_copy.specs.ScanData.{IsPiece, closes_piece}
-use Rattle.jls_carry_laws.specs.MendedFiles.{MendedFile, IsHeldByte}
-use Rattle.jls_carry_laws.specs.LineCode.{code_length, bits_before, IsByteOf}
+use Rattle.jls_held.specs.MendedFiles.{MendedFile, IsHeldByte}
+use Rattle.jls_held.specs.LineCode.{code_length, bits_before, IsByteOf}
 
 -- numbers that are all below 256
 pub bytes_of_test : (bytes : List ℕ) → list_all (λ b. nat_lt b 256) bytes ≡ true → AllByRecursion (λ b. b < 256) bytes

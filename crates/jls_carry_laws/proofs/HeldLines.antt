@@ -12,9 +12,10 @@ use Rattle.jls_copy.specs.Numbers.{Interval}
 use Rattle.jls_copy.specs.Pieces.{FoundPiece, pieces, placed, readings}
 use Rattle.jls_copy.specs.TellingLaws.{StandsAt, PiecesStandAtTheirOffsets}
 use Rattle.jls_copy.proofs.ScansOfCourse.{course_has}
-use Rattle.jls_carry_laws.specs.MendedFiles.{MendedFile, HasHeldBytes}
-use Rattle.jls_carry_laws.specs.LineCode.{BeginsWithLines, code_length, bits_before}
-use Rattle.jls_carry_laws.specs.HeldLines.{PieceOf, interval_at, placed_at, HasHeldCode, IsHeld, in_piece}
+use Rattle.jls_held.specs.MendedFiles.{MendedFile, HasHeldBytes}
+use Rattle.jls_copy.specs.InHand.{BeginsWithLines}
+use Rattle.jls_held.specs.LineCode.{code_length, bits_before}
+use Rattle.jls_held.specs.HeldLines.{PieceOf, interval_at, placed_at, HasHeldCode, IsHeld, in_piece}
 use Rattle.jls_carry_laws.specs.StrictlyHeld.{BeforePiece, IsStrictlyHeld, in_file}
 use Rattle.jls_carry_laws.specs.TrueFiles.{PictureLines, IsPictureLine, HasTruePieces, IsTrueFile, PieceHead, head_of, HasHead}
 use Rattle.jls_carry_laws.specs.TrueFiles.{AreFilesOfBytes, HaveTrueFilesOfTheirSkeletons, HaveTrueFilesAsLong}

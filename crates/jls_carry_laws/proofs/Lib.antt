@@ -9,8 +9,6 @@ pub mod ScanWalk
 pub mod UnitsWalk
 pub mod StrictHeads
 pub mod SettledPictures
-pub mod MendedCopies
 mod ExampleTests
-mod EditExamples
 mod SkeletonExamples
 mod TwoCodingExamples

@@ -8,7 +8,8 @@ use Rattle.jls_interval.specs.Code.{code}
 use Rattle.jls_interval.specs.Reads.{BeginsWithCode}
 use Rattle.jls_interval.proofs.HeadLines.{code_parts, prefix_lines}
 use Rattle.jls_interval.proofs.CodesApart.{codes_apart}
-use Rattle.jls_carry_laws.specs.LineCode.{BeginsWithLines, code_length}
+use Rattle.jls_copy.specs.InHand.{BeginsWithLines}
+use Rattle.jls_held.specs.LineCode.{code_length}
 use Rattle.jls_carry_laws.proofs.Walk.{AgreeFrom, walk}
 
 first_same : (x y : List ℕ) (xs ys : List (List ℕ)) → x ∷ xs ≡ y ∷ ys → x ≡ y

@@ -1,5 +1,5 @@
 -- Where each line of a partial picture is settled and held, its lines are the picture's.
-use Rattle.std.proofs.Common.{◌≡◌, ℕ, ◌<◌, true, List, [], ◌∷◌, length, Some, refl, ap, ◌∙◌}
+use Rattle.std.proofs.Common.{◌≡◌, ℕ, true, List, [], ◌∷◌, refl, ap, ◌∙◌}
 use Rattle.std.specs.Prelude.{slice_get}
 use Rattle.jls_values.specs.OrderedSet as set
 use Rattle.jls_partial.specs.Partial.{PartialPicture, readings_at}

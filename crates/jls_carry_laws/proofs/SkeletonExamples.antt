@@ -2,7 +2,7 @@
 -- has all other bytes, and hides a whole picture and EOI in those 6: the held rest stands behind EOI, unread. So the law of held lines is
 -- false without the premise on skeletons. The code of the line 0, 0, 90, 74 is the first of `WorkedExamples` of jls_interval; the other files
 -- were made by hand.
-use Rattle.std.proofs.Common.{◌≡◌, ℕ, ◌+◌, ◌<◌, ◌≤◌, true, false, List, [], ◌∷◌, length, Some, refl, sym, ap, subst}
+use Rattle.std.proofs.Common.{◌≡◌, ℕ, ◌+◌, ◌<◌, ◌≤◌, true, false, List, [], ◌∷◌, length, Some, refl, ap, subst}
 use Rattle.std.proofs.Common.{lit<, lit≤, arith, get_or, inl, inr}
 use Rattle.std.specs.Prelude.{replicate}
 use Rattle.std.proofs.lemmas.List.{get_or-replicate}
@@ -35,10 +35,11 @@ use Rattle.jls_copy.specs.Course.{by_marker, CopyUnit, segment, scan, Course, Is
 use Rattle.jls_copy.specs.Pieces.{FoundPiece, pieces}
 use Rattle.jls_copy.specs.declared.end.End.TheVariants.{Eoi}
 use Rattle.jls_copy.proofs.OneCourse.{one_course}
-use Rattle.jls_carry_laws.specs.MendedFiles.{MendedFile}
-use Rattle.jls_carry_laws.specs.Edits.{Edit, edited}
-use Rattle.jls_carry_laws.specs.LineCode.{BeginsWithLines, code_length, bits_before}
-use Rattle.jls_carry_laws.specs.HeldLines.{PieceOf, IsHeld, in_piece}
+use Rattle.jls_held.specs.MendedFiles.{MendedFile}
+use Rattle.jls_held.specs.Edits.{Edit, edited}
+use Rattle.jls_copy.specs.InHand.{BeginsWithLines}
+use Rattle.jls_held.specs.LineCode.{code_length, bits_before}
+use Rattle.jls_held.specs.HeldLines.{PieceOf, IsHeld, in_piece}
 use Rattle.jls_carry_laws.specs.StrictlyHeld.{BeforePiece, IsStrictlyHeld, in_file}
 use Rattle.jls_carry_laws.specs.TrueFiles.{PictureLines, IsPictureLine, IsTruePiece, HasTruePieces, IsTrueFile, HasHead, HasSkeleton}
 use Rattle.jls_carry_laws.specs.TrueFiles.{AreFilesOfBytes, HaveTrueFilesAsLong}

@@ -4,7 +4,7 @@
 -- what the copies lost, so that the held rest stands behind EOI, unread. So a line can be held, and not strictly; and the law of held lines
 -- is false without skeletons, also if each line is held. The plain coder of interop/ writes these pieces for both pictures. The headers are
 -- by hand.
-use Rattle.std.proofs.Common.{◌≡◌, ℕ, ◌+◌, ◌<◌, ◌≤◌, true, false, List, [], ◌∷◌, ◌++◌, length, Some, refl, ap, subst, arith, inl, inr}
+use Rattle.std.proofs.Common.{◌≡◌, ℕ, ◌<◌, ◌≤◌, true, false, List, [], ◌∷◌, length, Some, refl, ap, subst, arith, inl, inr}
 use Rattle.std.proofs.Common.{lit<, lit≤, get_or, drop}
 use Rattle.std.specs.Prelude.{if◌then◌else◌, ◌==◌}
 use Rattle.std.specs.List.{AllByRecursion, Contains}
@@ -34,12 +34,13 @@ use Rattle.jls_marker.specs.Scan.{Scan}
 use Rattle.jls_copy.specs.Numbers.{Interval}
 use Rattle.jls_copy.specs.IntervalOf.{interval_of}
 use Rattle.jls_copy.specs.Course.{by_marker, CopyUnit, segment, scan, Course, IsCourse, with_soi, at_eoi, for_good}
-use Rattle.jls_copy.specs.Pieces.{FoundPiece, pieces}
+use Rattle.jls_copy.specs.Pieces.{pieces}
 use Rattle.jls_copy.specs.declared.end.End.TheVariants.{Eoi}
-use Rattle.jls_carry_laws.specs.MendedFiles.{MendedFile, IsHeldByte}
-use Rattle.jls_carry_laws.specs.Edits.{Edit, edited}
-use Rattle.jls_carry_laws.specs.LineCode.{BeginsWithLines, code_length}
-use Rattle.jls_carry_laws.specs.HeldLines.{PieceOf, IsHeld, in_piece}
+use Rattle.jls_held.specs.MendedFiles.{MendedFile, IsHeldByte}
+use Rattle.jls_held.specs.Edits.{Edit, edited}
+use Rattle.jls_copy.specs.InHand.{BeginsWithLines}
+use Rattle.jls_held.specs.LineCode.{code_length}
+use Rattle.jls_held.specs.HeldLines.{PieceOf, IsHeld, in_piece}
 use Rattle.jls_carry_laws.specs.StrictlyHeld.{BeforePiece, IsStrictlyHeld, in_file}
 use Rattle.jls_carry_laws.specs.TrueFiles.{PictureLines, IsTruePiece, HasTruePieces, IsTrueFile, HaveTrueFilesAsLong}
 use Rattle.jls_carry_laws.specs.Laws.{StrictlyHeldLinesAreThePicture}

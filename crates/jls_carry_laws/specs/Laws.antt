@@ -4,9 +4,10 @@ use Rattle.jls_values.specs.OrderedSet as set
 use Rattle.jls_partial.specs.Reading.{Reading}
 use Rattle.jls_partial.specs.Partial.{PartialPicture, readings_at}
 use Rattle.jls_partial.specs.Status.{IsSettled}
-use Rattle.jls_carry_laws.specs.MendedFiles.{MendedFile, HasHeldBytes}
-use Rattle.jls_carry_laws.specs.Edits.{Edit, edited, AreRefilled, held_by_either}
-use Rattle.jls_carry_laws.specs.HeldLines.{IsHeld}
+use Rattle.jls_held.specs.MendedFiles.{MendedFile, HasHeldBytes}
+use Rattle.jls_held.specs.Edits.{Edit, edited, AreRefilled, held_by_either}
+use Rattle.jls_held.specs.HeldLines.{IsHeld}
+use Rattle.jls_held.specs.HeldPictures.{AreReadingsHeld}
 use Rattle.jls_carry_laws.specs.StrictlyHeld.{IsStrictlyHeld}
 use Rattle.jls_carry_laws.specs.TrueFiles.{PictureLines, IsPictureLine, AreFilesOfBytes, HaveTrueFilesOfTheirSkeletons, HaveTrueFilesAsLong}
 
@@ -40,11 +41,7 @@ StrictlyHeldLinesAreThePicture =
 
 -- Partial pictures of which all lines are held ---------------------------------------------------------
 
--- each reading of a partial picture is held by the files
-abbrev pub AreReadingsHeld : List MendedFile → PartialPicture → Type 0
-AreReadingsHeld files p = (r : Reading) → set.contains p.readings r ≡ true → IsHeld files r
-
--- and strictly held
+-- each reading of a partial picture is strictly held by the files
 abbrev pub AreReadingsStrictlyHeld : List MendedFile → PartialPicture → Type 0
 AreReadingsStrictlyHeld files p = (r : Reading) → set.contains p.readings r ≡ true → IsStrictlyHeld files r
 

@@ -3,9 +3,9 @@ use Rattle.std.specs.Prelude.{◌≡◌, ℕ, ◌+◌, ◌<◌, ◌≤◌, List,
 use Rattle.std.specs.List.{Contains}
 use Rattle.jls_partial.specs.Reading.{Reading}
 use Rattle.jls_copy.specs.Pieces.{FoundPiece, pieces, PieceOutcome, AreOutcomes, readings, records}
-use Rattle.jls_carry_laws.specs.MendedFiles.{MendedFile, IsHeldByte}
-use Rattle.jls_carry_laws.specs.LineCode.{BeginsWithLines}
-use Rattle.jls_carry_laws.specs.HeldLines.{PieceOf, interval_at, placed_at, HasHeldCode}
+use Rattle.jls_held.specs.MendedFiles.{MendedFile, IsHeldByte}
+use Rattle.jls_copy.specs.InHand.{BeginsWithLines}
+use Rattle.jls_held.specs.HeldLines.{PieceOf, interval_at, placed_at, HasHeldCode}
 
 -- a byte of the piece stands at this offset
 abbrev pub IsIn : FoundPiece → ℕ → Type 0

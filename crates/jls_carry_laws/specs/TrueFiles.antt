@@ -9,8 +9,8 @@ use Rattle.jls_copy.specs.Course.{Course, IsCourse}
 use Rattle.jls_copy.specs.IntervalOf.{interval_of}
 use Rattle.jls_copy.specs.Numbers.{Interval}
 use Rattle.jls_copy.specs.Pieces.{FoundPiece, pieces, placed}
-use Rattle.jls_carry_laws.specs.MendedFiles.{MendedFile, HasHeldBytes}
-use Rattle.jls_carry_laws.specs.HeldLines.{PieceOf}
+use Rattle.jls_held.specs.MendedFiles.{MendedFile, HasHeldBytes}
+use Rattle.jls_held.specs.HeldLines.{PieceOf}
 
 -- the lines of a picture, by component and row
 abbrev pub PictureLines : Type 0

@@ -6,23 +6,20 @@
 //! before it in its interval are held, in this mended file or another. The laws say that whatever undamaged files have these bytes, their
 //! held lines are the same.
 //!
-//! No program uses this crate yet. It has definitions, laws, and one function: `mended_copy` makes the mended file of a copy and its edits.
-//! Definitions: `MendedFiles` (bytes, and which are held), `Edits` (what makes a mended file of a copy), `LineCode` (which bytes carry a
-//! line), `HeldLines`, `StrictlyHeld`, `TrueFiles` (undamaged files of one picture), `Laws`; `Mending` (what the function speaks of).
+//! No program uses this crate yet. It has definitions and laws; what mended files and held lines are, stands in jls_held.
+//! Definitions: `StrictlyHeld`, `TrueFiles` (undamaged files of one picture), `Laws`.
 //!
 //! The proofs, bottom up: `Walk` and `OneLine` (two pieces that agree on the bytes of a line have that line in common), `PlacedLines`
 //! (lines of an interval against a picture's), `HeldLines` (the law, for files of one skeleton), `OneLength`, `SameHeads`, `ScanWalk`,
 //! `UnitsWalk` and `StrictHeads` (what stands before a strictly held line fixes the skeleton up to it), `SettledPictures`,
-//! `EditedFiles`, `MendedCopies`.
+//! `EditedFiles`.
 //!
 //! Not proved here: how lines and edits are found.
 #![tactic(auto)]
 
 mod laws;
-mod mending;
 
 pub use laws::{
     held_lines_are_the_picture, refilled_edits_keep_held_bytes, settled_held_lines_are_the_picture,
     strictly_held_lines_are_the_picture,
 };
-pub use mending::{CopyEdit, MendedCopy, mended_copy};

@@ -1,0 +1,12 @@
+use Rattle.std.proofs.Common.{◌≡◌, List}
+use Rattle.jls_held.specs.MendedFiles.{MendedFile}
+use Rattle.jls_held.specs.HeldPictures.{AreReadingsHeld}
+use Rattle.jls_held.specs.Chains.{IsChain, AreFirstHeld}
+use Rattle.jls_held.proofs.rounds.advance.Given as goal
+
+abbrev pub invariant-loop-at : goal.invariant-loop-at
+invariant-loop-at l = record {
+  shape : l.held.shape ≡ l.fn.held.shape;
+  are : (files : List MendedFile) → IsChain files l.chain → AreFirstHeld files l.chain l.from → AreReadingsHeld files l.fn.held
+      → AreReadingsHeld files l.held × AreFirstHeld files l.chain l.at;
+}

@@ -1,0 +1,36 @@
+-- Inside the crate: chains, the lines of a piece in order, each with whether all bytes of its code are held.
+use Rattle.std.specs.Prelude.{◌≡◌, ℕ, ◌+◌, ◌<◌, ◌≤◌, Bool, true, false, List, length, get_or, Vec}
+use Rattle.std.specs.declared.alloc.Global.{Global}
+use Rattle.jls_bits.specs.declared.writer.BitPlace.{BitPlace}
+use Rattle.jls_partial.specs.Reading.{Reading, reading_of}
+use Rattle.jls_held.specs.declared.chain.ChainLine.{ChainLine}
+use Rattle.jls_held.specs.MendedFiles.{MendedFile}
+use Rattle.jls_held.specs.HeldLines.{IsHeld}
+
+-- all bytes of a file are held that carry bits between two places of the piece at this offset
+pub record AreHeldBetween (held : List Bool) (offset : ℕ) (start end : BitPlace) : Type 0 where
+  pub filled : (place : ℕ) → start.bytes ≤ place → place < end.bytes → get_or held (offset + place) false ≡ true
+  pub last : 0 < end.bits → get_or held (offset + end.bytes) false ≡ true
+
+-- a line of a chain as a reading
+abbrev pub reading_in : ChainLine → Reading
+reading_in l = reading_of l.component l.row l.samples.items
+
+-- so many first lines of a chain are held by the files
+abbrev pub AreFirstHeld : List MendedFile → List ChainLine → ℕ → Type 0
+AreFirstHeld files lines count = (k : ℕ) (d : ChainLine) → k < count → k < length lines → IsHeld files (reading_in (get_or lines k d))
+
+-- each line of a chain whose code is held is held by the files, if all lines before it in the chain are
+abbrev pub IsChain : List MendedFile → List ChainLine → Type 0
+IsChain files lines =
+    (k : ℕ) (d : ChainLine) → k < length lines → (get_or lines k d).is_code_held ≡ true → AreFirstHeld files lines k
+    → IsHeld files (reading_in (get_or lines k d))
+
+-- each of these is a chain
+abbrev pub AreChains : List MendedFile → List (Vec ChainLine Global) → Type 0
+AreChains files chains = (i : ℕ) (d : Vec ChainLine Global) → i < length chains → IsChain files (get_or chains i d).items
+
+-- of each chain, so many first lines are held by the files
+abbrev pub ArePlacesHeld : List MendedFile → List (Vec ChainLine Global) → List ℕ → Type 0
+ArePlacesHeld files chains places =
+    (i : ℕ) (d : Vec ChainLine Global) → i < length chains → AreFirstHeld files (get_or chains i d).items (get_or places i 0)

@@ -1,0 +1,43 @@
+-- Lines that the bytes of mended files hold: all bytes of a line's code are held, and so are all lines before it in its interval.
+use Rattle.std.specs.Prelude.{◌≡◌, ℕ, ◌+◌, List, [], ◌∷◌, ◌++◌}
+use Rattle.std.specs.List.{Contains}
+use Rattle.jls_interval.specs.Lines.{IntervalShape}
+use Rattle.jls_partial.specs.Reading.{Reading}
+use Rattle.jls_marker.specs.Scan.{first_row}
+use Rattle.jls_copy.specs.Course.{Course, IsCourse}
+use Rattle.jls_copy.specs.IntervalOf.{interval_of}
+use Rattle.jls_copy.specs.Numbers.{Interval}
+use Rattle.jls_copy.specs.Pieces.{FoundPiece, pieces, placed}
+use Rattle.jls_held.specs.MendedFiles.{MendedFile, IsHeldByte}
+use Rattle.jls_copy.specs.InHand.{BeginsWithLines}
+use Rattle.jls_held.specs.LineCode.{IsByteOf}
+
+-- one of the pieces of a file that have the number of an interval
+pub record PieceOf (f : MendedFile) : Type 0 where
+  pub course : Course
+  pub is_course : IsCourse f.bytes course
+  pub piece : FoundPiece
+  pub among : Contains (pieces course) piece
+  pub number : ℕ
+  pub number_is : piece.number ≡ Interval number
+
+-- the interval whose number the piece has
+abbrev pub interval_at : (f : MendedFile) → PieceOf f → IntervalShape
+interval_at f p = interval_of p.piece.plan p.number
+
+-- lines of this interval, from the first on, as readings
+abbrev pub placed_at : (f : MendedFile) → PieceOf f → List (List ℕ) → List Reading
+placed_at f p lines = placed p.piece.plan.components (first_row p.piece.plan p.number) 0 lines
+
+-- all bytes of a line's code are held
+abbrev pub HasHeldCode : (f : MendedFile) → PieceOf f → List (List ℕ) → List ℕ → Type 0
+HasHeldCode f p before line =
+    (place : ℕ) → IsByteOf (interval_at f p) p.piece.bytes before line place → IsHeldByte f (p.piece.offset + place)
+
+-- The reading is held by the files. This is the least set of readings with one rule. A piece of one of the files begins with the code of
+-- some lines. All bytes of the last line's code are held, and so is each line before it, as a reading. Then the last one is held
+pub data IsHeld (files : List MendedFile) : Reading → Type 0 where
+  in_piece : (f : MendedFile) → Contains files f → (p : PieceOf f) → (before : List (List ℕ)) (line : List ℕ)
+      → BeginsWithLines (interval_at f p) p.piece.bytes (before ++ line ∷ []) → HasHeldCode f p before line
+      → (earlier : List Reading) (r : Reading) → placed_at f p (before ++ line ∷ []) ≡ earlier ++ r ∷ []
+      → ((s : Reading) → Contains earlier s → IsHeld files s) → IsHeld files r

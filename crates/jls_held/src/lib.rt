@@ -1,0 +1,34 @@
+//! Mended files of copies in different codings, and which lines their bytes hold.
+//!
+//! JPEG-LS coding is a function of lines and parameters. So lines that one copy gives can be coded with the parameters of another copy,
+//! and stand in place of its damaged bytes: that is a mended file. Any picture can be coded so, and that a mended file decodes says
+//! nothing. What counts are the bytes that the copy has itself. A line is held where all bytes of its code are such bytes, and all lines
+//! before it in its interval are held, in this mended file or another. The laws of jls_carry_laws say that whatever undamaged files have
+//! these bytes, their held lines are the same.
+//!
+//! - `mending`: the mended file of a copy and its edits
+//! - `holding`: `held_lines`, the lines that mended files hold
+//! - `file_pieces`: the pieces of a file with their first lines, as a reader has them in hand
+//! - `chain`: the lines of a piece, each with whether all bytes of its code are held. Its lines are coded anew for that
+//! - `rounds`: takes lines that follow held lines, from each piece in turn, until none follows
+//!
+//! Definitions: `MendedFiles` (bytes, and which are held), `Edits` (what makes a mended file of a copy), `LineCode` (which bytes carry a
+//! line), `HeldLines`, `HeldPictures`, `Mending` and `FilePieces` (what the functions speak of). `Chains` is needed inside the crate only.
+//!
+//! The proofs, bottom up: `MendedCopies`; `LineBytes` (the bytes between two ends of code are those of a line), `PieceChains` (lines of a
+//! piece follow each other), `FoundPieces` (what was in hand stands in the whole file), `HeldReadings`.
+//!
+//! No program uses this crate yet. Not proved:
+//!
+//! - How lines and edits are found.
+//! - That `held_lines` leaves out no held line.
+#![tactic(auto)]
+
+mod chain;
+mod file_pieces;
+mod holding;
+mod mending;
+mod rounds;
+
+pub use holding::held_lines;
+pub use mending::{CopyEdit, MendedCopy, mended_copy};

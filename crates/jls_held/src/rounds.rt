@@ -1,0 +1,112 @@
+//! Held lines: from each piece those that follow held lines, until nothing follows any more.
+
+ghost use Rattle.std.specs.Prelude.{◌≡◌, ℕ, ◌≤◌, true, List, length, IfOk, OnOk};
+ghost use Rattle.std.specs.List.{AllByRecursion};
+ghost use Rattle.jls_partial.specs.Partial.{holds as is_reading};
+ghost use Rattle.jls_held.specs.MendedFiles.{MendedFile};
+ghost use Rattle.jls_held.specs.HeldLines.{IsHeld};
+ghost use Rattle.jls_held.specs.HeldPictures.{AreReadingsHeld};
+ghost use Rattle.jls_held.specs.Chains.{reading_in, IsChain, AreFirstHeld, AreChains, ArePlacesHeld};
+
+use crate::chain::ChainLine;
+use jls_partial::{InsertFault, Partial};
+use std::alloc::{AllocError, Global};
+
+/// Whether these samples are a reading of that line.
+fn is_taken(held: &Partial, component: u8, row: u16, samples: &[u16]) -> bool
+    ensures { result ≡ true → is_reading held.now component row samples.now ≡ true }
+{
+    let shape = held.shape();
+    if component as usize >= shape.ids().len() || row >= shape.height() {
+        return false;
+    }
+    for i in 0..held.count(component, row) {
+        if held.reading(component, row, i) == samples {
+            return true;
+        }
+    }
+    false
+}
+
+/// Takes the next line of a chain, whose earlier lines are held: if all bytes of its code are held, or if it was taken from another piece.
+/// `false` says that it isn't known to be held, or doesn't fit the shape.
+fn take(held: &mut Partial, line: &ChainLine) -> Result<bool, AllocError>
+    ensures shape { OnOk result (held.new.shape ≡ held.old.shape) }
+    ensures held { IfOk result (λ taken. (files : List MendedFile)
+        → (line.now.is_code_held ≡ true → IsHeld files (reading_in line.now)) → AreReadingsHeld files held.old
+        → AreReadingsHeld files held.new × (taken ≡ true → IsHeld files (reading_in line.now))) }
+{
+    if !line.is_code_held {
+        return Ok(is_taken(held, line.component, line.row, &line.samples));
+    }
+    match held.insert(line.component, line.row, &line.samples) {
+        Ok(_) => Ok(true),
+        Err(InsertFault::OutOfMemory) => Err(AllocError),
+        Err(_) => Ok(false),
+    }
+}
+
+/// Takes lines of a chain from this one on, up to the first that isn't known to be held, and says which that is.
+fn advance(held: &mut Partial, chain: &[ChainLine], from: usize) -> Result<usize, AllocError>
+    ensures from { IfOk result (λ next. from ≤ next) }
+    ensures shape { OnOk result (held.new.shape ≡ held.old.shape) }
+    ensures held { IfOk result (λ next. (files : List MendedFile) → IsChain files chain.now → AreFirstHeld files chain.now from
+        → AreReadingsHeld files held.old → AreReadingsHeld files held.new × AreFirstHeld files chain.now next) }
+{
+    for at in from..chain.len() {
+        if !take(held, &chain[at])? {
+            return Ok(at);
+        }
+    }
+    Ok(from.max(chain.len()))
+}
+
+/// Takes lines of each chain from the place on to which it has come. True where some chain went on.
+fn advance_each(
+    held: &mut Partial,
+    chains: &[Vec<ChainLine>],
+    places: &mut [usize],
+) -> Result<bool, AllocError>
+    requires { length places.old ≡ length chains.now }
+    ensures shape { OnOk result (held.new.shape ≡ held.old.shape) }
+    ensures held { OnOk result ((files : List MendedFile) → AreChains files chains.now → ArePlacesHeld files chains.now places.old
+        → AreReadingsHeld files held.old → AreReadingsHeld files held.new × ArePlacesHeld files chains.now places.new) }
+{
+    let mut moved = false;
+    for i in 0..chains.len() {
+        let next = advance(held, &chains[i], places[i])?;
+        if places[i] < next {
+            places[i] = next;
+            moved = true;
+        }
+    }
+    Ok(moved)
+}
+
+/// How many lines the chains have. So many rounds are enough, since each round but the last takes one.
+fn line_count(chains: &[Vec<ChainLine>]) -> usize {
+    let mut count = 0usize;
+    for chain in chains {
+        count = count.saturating_add(chain.len());
+    }
+    count
+}
+
+/// Takes all lines that follow held lines. That none is left out, no clause says: more rounds would take no more.
+pub(crate) fn take_held(
+    alloc: Global,
+    held: &mut Partial,
+    chains: &[Vec<ChainLine>],
+) -> Result<(), AllocError>
+    ensures shape { OnOk result (held.new.shape ≡ held.old.shape) }
+    ensures held { OnOk result ((files : List MendedFile) → AreChains files chains.now → AreReadingsHeld files held.old
+        → AreReadingsHeld files held.new) }
+{
+    let mut places = vec![in alloc; 0usize; chains.len()]?;
+    for _round in 0..line_count(chains) {
+        if !advance_each(held, chains, &mut places)? {
+            return Ok(());
+        }
+    }
+    Ok(())
+}
