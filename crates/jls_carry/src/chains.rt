@@ -1,6 +1,7 @@
 //! Chains: lines of one copy in the code of another, which confirms them as far as it has the same bytes.
 
 use crate::claims::{CopyState, bytes_of, code_of};
+use crate::code::FirstCode;
 use crate::picture::Picture;
 use crate::pieces::Piece;
 use crate::runs::{Run, add_runs};
@@ -189,56 +190,95 @@ fn said_by(
     Ok(said)
 }
 
-/// Whether a run has whole lines in it: one of each component.
-fn has_lines(ends: &[usize], run: &Run, components: usize) -> bool {
-    let count = count_below(ends, run.end).saturating_sub(count_below(ends, run.begin));
-    count > components || (count == components && run.begin == 0)
+/// Lines in the code of a copy.
+#[derive(Drop)]
+struct Coded {
+    bytes: Vec<u8>,
+    /// How many whole bytes stand before the end of each line.
+    ends: Vec<usize>,
+    /// Whether they are all lines of their interval, with the byte that ends them.
+    is_whole: bool,
 }
 
-/// The runs of a code and a copy that have whole lines in them, in order.
-fn runs_of(
-    alloc: Global,
-    code: &[u8],
-    ends: &[usize],
-    bytes: &[u8],
-    components: usize,
-    is_twin: bool,
-) -> Result<Vec<Run>, AllocError> {
-    let shifts = if is_twin {
-        vec![in alloc; Shift::NONE]?
-    } else {
-        shifts_of(alloc, code, bytes)?
-    };
-    let mut all = Vec::new(alloc);
-    for shift in shifts {
-        add_runs(&mut all, code, bytes, shift)?;
-    }
-    let mut runs: Vec<Run> = Vec::new(alloc);
-    for run in all {
-        if has_lines(ends, &run, components) && (!is_twin || run.begin == 0) {
-            runs.push(run)?;
+impl Coded {
+    /// All lines of a piece, or the first of them. The byte that ends a whole piece is the copy's own, if it can be.
+    fn of(code: FirstCode, is_whole: bool, own: Option<u8>) -> Result<Coded, AllocError> {
+        let last = if is_whole { code.last_byte(own) } else { None };
+        let FirstCode {
+            mut bytes,
+            ends,
+            ..
+        } = code;
+        if let Some(byte) = last {
+            bytes.push(byte)?;
         }
+        Ok(Coded {
+            bytes,
+            ends,
+            is_whole,
+        })
     }
-    runs.sort_by_key(|run| (run.begin, run.end))?;
-    Ok(runs)
-}
 
-/// How many lines runs confirm, of which nothing is decided from a byte on. Only one gap is passed: what the copy gives behind that gap is
-/// to be heard first.
-fn count_confirmed(runs: &[Run], ends: &[usize], fresh: usize) -> usize {
-    let mut first = None;
-    for run in runs {
-        if run.end <= fresh {
-            continue;
+    /// How many lines end before a place.
+    fn lines_before(&self, place: usize) -> usize {
+        if self.is_whole && place >= self.bytes.len() {
+            self.ends.len()
+        } else {
+            count_below(&self.ends, place)
         }
-        if first.is_some() || run.begin > fresh {
-            return count_below(ends, run.end);
-        }
-        first = Some(run.end);
     }
-    match first {
-        None => 0,
-        Some(end) => count_below(ends, end),
+
+    /// Whether a run has whole lines in it: one of each component.
+    fn has_lines(&self, run: &Run, components: usize) -> bool {
+        let begun = count_below(&self.ends, run.begin);
+        let count = self.lines_before(run.end).saturating_sub(begun);
+        count > components || (count == components && run.begin == 0)
+    }
+
+    /// The runs of the code and a copy that have whole lines in them, in order.
+    fn runs(
+        &self,
+        alloc: Global,
+        bytes: &[u8],
+        components: usize,
+        is_twin: bool,
+    ) -> Result<Vec<Run>, AllocError> {
+        let shifts = if is_twin {
+            vec![in alloc; Shift::NONE]?
+        } else {
+            shifts_of(alloc, &self.bytes, bytes)?
+        };
+        let mut all = Vec::new(alloc);
+        for shift in shifts {
+            add_runs(&mut all, &self.bytes, bytes, shift)?;
+        }
+        let mut runs: Vec<Run> = Vec::new(alloc);
+        for run in all {
+            if self.has_lines(&run, components) && (!is_twin || run.begin == 0) {
+                runs.push(run)?;
+            }
+        }
+        runs.sort_by_key(|run| (run.begin, run.end))?;
+        Ok(runs)
+    }
+
+    /// How many lines runs confirm, of which nothing is decided from a byte on. Only one gap is passed: what the copy gives behind that gap
+    /// is to be heard first.
+    fn count_confirmed(&self, runs: &[Run], fresh: usize) -> usize {
+        let mut first = None;
+        for run in runs {
+            if run.end <= fresh {
+                continue;
+            }
+            if first.is_some() || run.begin > fresh {
+                return self.lines_before(run.end);
+            }
+            first = Some(run.end);
+        }
+        match first {
+            None => 0,
+            Some(end) => self.lines_before(end),
+        }
     }
 }
 
@@ -280,15 +320,11 @@ pub(crate) fn compare(
     };
     let components = usize::from(piece.interval.components);
     let bytes = bytes_of(taker.bytes, piece);
-    let runs = runs_of(
-        alloc,
-        &code.bytes,
-        &code.ends,
-        bytes,
-        components,
-        said.is_twin,
-    )?;
-    let confirmed = count_confirmed(&runs, &code.ends, code.begin_of(fresh));
+    let begin = code.begin_of(fresh);
+    let is_whole = said.readings.len() == piece.interval.line_count();
+    let code = Coded::of(code, is_whole, bytes.last().copied())?;
+    let runs = code.runs(alloc, bytes, components, said.is_twin)?;
+    let confirmed = code.count_confirmed(&runs, begin);
     let tested = refuted.max(said.readings.len());
     let chain = Chain {
         giver: giver.number,

@@ -53,6 +53,26 @@ impl FirstCode {
         }
     }
 
+    /// The byte that ends a piece behind the bytes that its code fills, if there is one. The bits behind the code are free: they are those
+    /// of the copy's own last byte, if it carries the same code, and else zeros. Behind FF a byte is needed (T.87 A.1).
+    pub(crate) fn last_byte(&self, own: Option<u8>) -> Option<u8> {
+        match self.more {
+            Some(bits) => match own {
+                Some(byte) if bits.begin(byte) => Some(byte),
+                _ => Some(bits.completed(0)),
+            },
+            None => {
+                if self.bytes.last().copied() != Some(0xFF) {
+                    return None;
+                }
+                match own {
+                    Some(byte) if byte < 0x80 => Some(byte),
+                    _ => Some(0),
+                }
+            }
+        }
+    }
+
     /// How many whole bytes stand before a line.
     pub(crate) fn begin_of(&self, line: usize) -> usize {
         match line.checked_sub(1) {

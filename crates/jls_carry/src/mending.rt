@@ -46,26 +46,6 @@ fn settled_readings(
     Ok(readings)
 }
 
-/// The byte that ends a piece behind the bytes that its code fills, if there is one. The bits behind the code are free: they are those of
-/// the copy's own last byte, if it carries the same code, and else zeros. Behind FF a byte is needed (T.87 A.1).
-fn last_byte(code: &FirstCode, own: Option<u8>) -> Option<u8> {
-    match code.more {
-        Some(bits) => match own {
-            Some(byte) if bits.begin(byte) => Some(byte),
-            _ => Some(bits.completed(0)),
-        },
-        None => {
-            if code.bytes.last().copied() != Some(0xFF) {
-                return None;
-            }
-            match own {
-                Some(byte) if byte < 0x80 => Some(byte),
-                _ => Some(0),
-            }
-        }
-    }
-}
-
 impl Mending<'_, '_> {
     /// Appends bytes of the copy, up to an offset.
     fn take_to(&mut self, end: usize) -> Result<(), AllocError> {
@@ -79,7 +59,7 @@ impl Mending<'_, '_> {
     /// Appends a piece all of whose lines are known.
     fn add_whole(&mut self, code: &FirstCode, own: Option<u8>) -> Result<(), AllocError> {
         self.bytes.extend_from_slice(&code.bytes)?;
-        if let Some(byte) = last_byte(code, own) {
+        if let Some(byte) = code.last_byte(own) {
             self.bytes.push(byte)?;
         }
         Ok(())
