@@ -225,15 +225,13 @@ impl<'a> CopyState<'a> {
         let count = lines.len();
         for (line, samples) in lines.into_iter().enumerate() {
             let place = piece.interval.place(line);
-            let claim = match picture.settled(place) {
-                Some(_) => None,
-                None => Some(Claim {
-                    reading: picture.note(place, samples)?,
-                    piece: index,
-                    closes,
-                }),
+            let reading = picture.note(place, samples)?;
+            let claim = Claim {
+                reading,
+                piece: index,
+                closes,
             };
-            self.set_claim(place, claim);
+            self.set_claim(place, Some(claim));
         }
         for line in count..piece.interval.line_count() {
             self.set_claim(piece.interval.place(line), None);

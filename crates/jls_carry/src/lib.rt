@@ -13,7 +13,7 @@
 //! - `claims`: what a copy says by itself, behind what is known
 //! - `shifts`, `runs`: by how much bytes of a copy are moved. Where a code and a copy have the same bytes
 //! - `chains`: lines of one copy in the code of another, and how many of them its bytes confirm
-//! - `settling`, `closing`: which lines are settled. Pieces that close by themselves
+//! - `settling`, `between`, `closing`: which lines are settled. Lines between settled ones, and pieces that close by themselves
 //! - `rounds`: all of that, until nothing more is decided
 //! - `mending`, `edits`: the mended file of a coding, and the edits that make it of each copy
 //! - `layouts`: the headers that are believed of each copy
@@ -31,13 +31,16 @@
 //! 4. Lines are taken in order. A chain ends at the first that is not.
 //! 5. Behind a dispute each copy goes on with its own reading, and a later line wants both.
 //! 6. A reading that another copy has, and nobody tested, holds the line back. A sample that a coding can't say refutes it there.
-//! 7. Pieces that close by themselves count only where nothing else goes on, in copies that agree with another somewhere, and if no
-//!    reading conflicts.
+//! 7. Where nothing else goes on, lines that a copy reads in one piece between settled ones are taken, if two rows behind them are settled as
+//!    it says.
+//! 8. Pieces that close by themselves count only where nothing else goes on, in copies that agree with another somewhere, and if no such
+//!    piece says otherwise.
 //!
 //! Where two copies have the same code, that code anew says nothing of its truth: garbage, coded anew, is the same garbage. There only what
 //! agrees from the start of an interval on is taken.
 #![tactic(auto)]
 
+mod between;
 mod chains;
 mod claims;
 mod closing;
@@ -103,16 +106,22 @@ fn copies_of(alloc: Global, codings: &[usize], coding: usize) -> Result<Vec<usiz
     Ok(numbers)
 }
 
-/// Proposes mended files of copies in different codings, one for each coding, in the order of their first copies. `codings` has a number
-/// for each copy, the same for those of one coding. A coding of which no copy has headers that read, or none of the picture's shape, has no
-/// mended file. The shape is that of the first copy whose headers read, but for the precision. `Err` comes where memory is refused.
+/// What copies bring back of each other.
+#[derive(Drop)]
+pub struct Carried {
+    /// The mended files, in the order of the first copies of their codings.
+    pub codings: Vec<MendedCoding>,
+    /// The lines of the picture that are settled, row by row, and in a row by component.
+    pub lines: Vec<Option<Vec<u16>>>,
+}
+
+/// What copies in different codings bring back of each other: the lines that are settled, and a mended file of each coding. `codings` has a
+/// number for each copy, the same for those of one coding. A coding has no mended file if no copy of it has headers that read, or if these
+/// are of a picture of another shape. The shape is that of the first copy whose headers read, but for the precision. `Err` comes where
+/// memory is refused.
 ///
-/// Nothing is promised of what is proposed, but that the edits make the file.
-pub fn carry(
-    alloc: Global,
-    copies: &[&[u8]],
-    codings: &[usize],
-) -> Result<Vec<MendedCoding>, AllocError> {
+/// No contract speaks of what is found.
+pub fn carry(alloc: Global, copies: &[&[u8]], codings: &[usize]) -> Result<Carried, AllocError> {
     let Layouts {
         lines,
         layouts,
@@ -144,5 +153,8 @@ pub fn carry(
         let numbers = copies_of(alloc, codings, *coding)?;
         mended.push(mended_coding(alloc, copies, numbers, bytes)?)?;
     }
-    Ok(mended)
+    Ok(Carried {
+        codings: mended,
+        lines: picture.into_lines()?,
+    })
 }

@@ -63,7 +63,8 @@ impl Picture {
         self.lines.len()
     }
 
-    /// Notes a reading of the line at this place, and answers its index. The place has to be one of the picture.
+    /// Notes a reading of the line at this place, and answers its index. The place has to be one of the picture. Of a settled line no other
+    /// reading is kept, so that its index says only that it is another.
     pub(crate) fn note(&mut self, place: usize, samples: Vec<u16>) -> Result<usize, AllocError> {
         let Some(line) = self.lines.get_mut(place) else {
             return Ok(0);
@@ -75,6 +76,11 @@ impl Picture {
         }
         let index = line.readings.len();
         let largest = largest_of(&samples);
+        let samples = if line.settled.is_some() {
+            Vec::new(self.alloc)
+        } else {
+            samples
+        };
         line.readings.push(Reading { samples, largest })?;
         Ok(index)
     }
@@ -154,5 +160,27 @@ impl Picture {
         if let Some(line) = self.lines.get_mut(place) {
             line.disputed = readings;
         }
+    }
+
+    /// The lines that are settled.
+    pub(crate) fn into_lines(self) -> Result<Vec<Option<Vec<u16>>>, AllocError> {
+        let Picture { alloc, lines } = self;
+        let mut all = Vec::new(alloc);
+        for line in lines {
+            let Line {
+                mut readings,
+                settled,
+                ..
+            } = line;
+            let reading = match settled {
+                Some(index) if index < readings.len() => Some(readings.swap_remove(index)),
+                _ => None,
+            };
+            all.push(reading.map(|reading| {
+                let Reading { samples, .. } = reading;
+                samples
+            }))?;
+        }
+        Ok(all)
     }
 }

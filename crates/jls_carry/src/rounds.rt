@@ -1,5 +1,6 @@
 //! The rule of carry: rounds, in each of which copies are read on, and confirm each other's lines.
 
+use crate::between::settle_between;
 use crate::chains::{Chain, compare};
 use crate::claims::CopyState;
 use crate::closing::settle_closed;
@@ -69,7 +70,7 @@ fn go_on(
         ..
     } = settling;
     *linked = now;
-    if is_any {
+    if is_any || settle_between(alloc, picture, copies, &tested)? {
         return Ok(true);
     }
     settle_closed(alloc, picture, copies, &chains, linked)

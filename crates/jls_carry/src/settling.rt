@@ -1,5 +1,6 @@
 //! Which lines are settled: in the order of the picture, each by what the chains say of it.
 
+use crate::between::is_held_back;
 use crate::chains::Chain;
 use crate::claims::CopyState;
 use crate::picture::{OwnReading, Picture};
@@ -32,7 +33,7 @@ impl Tested {
         }
     }
 
-    fn has(&self, copy: usize, place: usize) -> bool {
+    pub(crate) fn has(&self, copy: usize, place: usize) -> bool {
         match self.lines.get(copy) {
             None => false,
             Some(lines) => lines.get(place).copied().unwrap_or(false),
@@ -157,18 +158,6 @@ impl Settling<'_, '_> {
         Ok(copies.len())
     }
 
-    /// Whether some copy says otherwise, and nobody has tested that.
-    fn is_held_back(&self, place: usize, reading: usize) -> bool {
-        for copy in self.copies {
-            if let Some(claim) = copy.claim(place) {
-                if claim.reading != reading && !self.tested.has(copy.number, place) {
-                    return true;
-                }
-            }
-        }
-        false
-    }
-
     /// How many rows all chains of these readings confirm from this line on.
     fn rows_in_common(&self, readings: &[Confirmed]) -> usize {
         let mut rows = usize::MAX;
@@ -241,7 +230,7 @@ impl Settling<'_, '_> {
         let [only] = readings else {
             return self.chosen(readings);
         };
-        if self.support(only)? < 2 && self.is_held_back(place, only.reading) {
+        if self.support(only)? < 2 && is_held_back(self.copies, self.tested, place, only.reading) {
             return Ok(None);
         }
         Ok(Some(only.reading))

@@ -30,7 +30,7 @@ fn found_of(
     second: &[u8],
     files: [&[u8]; 2],
 ) -> Result<Found, AllocError> {
-    let mended = carry(alloc, &[first, second], &[0, 1])?;
+    let mended = carry(alloc, &[first, second], &[0, 1])?.codings;
     let mut edits = 0usize;
     let mut edited = 0usize;
     for coding in mended.iter() {
