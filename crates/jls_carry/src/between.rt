@@ -1,8 +1,8 @@
 //! Lines that a copy reads between others that are settled.
 //!
-//! A zeroed sector often covers a restart marker, and then the last lines of one interval and the first of the next are in no run: no copy's
-//! bytes confirm them. But a copy of other intervals may have read on over them in one piece. If a line were wrong there, those behind it
-//! would be too, since they are coded against it.
+//! A zeroed sector often covers a restart marker. Then no run has the last lines of the interval before it, and no copy's bytes confirm
+//! them. But a copy of other intervals may have read on over them in one piece. If a line were wrong there, those behind it would be too,
+//! since they are coded against it.
 
 use crate::claims::CopyState;
 use crate::picture::Picture;
@@ -34,8 +34,8 @@ fn count_settled(picture: &Picture, piece: &Piece) -> usize {
     count
 }
 
-/// The line behind the open ones that follow the settled lines of a piece, if the piece says of all of these what a copy reads, and of
-/// enough lines behind them what is settled.
+/// The line behind the open ones that follow the settled lines of a piece. `None` comes unless the copy reads all of these in this piece,
+/// and says of enough lines behind them what is settled.
 fn end_of_open(
     picture: &Picture,
     copy: &CopyState<'_>,

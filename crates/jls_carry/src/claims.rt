@@ -63,7 +63,7 @@ pub(crate) fn bytes_of<'a>(copy: &'a [u8], piece: &Piece) -> &'a [u8] {
     copy.get(piece.start..piece.end).unwrap_or(&[])
 }
 
-/// The readings with which a copy goes on at the first lines of an interval, as far as it has some that can be coded there.
+/// The readings with which a copy goes on at the first lines of an interval, up to the first that it lacks or that can't be coded there.
 pub(crate) fn own_readings(
     alloc: Global,
     picture: &Picture,

@@ -26,15 +26,15 @@
 //! 1. A run counts from 8 equal bytes on that no period up to 16 foretells, with a whole line of each component in it.
 //! 2. One gap a round: lines are taken to the end of the first run behind a gap of the other copy. Then that copy is mended, and speaks
 //!    itself.
-//! 3. Where two readings of a line are confirmed, it is disputed, unless exactly one stands unbroken in two copies, or one leaves under a
+//! 3. Where two readings of a line are confirmed, it is disputed. One is taken if it alone stands unbroken in two copies, or leaves under a
 //!    quarter of the other's unmatched bytes.
 //! 4. Lines are taken in order. A chain ends at the first that is not.
 //! 5. Behind a dispute each copy goes on with its own reading, and a later line wants both.
 //! 6. A reading that another copy has, and nobody tested, holds the line back. A sample that a coding can't say refutes it there.
-//! 7. Where nothing else goes on, lines that a copy reads in one piece between settled ones are taken, if two rows behind them are settled as
-//!    it says.
-//! 8. Pieces that close by themselves count only where nothing else goes on, in copies that agree with another somewhere, and if no such
-//!    piece says otherwise.
+//! 7. Where nothing else goes on, lines that a copy reads in one piece between settled ones are taken. Two rows behind them have to be
+//!    settled as it says.
+//! 8. Pieces that close by themselves count only where nothing else goes on, and in copies that agree with another somewhere. No such piece
+//!    may say otherwise.
 //!
 //! Where two copies have the same code, that code anew says nothing of its truth: garbage, coded anew, is the same garbage. There only what
 //! agrees from the start of an interval on is taken.
