@@ -1,0 +1,150 @@
+//! Lines that a copy reads between others that are settled.
+//!
+//! A zeroed sector often covers a restart marker. Then no run has the last lines of the interval before it, and no copy's bytes confirm
+//! them. But a copy of other intervals may have read on over them in one piece. If a line were wrong there, those behind it would be too,
+//! since they are coded against it.
+
+use crate::claims::CopyState;
+use crate::picture::Picture;
+use crate::pieces::Piece;
+use crate::settling::Tested;
+use std::alloc::{AllocError, Global};
+
+/// How many rows behind such lines have to be settled as the copy says.
+const ROWS_BEHIND: usize = 2;
+
+/// The reading of a line by a piece of a copy.
+fn reading_by(copy: &CopyState<'_>, index: usize, place: usize) -> Option<usize> {
+    let claim = copy.claim(place)?;
+    if claim.piece == index {
+        Some(claim.reading)
+    } else {
+        None
+    }
+}
+
+/// How many of the first lines of a piece are settled.
+fn count_settled(picture: &Picture, piece: &Piece) -> usize {
+    let count = piece.interval.line_count();
+    for line in 0..count {
+        if picture.settled(piece.interval.place(line)).is_none() {
+            return line;
+        }
+    }
+    count
+}
+
+/// The line behind the open ones that follow the settled lines of a piece. `None` comes unless the copy reads all of these in this piece,
+/// and says of enough lines behind them what is settled.
+fn end_of_open(
+    picture: &Picture,
+    copy: &CopyState<'_>,
+    index: usize,
+    piece: &Piece,
+    first: usize,
+) -> Option<usize> {
+    let wanted = usize::from(piece.interval.components).saturating_mul(ROWS_BEHIND);
+    let mut end = None;
+    let mut behind = 0usize;
+    for line in first..piece.interval.line_count() {
+        let place = piece.interval.place(line);
+        let reading = reading_by(copy, index, place)?;
+        if picture.is_open(place) {
+            if end.is_some() {
+                return None;
+            }
+            continue;
+        }
+        if picture.settled(place) != Some(reading) {
+            return None;
+        }
+        end = Some(end.unwrap_or(line));
+        behind = behind.saturating_add(1);
+        if behind >= wanted {
+            return end;
+        }
+    }
+    None
+}
+
+/// Whether some copy says otherwise of a line, and nobody has tested that.
+pub(crate) fn is_held_back(
+    copies: &[CopyState<'_>],
+    tested: &Tested,
+    place: usize,
+    reading: usize,
+) -> bool {
+    for copy in copies {
+        if let Some(claim) = copy.claim(place) {
+            if claim.reading != reading && !tested.has(copy.number, place) {
+                return true;
+            }
+        }
+    }
+    false
+}
+
+/// What is proposed for a line.
+#[derive(Clone, Copy)]
+enum Proposal {
+    Nothing,
+    Reading(usize),
+    /// Two copies propose different readings.
+    Conflict,
+}
+
+/// Proposes the open lines that a piece reads between settled ones.
+fn propose(
+    proposals: &mut [Proposal],
+    picture: &Picture,
+    copies: &[CopyState<'_>],
+    tested: &Tested,
+    copy: &CopyState<'_>,
+    index: usize,
+    piece: &Piece,
+) {
+    let first = count_settled(picture, piece);
+    let Some(end) = end_of_open(picture, copy, index, piece, first) else {
+        return;
+    };
+    for line in first..end {
+        let place = piece.interval.place(line);
+        let Some(reading) = reading_by(copy, index, place) else {
+            return;
+        };
+        if is_held_back(copies, tested, place, reading) {
+            return;
+        }
+        if let Some(proposal) = proposals.get_mut(place) {
+            *proposal = match *proposal {
+                Proposal::Nothing => Proposal::Reading(reading),
+                Proposal::Reading(other) if other == reading => Proposal::Reading(other),
+                _ => Proposal::Conflict,
+            };
+        }
+    }
+}
+
+/// Settles lines that a copy reads between settled ones of the same piece, if no other copy proposes another reading. Answers whether one was
+/// settled.
+pub(crate) fn settle_between(
+    alloc: Global,
+    picture: &mut Picture,
+    copies: &[CopyState<'_>],
+    tested: &Tested,
+) -> Result<bool, AllocError> {
+    let mut proposals = vec![in alloc; Proposal::Nothing; picture.len()]?;
+    for copy in copies {
+        for (index, piece) in copy.pieces.iter().enumerate() {
+            propose(&mut proposals, picture, copies, tested, copy, index, piece);
+        }
+    }
+    let mut is_any = false;
+    for (place, proposal) in proposals.iter().enumerate() {
+        if let Proposal::Reading(reading) = proposal {
+            picture.settle(place, *reading);
+            is_any = true;
+        }
+    }
+    Ok(is_any)
+}

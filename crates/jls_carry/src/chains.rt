@@ -1,0 +1,347 @@
+//! Chains: lines of one copy in the code of another, which confirms them as far as it has the same bytes.
+
+use crate::claims::{CopyState, bytes_of, code_of};
+use crate::code::FirstCode;
+use crate::picture::Picture;
+use crate::pieces::Piece;
+use crate::runs::{Run, add_runs};
+use crate::shifts::{Shift, shifts_of};
+use std::alloc::{AllocError, Global};
+
+/// First lines of an interval of one copy, as another copy says them, and what confirms them.
+#[derive(Drop)]
+pub(crate) struct Chain {
+    /// The copy that says the lines.
+    pub(crate) giver: usize,
+    /// The copy in whose code they are.
+    pub(crate) taker: usize,
+    /// The piece of that copy.
+    pub(crate) piece: Piece,
+    /// The readings of the lines.
+    pub(crate) readings: Vec<usize>,
+    /// How many whole bytes of the code stand before the end of each line.
+    ends: Vec<usize>,
+    /// How many bytes the code fills.
+    length: usize,
+    /// The runs that count, in order.
+    runs: Vec<Run>,
+    /// How many lines are confirmed.
+    pub(crate) confirmed: usize,
+    /// The first line that nothing is decided of.
+    pub(crate) fresh: usize,
+    /// Whether both copies have the same code here. Then the same bytes say nothing, except without a gap.
+    pub(crate) is_twin: bool,
+    /// Whether it stands behind a dispute.
+    pub(crate) is_forked: bool,
+    /// Whether each of its lines so far was settled as it says.
+    pub(crate) is_alive: bool,
+}
+
+/// How many bytes of a stretch stand in runs, and how many don't.
+#[derive(Clone, Copy)]
+pub(crate) struct Matched {
+    pub(crate) alike: usize,
+    pub(crate) others: usize,
+}
+
+/// How many of these numbers, which rise, are below a bound.
+fn count_below(ends: &[usize], bound: usize) -> usize {
+    let mut low = 0usize;
+    let mut high = ends.len();
+    for _ in 0..usize::BITS {
+        if low >= high {
+            break;
+        }
+        let middle = low.saturating_add(high.saturating_sub(low) / 2);
+        match ends.get(middle) {
+            Some(end) if *end < bound => low = middle.saturating_add(1),
+            _ => high = middle,
+        }
+    }
+    low
+}
+
+impl Chain {
+    /// How many whole bytes of the code stand before a line.
+    fn begin_of(&self, line: usize) -> usize {
+        match line.checked_sub(1) {
+            None => 0,
+            Some(before) => self.end_of(before),
+        }
+    }
+
+    /// How many whole bytes of the code stand before the end of a line.
+    fn end_of(&self, line: usize) -> usize {
+        self.ends.get(line).copied().unwrap_or(self.length)
+    }
+
+    /// Whether all bytes of a line stand in one run.
+    pub(crate) fn is_unbroken(&self, line: usize) -> bool {
+        let begin = self.begin_of(line);
+        let end = self.end_of(line).saturating_add(1).min(self.length);
+        self.runs
+            .iter()
+            .any(|run| run.begin <= begin && end <= run.end)
+    }
+
+    /// How many bytes of the lines from one to another stand in runs.
+    pub(crate) fn matched(&self, first: usize, last: usize) -> Matched {
+        let begin = self.begin_of(first);
+        let end = self.end_of(last);
+        let mut at = begin;
+        let mut alike = 0usize;
+        for run in self.runs.iter() {
+            let from = run.begin.max(at);
+            let to = run.end.min(end);
+            if to > from {
+                alike = alike.saturating_add(to.saturating_sub(from));
+                at = to;
+            }
+        }
+        Matched {
+            alike,
+            others: end.saturating_sub(begin).saturating_sub(alike),
+        }
+    }
+}
+
+/// Lines that a copy says, before they are compared.
+#[derive(Drop)]
+struct Said {
+    readings: Vec<usize>,
+    /// The first line that nothing is decided of.
+    fresh: Option<usize>,
+    is_twin: bool,
+    is_forked: bool,
+    /// Whether the next line can't be coded by the taker.
+    is_refuted: bool,
+}
+
+/// The one reading that other copies than this one have of a line in pieces that close.
+fn only_closed(copies: &[CopyState<'_>], place: usize, taker: usize) -> Option<usize> {
+    let mut only = None;
+    for copy in copies {
+        if copy.number == taker {
+            continue;
+        }
+        if let Some(claim) = copy.claim(place) {
+            if claim.closes {
+                if only.is_some_and(|reading| reading != claim.reading) {
+                    return None;
+                }
+                only = Some(claim.reading);
+            }
+        }
+    }
+    only
+}
+
+/// Whether a copy has a claim on this line from a piece that is coded as this one.
+fn is_coded_alike(giver: &CopyState<'_>, place: usize, piece: &Piece) -> bool {
+    let Some(claim) = giver.claim(place) else {
+        return false;
+    };
+    match giver.pieces.get(claim.piece) {
+        None => false,
+        Some(other) => other.interval.is_coded_as(&piece.interval),
+    }
+}
+
+/// The first lines of a piece, as a copy says them: what is settled, and else what it claims.
+fn said_by(
+    alloc: Global,
+    picture: &Picture,
+    copies: &[CopyState<'_>],
+    giver: &CopyState<'_>,
+    taker: usize,
+    piece: &Piece,
+) -> Result<Said, AllocError> {
+    let mut said = Said {
+        readings: Vec::new(alloc),
+        fresh: None,
+        is_twin: false,
+        is_forked: false,
+        is_refuted: false,
+    };
+    let mut behind_dispute = false;
+    for line in 0..piece.interval.line_count() {
+        let place = piece.interval.place(line);
+        let settled = picture.settled(place);
+        let claimed = giver.claim(place).map(|claim| claim.reading);
+        let Some(reading) = settled.or(claimed).or(only_closed(copies, place, taker)) else {
+            break;
+        };
+        if picture.is_disputed(place) {
+            behind_dispute = true;
+        }
+        if picture.is_open(place) && said.fresh.is_none() {
+            said.fresh = Some(line);
+            said.is_forked = behind_dispute;
+        }
+        if !picture.is_at_most(place, reading, piece.interval.params.maxval()) {
+            said.is_refuted = true;
+            break;
+        }
+        if settled.is_none() && is_coded_alike(giver, place, piece) {
+            said.is_twin = true;
+        }
+        said.readings.push(reading)?;
+    }
+    Ok(said)
+}
+
+/// Lines in the code of a copy.
+#[derive(Drop)]
+struct Coded {
+    bytes: Vec<u8>,
+    /// How many whole bytes stand before the end of each line.
+    ends: Vec<usize>,
+    /// Whether they are all lines of their interval, with the byte that ends them.
+    is_whole: bool,
+}
+
+impl Coded {
+    /// All lines of a piece, or the first of them. The byte that ends a whole piece is the copy's own, if it can be.
+    fn of(code: FirstCode, is_whole: bool, own: Option<u8>) -> Result<Coded, AllocError> {
+        let last = if is_whole { code.last_byte(own) } else { None };
+        let FirstCode {
+            mut bytes,
+            ends,
+            ..
+        } = code;
+        if let Some(byte) = last {
+            bytes.push(byte)?;
+        }
+        Ok(Coded {
+            bytes,
+            ends,
+            is_whole,
+        })
+    }
+
+    /// How many lines end before a place.
+    fn lines_before(&self, place: usize) -> usize {
+        if self.is_whole && place >= self.bytes.len() {
+            self.ends.len()
+        } else {
+            count_below(&self.ends, place)
+        }
+    }
+
+    /// Whether a run has whole lines in it: one of each component.
+    fn has_lines(&self, run: &Run, components: usize) -> bool {
+        let begun = count_below(&self.ends, run.begin);
+        let count = self.lines_before(run.end).saturating_sub(begun);
+        count > components || (count == components && run.begin == 0)
+    }
+
+    /// The runs of the code and a copy that have whole lines in them, in order.
+    fn runs(
+        &self,
+        alloc: Global,
+        bytes: &[u8],
+        components: usize,
+        is_twin: bool,
+    ) -> Result<Vec<Run>, AllocError> {
+        let shifts = if is_twin {
+            vec![in alloc; Shift::NONE]?
+        } else {
+            shifts_of(alloc, &self.bytes, bytes)?
+        };
+        let mut all = Vec::new(alloc);
+        for shift in shifts {
+            add_runs(&mut all, &self.bytes, bytes, shift)?;
+        }
+        let mut runs: Vec<Run> = Vec::new(alloc);
+        for run in all {
+            if self.has_lines(&run, components) && (!is_twin || run.begin == 0) {
+                runs.push(run)?;
+            }
+        }
+        runs.sort_by_key(|run| (run.begin, run.end))?;
+        Ok(runs)
+    }
+
+    /// How many lines runs confirm, of which nothing is decided from a byte on. Only one gap is passed: what the copy gives behind that gap
+    /// is to be heard first.
+    fn count_confirmed(&self, runs: &[Run], fresh: usize) -> usize {
+        let mut first = None;
+        for run in runs {
+            if run.end <= fresh {
+                continue;
+            }
+            if first.is_some() || run.begin > fresh {
+                return self.lines_before(run.end);
+            }
+            first = Some(run.end);
+        }
+        match first {
+            None => 0,
+            Some(end) => self.lines_before(end),
+        }
+    }
+}
+
+/// What came of lines that a copy says in the code of another.
+#[derive(Drop)]
+pub(crate) struct Compared {
+    /// How many lines of the piece were compared with the bytes of the taker.
+    pub(crate) tested: usize,
+    /// The chain, unless all is decided already.
+    pub(crate) chain: Option<Chain>,
+}
+
+/// Compares the lines that one copy says with a piece of another copy.
+pub(crate) fn compare(
+    alloc: Global,
+    picture: &Picture,
+    copies: &[CopyState<'_>],
+    giver: &CopyState<'_>,
+    taker: &CopyState<'_>,
+    piece: &Piece,
+) -> Result<Compared, AllocError> {
+    let said = said_by(alloc, picture, copies, giver, taker.number, piece)?;
+    let refuted = if said.is_refuted {
+        piece.interval.line_count()
+    } else {
+        0
+    };
+    let Some(fresh) = said.fresh else {
+        return Ok(Compared {
+            tested: refuted,
+            chain: None,
+        });
+    };
+    let Some(code) = code_of(alloc, picture, &piece.interval, &said.readings)? else {
+        return Ok(Compared {
+            tested: refuted,
+            chain: None,
+        });
+    };
+    let components = usize::from(piece.interval.components);
+    let bytes = bytes_of(taker.bytes, piece);
+    let begin = code.begin_of(fresh);
+    let is_whole = said.readings.len() == piece.interval.line_count();
+    let code = Coded::of(code, is_whole, bytes.last().copied())?;
+    let runs = code.runs(alloc, bytes, components, said.is_twin)?;
+    let confirmed = code.count_confirmed(&runs, begin);
+    let tested = refuted.max(said.readings.len());
+    let chain = Chain {
+        giver: giver.number,
+        taker: taker.number,
+        piece: *piece,
+        readings: said.readings,
+        ends: code.ends,
+        length: code.bytes.len(),
+        runs,
+        confirmed,
+        fresh,
+        is_twin: said.is_twin,
+        is_forked: said.is_forked,
+        is_alive: true,
+    };
+    Ok(Compared {
+        tested,
+        chain: Some(chain),
+    })
+}

@@ -1,0 +1,286 @@
+//! What each copy says by itself: the lines that its pieces give behind those that are known.
+
+use crate::code::{FILLING, FirstCode, ReadLines, first_code, read_lines};
+use crate::interval::Interval;
+use crate::picture::Picture;
+use crate::pieces::{Layout, Piece};
+use crate::shifts::{NEAR, Shift, shifts_at_end};
+use std::alloc::{AllocError, Global};
+
+/// How many bytes before the end of a code a copy has to have, that no shift is sought.
+const AGREED: usize = 12;
+
+/// What a copy says of a line.
+#[derive(Clone, Copy)]
+pub(crate) struct Claim {
+    /// The index of the reading.
+    pub(crate) reading: usize,
+    /// The index of the piece that gave it.
+    pub(crate) piece: usize,
+    /// Whether that piece closes: its bytes end with its lines.
+    pub(crate) closes: bool,
+}
+
+/// How far a piece was read.
+#[derive(Clone, Copy)]
+pub(crate) struct Progress {
+    /// How many of its first lines were known.
+    taken: Option<usize>,
+    /// The shift behind them.
+    pub(crate) shift: Shift,
+}
+
+/// A copy, and what it says.
+#[derive(Drop)]
+pub(crate) struct CopyState<'a> {
+    pub(crate) number: usize,
+    pub(crate) bytes: &'a [u8],
+    pub(crate) pieces: Vec<Piece>,
+    pub(crate) progress: Vec<Progress>,
+    /// For each line of the picture.
+    pub(crate) claims: Vec<Option<Claim>>,
+}
+
+/// The lines that a piece gives if its bytes go on at a shift.
+#[derive(Drop)]
+struct Attempt {
+    read: ReadLines,
+    shift: Shift,
+}
+
+impl Attempt {
+    /// Whether it gives more than another: it closes, or has more lines.
+    fn is_better(&self, other: &Attempt) -> bool {
+        if self.read.closes != other.read.closes {
+            return self.read.closes;
+        }
+        self.read.lines.len() > other.read.lines.len()
+    }
+}
+
+/// The bytes of a piece.
+pub(crate) fn bytes_of<'a>(copy: &'a [u8], piece: &Piece) -> &'a [u8] {
+    copy.get(piece.start..piece.end).unwrap_or(&[])
+}
+
+/// The readings with which a copy goes on at the first lines of an interval, up to the first that it lacks or that can't be coded there.
+pub(crate) fn own_readings(
+    alloc: Global,
+    picture: &Picture,
+    copy: usize,
+    interval: &Interval,
+) -> Result<Vec<usize>, AllocError> {
+    let mut readings = Vec::new(alloc);
+    for line in 0..interval.line_count() {
+        let place = interval.place(line);
+        let Some(reading) = picture.own(place, copy) else {
+            break;
+        };
+        if !picture.is_at_most(place, reading, interval.params.maxval()) {
+            break;
+        }
+        readings.push(reading)?;
+    }
+    Ok(readings)
+}
+
+/// The code of these readings of the first lines of an interval; `None` where they can't be coded there.
+pub(crate) fn code_of(
+    alloc: Global,
+    picture: &Picture,
+    interval: &Interval,
+    readings: &[usize],
+) -> Result<Option<FirstCode>, AllocError> {
+    let blank = vec![in alloc; 0u16; usize::from(interval.width)]?;
+    let mut lines: Vec<&[u16]> = Vec::new(alloc);
+    for (line, reading) in readings.iter().enumerate() {
+        lines.push(picture.samples(interval.place(line), *reading))?;
+    }
+    for _ in 0..interval.lines_to_fill(readings.len(), FILLING) {
+        lines.push(&blank)?;
+    }
+    first_code(alloc, interval, &lines, readings.len())
+}
+
+/// Whether a copy has the last bytes of a code at their place.
+fn agrees_at_end(code: &[u8], copy: &[u8]) -> bool {
+    let begin = code.len().saturating_sub(AGREED);
+    match (code.get(begin..), copy.get(begin..code.len())) {
+        (Some(last), Some(own)) => *last == *own,
+        _ => false,
+    }
+}
+
+/// The shifts to be tried behind the code of the known lines of a piece.
+fn shifts_to_try(
+    alloc: Global,
+    piece: &Piece,
+    code: &[u8],
+    bytes: &[u8],
+) -> Result<Vec<Shift>, AllocError> {
+    let mut shifts = Vec::new(alloc);
+    if !piece.begins {
+        return shifts_at_end(alloc, code, bytes, usize::MAX);
+    }
+    if !code.is_empty() && !agrees_at_end(code, bytes) {
+        shifts = shifts_at_end(alloc, code, bytes, NEAR)?;
+    }
+    if !shifts.contains(&Shift::NONE) {
+        shifts.push(Shift::NONE)?;
+    }
+    Ok(shifts)
+}
+
+/// The best that a piece gives, over the shifts to be tried; `None` where there is none to be tried.
+fn best_attempt(
+    alloc: Global,
+    piece: &Piece,
+    code: &FirstCode,
+    bytes: &[u8],
+) -> Result<Option<Attempt>, AllocError> {
+    let mut best: Option<Attempt> = None;
+    for shift in shifts_to_try(alloc, piece, &code.bytes, bytes)? {
+        let rest = match shift.in_copy(code.bytes.len()) {
+            None => bytes,
+            Some(place) => bytes.get(place..).unwrap_or(&[]),
+        };
+        let all = code.followed_by(alloc, rest)?;
+        let attempt = Attempt {
+            read: read_lines(alloc, &piece.interval, &all)?,
+            shift,
+        };
+        let is_better = match &best {
+            None => true,
+            Some(best) => attempt.is_better(best),
+        };
+        if is_better {
+            best = Some(attempt);
+        }
+    }
+    Ok(best)
+}
+
+impl<'a> CopyState<'a> {
+    /// A copy that has said nothing, of a picture of so many lines.
+    pub(crate) fn new(
+        alloc: Global,
+        number: usize,
+        bytes: &'a [u8],
+        layout: Option<Layout>,
+        lines: usize,
+    ) -> Result<CopyState<'a>, AllocError> {
+        let pieces = match layout {
+            None => Vec::new(alloc),
+            Some(layout) => {
+                let Layout { pieces, .. } = layout;
+                pieces
+            }
+        };
+        let none = Progress {
+            taken: None,
+            shift: Shift::NONE,
+        };
+        let progress = vec![in alloc; none; pieces.len()]?;
+        Ok(CopyState {
+            number,
+            bytes,
+            pieces,
+            progress,
+            claims: vec![in alloc; None; lines]?,
+        })
+    }
+
+    /// What it says of a line.
+    pub(crate) fn claim(&self, place: usize) -> Option<Claim> {
+        self.claims.get(place).copied().flatten()
+    }
+
+    fn set_claim(&mut self, place: usize, claim: Option<Claim>) {
+        if let Some(slot) = self.claims.get_mut(place) {
+            *slot = claim;
+        }
+    }
+
+    /// Claims known readings of the first lines of a piece.
+    fn claim_known(&mut self, index: usize, piece: &Piece, readings: &[usize]) {
+        for (line, reading) in readings.iter().enumerate() {
+            let claim = Claim {
+                reading: *reading,
+                piece: index,
+                closes: false,
+            };
+            self.set_claim(piece.interval.place(line), Some(claim));
+        }
+    }
+
+    /// Claims the lines that a piece gives, and nothing of those behind them.
+    fn claim_lines(
+        &mut self,
+        picture: &mut Picture,
+        index: usize,
+        piece: &Piece,
+        read: ReadLines,
+    ) -> Result<(), AllocError> {
+        let ReadLines { lines, closes } = read;
+        let count = lines.len();
+        for (line, samples) in lines.into_iter().enumerate() {
+            let place = piece.interval.place(line);
+            let reading = picture.note(place, samples)?;
+            let claim = Claim {
+                reading,
+                piece: index,
+                closes,
+            };
+            self.set_claim(place, Some(claim));
+        }
+        for line in count..piece.interval.line_count() {
+            self.set_claim(piece.interval.place(line), None);
+        }
+        Ok(())
+    }
+
+    /// Reads a piece on from what is known, if more is known than before.
+    fn read_piece(
+        &mut self,
+        alloc: Global,
+        picture: &mut Picture,
+        index: usize,
+        piece: &Piece,
+    ) -> Result<(), AllocError> {
+        let readings = own_readings(alloc, picture, self.number, &piece.interval)?;
+        let Some(progress) = self.progress.get_mut(index) else {
+            return Ok(());
+        };
+        if progress.taken == Some(readings.len()) {
+            return Ok(());
+        }
+        progress.taken = Some(readings.len());
+        if readings.len() == piece.interval.line_count() {
+            self.claim_known(index, piece, &readings);
+            return Ok(());
+        }
+        let Some(code) = code_of(alloc, picture, &piece.interval, &readings)? else {
+            return Ok(());
+        };
+        let bytes = bytes_of(self.bytes, piece);
+        if let Some(attempt) = best_attempt(alloc, piece, &code, bytes)? {
+            progress.shift = attempt.shift;
+            self.claim_lines(picture, index, piece, attempt.read)?;
+        }
+        Ok(())
+    }
+
+    /// Reads each piece on from what is known.
+    pub(crate) fn read_on(
+        &mut self,
+        alloc: Global,
+        picture: &mut Picture,
+    ) -> Result<(), AllocError> {
+        for index in 0..self.pieces.len() {
+            if let Some(piece) = self.pieces.get(index).copied() {
+                self.read_piece(alloc, picture, index, &piece)?;
+            }
+        }
+        Ok(())
+    }
+}

@@ -1,0 +1,132 @@
+//! Pieces that close by themselves: they count where nothing else goes on.
+
+use crate::chains::Chain;
+use crate::claims::{CopyState, bytes_of, code_of};
+use crate::code::read_lines;
+use crate::picture::Picture;
+use crate::runs::{FIRM, Run, add_runs};
+use crate::shifts::shifts_of;
+use std::alloc::{AllocError, Global};
+
+/// How many mixed pieces are tried for a chain.
+const MOST_MIXED: usize = 16;
+
+/// A reading of the line at a place.
+#[derive(Clone, Copy)]
+struct Closed {
+    place: usize,
+    reading: usize,
+}
+
+/// Where the code that a copy says goes on with the bytes of another, of the same coding: behind each stretch in which they agree.
+fn runs_to_mix(alloc: Global, code: &[u8], bytes: &[u8]) -> Result<Vec<Run>, AllocError> {
+    let mut runs = Vec::new(alloc);
+    for shift in shifts_of(alloc, code, bytes)? {
+        add_runs(&mut runs, code, bytes, shift)?;
+    }
+    Ok(runs)
+}
+
+/// Adds the lines of pieces that close, of which one copy has the first bytes, and another of the same coding has the others.
+fn add_mixed(
+    alloc: Global,
+    picture: &mut Picture,
+    taker: &CopyState<'_>,
+    chain: &Chain,
+    closed: &mut Vec<Closed>,
+) -> Result<(), AllocError> {
+    let interval = &chain.piece.interval;
+    let bytes = bytes_of(taker.bytes, &chain.piece);
+    let Some(code) = code_of(alloc, picture, interval, &chain.readings)? else {
+        return Ok(());
+    };
+    let fresh = code.begin_of(chain.fresh);
+    for run in runs_to_mix(alloc, &code.bytes, bytes)?
+        .iter()
+        .filter(|run| run.end > fresh)
+        .take(MOST_MIXED)
+    {
+        let place = run.begin.saturating_add(FIRM / 2);
+        let Some(rest) = run.shift.in_copy(place).and_then(|from| bytes.get(from..)) else {
+            continue;
+        };
+        let mut all = Vec::from_slice(alloc, code.bytes.get(..place).unwrap_or(&[]))?;
+        all.extend_from_slice(rest)?;
+        let read = read_lines(alloc, interval, &all)?;
+        if read.closes {
+            for (line, samples) in read.lines.into_iter().enumerate() {
+                let place = interval.place(line);
+                if picture.is_open(place) {
+                    let reading = picture.note(place, samples)?;
+                    closed.push(Closed { place, reading })?;
+                }
+            }
+        }
+    }
+    Ok(())
+}
+
+/// Adds the lines that a copy has from pieces that close.
+fn add_closed(
+    picture: &Picture,
+    copy: &CopyState<'_>,
+    closed: &mut Vec<Closed>,
+) -> Result<(), AllocError> {
+    for (place, claim) in copy.claims.iter().enumerate() {
+        if let Some(claim) = claim {
+            if claim.closes && picture.is_open(place) {
+                closed.push(Closed {
+                    place,
+                    reading: claim.reading,
+                })?;
+            }
+        }
+    }
+    Ok(())
+}
+
+/// Settles the lines of pieces that close in copies that agree with another somewhere, if all such pieces say the same of them. Answers
+/// whether one was settled.
+pub(crate) fn settle_closed(
+    alloc: Global,
+    picture: &mut Picture,
+    copies: &[CopyState<'_>],
+    chains: &[Chain],
+    linked: &[bool],
+) -> Result<bool, AllocError> {
+    let is_linked = |copy: usize| linked.get(copy).copied().unwrap_or(false);
+    let mut closed = Vec::new(alloc);
+    for chain in chains {
+        if chain.is_twin && is_linked(chain.giver) && is_linked(chain.taker) {
+            if let Some(taker) = copies.get(chain.taker) {
+                add_mixed(alloc, picture, taker, chain, &mut closed)?;
+            }
+        }
+    }
+    for copy in copies {
+        if is_linked(copy.number) {
+            add_closed(picture, copy, &mut closed)?;
+        }
+    }
+    let mut only: Vec<Option<usize>> = vec![in alloc; None; picture.len()]?;
+    let mut conflicts = vec![in alloc; false; picture.len()]?;
+    for found in closed.iter() {
+        if let (Some(slot), Some(is_conflict)) = (
+            only.get_mut(found.place),
+            conflicts.get_mut(found.place),
+        ) {
+            match *slot {
+                Some(reading) if reading != found.reading => *is_conflict = true,
+                _ => *slot = Some(found.reading),
+            }
+        }
+    }
+    let mut is_any = false;
+    for (place, (slot, is_conflict)) in only.iter().zip(conflicts.iter()).enumerate() {
+        if let (Some(reading), false) = (slot, is_conflict) {
+            picture.settle(place, *reading);
+            is_any = true;
+        }
+    }
+    Ok(is_any)
+}

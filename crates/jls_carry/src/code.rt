@@ -1,0 +1,265 @@
+//! The code of first lines of an interval, and the lines that bytes begin with.
+//!
+//! First lines determine the first bytes of the interval's code, to the last whole byte. So a piece of which first lines are known is these
+//! bytes, and then what its copy has.
+
+use crate::interval::Interval;
+use jls_bits::BitPlace;
+use jls_copy::next_cut;
+use jls_interval::{CutEnd, FinishedLines, IntervalDecoder, encode_front, fits};
+use std::alloc::{AllocError, Global};
+
+/// So many more lines fill the byte in which the last line ends, since each has one bit at least.
+pub(crate) const FILLING: usize = 8;
+
+/// The first bits of a byte. The others stand in the low bits.
+#[derive(Clone, Copy)]
+pub(crate) struct FirstBits {
+    value: u8,
+    /// The bits of the byte that are open.
+    open: u8,
+}
+
+/// The code of some first lines.
+#[derive(Drop)]
+pub(crate) struct FirstCode {
+    /// The bytes that it fills.
+    pub(crate) bytes: Vec<u8>,
+    /// The bits behind these bytes, if there are any.
+    pub(crate) more: Option<FirstBits>,
+    /// How many whole bytes stand before the end of each line.
+    pub(crate) ends: Vec<usize>,
+}
+
+impl FirstBits {
+    /// The byte with these bits, and the others of an own byte.
+    pub(crate) fn completed(&self, own: u8) -> u8 {
+        self.value | (own & self.open)
+    }
+
+    /// Whether a byte begins with these bits.
+    pub(crate) fn begin(&self, byte: u8) -> bool {
+        self.completed(byte) == byte
+    }
+}
+
+impl FirstCode {
+    /// The code of no line.
+    fn empty(alloc: Global) -> FirstCode {
+        FirstCode {
+            bytes: Vec::new(alloc),
+            more: None,
+            ends: Vec::new(alloc),
+        }
+    }
+
+    /// The byte that ends a piece behind the bytes that its code fills, if there is one. The bits behind the code are free: they are those
+    /// of the copy's own last byte, if it carries the same code, and else zeros. Behind FF a byte is needed (T.87 A.1).
+    pub(crate) fn last_byte(&self, own: Option<u8>) -> Option<u8> {
+        match self.more {
+            Some(bits) => match own {
+                Some(byte) if bits.begin(byte) => Some(byte),
+                _ => Some(bits.completed(0)),
+            },
+            None => {
+                if self.bytes.last().copied() != Some(0xFF) {
+                    return None;
+                }
+                match own {
+                    Some(byte) if byte < 0x80 => Some(byte),
+                    _ => Some(0),
+                }
+            }
+        }
+    }
+
+    /// How many whole bytes stand before a line.
+    pub(crate) fn begin_of(&self, line: usize) -> usize {
+        match line.checked_sub(1) {
+            None => 0,
+            Some(before) => self.ends.get(before).copied().unwrap_or(0),
+        }
+    }
+
+    /// The bytes, and then these of the copy, the first of which completes the last bits of the code.
+    pub(crate) fn followed_by(&self, alloc: Global, rest: &[u8]) -> Result<Vec<u8>, AllocError> {
+        let mut all = Vec::from_slice(alloc, &self.bytes)?;
+        match (self.more, rest) {
+            (Some(bits), [own, others @ ..]) => {
+                all.push(bits.completed(*own))?;
+                all.extend_from_slice(others)?;
+            }
+            _ => all.extend_from_slice(rest)?,
+        }
+        Ok(all)
+    }
+}
+
+/// The bits of the byte that stands before a place in it. A byte behind FF has seven data bits (T.87 A.1).
+fn bits_before(bytes: &[u8], place: BitPlace) -> Option<FirstBits> {
+    if place.bits == 0 {
+        return None;
+    }
+    let byte = *bytes.get(place.bytes)?;
+    let before = match place.bytes.checked_sub(1) {
+        None => 0,
+        Some(before) => bytes.get(before).copied().unwrap_or(0),
+    };
+    let size = if before == 0xFF { 7u8 } else { 8 };
+    let open = 0xFFu8.checked_shr(u32::from(8u8.saturating_sub(size.saturating_sub(place.bits))));
+    let open = open.unwrap_or(0);
+    Some(FirstBits {
+        value: byte & !open,
+        open,
+    })
+}
+
+/// The code of the first lines of an interval, so many of these. Blank lines stand behind them, at least 8, up to whole rows. `None` comes
+/// where they can't be coded under its parameters.
+pub(crate) fn first_code(
+    alloc: Global,
+    interval: &Interval,
+    lines: &[&[u16]],
+    count: usize,
+) -> Result<Option<FirstCode>, AllocError> {
+    let Some(last) = count.checked_sub(1) else {
+        return Ok(Some(FirstCode::empty(alloc)));
+    };
+    if !fits(&interval.params, interval.width, interval.components, lines) {
+        return Ok(None);
+    }
+    let front = encode_front(
+        alloc,
+        &interval.params,
+        interval.width,
+        interval.components,
+        lines,
+    )?;
+    let Some(place) = front.ends.get(last).copied() else {
+        return Ok(None);
+    };
+    let Some(bytes) = front.bytes.get(..place.bytes) else {
+        return Ok(None);
+    };
+    let mut ends = Vec::new(alloc);
+    for end in front.ends.iter().take(count) {
+        ends.push(end.bytes)?;
+    }
+    Ok(Some(FirstCode {
+        bytes: Vec::from_slice(alloc, bytes)?,
+        more: bits_before(&front.bytes, place),
+        ends,
+    }))
+}
+
+/// The lines that bytes begin with.
+#[derive(Drop)]
+pub(crate) struct ReadLines {
+    pub(crate) lines: Vec<Vec<u16>>,
+    /// Whether they are all lines of the interval, and the bytes end with them.
+    pub(crate) closes: bool,
+}
+
+/// A decoder that was given the bytes before a place.
+#[derive(Drop)]
+struct Begun {
+    decoder: IntervalDecoder,
+    at: usize,
+}
+
+/// How many lines of this width are finished.
+fn count_finished(decoder: &IntervalDecoder, width: u16) -> usize {
+    match decoder.samples_read().checked_div(u64::from(width)) {
+        None => 0,
+        Some(count) => usize::try_from(count).unwrap_or(0),
+    }
+}
+
+/// The finished lines, if the bits so far can go on.
+fn finished_lines(decoder: &IntervalDecoder) -> Result<FinishedLines, AllocError> {
+    match decoder.try_clone()?.finish_cut()? {
+        CutEnd::Whole(lines) => Ok(lines),
+        CutEnd::Head(lines, _) => Ok(lines),
+    }
+}
+
+impl Begun {
+    fn try_clone(&self) -> Result<Begun, AllocError> {
+        Ok(Begun {
+            decoder: self.decoder.try_clone()?,
+            at: self.at,
+        })
+    }
+
+    /// Goes on by so many bytes at a time, as long as they can be those of lines. Answers the last decoder but one.
+    fn go_on(self, bytes: &[u8], step: usize) -> Result<Begun, AllocError> {
+        let mut before = self.try_clone()?;
+        let mut now = self;
+        for _ in 0..bytes.len() {
+            let end = now.at.saturating_add(step).min(bytes.len());
+            let Some(more) = bytes.get(now.at..end) else {
+                break;
+            };
+            let mut decoder = now.decoder.try_clone()?;
+            decoder.push_all(more)?;
+            if more.is_empty() || decoder.reads_no_more() {
+                break;
+            }
+            before = now;
+            now = Begun { decoder, at: end };
+        }
+        Ok(before)
+    }
+
+    /// Goes on byte by byte, and answers the most lines that the bytes begin with. Where the last bits can't go on, they are the lines of
+    /// fewer bytes.
+    fn last_lines(self, width: u16, bytes: &[u8]) -> Result<ReadLines, AllocError> {
+        let mut decoder = self.decoder;
+        let mut lines = finished_lines(&decoder)?;
+        for byte in bytes.iter().skip(self.at) {
+            decoder.push(*byte)?;
+            if decoder.reads_no_more() {
+                return Ok(ReadLines {
+                    lines: lines.into_vecs()?,
+                    closes: false,
+                });
+            }
+            if count_finished(&decoder, width) > lines.len() {
+                let more = finished_lines(&decoder)?;
+                if more.len() > lines.len() {
+                    lines = more;
+                }
+            }
+        }
+        let closes = matches!(decoder.finish_cut()?, CutEnd::Whole(_));
+        Ok(ReadLines {
+            lines: lines.into_vecs()?,
+            closes,
+        })
+    }
+}
+
+/// How many bytes a decoder is given at a time, first and then.
+const STEPS: [usize; 2] = [4096, 64];
+
+/// The lines of an interval that bytes begin with, up to the first place that can end a piece.
+pub(crate) fn read_lines(
+    alloc: Global,
+    interval: &Interval,
+    bytes: &[u8],
+) -> Result<ReadLines, AllocError> {
+    let end = next_cut(bytes, 0).unwrap_or(bytes.len());
+    let bytes = bytes.get(..end).unwrap_or(bytes);
+    let decoder = IntervalDecoder::new(
+        alloc,
+        &interval.params,
+        interval.width,
+        interval.components,
+        u32::from(interval.rows),
+    );
+    let mut begun = Begun { decoder, at: 0 };
+    for step in STEPS {
+        begun = begun.go_on(bytes, step)?;
+    }
+    begun.last_lines(interval.width, bytes)
+}

@@ -1,0 +1,160 @@
+//! Copies of one picture in different codings mend each other.
+//!
+//! Two such copies have no bytes in common. But the code of JPEG-LS is a function of lines and parameters. Lines that one copy gives, coded
+//! with the parameters of another, are the other's own bytes, also those that it lost. Behind them the other goes on with its own bytes,
+//! and gives lines that mend the first. So they carry each other over their damaged places.
+//!
+//! The crate proposes. No contract speaks of what it finds: what is promised of a mended file rests on the bytes that a copy has outside of
+//! its edits.
+//!
+//! - `pieces`, `interval`: where the scan data of each restart interval stand in a copy. Which lines it has
+//! - `code`: the code of first lines, and the lines that bytes begin with
+//! - `picture`: what copies say of each line, and what is settled
+//! - `claims`: what a copy says by itself, behind what is known
+//! - `shifts`, `runs`: by how much bytes of a copy are moved. Where a code and a copy have the same bytes
+//! - `chains`: lines of one copy in the code of another, and how many of them its bytes confirm
+//! - `settling`, `between`, `closing`: which lines are settled. Lines between settled ones, and pieces that close by themselves
+//! - `rounds`: all of that, until nothing more is decided
+//! - `mending`, `edits`: the mended file of a coding, and the edits that make it of each copy
+//! - `layouts`: the headers that are believed of each copy
+//!
+//! # The rule
+//!
+//! In each round every copy is read on behind the lines that are known. For each ordered pair of copies, the lines that one gives are coded
+//! with the parameters of the other, and compared with its bytes.
+//!
+//! 1. A run counts from 8 equal bytes on that no period up to 16 foretells, with a whole line of each component in it.
+//! 2. One gap a round: lines are taken to the end of the first run behind a gap of the other copy. Then that copy is mended, and speaks
+//!    itself.
+//! 3. Where two readings of a line are confirmed, it is disputed. One is taken if it alone stands unbroken in two copies, or leaves under a
+//!    quarter of the other's unmatched bytes.
+//! 4. Lines are taken in order. A chain ends at the first that is not.
+//! 5. Behind a dispute each copy goes on with its own reading, and a later line wants both.
+//! 6. A reading that another copy has, and nobody tested, holds the line back. A sample that a coding can't say refutes it there.
+//! 7. Where nothing else goes on, lines that a copy reads in one piece between settled ones are taken. Two rows behind them have to be
+//!    settled as it says.
+//! 8. Pieces that close by themselves count only where nothing else goes on, and in copies that agree with another somewhere. No such piece
+//!    may say otherwise.
+//!
+//! Where two copies have the same code, that code anew says nothing of its truth: garbage, coded anew, is the same garbage. There only what
+//! agrees from the start of an interval on is taken.
+#![tactic(auto)]
+
+mod between;
+mod chains;
+mod claims;
+mod closing;
+mod code;
+mod edits;
+mod interval;
+mod layouts;
+mod mending;
+mod picture;
+mod pieces;
+mod rounds;
+mod runs;
+mod settling;
+mod shifts;
+
+use crate::claims::CopyState;
+use crate::edits::edits_between;
+use crate::layouts::{Layouts, layouts_of};
+use crate::mending::mended_file;
+use crate::picture::Picture;
+use crate::rounds::carry_on;
+pub use edits::Edit;
+use std::alloc::{AllocError, Global};
+
+/// The mended file of a coding.
+#[derive(Drop)]
+pub struct MendedCoding {
+    /// The copies that are of this coding, by their indices.
+    pub copies: Vec<usize>,
+    /// The file. It has the headers of the first of them whose headers read.
+    pub bytes: Vec<u8>,
+    /// For each of these copies the edits that make the file of it, in order.
+    pub edits: Vec<Vec<Edit>>,
+}
+
+/// The mended file of a coding of which these are the copies, the first of which has the headers.
+fn mended_coding(
+    alloc: Global,
+    copies: &[&[u8]],
+    numbers: Vec<usize>,
+    bytes: Vec<u8>,
+) -> Result<MendedCoding, AllocError> {
+    let mut edits = Vec::new(alloc);
+    for number in numbers.iter() {
+        let copy = copies.get(*number).copied().unwrap_or(&[]);
+        edits.push(edits_between(alloc, copy, &bytes)?)?;
+    }
+    Ok(MendedCoding {
+        copies: numbers,
+        bytes,
+        edits,
+    })
+}
+
+/// The copies of a coding.
+fn copies_of(alloc: Global, codings: &[usize], coding: usize) -> Result<Vec<usize>, AllocError> {
+    let mut numbers = Vec::new(alloc);
+    for (number, other) in codings.iter().enumerate() {
+        if *other == coding {
+            numbers.push(number)?;
+        }
+    }
+    Ok(numbers)
+}
+
+/// What copies bring back of each other.
+#[derive(Drop)]
+pub struct Carried {
+    /// The mended files, in the order of the first copies of their codings.
+    pub codings: Vec<MendedCoding>,
+    /// The lines of the picture that are settled, row by row, and in a row by component.
+    pub lines: Vec<Option<Vec<u16>>>,
+}
+
+/// What copies in different codings bring back of each other: the lines that are settled, and a mended file of each coding. `codings` has a
+/// number for each copy, the same for those of one coding. A coding has no mended file if no copy of it has headers that read, or if these
+/// are of a picture of another shape. The shape is that of the first copy whose headers read, but for the precision. `Err` comes where
+/// memory is refused.
+///
+/// No contract speaks of what is found.
+pub fn carry(alloc: Global, copies: &[&[u8]], codings: &[usize]) -> Result<Carried, AllocError> {
+    let Layouts {
+        lines,
+        layouts,
+        are_own,
+    } = layouts_of(alloc, copies, codings)?;
+    let mut picture = Picture::new(alloc, lines)?;
+    let mut states = Vec::new(alloc);
+    let mut ends = Vec::new(alloc);
+    for (number, (bytes, layout)) in copies.iter().zip(layouts).enumerate() {
+        ends.push(layout.as_ref().map(|layout| layout.has_eoi))?;
+        states.push(CopyState::new(alloc, number, bytes, layout, lines)?)?;
+    }
+    carry_on(alloc, &mut picture, &mut states)?;
+    let mut mended = Vec::new(alloc);
+    let mut done: Vec<usize> = Vec::new(alloc);
+    for (number, coding) in codings.iter().enumerate() {
+        let (Some(state), Some(Some(has_eoi)), Some(true)) = (
+            states.get(number),
+            ends.get(number),
+            are_own.get(number),
+        ) else {
+            continue;
+        };
+        if done.contains(coding) {
+            continue;
+        }
+        done.push(*coding)?;
+        let bytes = mended_file(alloc, &picture, state, *has_eoi)?;
+        let numbers = copies_of(alloc, codings, *coding)?;
+        mended.push(mended_coding(alloc, copies, numbers, bytes)?)?;
+    }
+    Ok(Carried {
+        codings: mended,
+        lines: picture.into_lines()?,
+    })
+}

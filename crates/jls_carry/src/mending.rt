@@ -1,0 +1,153 @@
+//! The mended file of a copy: its own bytes, and the code of known lines in place of what differs from it.
+
+use crate::claims::{CopyState, bytes_of, code_of};
+use crate::code::FirstCode;
+use crate::interval::Interval;
+use crate::picture::Picture;
+use crate::pieces::Piece;
+use jls_marker::codes::{EOI, RST0};
+use std::alloc::{AllocError, Global};
+
+/// A copy that is mended.
+#[derive(Drop)]
+struct Mending<'m, 'c> {
+    alloc: Global,
+    picture: &'m Picture,
+    copy: &'m CopyState<'c>,
+    /// The mended file so far.
+    bytes: Vec<u8>,
+    /// How many bytes of the copy it stands for.
+    taken: usize,
+    /// Where the pieces in hand begin in it, which have their bytes in common.
+    region: usize,
+    /// Whether a line of these pieces is unknown, so that the copy's own bytes stand from there on.
+    is_stopped: bool,
+    /// How many lines are known so far.
+    known: usize,
+}
+
+/// The settled readings of the first lines of an interval, as far as they can be coded there.
+fn settled_readings(
+    alloc: Global,
+    picture: &Picture,
+    interval: &Interval,
+) -> Result<Vec<usize>, AllocError> {
+    let mut readings = Vec::new(alloc);
+    for line in 0..interval.line_count() {
+        let place = interval.place(line);
+        let Some(reading) = picture.settled(place) else {
+            break;
+        };
+        if !picture.is_at_most(place, reading, interval.params.maxval()) {
+            break;
+        }
+        readings.push(reading)?;
+    }
+    Ok(readings)
+}
+
+impl Mending<'_, '_> {
+    /// Appends bytes of the copy, up to an offset.
+    fn take_to(&mut self, end: usize) -> Result<(), AllocError> {
+        if let Some(own) = self.copy.bytes.get(self.taken..end) {
+            self.bytes.extend_from_slice(own)?;
+        }
+        self.taken = self.taken.max(end);
+        Ok(())
+    }
+
+    /// Appends a piece all of whose lines are known.
+    fn add_whole(&mut self, code: &FirstCode, own: Option<u8>) -> Result<(), AllocError> {
+        self.bytes.extend_from_slice(&code.bytes)?;
+        if let Some(byte) = code.last_byte(own) {
+            self.bytes.push(byte)?;
+        }
+        Ok(())
+    }
+
+    /// Appends the code of the first lines of a piece, and then what its copy has.
+    fn add_begin(
+        &mut self,
+        index: usize,
+        piece: &Piece,
+        code: &FirstCode,
+    ) -> Result<(), AllocError> {
+        let own = bytes_of(self.copy.bytes, piece);
+        let from = match self.copy.progress.get(index) {
+            Some(progress) if !code.bytes.is_empty() => progress.shift.in_copy(code.bytes.len()),
+            _ => Some(self.bytes.len().saturating_sub(self.region)),
+        };
+        let rest = from.and_then(|from| own.get(from..)).unwrap_or(&[]);
+        let all = code.followed_by(self.alloc, rest)?;
+        self.bytes.extend_from_slice(&all)
+    }
+
+    /// Appends a piece. `is_last` says whether it is the last of those that have their bytes in common.
+    fn add(&mut self, index: usize, piece: &Piece, is_last: bool) -> Result<(), AllocError> {
+        if piece.begins {
+            self.take_to(piece.start)?;
+            self.region = self.bytes.len();
+            self.is_stopped = false;
+        } else {
+            if self.is_stopped {
+                return Ok(());
+            }
+            let mark = piece.number.wrapping_add(7) % 8;
+            self.bytes.push(0xFF)?;
+            self.bytes.push(RST0.saturating_add(mark as u8))?;
+        }
+        let interval = &piece.interval;
+        let readings = settled_readings(self.alloc, self.picture, interval)?;
+        let own = bytes_of(self.copy.bytes, piece);
+        match code_of(self.alloc, self.picture, interval, &readings)? {
+            None => self.bytes.extend_from_slice(own)?,
+            Some(code) => {
+                if readings.len() == interval.line_count() {
+                    self.known = self.known.saturating_add(readings.len());
+                    let last = if is_last { own.last().copied() } else { None };
+                    self.add_whole(&code, last)?;
+                    if is_last {
+                        self.taken = piece.end;
+                    }
+                    return Ok(());
+                }
+                self.add_begin(index, piece, &code)?;
+            }
+        }
+        self.is_stopped = true;
+        self.taken = piece.end;
+        Ok(())
+    }
+}
+
+/// The mended file of a copy. It has the copy's headers, markers and other segments, and the markers between pieces that were lost. EOI is
+/// added behind a file that lacks it, if all lines of the picture are known and stand in it.
+pub(crate) fn mended_file<'m>(
+    alloc: Global,
+    picture: &'m Picture,
+    copy: &'m CopyState<'_>,
+    has_eoi: bool,
+) -> Result<Vec<u8>, AllocError> {
+    let mut mending = Mending {
+        alloc,
+        picture,
+        copy,
+        bytes: Vec::new(alloc),
+        taken: 0,
+        region: 0,
+        is_stopped: false,
+        known: 0,
+    };
+    for (index, piece) in copy.pieces.iter().enumerate() {
+        let next = copy.pieces.get(index.saturating_add(1));
+        let is_last = next.is_none_or(|next| next.begins);
+        mending.add(index, piece, is_last)?;
+    }
+    mending.take_to(copy.bytes.len())?;
+    if !has_eoi && mending.known == picture.len() {
+        mending.bytes.push(0xFF)?;
+        mending.bytes.push(EOI)?;
+    }
+    let Mending { bytes, .. } = mending;
+    Ok(bytes)
+}

@@ -1,0 +1,92 @@
+//! The rule of carry: rounds, in each of which copies are read on, and confirm each other's lines.
+
+use crate::between::settle_between;
+use crate::chains::{Chain, compare};
+use crate::claims::CopyState;
+use crate::closing::settle_closed;
+use crate::picture::Picture;
+use crate::settling::{Settling, Tested};
+use std::alloc::{AllocError, Global};
+
+/// How many rounds there are at most.
+const MOST_ROUNDS: usize = 60;
+
+/// What came of the comparisons of a round.
+#[derive(Drop)]
+struct Comparisons {
+    chains: Vec<Chain>,
+    tested: Tested,
+}
+
+/// Compares what each copy says with the bytes of each other.
+fn compare_all(
+    alloc: Global,
+    picture: &Picture,
+    copies: &[CopyState<'_>],
+) -> Result<Comparisons, AllocError> {
+    let mut chains = Vec::new(alloc);
+    let mut tested = Tested::new(alloc, copies.len(), picture.len())?;
+    for giver in copies {
+        for taker in copies {
+            if giver.number == taker.number {
+                continue;
+            }
+            for piece in taker.pieces.iter() {
+                let compared = compare(alloc, picture, copies, giver, taker, piece)?;
+                for line in 0..compared.tested {
+                    tested.add(giver.number, piece.interval.place(line));
+                }
+                if let Some(chain) = compared.chain {
+                    chains.push(chain)?;
+                }
+            }
+        }
+    }
+    Ok(Comparisons { chains, tested })
+}
+
+/// A round. Answers whether it decided something.
+fn go_on(
+    alloc: Global,
+    picture: &mut Picture,
+    copies: &mut [CopyState<'_>],
+    linked: &mut Vec<bool>,
+) -> Result<bool, AllocError> {
+    for copy in copies.iter_mut() {
+        copy.read_on(alloc, picture)?;
+    }
+    let Comparisons { chains, tested } = compare_all(alloc, picture, copies)?;
+    let mut settling = Settling {
+        alloc,
+        copies,
+        tested: &tested,
+        chains,
+        linked: Vec::from_slice(alloc, linked)?,
+    };
+    let is_any = settling.settle(picture)?;
+    let Settling {
+        chains,
+        linked: now,
+        ..
+    } = settling;
+    *linked = now;
+    if is_any || settle_between(alloc, picture, copies, &tested)? {
+        return Ok(true);
+    }
+    settle_closed(alloc, picture, copies, &chains, linked)
+}
+
+/// Lets copies carry each other, until nothing more is decided.
+pub(crate) fn carry_on(
+    alloc: Global,
+    picture: &mut Picture,
+    copies: &mut [CopyState<'_>],
+) -> Result<(), AllocError> {
+    let mut linked = vec![in alloc; false; copies.len()]?;
+    for _ in 0..MOST_ROUNDS {
+        if !go_on(alloc, picture, copies, &mut linked)? {
+            break;
+        }
+    }
+    Ok(())
+}

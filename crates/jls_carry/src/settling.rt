@@ -1,0 +1,362 @@
+//! Which lines are settled: in the order of the picture, each by what the chains say of it.
+
+use crate::between::is_held_back;
+use crate::chains::Chain;
+use crate::claims::CopyState;
+use crate::picture::{OwnReading, Picture};
+use std::alloc::{AllocError, Global};
+
+/// A reading is taken over another where it leaves under a quarter of the other's bytes unmatched, and this many fewer.
+const CLEARLY: usize = 8;
+
+/// Which lines of which copies were compared with the bytes of another.
+#[derive(Drop)]
+pub(crate) struct Tested {
+    /// For each copy, for each line.
+    lines: Vec<Vec<bool>>,
+}
+
+impl Tested {
+    pub(crate) fn new(alloc: Global, copies: usize, lines: usize) -> Result<Tested, AllocError> {
+        let mut all = Vec::new(alloc);
+        for _ in 0..copies {
+            all.push(vec![in alloc; false; lines]?)?;
+        }
+        Ok(Tested { lines: all })
+    }
+
+    pub(crate) fn add(&mut self, copy: usize, place: usize) {
+        if let Some(lines) = self.lines.get_mut(copy) {
+            if let Some(is_tested) = lines.get_mut(place) {
+                *is_tested = true;
+            }
+        }
+    }
+
+    pub(crate) fn has(&self, copy: usize, place: usize) -> bool {
+        match self.lines.get(copy) {
+            None => false,
+            Some(lines) => lines.get(place).copied().unwrap_or(false),
+        }
+    }
+}
+
+/// A chain that reaches a place, and the line that stands there in it.
+#[derive(Clone, Copy)]
+struct Reaching {
+    chain: usize,
+    line: usize,
+}
+
+/// A reading of a line, and the chains that say it.
+#[derive(Drop)]
+struct Confirmed {
+    reading: usize,
+    chains: Vec<Reaching>,
+}
+
+/// What came of a line.
+#[derive(Drop)]
+enum Verdict {
+    Settled(usize),
+    /// What each copy goes on with.
+    Disputed(Vec<OwnReading>),
+    Open,
+}
+
+/// The lines that are settled in a round, and what they rest on.
+#[derive(Drop)]
+pub(crate) struct Settling<'r, 'c> {
+    pub(crate) alloc: Global,
+    pub(crate) copies: &'r [CopyState<'c>],
+    pub(crate) tested: &'r Tested,
+    pub(crate) chains: Vec<Chain>,
+    /// For each copy, whether it agrees with another somewhere.
+    pub(crate) linked: Vec<bool>,
+}
+
+/// Adds a number to a list, once.
+fn add_once(list: &mut Vec<usize>, number: usize) -> Result<(), AllocError> {
+    if !list.contains(&number) {
+        list.push(number)?;
+    }
+    Ok(())
+}
+
+impl Settling<'_, '_> {
+    /// The chains that reach each place, with the lines that they confirm.
+    fn reaching(&self, count: usize) -> Result<Vec<Vec<Reaching>>, AllocError> {
+        let mut all: Vec<Vec<Reaching>> = Vec::new(self.alloc);
+        for _ in 0..count {
+            all.push(Vec::new(self.alloc))?;
+        }
+        for (number, chain) in self.chains.iter().enumerate() {
+            for line in 0..chain.confirmed.min(chain.readings.len()) {
+                if let Some(list) = all.get_mut(chain.piece.interval.place(line)) {
+                    list.push(Reaching {
+                        chain: number,
+                        line,
+                    })?;
+                }
+            }
+        }
+        Ok(all)
+    }
+
+    /// The readings that living chains say, each with its chains.
+    fn readings(&self, reaching: &[Reaching]) -> Result<Vec<Confirmed>, AllocError> {
+        let mut all: Vec<Confirmed> = Vec::new(self.alloc);
+        for reached in reaching {
+            let Some(chain) = self.chains.get(reached.chain) else {
+                continue;
+            };
+            let Some(reading) = chain.readings.get(reached.line).copied() else {
+                continue;
+            };
+            if !chain.is_alive {
+                continue;
+            }
+            let mut is_new = true;
+            for confirmed in all.iter_mut() {
+                if confirmed.reading == reading {
+                    confirmed.chains.push(*reached)?;
+                    is_new = false;
+                }
+            }
+            if is_new {
+                all.push(Confirmed {
+                    reading,
+                    chains: vec![in self.alloc; *reached]?,
+                })?;
+            }
+        }
+        Ok(all)
+    }
+
+    /// How many copies have a reading: those that say it, and those in whose bytes its line stands unbroken.
+    fn support(&self, confirmed: &Confirmed) -> Result<usize, AllocError> {
+        let mut copies = Vec::new(self.alloc);
+        for reached in confirmed.chains.iter() {
+            if let Some(chain) = self.chains.get(reached.chain) {
+                add_once(&mut copies, chain.giver)?;
+                if chain.is_unbroken(reached.line) {
+                    add_once(&mut copies, chain.taker)?;
+                }
+            }
+        }
+        Ok(copies.len())
+    }
+
+    /// How many copies say a reading.
+    fn givers(&self, confirmed: &Confirmed) -> Result<usize, AllocError> {
+        let mut copies = Vec::new(self.alloc);
+        for reached in confirmed.chains.iter() {
+            if let Some(chain) = self.chains.get(reached.chain) {
+                add_once(&mut copies, chain.giver)?;
+            }
+        }
+        Ok(copies.len())
+    }
+
+    /// How many rows all chains of these readings confirm from this line on.
+    fn rows_in_common(&self, readings: &[Confirmed]) -> usize {
+        let mut rows = usize::MAX;
+        for confirmed in readings {
+            for reached in confirmed.chains.iter() {
+                if let Some(chain) = self.chains.get(reached.chain) {
+                    let lines = chain
+                        .confirmed
+                        .saturating_sub(1)
+                        .saturating_sub(reached.line);
+                    rows = rows.min(lines / usize::from(chain.piece.interval.components));
+                }
+            }
+        }
+        rows
+    }
+
+    /// How many bytes of a reading's code don't match, over so many rows, in the copy where most do.
+    fn unmatched(&self, confirmed: &Confirmed, rows: usize) -> usize {
+        let mut least = usize::MAX;
+        for reached in confirmed.chains.iter() {
+            if let Some(chain) = self.chains.get(reached.chain) {
+                let lines = rows.saturating_mul(usize::from(chain.piece.interval.components));
+                let last = reached
+                    .line
+                    .saturating_add(lines)
+                    .min(chain.confirmed.saturating_sub(1));
+                least = least.min(chain.matched(reached.line, last).others);
+            }
+        }
+        least
+    }
+
+    /// Of several readings the only one that stands unbroken in two copies, or the one that leaves far fewer bytes unmatched.
+    fn chosen(&self, readings: &[Confirmed]) -> Result<Option<usize>, AllocError> {
+        let mut strong = Vec::new(self.alloc);
+        for confirmed in readings {
+            if self.support(confirmed)? >= 2 {
+                strong.push(confirmed.reading)?;
+            }
+        }
+        if !strong.is_empty() {
+            return Ok(match strong.as_slice() {
+                [only] => Some(*only),
+                _ => None,
+            });
+        }
+        let rows = self.rows_in_common(readings);
+        let mut best = None;
+        let mut least = usize::MAX;
+        let mut second = usize::MAX;
+        for confirmed in readings {
+            let unmatched = self.unmatched(confirmed, rows);
+            if best.is_none() || unmatched < least {
+                second = least;
+                least = unmatched;
+                best = Some(confirmed.reading);
+            } else {
+                second = second.min(unmatched);
+            }
+        }
+        if least.saturating_mul(4).saturating_add(CLEARLY) <= second {
+            return Ok(best);
+        }
+        Ok(None)
+    }
+
+    /// The reading that is taken of those that are confirmed.
+    fn taken(&self, place: usize, readings: &[Confirmed]) -> Result<Option<usize>, AllocError> {
+        let [only] = readings else {
+            return self.chosen(readings);
+        };
+        if self.support(only)? < 2 && is_held_back(self.copies, self.tested, place, only.reading) {
+            return Ok(None);
+        }
+        Ok(Some(only.reading))
+    }
+
+    /// Whether a chain that reaches the line stands behind a dispute.
+    fn is_forked(&self, readings: &[Confirmed]) -> bool {
+        for confirmed in readings {
+            for reached in confirmed.chains.iter() {
+                if let Some(chain) = self.chains.get(reached.chain) {
+                    if chain.is_forked {
+                        return true;
+                    }
+                }
+            }
+        }
+        false
+    }
+
+    /// What each copy goes on with in a dispute.
+    fn own_readings(&self, readings: &[Confirmed]) -> Result<Vec<OwnReading>, AllocError> {
+        let mut own: Vec<OwnReading> = Vec::new(self.alloc);
+        for confirmed in readings {
+            for reached in confirmed.chains.iter() {
+                if let Some(chain) = self.chains.get(reached.chain) {
+                    let is_new = own.iter().all(|other| other.copy != chain.giver);
+                    if is_new {
+                        own.push(OwnReading {
+                            copy: chain.giver,
+                            reading: confirmed.reading,
+                        })?;
+                    }
+                }
+            }
+        }
+        Ok(own)
+    }
+
+    /// What comes of a line. Behind a dispute two copies have to say it.
+    fn judge(&self, place: usize, readings: &[Confirmed]) -> Result<Verdict, AllocError> {
+        match self.taken(place, readings)? {
+            None => {
+                if readings.len() > 1 {
+                    return Ok(Verdict::Disputed(self.own_readings(readings)?));
+                }
+                Ok(Verdict::Open)
+            }
+            Some(reading) => {
+                if self.is_forked(readings) {
+                    for confirmed in readings {
+                        if confirmed.reading == reading && self.givers(confirmed)? < 2 {
+                            return Ok(Verdict::Open);
+                        }
+                    }
+                }
+                Ok(Verdict::Settled(reading))
+            }
+        }
+    }
+
+    /// Links two copies.
+    fn link(&mut self, giver: usize, taker: usize) {
+        for copy in [giver, taker] {
+            if let Some(is_linked) = self.linked.get_mut(copy) {
+                *is_linked = true;
+            }
+        }
+    }
+
+    /// Ends the chains that say otherwise, and links the copies of the others.
+    fn follow(&mut self, readings: &[Confirmed], settled: Option<usize>) {
+        for confirmed in readings {
+            for reached in confirmed.chains.iter() {
+                let Some(chain) = self.chains.get_mut(reached.chain) else {
+                    continue;
+                };
+                if settled != Some(confirmed.reading) {
+                    chain.is_alive = false;
+                    continue;
+                }
+                let is_inside = reached.line.saturating_add(1) < chain.confirmed;
+                if is_inside || chain.is_unbroken(reached.line) {
+                    let (giver, taker) = (chain.giver, chain.taker);
+                    self.link(giver, taker);
+                }
+            }
+        }
+    }
+
+    /// Marks the chains that reach a disputed line.
+    fn fork(&mut self, readings: &[Confirmed]) {
+        for confirmed in readings {
+            for reached in confirmed.chains.iter() {
+                if let Some(chain) = self.chains.get_mut(reached.chain) {
+                    chain.is_forked = true;
+                }
+            }
+        }
+    }
+
+    /// Settles the lines of the picture that chains confirm. Answers whether one was settled or disputed.
+    pub(crate) fn settle(&mut self, picture: &mut Picture) -> Result<bool, AllocError> {
+        let mut is_any = false;
+        let reaching = self.reaching(picture.len())?;
+        for (place, reached) in reaching.iter().enumerate() {
+            if !picture.is_open(place) || reached.is_empty() {
+                continue;
+            }
+            let readings = self.readings(reached)?;
+            if readings.is_empty() {
+                continue;
+            }
+            match self.judge(place, &readings)? {
+                Verdict::Settled(reading) => {
+                    picture.settle(place, reading);
+                    self.follow(&readings, Some(reading));
+                    is_any = true;
+                }
+                Verdict::Disputed(own) => {
+                    picture.dispute(place, own);
+                    self.fork(&readings);
+                    is_any = true;
+                }
+                Verdict::Open => self.follow(&readings, None),
+            }
+        }
+        Ok(is_any)
+    }
+}
