@@ -1,7 +1,7 @@
 //! Tests of `jls-splice` and of what it is made of. They stand apart, so that those crates are proved once, without them.
 //!
 //! - `parts`, `groups`: where copies differ
-//! - `searched`, `prefixes`, `levels`, `group_search`, `stations`: the searches, and stations of the files taken
+//! - `searched`, `prefixes`, `group_search`, `stations`: the searches, and stations of the files taken
 //! - `copy_files`, `lines`, `words`: copies that are read, printed lines, the command line
 //! - `memory`, `files`, `damage`, `program`: runs over files in memory
 #![tactic(auto)]
@@ -16,8 +16,6 @@ mod files;
 mod group_search;
 #[cfg(test)]
 mod groups;
-#[cfg(test)]
-mod levels;
 #[cfg(test)]
 mod lines;
 #[cfg(test)]
