@@ -175,15 +175,15 @@ takes = record {
 shape_is : IsShapeTaken (file ∷ other ∷ []) (file ∷ []) shape
 shape_is = record { of_faultless = by; of_first = λ none. inl has_shape }
   where
-    as_file : (f : List ℕ) → f ≡ file → HasFrameOfShape shape f
-    as_file f e = subst (HasFrameOfShape shape) (sym e) has_shape
+    as_file : (f : List ℕ) → file ≡ f → HasFrameOfShape shape f
+    as_file f e = subst (HasFrameOfShape shape) e has_shape
 
     by : (f : List ℕ) → Contains (file ∷ other ∷ file ∷ []) f → IsFaultless f → HasFrameOfShape shape f
     by f c faultless =
         elim (first_or_rest f file (other ∷ file ∷ []) c) [
           | inl e ↦ as_file f e
           | inr later ↦ elim (first_or_rest f other (file ∷ []) later) [
-            | inl e ↦ absurd (has_fault_there tail (subst IsFaultless e faultless))
+            | inl e ↦ absurd (has_fault_there tail (subst IsFaultless (sym e) faultless))
             | inr last ↦ elim (first_or_rest f file [] last) [ inl e ↦ as_file f e | inr none ↦ absurd (none_in f none) ]
           ]
         ]
@@ -210,9 +210,9 @@ holds = collected_holds station taken collected
 only_the_line : (r : Reading) → ReadingsOf (file ∷ file ∷ []) r → IsLineOf pic r
 only_the_line r (bytes, c, g) =
     (file_reads.reads.readings r).0 (elim (first_or_rest bytes file (file ∷ []) c) [
-      | inl e ↦ subst (λ b. GivesReading b r) e g
+      | inl e ↦ subst (λ b. GivesReading b r) (sym e) g
       | inr later ↦ elim (first_or_rest bytes file [] later) [
-        | inl e ↦ subst (λ b. GivesReading b r) e g
+        | inl e ↦ subst (λ b. GivesReading b r) (sym e) g
         | inr none ↦ absurd (none_in bytes none)
       ]
     ])
@@ -267,10 +267,10 @@ is_read name bytes some low none = record {
     on = gave 4096 bytes ∷ [];
     last = gave 4096 [] ∷ [];
     reads_are = refl;
-    goes_on = (lit≤ tt, (some, ((λ text. absurd cc), tt)));
+    goes_on = (lit≤ tt, some, λ text. absurd cc, tt);
     bytes_are = sym (append-nil bytes);
     are_bytes = low;
-    stops = (lit< tt, (lit≤ tt, none));
+    stops = (lit< tt, lit≤ tt, none);
     at_most = lit≤ tt;
     used_up = λ turns. absurd cc;
   };
@@ -325,11 +325,12 @@ is_made = record {
 }
 
 -- an output takes bytes one by one
-one_by_one : List ℕ → List Event
+pub one_by_one : List ℕ → List Event
 one_by_one [] = []
 one_by_one (b ∷ bs) = took (b ∷ []) ∷ one_by_one bs
 
 wrote_one_by_one : (bytes : List ℕ) → Wrote bytes (one_by_one bytes)
+unfolding one_by_one
 wrote_one_by_one [] = record { are_writes = tt; they_took = refl }
 wrote_one_by_one (b ∷ bs) =
     let more = wrote_one_by_one bs in
