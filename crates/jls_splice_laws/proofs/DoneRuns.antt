@@ -68,7 +68,7 @@ none_written (took [] ∷ more) h e = absurd (omega (arith, h.0))
 none_written (took (b ∷ bs) ∷ more) h e = absurd cc
 none_written (x ∷ more) h e = absurd h
 
-none_printed : (events : List Event) → Printed [] events → events ≡ []
+pub none_printed : (events : List Event) → Printed [] events → events ≡ []
 none_printed events (inl h) = none_written events h.are_writes h.they_took
 none_printed events (inr (count, h)) = let lt = h.not_all in absurd (omega (arith, lt))
 
