@@ -1,6 +1,6 @@
 //! Which lines are settled: in the order of the picture, each by what the chains say of it.
 
-use crate::between::is_held_back;
+use crate::between::{is_held_back, is_refuted};
 use crate::chains::Chain;
 use crate::claims::CopyState;
 use crate::picture::{OwnReading, Picture};
@@ -226,14 +226,23 @@ impl Settling<'_, '_> {
     }
 
     /// The reading that is taken of those that are confirmed.
-    fn taken(&self, place: usize, readings: &[Confirmed]) -> Result<Option<usize>, AllocError> {
+    fn taken(
+        &self,
+        picture: &Picture,
+        place: usize,
+        readings: &[Confirmed],
+    ) -> Result<Option<usize>, AllocError> {
         let [only] = readings else {
             return self.chosen(readings);
         };
-        if self.support(only)? < 2 && is_held_back(self.copies, self.tested, place, only.reading) {
+        let reading = only.reading;
+        if self.support(only)? < 2
+            && (is_held_back(self.copies, self.tested, place, reading)
+                || is_refuted(picture, self.copies, place, reading))
+        {
             return Ok(None);
         }
-        Ok(Some(only.reading))
+        Ok(Some(reading))
     }
 
     /// Whether a chain that reaches the line stands behind a dispute.
@@ -270,8 +279,13 @@ impl Settling<'_, '_> {
     }
 
     /// What comes of a line. Behind a dispute two copies have to say it.
-    fn judge(&self, place: usize, readings: &[Confirmed]) -> Result<Verdict, AllocError> {
-        match self.taken(place, readings)? {
+    fn judge(
+        &self,
+        picture: &Picture,
+        place: usize,
+        readings: &[Confirmed],
+    ) -> Result<Verdict, AllocError> {
+        match self.taken(picture, place, readings)? {
             None => {
                 if readings.len() > 1 {
                     return Ok(Verdict::Disputed(self.own_readings(readings)?));
@@ -343,7 +357,7 @@ impl Settling<'_, '_> {
             if readings.is_empty() {
                 continue;
             }
-            match self.judge(place, &readings)? {
+            match self.judge(picture, place, &readings)? {
                 Verdict::Settled(reading) => {
                     picture.settle(place, reading);
                     self.follow(&readings, Some(reading));
