@@ -225,6 +225,24 @@ impl Settling<'_, '_> {
         Ok(None)
     }
 
+    /// Whether a copy in whose code a reading is confirmed has another one from a piece that closes by itself.
+    fn is_closed_otherwise(&self, place: usize, confirmed: &Confirmed) -> bool {
+        for reached in confirmed.chains.iter() {
+            let Some(chain) = self.chains.get(reached.chain) else {
+                continue;
+            };
+            let Some(taker) = self.copies.get(chain.taker) else {
+                continue;
+            };
+            if let Some(claim) = taker.claim(place) {
+                if claim.closes && claim.reading != confirmed.reading {
+                    return true;
+                }
+            }
+        }
+        false
+    }
+
     /// The reading that is taken of those that are confirmed.
     fn taken(
         &self,
@@ -238,7 +256,8 @@ impl Settling<'_, '_> {
         let reading = only.reading;
         if self.support(only)? < 2
             && (is_held_back(self.copies, self.tested, place, reading)
-                || is_refuted(picture, self.copies, place, reading))
+                || is_refuted(picture, self.copies, place, reading)
+                || self.is_closed_otherwise(place, only))
         {
             return Ok(None);
         }
