@@ -84,6 +84,86 @@ pub(crate) fn is_held_back(
     false
 }
 
+/// Whether another copy, of another coding, says of a line what this reading is.
+fn is_said_elsewhere(
+    copies: &[CopyState<'_>],
+    copy: &CopyState<'_>,
+    piece: &Piece,
+    place: usize,
+    reading: usize,
+) -> bool {
+    for other in copies {
+        if other.number == copy.number {
+            continue;
+        }
+        let Some(claim) = other.claim(place) else {
+            continue;
+        };
+        if claim.reading != reading {
+            continue;
+        }
+        if let Some(others) = other.pieces.get(claim.piece) {
+            if !others.interval.is_coded_as(&piece.interval) {
+                return true;
+            }
+        }
+    }
+    false
+}
+
+/// Whether a copy reads on from a line in the same piece, so that each of the rows behind it is settled so, or said so by a copy of another
+/// coding.
+fn reads_on(
+    picture: &Picture,
+    copies: &[CopyState<'_>],
+    copy: &CopyState<'_>,
+    place: usize,
+) -> bool {
+    let Some(claim) = copy.claim(place) else {
+        return false;
+    };
+    let Some(piece) = copy.pieces.get(claim.piece) else {
+        return false;
+    };
+    let Some(line) = piece.interval.line_at(place) else {
+        return false;
+    };
+    let wanted = usize::from(piece.interval.components).saturating_mul(ROWS_BEHIND);
+    let behind = line.saturating_add(wanted);
+    if behind >= piece.interval.line_count() {
+        return false;
+    }
+    for next in line.saturating_add(1)..behind.saturating_add(1) {
+        let place = piece.interval.place(next);
+        let Some(reading) = reading_by(copy, claim.piece, place) else {
+            return false;
+        };
+        if picture.settled(place) != Some(reading)
+            && !is_said_elsewhere(copies, copy, piece, place, reading)
+        {
+            return false;
+        }
+    }
+    true
+}
+
+/// Whether some copy says otherwise of a line, and reads on from it as others do. Then it is not the reading.
+pub(crate) fn is_refuted(
+    picture: &Picture,
+    copies: &[CopyState<'_>],
+    place: usize,
+    reading: usize,
+) -> bool {
+    for copy in copies {
+        if let Some(claim) = copy.claim(place) {
+            if claim.reading != reading && reads_on(picture, copies, copy, place) {
+                return true;
+            }
+        }
+    }
+    false
+}
+
 /// What is proposed for a line.
 #[derive(Clone, Copy)]
 enum Proposal {

@@ -1,5 +1,6 @@
 //! Pieces that close by themselves: they count where nothing else goes on.
 
+use crate::between::is_refuted;
 use crate::chains::Chain;
 use crate::claims::{CopyState, bytes_of, code_of};
 use crate::code::read_lines;
@@ -123,7 +124,10 @@ pub(crate) fn settle_closed(
     }
     let mut is_any = false;
     for (place, (slot, is_conflict)) in only.iter().zip(conflicts.iter()).enumerate() {
-        if let (Some(reading), false) = (slot, is_conflict) {
+        let (Some(reading), false) = (slot, is_conflict) else {
+            continue;
+        };
+        if !is_refuted(picture, copies, place, *reading) {
             picture.settle(place, *reading);
             is_any = true;
         }

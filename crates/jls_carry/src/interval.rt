@@ -84,6 +84,24 @@ impl Interval {
             .saturating_add(usize::from(turn))
     }
 
+    /// The line of the interval that stands at a place of the picture.
+    pub(crate) fn line_at(&self, place: usize) -> Option<usize> {
+        let in_frame = usize::from(self.in_frame);
+        let row = place.checked_div(in_frame)?;
+        let component = place.checked_rem(in_frame)?;
+        let row = row.checked_sub(usize::from(self.first_row))?;
+        let components = usize::from(self.components);
+        for turn in 0..components {
+            let line = row.saturating_mul(components).saturating_add(turn);
+            if self.turns.get(turn).map(|turn| usize::from(*turn)) == Some(component)
+                && line < self.line_count()
+            {
+                return Some(line);
+            }
+        }
+        None
+    }
+
     /// Whether a line of this interval has the same code in the other one, as far as both go: they begin with the same row, and have the
     /// same components and parameters. The precision has no part in the code.
     pub(crate) fn is_coded_as(&self, other: &Interval) -> bool {

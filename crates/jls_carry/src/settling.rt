@@ -1,6 +1,6 @@
 //! Which lines are settled: in the order of the picture, each by what the chains say of it.
 
-use crate::between::is_held_back;
+use crate::between::{is_held_back, is_refuted};
 use crate::chains::Chain;
 use crate::claims::CopyState;
 use crate::picture::{OwnReading, Picture};
@@ -225,15 +225,43 @@ impl Settling<'_, '_> {
         Ok(None)
     }
 
+    /// Whether a copy in whose code a reading is confirmed has another one from a piece that closes by itself.
+    fn is_closed_otherwise(&self, place: usize, confirmed: &Confirmed) -> bool {
+        for reached in confirmed.chains.iter() {
+            let Some(chain) = self.chains.get(reached.chain) else {
+                continue;
+            };
+            let Some(taker) = self.copies.get(chain.taker) else {
+                continue;
+            };
+            if let Some(claim) = taker.claim(place) {
+                if claim.closes && claim.reading != confirmed.reading {
+                    return true;
+                }
+            }
+        }
+        false
+    }
+
     /// The reading that is taken of those that are confirmed.
-    fn taken(&self, place: usize, readings: &[Confirmed]) -> Result<Option<usize>, AllocError> {
+    fn taken(
+        &self,
+        picture: &Picture,
+        place: usize,
+        readings: &[Confirmed],
+    ) -> Result<Option<usize>, AllocError> {
         let [only] = readings else {
             return self.chosen(readings);
         };
-        if self.support(only)? < 2 && is_held_back(self.copies, self.tested, place, only.reading) {
+        let reading = only.reading;
+        if self.support(only)? < 2
+            && (is_held_back(self.copies, self.tested, place, reading)
+                || is_refuted(picture, self.copies, place, reading)
+                || self.is_closed_otherwise(place, only))
+        {
             return Ok(None);
         }
-        Ok(Some(only.reading))
+        Ok(Some(reading))
     }
 
     /// Whether a chain that reaches the line stands behind a dispute.
@@ -270,8 +298,13 @@ impl Settling<'_, '_> {
     }
 
     /// What comes of a line. Behind a dispute two copies have to say it.
-    fn judge(&self, place: usize, readings: &[Confirmed]) -> Result<Verdict, AllocError> {
-        match self.taken(place, readings)? {
+    fn judge(
+        &self,
+        picture: &Picture,
+        place: usize,
+        readings: &[Confirmed],
+    ) -> Result<Verdict, AllocError> {
+        match self.taken(picture, place, readings)? {
             None => {
                 if readings.len() > 1 {
                     return Ok(Verdict::Disputed(self.own_readings(readings)?));
@@ -343,7 +376,7 @@ impl Settling<'_, '_> {
             if readings.is_empty() {
                 continue;
             }
-            match self.judge(place, &readings)? {
+            match self.judge(picture, place, &readings)? {
                 Verdict::Settled(reading) => {
                     picture.settle(place, reading);
                     self.follow(&readings, Some(reading));
