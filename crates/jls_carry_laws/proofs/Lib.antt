@@ -3,6 +3,7 @@ pub mod OneLine
 pub mod PlacedLines
 pub mod HeldLines
 pub mod EditedFiles
+pub mod CopiesOfOneFile
 pub mod OneLength
 pub mod SameHeads
 pub mod ScanWalk

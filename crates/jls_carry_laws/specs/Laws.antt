@@ -1,15 +1,18 @@
 -- The laws of held lines: whatever undamaged files have the bytes that copies have, their held lines are the same.
 use Rattle.std.specs.Prelude.{◌≡◌, ℕ, ◌<◌, Bool, true, List, [], ◌∷◌, length}
+use Rattle.std.specs.List.{AllByRecursion}
 use Rattle.jls_values.specs.OrderedSet as set
 use Rattle.jls_partial.specs.Reading.{Reading}
 use Rattle.jls_partial.specs.Partial.{PartialPicture, readings_at}
 use Rattle.jls_partial.specs.Status.{IsSettled}
 use Rattle.jls_held.specs.MendedFiles.{MendedFile, HasHeldBytes}
 use Rattle.jls_held.specs.Edits.{Edit, edited, AreRefilled, held_by_either}
+use Rattle.jls_held.specs.Judging.{EditedCopy, IsMendedOf}
 use Rattle.jls_held.specs.HeldLines.{IsHeld}
 use Rattle.jls_held.specs.HeldPictures.{AreReadingsHeld}
 use Rattle.jls_carry_laws.specs.StrictlyHeld.{IsStrictlyHeld}
 use Rattle.jls_carry_laws.specs.TrueFiles.{PictureLines, IsPictureLine, AreFilesOfBytes, HaveTrueFilesOfTheirSkeletons, HaveTrueFilesAsLong}
+use Rattle.jls_carry_laws.specs.TrueFiles.{IsCopyOf}
 
 -- A copy was damaged nowhere but in its edits, and the true bytes there are as many as those of the edits. Then the undamaged file has the
 -- held bytes of the mended one, and its length
@@ -25,6 +28,13 @@ BytesAreHeldByEither =
     (bytes truth : List ℕ) (held others : List Bool)
     → HasHeldBytes (record { bytes = bytes; held = held }) truth → HasHeldBytes (record { bytes = bytes; held = others }) truth
     → HasHeldBytes (record { bytes = bytes; held = held_by_either held others }) truth
+
+-- A file is mended of copies of one coding, and each was damaged nowhere but in its edits. Then the true file of which all are copies has
+-- its held bytes, and its length
+abbrev pub JudgedFilesHaveTrueBytes : Type 0
+JudgedFilesHaveTrueBytes =
+    (copies : List (List ℕ)) (coding : List EditedCopy) (f : MendedFile) (truth : List ℕ)
+    → IsMendedOf copies coding f → AllByRecursion (IsCopyOf copies truth) coding → HasHeldBytes f truth × (length f.bytes ≡ length truth)
 
 -- Each of the files has a true file of one picture, with the same skeleton. Then each held line is that picture's. It can be a line of a
 -- piece that is faulty or cut off

@@ -1,5 +1,5 @@
 -- True files: undamaged files of one picture, each of which has the held bytes of a mended file.
-use Rattle.std.specs.Prelude.{◌≡◌, ℕ, ◌<◌, ◌≤◌, List, length}
+use Rattle.std.specs.Prelude.{◌≡◌, ℕ, ◌<◌, ◌≤◌, List, [], length, get_or}
 use Rattle.std.specs.List.{AllByRecursion, Contains}
 use Rattle.jls_interval.specs.Lines.{IntervalShape}
 use Rattle.jls_interval.specs.Reads.{Reads}
@@ -11,6 +11,8 @@ use Rattle.jls_copy.specs.Numbers.{Interval}
 use Rattle.jls_copy.specs.Pieces.{FoundPiece, pieces, placed}
 use Rattle.jls_held.specs.MendedFiles.{MendedFile, HasHeldBytes}
 use Rattle.jls_held.specs.HeldLines.{PieceOf}
+use Rattle.jls_held.specs.Edits.{Edit, edited, AreRefilled}
+use Rattle.jls_held.specs.Judging.{EditedCopy}
 
 -- the lines of a picture, by component and row
 abbrev pub PictureLines : Type 0
@@ -84,3 +86,11 @@ HaveTrueFilesOfTheirSkeletons picture files = (f : MendedFile) → Contains file
 abbrev pub HaveTrueFilesAsLong : PictureLines → List MendedFile → Type 0
 HaveTrueFilesAsLong picture files = (f : MendedFile) → Contains files f
     → (bytes : List ℕ) × (IsTrueFile picture f bytes) × (length f.bytes ≤ length bytes)
+
+-- Copies of one true file ------------------------------------------------------------------------------
+
+-- The copy was damaged nowhere but in its edits, and the true bytes there are as many as those of the edits: with them it is the true file
+pub record IsCopyOf (copies : List (List ℕ)) (truth : List ℕ) (e : EditedCopy) : Type 0 where
+  pub edits : List Edit
+  pub are_refilled : AreRefilled e.edits edits
+  pub makes : (edited 0 (get_or copies e.number []) edits).bytes ≡ truth

@@ -1,6 +1,7 @@
 //! The laws of held lines. Each is a function that changes nothing and whose contract is the law.
 
-ghost use Rattle.jls_carry_laws.specs.Laws.{BytesAreHeldByEither, HeldLinesAreThePicture, RefilledEditsKeepHeldBytes};
+ghost use Rattle.jls_carry_laws.specs.Laws.{BytesAreHeldByEither, HeldLinesAreThePicture, JudgedFilesHaveTrueBytes};
+ghost use Rattle.jls_carry_laws.specs.Laws.{RefilledEditsKeepHeldBytes};
 ghost use Rattle.jls_carry_laws.specs.Laws.{SettledHeldLinesAreThePicture, SettledStrictlyHeldLinesAreThePicture};
 ghost use Rattle.jls_carry_laws.specs.Laws.{StrictlyHeldLinesAreThePicture};
 
@@ -11,6 +12,12 @@ use jls_copy::pieces_stand_at_their_offsets;
 pub fn refilled_edits_keep_held_bytes()
     ensures one { RefilledEditsKeepHeldBytes }
     ensures either { BytesAreHeldByEither }
+{}
+
+/// A law: let a file be mended of copies of one coding, each of which was damaged nowhere but in its edits. Then the true file of which all
+/// are copies has the held bytes of the mended one, and its length.
+pub fn judged_files_have_true_bytes()
+    ensures { JudgedFilesHaveTrueBytes }
 {}
 
 /// A law: if each mended file has a true file of one picture with its skeleton, each held line is that picture's.

@@ -12,7 +12,7 @@
 //! The proofs, bottom up: `Walk` and `OneLine` (two pieces that agree on the bytes of a line have that line in common), `PlacedLines`
 //! (lines of an interval against a picture's), `HeldLines` (the law, for files of one skeleton), `OneLength`, `SameHeads`, `ScanWalk`,
 //! `UnitsWalk` and `StrictHeads` (what stands before a strictly held line fixes the skeleton up to it), `SettledPictures`,
-//! `EditedFiles`.
+//! `EditedFiles`, `CopiesOfOneFile`.
 //!
 //! Not proved here: how lines and edits are found.
 #![tactic(auto)]
@@ -20,6 +20,6 @@
 mod laws;
 
 pub use laws::{
-    held_lines_are_the_picture, refilled_edits_keep_held_bytes, settled_held_lines_are_the_picture,
-    strictly_held_lines_are_the_picture,
+    held_lines_are_the_picture, judged_files_have_true_bytes, refilled_edits_keep_held_bytes,
+    settled_held_lines_are_the_picture, strictly_held_lines_are_the_picture,
 };

@@ -1,23 +1,18 @@
 -- One edit more of a copy: what is put, and what the edits left make of the rest.
 use Rattle.std.proofs.Common.{◌≡◌, ℕ, ◌+◌, ◌-◌, ◌<◌, ◌≤◌, Bool, true, false, List, [], ◌∷◌, ◌++◌, length, drop, take, get_or, replicate}
-use Rattle.std.proofs.Common.{append_assoc, sym, ap, ◌∙◌, arith}
+use Rattle.std.proofs.Common.{append_assoc, map, sym, ap, ◌∙◌, arith}
 use Rattle.std.proofs.lemmas.List.{drop-drop, drop_more}
-use Rattle.jls_held.specs.declared.mending.CopyEdit.{CopyEdit}
 use Rattle.jls_held.specs.Edits.{Edit, AreEdits, edited}
-use Rattle.jls_held.specs.Mending.{edit_of, edits_of}
 
 -- edits end where they may
 pub within : (at end : ℕ) (edits : List Edit) → AreEdits at end edits → at ≤ end
 within at end [] a = a
 within at end (e ∷ edits) (low, rest) = let r = within (e.offset + e.count) end edits rest in omega (arith, low, r)
 
-abbrev pub nothing : CopyEdit
-nothing = record { offset = 0; count = 0; bytes = record { ref_ptr = (0, 0); now = [] } }
-
--- the edits left are this one and those after it
-pub left_more : (edits : List CopyEdit) (i : ℕ) → i < length edits
-    → edits_of (drop i edits) ≡ edit_of (get_or edits i nothing) ∷ edits_of (drop (i + 1) edits)
-left_more edits i inside = ap edits_of (drop_more edits i nothing inside)
+-- what is left of a list from one of its elements on, by a function of each
+pub left_more : {X Y : Type 0} (f : X → Y) (xs : List X) (i : ℕ) (x : X) → i < length xs → x ≡ get_or xs i x
+    → map f (drop i xs) ≡ f x ∷ map f (drop (i + 1) xs)
+left_more f xs i x inside is = ap (map f) (drop_more xs i x inside) ∙ ap (λ y. f y ∷ map f (drop (i + 1) xs)) (sym is)
 
 rest_is : (at : ℕ) (copy : List ℕ) (e : Edit) → at ≤ e.offset
     → drop (e.offset - at + e.count) (drop at copy) ≡ drop (e.offset + e.count) copy
@@ -30,20 +25,20 @@ parts : {X : Type 0} (out own fresh rest one two : List X) → one ≡ out ++ ow
 parts out own fresh rest one two p q =
     ap (λ z. z ++ rest) (q ∙ ap (λ z. z ++ fresh) p) ∙ append_assoc (out ++ own) fresh rest ∙ append_assoc out own (fresh ++ rest)
 
-pub bytes_put : (at : ℕ) (copy : List ℕ) (e : Edit) (edits : List Edit) → at ≤ e.offset → (out one two total : List ℕ)
-    → one ≡ out ++ take (e.offset - at) (drop at copy) → two ≡ one ++ e.bytes
+pub bytes_put : (at : ℕ) (copy : List ℕ) (e : Edit) (edits : List Edit) → at ≤ e.offset → (out one two total fresh : List ℕ)
+    → one ≡ out ++ take (e.offset - at) (drop at copy) → two ≡ one ++ fresh → fresh ≡ e.bytes
     → out ++ (edited at (drop at copy) (e ∷ edits)).bytes ≡ total
     → two ++ (edited (e.offset + e.count) (drop (e.offset + e.count) copy) edits).bytes ≡ total
-bytes_put at copy e edits low out one two total p q all =
+bytes_put at copy e edits low out one two total fresh p q is all =
     let own = take (e.offset - at) (drop at copy) in
-    parts out own e.bytes _ one two p q
+    parts out own e.bytes _ one two p (q ∙ ap (λ xs. one ++ xs) is)
     ∙ ap (λ xs. out ++ (own ++ (e.bytes ++ (edited (e.offset + e.count) xs edits).bytes))) (sym (rest_is at copy e low)) ∙ all
 
-pub held_put : (at : ℕ) (copy : List ℕ) (e : Edit) (edits : List Edit) → at ≤ e.offset → (out one two total : List Bool)
-    → one ≡ out ++ replicate (length (take (e.offset - at) (drop at copy))) true → two ≡ one ++ replicate (length e.bytes) false
+pub held_put : (at : ℕ) (copy : List ℕ) (e : Edit) (edits : List Edit) → at ≤ e.offset → (out one two total : List Bool) (fresh : List ℕ)
+    → one ≡ out ++ replicate (length (take (e.offset - at) (drop at copy))) true → two ≡ one ++ replicate (length fresh) false → fresh ≡ e.bytes
     → out ++ (edited at (drop at copy) (e ∷ edits)).held ≡ total
     → two ++ (edited (e.offset + e.count) (drop (e.offset + e.count) copy) edits).held ≡ total
-held_put at copy e edits low out one two total p q all =
-    let own = replicate (length (take (e.offset - at) (drop at copy))) true in let fresh = replicate (length e.bytes) false in
-    parts out own fresh _ one two p q
-    ∙ ap (λ xs. out ++ (own ++ (fresh ++ (edited (e.offset + e.count) xs edits).held))) (sym (rest_is at copy e low)) ∙ all
+held_put at copy e edits low out one two total fresh p q is all =
+    let own = replicate (length (take (e.offset - at) (drop at copy))) true in let lost = replicate (length e.bytes) false in
+    parts out own lost _ one two p (q ∙ ap (λ xs. one ++ replicate (length xs) false) is)
+    ∙ ap (λ xs. out ++ (own ++ (lost ++ (edited (e.offset + e.count) xs edits).held))) (sym (rest_is at copy e low)) ∙ all

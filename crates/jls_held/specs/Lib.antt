@@ -6,3 +6,4 @@ pub mod HeldLines
 pub mod HeldPictures
 pub mod FilePieces
 pub mod Chains
+pub mod Judging

@@ -7,7 +7,7 @@ use Rattle.jls_held.specs.Edits.{Edit}
 
 -- an edit, in the words of the definitions
 abbrev pub edit_of : CopyEdit → Edit
-edit_of e = record { offset = e.offset; count = e.count; bytes = e.bytes.now }
+edit_of e = record { offset = e.offset; count = e.count; bytes = e.bytes.items }
 
 -- and a list of them
 abbrev pub edits_of : List CopyEdit → List Edit

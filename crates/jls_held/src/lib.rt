@@ -7,16 +7,19 @@
 //! these bytes, their held lines are the same.
 //!
 //! - `mending`: the mended file of a copy and its edits
+//! - `judging`: `judge`, which proposals of edited copies make one file, and the lines that these files hold
 //! - `holding`: `held_lines`, the lines that mended files hold
 //! - `file_pieces`: the pieces of a file with their first lines, as a reader has them in hand
 //! - `chain`: the lines of a piece, each with whether all bytes of its code are held. Its lines are coded anew for that
 //! - `rounds`: takes lines that follow held lines, from each piece in turn, until none follows
 //!
-//! Definitions: `MendedFiles` (bytes, and which are held), `Edits` (what makes a mended file of a copy), `LineCode` (which bytes carry a
-//! line), `HeldLines`, `HeldPictures`, `Mending` and `FilePieces` (what the functions speak of). `Chains` is needed inside the crate only.
+//! Definitions: `MendedFiles` (bytes, and which are held), `Edits` (what makes a mended file of a copy), `Judging` (files that are mended
+//! of several copies), `LineCode` (which bytes carry a line), `HeldLines`, `HeldPictures`, `Mending` and `FilePieces` (what the functions
+//! speak of). `Chains` is needed inside the crate only.
 //!
-//! The proofs, bottom up: `MendedCopies`; `LineBytes` (the bytes between two ends of code are those of a line), `PieceChains` (lines of a
-//! piece follow each other), `FoundPieces` (what was in hand stands in the whole file), `HeldReadings`.
+//! The proofs, bottom up: `MendedCopies`, `HeldMarks` (which bytes two copies have together), `EditedCopies` (one copy more of a file);
+//! `LineBytes` (the bytes between two ends of code are those of a line), `PieceChains` (lines of a piece follow each other), `FoundPieces`
+//! (what was in hand stands in the whole file), `HeldReadings`.
 //!
 //! No program uses this crate yet. Not proved:
 //!
@@ -27,8 +30,10 @@
 mod chain;
 mod file_pieces;
 mod holding;
+mod judging;
 mod mending;
 mod rounds;
 
 pub use holding::held_lines;
+pub use judging::{EditedCopy, Judged, judge};
 pub use mending::{CopyEdit, MendedCopy, mended_copy};

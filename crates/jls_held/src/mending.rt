@@ -7,11 +7,11 @@ ghost use Rattle.jls_held.specs.Mending.{edits_of, file_of};
 use std::alloc::{AllocError, Global};
 
 /// In place of `count` bytes of a copy, from `offset` on, stand these.
-#[derive(Clone, Copy, Drop)]
-pub struct CopyEdit<'a> {
+#[derive(Drop)]
+pub struct CopyEdit {
     pub offset: usize,
     pub count: usize,
-    pub bytes: &'a [u8],
+    pub bytes: Vec<u8>,
 }
 
 /// The bytes of a mended file, and for each whether the copy has it.
@@ -36,11 +36,7 @@ impl MendedCopy {
 }
 
 /// The mended file that edits make of a copy: its bytes, and which of them the copy has.
-pub fn mended_copy(
-    alloc: Global,
-    copy: &[u8],
-    edits: &[CopyEdit<'_>],
-) -> Result<MendedCopy, AllocError>
+pub fn mended_copy(alloc: Global, copy: &[u8], edits: &[CopyEdit]) -> Result<MendedCopy, AllocError>
     requires { AreEdits 0 (length copy.now) (edits_of edits.now) }
     ensures { IfOk result (λ mended. file_of mended ≡ edited 0 copy.now (edits_of edits.now)) }
 {
@@ -51,7 +47,7 @@ pub fn mended_copy(
     let mut at = 0;
     for edit in edits {
         mended.put(&copy[at..edit.offset], true)?;
-        mended.put(edit.bytes, false)?;
+        mended.put(&edit.bytes, false)?;
         at = edit.offset + edit.count;
     }
     mended.put(&copy[at..], true)?;

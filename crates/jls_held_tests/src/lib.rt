@@ -2,4 +2,6 @@
 #![tactic(auto)]
 
 #[cfg(test)]
+mod judging;
+#[cfg(test)]
 mod two_codings;

@@ -8,7 +8,7 @@ use std::alloc::{AllocError, Global};
 use std::test::Fail;
 
 /// The picture by plane: one scan, one component.
-const PLANE: &[u8] = &[
+pub const PLANE: &[u8] = &[
     0xFF, 0xD8, 0xFF, 0xF7, 0x00, 0x0E, 0x10, 0x00, 0x02, 0x00, 0x02, 0x02, 0x01, 0x11, 0x00, 0x02,
     0x11, 0x00, 0xFF, 0xDA, 0x00, 0x08, 0x01, 0x01, 0x00, 0x00, 0x00, 0x00, 0x00, 0x38, 0x7C, 0x00,
     0x00, 0x00, 0x00, 0x00, 0x00, 0x01, 0xD8, 0xEF, 0x00, 0x00, 0x00, 0x00, 0x00, 0x01, 0xFF, 0x1B,
@@ -17,7 +17,7 @@ const PLANE: &[u8] = &[
 ];
 
 /// By line: one scan of both.
-const LINE: &[u8] = &[
+pub const LINE: &[u8] = &[
     0xFF, 0xD8, 0xFF, 0xF7, 0x00, 0x0E, 0x10, 0x00, 0x02, 0x00, 0x02, 0x02, 0x01, 0x11, 0x00, 0x02,
     0x11, 0x00, 0xFF, 0xDA, 0x00, 0x0A, 0x02, 0x01, 0x00, 0x02, 0x00, 0x00, 0x01, 0x00, 0x00, 0x38,
     0x7C, 0x00, 0x40, 0x00, 0x00, 0x00, 0x62, 0x20, 0x00, 0x00, 0x00, 0x00, 0x00, 0x3B, 0x1D, 0xE0,
@@ -34,24 +34,24 @@ const OTHER_PLANE: &[u8] = &[
 ];
 
 /// What the copy by plane lost: bytes of the second row of its first scan.
-const PLANE_LOST: &[usize] = &[32, 33, 34, 35, 37, 38, 39, 44, 45, 46];
+pub const PLANE_LOST: &[usize] = &[32, 33, 34, 35, 37, 38, 39, 44, 45, 46];
 
 /// What the copy by line lost: bytes of the second component's first row.
-const LINE_LOST: &[usize] = &[34, 35, 36, 37];
+pub const LINE_LOST: &[usize] = &[34, 35, 36, 37];
 
 /// A line of the picture: its component, its row and its samples.
-type Line = (u8, u16, &'static [u16]);
+pub type Line = (u8, u16, &'static [u16]);
 
-const FIRST_0: Line = (0, 0, &[5000, 5000]);
+pub const FIRST_0: Line = (0, 0, &[5000, 5000]);
 
-const FIRST_1: Line = (0, 1, &[32768, 100]);
+pub const FIRST_1: Line = (0, 1, &[32768, 100]);
 
-const SECOND_0: Line = (1, 0, &[65535, 5000]);
+pub const SECOND_0: Line = (1, 0, &[65535, 5000]);
 
-const SECOND_1: Line = (1, 1, &[2, 0]);
+pub const SECOND_1: Line = (1, 1, &[2, 0]);
 
 /// A partial picture of this width with these lines.
-fn picture(alloc: Global, width: u16, lines: &[Line]) -> Result<Partial, Fail> {
+pub fn picture(alloc: Global, width: u16, lines: &[Line]) -> Result<Partial, Fail> {
     let shape = Shape::new(16, width, 2, &[1, 2])?;
     let mut picture = Partial::empty(alloc, shape);
     for (component, row, samples) in lines {
@@ -61,7 +61,7 @@ fn picture(alloc: Global, width: u16, lines: &[Line]) -> Result<Partial, Fail> {
 }
 
 /// A file of which all bytes are held but those at the places that are lost.
-fn file(alloc: Global, bytes: &[u8], lost: &[usize]) -> Result<MendedCopy, AllocError> {
+pub fn file(alloc: Global, bytes: &[u8], lost: &[usize]) -> Result<MendedCopy, AllocError> {
     let mut held = Vec::new(alloc);
     for place in 0..bytes.len() {
         held.push(!lost.contains(&place))?;
