@@ -34,8 +34,8 @@ fn count_settled(picture: &Picture, piece: &Piece) -> usize {
     count
 }
 
-/// The line behind the open ones that follow the settled lines of a piece. `None` comes unless the copy reads all of these in this piece,
-/// and says of enough lines behind them what is settled.
+/// The line behind the open ones that follow the first settled lines of a piece. Others among them can be settled, as those of another
+/// component. `None` comes unless the copy reads all of these in this piece, says what is settled, and does so in enough lines behind them.
 fn end_of_open(
     picture: &Picture,
     copy: &CopyState<'_>,
@@ -45,23 +45,20 @@ fn end_of_open(
 ) -> Option<usize> {
     let wanted = usize::from(piece.interval.components).saturating_mul(ROWS_BEHIND);
     let mut end = None;
-    let mut behind = 0usize;
     for line in first..piece.interval.line_count() {
         let place = piece.interval.place(line);
         let reading = reading_by(copy, index, place)?;
         if picture.is_open(place) {
-            if end.is_some() {
-                return None;
-            }
+            end = Some(line.saturating_add(1));
             continue;
         }
         if picture.settled(place) != Some(reading) {
             return None;
         }
-        end = Some(end.unwrap_or(line));
-        behind = behind.saturating_add(1);
-        if behind >= wanted {
-            return end;
+        if let Some(end) = end {
+            if line.saturating_sub(end).saturating_add(1) >= wanted {
+                return Some(end);
+            }
         }
     }
     None
@@ -189,6 +186,9 @@ fn propose(
     };
     for line in first..end {
         let place = piece.interval.place(line);
+        if !picture.is_open(place) {
+            continue;
+        }
         let Some(reading) = reading_by(copy, index, place) else {
             return;
         };
@@ -205,8 +205,8 @@ fn propose(
     }
 }
 
-/// Settles lines that a copy reads between settled ones of the same piece, if no other copy proposes another reading. Answers whether one was
-/// settled.
+/// Settles lines that a copy reads between settled ones of the same piece, if no other copy proposes another reading. Answers whether one
+/// was settled.
 pub(crate) fn settle_between(
     alloc: Global,
     picture: &mut Picture,

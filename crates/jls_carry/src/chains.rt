@@ -202,7 +202,7 @@ struct Coded {
 
 impl Coded {
     /// All lines of a piece, or the first of them. The byte that ends a whole piece is the copy's own, if it can be.
-    fn of(code: FirstCode, is_whole: bool, own: Option<u8>) -> Result<Coded, AllocError> {
+    fn of(code: FirstCode, is_whole: bool, own: &[u8]) -> Result<Coded, AllocError> {
         let last = if is_whole { code.last_byte(own) } else { None };
         let FirstCode {
             mut bytes,
@@ -322,7 +322,7 @@ pub(crate) fn compare(
     let bytes = bytes_of(taker.bytes, piece);
     let begin = code.begin_of(fresh);
     let is_whole = said.readings.len() == piece.interval.line_count();
-    let code = Coded::of(code, is_whole, bytes.last().copied())?;
+    let code = Coded::of(code, is_whole, bytes)?;
     let runs = code.runs(alloc, bytes, components, said.is_twin)?;
     let confirmed = code.count_confirmed(&runs, begin);
     let tested = refuted.max(said.readings.len());

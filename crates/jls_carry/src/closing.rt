@@ -6,6 +6,7 @@ use crate::claims::{CopyState, bytes_of, code_of};
 use crate::code::read_lines;
 use crate::picture::Picture;
 use crate::runs::{FIRM, Run, add_runs};
+use crate::settling::Links;
 use crate::shifts::shifts_of;
 use std::alloc::{AllocError, Global};
 
@@ -93,9 +94,9 @@ pub(crate) fn settle_closed(
     picture: &mut Picture,
     copies: &[CopyState<'_>],
     chains: &[Chain],
-    linked: &[bool],
+    links: &[Links],
 ) -> Result<bool, AllocError> {
-    let is_linked = |copy: usize| linked.get(copy).copied().unwrap_or(false);
+    let is_linked = |copy: usize| links.get(copy).is_some_and(|links| links.with_any);
     let mut closed = Vec::new(alloc);
     for chain in chains {
         if chain.is_twin && is_linked(chain.giver) && is_linked(chain.taker) {

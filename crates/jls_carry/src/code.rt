@@ -12,6 +12,9 @@ use std::alloc::{AllocError, Global};
 /// So many more lines fill the byte in which the last line ends, since each has one bit at least.
 pub(crate) const FILLING: usize = 8;
 
+/// So many bytes before the last one of a copy have to be those of a code, that it ends as the code does.
+const ENDING: usize = 4;
+
 /// The first bits of a byte. The others stand in the low bits.
 #[derive(Clone, Copy)]
 pub(crate) struct FirstBits {
@@ -55,7 +58,8 @@ impl FirstCode {
 
     /// The byte that ends a piece behind the bytes that its code fills, if there is one. The bits behind the code are free: they are those
     /// of the copy's own last byte, if it carries the same code, and else zeros. Behind FF a byte is needed (T.87 A.1).
-    pub(crate) fn last_byte(&self, own: Option<u8>) -> Option<u8> {
+    pub(crate) fn last_byte(&self, own: &[u8]) -> Option<u8> {
+        let own = self.own_last_byte(own);
         match self.more {
             Some(bits) => match own {
                 Some(byte) if bits.begin(byte) => Some(byte),
@@ -70,6 +74,18 @@ impl FirstCode {
                     _ => Some(0),
                 }
             }
+        }
+    }
+
+    /// The last of a copy's bytes, if those before it end as the bytes do that the code fills. The end of the copy can be cut off.
+    fn own_last_byte(&self, own: &[u8]) -> Option<u8> {
+        let (last, before) = own.split_last()?;
+        let begin = self.bytes.len().saturating_sub(ENDING);
+        let ending = self.bytes.get(begin..)?;
+        if before.ends_with(ending) {
+            Some(*last)
+        } else {
+            None
         }
     }
 

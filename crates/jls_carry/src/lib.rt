@@ -39,7 +39,8 @@
 //!    may say otherwise.
 //!
 //! Where two copies have the same code, that code anew says nothing of its truth: garbage, coded anew, is the same garbage. There only what
-//! agrees from the start of an interval on is taken.
+//! agrees from the start of an interval on is taken. It isn't, if the two agree with no other coding, and a copy of one says otherwise.
+//! They can be copies of one damaged file, or of another picture.
 #![tactic(auto)]
 
 mod between;

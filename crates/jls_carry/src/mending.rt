@@ -57,7 +57,7 @@ impl Mending<'_, '_> {
     }
 
     /// Appends a piece all of whose lines are known.
-    fn add_whole(&mut self, code: &FirstCode, own: Option<u8>) -> Result<(), AllocError> {
+    fn add_whole(&mut self, code: &FirstCode, own: &[u8]) -> Result<(), AllocError> {
         self.bytes.extend_from_slice(&code.bytes)?;
         if let Some(byte) = code.last_byte(own) {
             self.bytes.push(byte)?;
@@ -104,8 +104,7 @@ impl Mending<'_, '_> {
             Some(code) => {
                 if readings.len() == interval.line_count() {
                     self.known = self.known.saturating_add(readings.len());
-                    let last = if is_last { own.last().copied() } else { None };
-                    self.add_whole(&code, last)?;
+                    self.add_whole(&code, if is_last { own } else { &[] })?;
                     if is_last {
                         self.taken = piece.end;
                     }

@@ -5,7 +5,7 @@ use crate::chains::{Chain, compare};
 use crate::claims::CopyState;
 use crate::closing::settle_closed;
 use crate::picture::Picture;
-use crate::settling::{Settling, Tested};
+use crate::settling::{Links, Settling, Tested};
 use std::alloc::{AllocError, Global};
 
 /// How many rounds there are at most.
@@ -50,7 +50,7 @@ fn go_on(
     alloc: Global,
     picture: &mut Picture,
     copies: &mut [CopyState<'_>],
-    linked: &mut Vec<bool>,
+    links: &mut Vec<Links>,
 ) -> Result<bool, AllocError> {
     for copy in copies.iter_mut() {
         copy.read_on(alloc, picture)?;
@@ -61,19 +61,20 @@ fn go_on(
         copies,
         tested: &tested,
         chains,
-        linked: Vec::from_slice(alloc, linked)?,
+        links: Vec::from_slice(alloc, links)?,
+        opposed: Vec::new(alloc),
     };
     let is_any = settling.settle(picture)?;
     let Settling {
         chains,
-        linked: now,
+        links: now,
         ..
     } = settling;
-    *linked = now;
+    *links = now;
     if is_any || settle_between(alloc, picture, copies, &tested)? {
         return Ok(true);
     }
-    settle_closed(alloc, picture, copies, &chains, linked)
+    settle_closed(alloc, picture, copies, &chains, links)
 }
 
 /// Lets copies carry each other, until nothing more is decided.
@@ -82,9 +83,13 @@ pub(crate) fn carry_on(
     picture: &mut Picture,
     copies: &mut [CopyState<'_>],
 ) -> Result<(), AllocError> {
-    let mut linked = vec![in alloc; false; copies.len()]?;
+    let none = Links {
+        with_any: false,
+        across_codings: false,
+    };
+    let mut links = vec![in alloc; none; copies.len()]?;
     for _ in 0..MOST_ROUNDS {
-        if !go_on(alloc, picture, copies, &mut linked)? {
+        if !go_on(alloc, picture, copies, &mut links)? {
             break;
         }
     }

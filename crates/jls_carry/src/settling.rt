@@ -17,6 +17,7 @@ pub(crate) struct Tested {
 }
 
 impl Tested {
+    /// No line, of so many copies and lines.
     pub(crate) fn new(alloc: Global, copies: usize, lines: usize) -> Result<Tested, AllocError> {
         let mut all = Vec::new(alloc);
         for _ in 0..copies {
@@ -25,6 +26,7 @@ impl Tested {
         Ok(Tested { lines: all })
     }
 
+    /// Notes that a line of a copy was compared.
     pub(crate) fn add(&mut self, copy: usize, place: usize) {
         if let Some(lines) = self.lines.get_mut(copy) {
             if let Some(is_tested) = lines.get_mut(place) {
@@ -33,12 +35,22 @@ impl Tested {
         }
     }
 
+    /// Whether a line of a copy was compared.
     pub(crate) fn has(&self, copy: usize, place: usize) -> bool {
         match self.lines.get(copy) {
             None => false,
             Some(lines) => lines.get(place).copied().unwrap_or(false),
         }
     }
+}
+
+/// With whom a copy agrees somewhere.
+#[derive(Clone, Copy)]
+pub(crate) struct Links {
+    /// Whether it agrees with another copy.
+    pub(crate) with_any: bool,
+    /// Whether it agrees with a copy of another coding.
+    pub(crate) across_codings: bool,
 }
 
 /// A chain that reaches a place, and the line that stands there in it.
@@ -71,8 +83,10 @@ pub(crate) struct Settling<'r, 'c> {
     pub(crate) copies: &'r [CopyState<'c>],
     pub(crate) tested: &'r Tested,
     pub(crate) chains: Vec<Chain>,
-    /// For each copy, whether it agrees with another somewhere.
-    pub(crate) linked: Vec<bool>,
+    /// For each copy, with whom it agrees.
+    pub(crate) links: Vec<Links>,
+    /// For each copy, whether it agrees with no other coding, and one says otherwise.
+    pub(crate) opposed: Vec<bool>,
 }
 
 /// Adds a number to a list, once.
@@ -81,6 +95,27 @@ fn add_once(list: &mut Vec<usize>, number: usize) -> Result<(), AllocError> {
         list.push(number)?;
     }
     Ok(())
+}
+
+/// Whether a copy says otherwise of a line than another, and codes it otherwise.
+fn contradicts(copy: &CopyState<'_>, other: &CopyState<'_>) -> bool {
+    for (claim, others) in copy.claims.iter().zip(other.claims.iter()) {
+        let (Some(claim), Some(others)) = (claim, others) else {
+            continue;
+        };
+        if claim.reading == others.reading {
+            continue;
+        }
+        if let (Some(piece), Some(other)) = (
+            copy.pieces.get(claim.piece),
+            other.pieces.get(others.piece),
+        ) {
+            if !piece.interval.is_coded_as(&other.interval) {
+                return true;
+            }
+        }
+    }
+    false
 }
 
 impl Settling<'_, '_> {
@@ -243,6 +278,22 @@ impl Settling<'_, '_> {
         false
     }
 
+    /// Whether only copies of one coding have a reading, and each of them is opposed. They can be copies of one damaged file, or of another
+    /// picture.
+    fn is_opposed(&self, confirmed: &Confirmed) -> bool {
+        for reached in confirmed.chains.iter() {
+            if let Some(chain) = self.chains.get(reached.chain) {
+                let are_opposed = [chain.giver, chain.taker]
+                    .iter()
+                    .all(|copy| self.opposed.get(*copy).copied().unwrap_or(false));
+                if !chain.is_twin || !are_opposed {
+                    return false;
+                }
+            }
+        }
+        true
+    }
+
     /// The reading that is taken of those that are confirmed.
     fn taken(
         &self,
@@ -254,6 +305,9 @@ impl Settling<'_, '_> {
             return self.chosen(readings);
         };
         let reading = only.reading;
+        if self.is_opposed(only) {
+            return Ok(None);
+        }
         if self.support(only)? < 2
             && (is_held_back(self.copies, self.tested, place, reading)
                 || is_refuted(picture, self.copies, place, reading)
@@ -327,10 +381,35 @@ impl Settling<'_, '_> {
     /// Links two copies.
     fn link(&mut self, giver: usize, taker: usize) {
         for copy in [giver, taker] {
-            if let Some(is_linked) = self.linked.get_mut(copy) {
-                *is_linked = true;
+            if let Some(links) = self.links.get_mut(copy) {
+                links.with_any = true;
             }
         }
+    }
+
+    /// Links the copies of different codings, of which one confirms what the other says.
+    fn link_across(&mut self) {
+        for chain in self.chains.iter() {
+            if chain.is_twin || chain.confirmed <= chain.fresh {
+                continue;
+            }
+            for copy in [chain.giver, chain.taker] {
+                if let Some(links) = self.links.get_mut(copy) {
+                    links.across_codings = true;
+                }
+            }
+        }
+    }
+
+    /// Finds the copies that agree with no other coding, while one says otherwise.
+    fn oppose(&mut self) -> Result<(), AllocError> {
+        let mut opposed = Vec::new(self.alloc);
+        for (copy, links) in self.copies.iter().zip(self.links.iter()) {
+            let is_contradicted = self.copies.iter().any(|other| contradicts(other, copy));
+            opposed.push(!links.across_codings && is_contradicted)?;
+        }
+        self.opposed = opposed;
+        Ok(())
     }
 
     /// Ends the chains that say otherwise, and links the copies of the others.
@@ -367,6 +446,8 @@ impl Settling<'_, '_> {
     /// Settles the lines of the picture that chains confirm. Answers whether one was settled or disputed.
     pub(crate) fn settle(&mut self, picture: &mut Picture) -> Result<bool, AllocError> {
         let mut is_any = false;
+        self.link_across();
+        self.oppose()?;
         let reaching = self.reaching(picture.len())?;
         for (place, reached) in reaching.iter().enumerate() {
             if !picture.is_open(place) || reached.is_empty() {
