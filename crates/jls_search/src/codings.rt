@@ -211,23 +211,19 @@ fn are_mostly_alike(copies: &[&[u8]], parts: &Parts<'_>, pair: Pair, data: Offse
     found.alike.saturating_mul(4) >= first.min(second).saturating_mul(3)
 }
 
-/// The numbers of copies whose headers differ: of those whose headers say the same, the first.
-fn different_ones(alloc: Global, codings: &[Coding]) -> Result<Vec<usize>, AllocError> {
-    let mut numbers: Vec<usize> = Vec::new(alloc);
+/// For each copy the number of the first whose headers say the same as its own.
+fn first_with_same_headers(alloc: Global, codings: &[Coding]) -> Result<Vec<usize>, AllocError> {
+    let mut firsts = Vec::new(alloc);
     for (number, coding) in codings.iter().enumerate() {
-        let mut is_new = true;
-        for other in numbers.iter() {
-            if let Some(other) = codings.get(*other) {
-                if say_the_same(other, coding) {
-                    is_new = false;
-                }
+        let mut first = number;
+        for (other, before) in codings.iter().enumerate() {
+            if other < first && say_the_same(before, coding) {
+                first = other;
             }
         }
-        if is_new {
-            numbers.push(number)?;
-        }
+        firsts.push(first)?;
     }
-    Ok(numbers)
+    Ok(firsts)
 }
 
 /// Where the scan data of a copy begin, as its headers say.
@@ -238,39 +234,62 @@ fn data_of(codings: &[Coding], number: usize) -> usize {
     }
 }
 
+/// Gives copies of one number another.
+fn renumber(numbers: &mut [usize], from: usize, to: usize) {
+    for at in 0..numbers.len() {
+        if numbers[at] == from {
+            numbers[at] = to;
+        }
+    }
+}
+
+/// The numbers that two copies have.
+fn numbers_of(numbers: &[usize], pair: Pair) -> Option<(usize, usize)> {
+    let first = numbers.get(pair.first)?;
+    let second = numbers.get(pair.second)?;
+    Some((*first, *second))
+}
+
+/// A number for each copy, the same for those of one coding, as far as can be told: that of the first of them, from 0. The parts are those
+/// of the copies. `Err` comes where memory is refused.
+pub fn codings_of(
+    alloc: Global,
+    copies: &[&[u8]],
+    parts: &Parts<'_>,
+) -> Result<Vec<usize>, AllocError> {
+    let mut codings = Vec::new(alloc);
+    for copy in copies {
+        codings.push(coding_of(alloc, copy)?)?;
+    }
+    let firsts = first_with_same_headers(alloc, &codings)?;
+    let mut numbers: Vec<usize> = firsts.iter().copied().collect(alloc)?;
+    for second in 0..copies.len() {
+        for first in 0..second {
+            let pair = Pair { first, second };
+            if numbers_of(&firsts, pair) != Some((first, second)) {
+                continue;
+            }
+            let Some((one, other)) = numbers_of(&numbers, pair) else {
+                continue;
+            };
+            let data = Offsets {
+                first: data_of(&codings, first),
+                second: data_of(&codings, second),
+            };
+            if one != other && are_mostly_alike(copies, parts, pair, data) {
+                renumber(&mut numbers, one.max(other), one.min(other));
+            }
+        }
+    }
+    Ok(numbers)
+}
+
 /// Whether copies are of one coding, as far as can be told. The parts are those of the copies. `Err` comes where memory is refused.
 pub fn are_of_one_coding(
     alloc: Global,
     copies: &[&[u8]],
     parts: &Parts<'_>,
 ) -> Result<bool, AllocError> {
-    let mut codings = Vec::new(alloc);
-    for copy in copies {
-        codings.push(coding_of(alloc, copy)?)?;
-    }
-    let mut others = different_ones(alloc, &codings)?;
-    let mut reached = Vec::new(alloc);
-    if let Some(number) = others.pop() {
-        reached.push(number)?;
-    }
-    for at in 0..copies.len() {
-        let Some(first) = reached.get(at).copied() else {
-            break;
-        };
-        let mut left = Vec::new(alloc);
-        for second in others.iter().copied() {
-            let pair = Pair { first, second };
-            let data = Offsets {
-                first: data_of(&codings, first),
-                second: data_of(&codings, second),
-            };
-            if are_mostly_alike(copies, parts, pair, data) {
-                reached.push(second)?;
-            } else {
-                left.push(second)?;
-            }
-        }
-        others = left;
-    }
-    Ok(others.is_empty())
+    let numbers = codings_of(alloc, copies, parts)?;
+    Ok(numbers.iter().all(|number| *number == 0))
 }

@@ -16,7 +16,7 @@
 //! - `level_search`: the search of whole files level by level, as a value that goes on one level at a time; `next_level`: what the paths of
 //!   a level go on to; `backing`: what speaks for a path. No contract speaks of that
 //! - `levels`: the levels of the search for the cut file, and the last one at which exactly one path lives
-//! - `codings`: whether copies are of one coding, as far as can be told. No contract speaks of it
+//! - `codings`: which copies are of one coding, as far as can be told. No contract speaks of it
 //! - `laws`: the laws of searches
 //!
 //! The search by groups: splices that read between two markers, where no splice is without a fault.
@@ -94,7 +94,7 @@ mod taking;
 mod whole_search;
 
 pub use choosing::next_way_at;
-pub use codings::are_of_one_coding;
+pub use codings::{are_of_one_coding, codings_of};
 pub use cut::settle_with_cut;
 pub use faultless::{is_dead, is_faultless, is_read_faultless, is_sought};
 pub use feeding::{feed_prefix, reader_of};
