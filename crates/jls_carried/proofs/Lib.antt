@@ -1,0 +1,4 @@
+-- Lemmas of this crate.
+mod MappedLists
+mod CodingNumbers
+mod CodingLineExamples

@@ -1,0 +1,15 @@
+//! What copies of one picture in different codings give each other, judged, and its lines.
+//!
+//! - `carrying`: finds it by jls_carry, and judges it by jls_held
+//! - `coding_lines`: the lines that name codings, their copies, and where each copy differs from its mended file
+//!
+//! Definitions: `CodingLines`. Its lemmas: `MappedLists`, `CodingNumbers`; worked values: `CodingLineExamples`.
+//!
+//! No program uses this crate yet. Not proved: what is found.
+#![tactic(auto)]
+
+mod carrying;
+mod coding_lines;
+
+pub use carrying::carry_between;
+pub use coding_lines::{are_all_printed, put_all_codings};
