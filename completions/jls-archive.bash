@@ -5,9 +5,14 @@ _jls_archive() {
     case "$before" in
         --jobs | --tries | --seconds | --part) return ;;
         --ssh) mapfile -t COMPREPLY < <(compgen -A hostname -- "$word"); return ;;
+        --bad)
+            mapfile -t COMPREPLY < <(compgen -P "${word%%:*}:" -f -- "${word#*:}")
+            compopt -o filenames 2> /dev/null
+            return
+            ;;
     esac
     if [[ $word == -* && $before != --sums ]]; then
-        mapfile -t COMPREPLY < <(compgen -W '--folders --sums --jobs --tries --seconds --part --ssh --report --no-names --quiet --help --version' -- "$word")
+        mapfile -t COMPREPLY < <(compgen -W '--folders --sums --bad --jobs --tries --seconds --part --ssh --report --no-names --quiet --help --version' -- "$word")
     elif [ "$before" = --sums ]; then
         mapfile -t COMPREPLY < <(compgen -f -- "$word")
         compopt -o filenames 2> /dev/null

@@ -4,9 +4,10 @@ from __future__ import annotations
 import hashlib
 import os
 import shutil
-from typing import Any, Dict, List, Optional, Sequence, TypeVar
+from typing import Any, Dict, List, Optional, Sequence, Tuple, TypeVar
 
 from . import archive_names, partial_picture, sums, view_thumbnail
+from .archive_lists import Lists
 from .archive_places import Places
 from .archive_rows import TOOK_TOO_LONG, Row
 from .dicom_result import FAILED
@@ -23,7 +24,8 @@ def shown(path: str) -> str:
 class Copy:
     """A readable file of a path: the tree that it is in, where it stands, its sums.
 
-    Of a small one there are its bytes and what stat says; of a large one perhaps the name of a copy of it, `made` on the way.
+    Of a small one there are its bytes and what stat says; of a large one perhaps the name of a copy of it, `made` on the way. `bad` is what
+    lists name as bad in it, and `filled` a file that has bytes of other copies there.
     """
 
     def __init__(
@@ -41,6 +43,8 @@ class Copy:
         self.data = data
         self.seen = seen
         self.made = made
+        self.bad: List[Tuple[int, int]] = []
+        self.filled = ""
 
 
 class Desk:
@@ -54,6 +58,7 @@ class Desk:
         self.library = programs.library
         self.options = options
         self.sums: sums.Sums = options.sums_read
+        self.lists: Lists = options.lists
         self.expected: Dict[str, str] = {}  # {algorithm: sum} of the path that is worked on, as the manifests have it
         self.folder = ""
         self.made = 0
@@ -96,7 +101,7 @@ class Desk:
         names = []
         for copy in copies:
             names.append(self.name("copy"))
-            os.symlink(copy.path, self.place(names[-1]))
+            os.symlink(copy.filled or copy.path, self.place(names[-1]))
         return names
 
     def put(self, row: Row, name: str, root: str, path: str, model: Optional[str] = None) -> None:

@@ -63,7 +63,8 @@ def mend(desk: Desk, row: Row, copies: Sequence[Copy]) -> Row:
 
 def mend_files(desk: Desk, row: Row, copies: Sequence[Copy]) -> Row:
     """DICOM files that differ: OUT gets the mended file if it is whole. Otherwise its frames that came back stand beside OUT."""
-    options = dicom_result.MendOptions(sha256=desk.expected.get("sha256"), tries=desk.options.tries)
+    bad = [(at, copy.bad) for at, copy in enumerate(copies) if copy.bad]
+    options = dicom_result.MendOptions(sha256=desk.expected.get("sha256"), tries=desk.options.tries, bad_ranges=bad)
     out = desk.name("mended") + ".dcm"
     result = dicom_mend.mend([copy.path for copy in copies], desk.place(out), options, desk.programs)
     if result.status == dicom_result.FAILED:

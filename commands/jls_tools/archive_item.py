@@ -6,7 +6,9 @@ import os
 import shutil
 from typing import Callable, Dict, List, Optional, Sequence, Tuple
 
-from . import archive_dicom, archive_names, archive_pictures, archive_places, archive_trees, dicom_file, sums
+from . import archive_by_lists, archive_dicom, archive_lists, archive_names, archive_pictures, archive_places, archive_trees
+from . import dicom_bad_lists
+from . import dicom_file, sums
 from .archive_desk import Copy, Desk
 from .archive_rows import Row
 from .archive_trees import Item
@@ -24,6 +26,8 @@ def inputs_of(desk: Desk, item: Item) -> str:
         try:
             seen = os.lstat(path)
             parts.append(f"{kind} {seen.st_size} {seen.st_mtime_ns} {path}")
+            if desk.lists.of and kind == archive_trees.FILE:
+                parts += filter(None, [desk.lists.text(tree, item.path, path)])
         except OSError as fault:
             parts.append(f"{kind} {fault.errno} {path}")
     expected = sorted(item.expected.items())
@@ -64,6 +68,9 @@ def read_copies(desk: Desk, item: Item, row: Row) -> List[Copy]:
         path = os.path.join(desk.trees[tree], item.path)
         try:
             copies.append(read_copy(desk, (tree, path), item.expected, copies[0] if copies else None))
+            copies[-1].bad = desk.lists.places(tree, item.path, path) if desk.lists.of else []
+        except dicom_bad_lists.BadList as fault:
+            row.end("", 4, archive_lists.note_of(fault))
         except sums.Unreadable as fault:
             row.end("", 4, f"{archive_names.printable(desk.labels[tree])} cannot be read: {fault}")
     return copies
@@ -102,13 +109,15 @@ def files(desk: Desk, item: Item, row: Row) -> Row:
     if desk.sums.files:
         row.sum = "differs" if item.expected else "not listed"
     if are_equal(copies):
-        return copy_through(desk, row, copies[0])
+        return archive_by_lists.tell(copy_through(desk, row, copies[0]), copies)
     for copy in copies:
         if sums.agree(item.expected, copy.digests):
             row.say(f"the copies differ, and the sum is that of {desk.label(copy)}")
             return copy_through(desk, row, copy)
     if desk.is_late and row.kind != OTHER:
         return desk.late(desk.set_aside(row, copies))
+    if row.kind != DICOM and archive_by_lists.fill(desk, copies):
+        return archive_by_lists.take(desk, row, copies)
     if row.kind == OTHER:
         return desk.set_aside(row, copies)
     mends: Dict[str, Callable[[Desk, Row, Sequence[Copy]], Row]]

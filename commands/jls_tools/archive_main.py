@@ -198,6 +198,8 @@ def share(options: Any) -> None:
     command += ["--seconds", str(options.seconds), "--part", f"{{}}/{parts}"]
     command += ["--folders"] if options.folders else []
     command += ["--no-names"] if options.no_names else []
+    for tree, place in options.bad:
+        command += ["--bad", f"{tree}:{os.path.realpath(place)}"]
     for file in options.sums:
         command += ["--sums", os.path.realpath(file)]
     places = [os.path.realpath(word) for word in options.words]

@@ -6,7 +6,7 @@ import os
 import re
 from typing import Any, NoReturn, Sequence, Tuple
 
-from . import archive_places, sums
+from . import archive_lists, archive_places, dicom_bad_lists, sums
 
 TEXT = """\
 jls-archive mends an archive from backups of it. TREEs are backups of one folder. For each path that any of them has, OUT gets the
@@ -17,6 +17,10 @@ Beside OUT stand:
   OUT.differ/TREE/..  copies that differ and could not be mended, or are no pictures
   OUT.partial/..      what there is of pictures that aren't whole
   OUT.report/         pictures.csv, a row for each path; report.html, a page of those that aren't whole or were mended; and logs
+
+--bad names bytes of the Nth TREE that are bad. PLACE is a folder that has for PATH a list PATH or PATH.map: a mapfile of GNU ddrescue,
+or lines with an offset and a length. Or it is the mapfile of the disk or image that TREE is mounted from, with @OFFSET behind it
+where the file system begins on it later. Bytes that are bad in one copy are taken from others.
 
 With --folders, each folder of IN has copies of one picture, and OUT gets a picture for each folder.
 
@@ -47,6 +51,14 @@ def part(text: str) -> Tuple[int, int]:
     return index, parts
 
 
+def bad(text: str) -> Tuple[int, str]:
+    """(N, PLACE) of N:PLACE."""
+    try:
+        return archive_lists.of_word(text)
+    except ValueError as fault:
+        raise argparse.ArgumentTypeError(f"{text} is not N:PLACE, the number of a TREE from 1 on, and where its lists are") from fault
+
+
 def parser() -> Parser:
     made = Parser(
         prog="jls-archive",
@@ -59,6 +71,7 @@ def parser() -> Parser:
     add = made.add_argument
     add("--folders", action="store_true", help="each folder of IN has the copies of one picture")
     add("--sums", action="append", default=[], metavar="FILE", help="lines of sha256sum, md5sum or BagIt: is each file the one?")
+    add("--bad", type=bad, action="append", default=[], metavar="N:PLACE", help="bad places in the Nth TREE: lists, or ddrescue's map")
     add("--jobs", type=number, default=len(os.sched_getaffinity(0)), metavar="N", help="how many at once; all processors unless told")
     add("--tries", type=number, default=4096, metavar="N", help="how much jls-splice tries for a picture; 4096 unless told")
     add("--seconds", type=number, default=60, metavar="N", help="how long the work on a path may take; 60 seconds unless told")
@@ -76,11 +89,11 @@ def parser() -> Parser:
 def read(words: Sequence[str]) -> Any:
     """The options of a call. A Refused says what is wrong with them."""
     options = parser().parse_args(words)
-    options.sums_read = sums.Sums()
+    options.sums_read, options.lists = sums.Sums(), archive_lists.Lists()
     if options.version:
         return options
     if options.report:
-        if len(options.words) != 1 or options.folders or options.sums or options.ssh:
+        if len(options.words) != 1 or options.folders or options.sums or options.bad or options.ssh:
             raise archive_places.Refused("--report takes OUT alone")
         options.out = options.words[0]
         return options
@@ -89,6 +102,8 @@ def read(words: Sequence[str]) -> Any:
             raise archive_places.Refused("--folders takes IN and OUT")
         if options.sums:
             raise archive_places.Refused("--sums goes with trees, not with --folders")
+        if options.bad:
+            raise archive_places.Refused("--bad goes with trees, not with --folders")
         options.out, options.trees = options.words[1], options.words[:1]
     else:
         if not options.words:
@@ -97,6 +112,7 @@ def read(words: Sequence[str]) -> Any:
         if len(options.trees) < 2:
             many = "one TREE alone is" if options.trees else "no TREE is"
             raise archive_places.Refused(f"{many} named: it takes two or more backups")
+    read_lists(options)
     for file in options.sums:
         try:
             options.sums_read.read(file)
@@ -105,3 +121,16 @@ def read(words: Sequence[str]) -> Any:
         except sums.BadManifest as fault:
             raise archive_places.Refused(f"{file}: {fault}") from fault
     return options
+
+
+def read_lists(options: Any) -> None:
+    """Takes the lists of bad places of trees."""
+    for tree, place in options.bad:
+        if tree > len(options.trees):
+            raise archive_places.Refused(f"--bad {tree}: there are {len(options.trees)} TREEs")
+        try:
+            options.lists.add(tree - 1, place)
+        except OSError as fault:
+            raise archive_places.Refused(f"{place}: {fault.strerror}", 4) from fault
+        except dicom_bad_lists.BadList as fault:
+            raise archive_places.Refused(str(fault)) from fault

@@ -20,14 +20,10 @@ from jls_tools.dicom_sectors import BESIDE, has_noise_within, is_noise, is_plain
 from jls_tools.dicom_structure import Step
 from jls_tools.dicom_tags import (
     CHARACTER_SET,
-    CLASS,
-    CLASS_IN_META,
     COLUMNS,
     FRAMES,
     GROUP_LENGTH,
     HIGH,
-    INSTANCE,
-    INSTANCE_IN_META,
     PADDING,
     PIXEL_DATA,
     ROWS,
@@ -35,6 +31,7 @@ from jls_tools.dicom_tags import (
     SIGN,
     STORED,
     SYNTAX,
+    TWINS,
     VERSION,
 )
 from jls_tools.dicom_values import DIGITS_AND_DOTS, FREE_TEXTS, TEXTS, allows, is_doubtful, is_of_standard, strangeness
@@ -46,7 +43,6 @@ if TYPE_CHECKING:
 CONFIRMED = frozenset((GROUP_LENGTH, SYNTAX, SAMPLES, FRAMES, ROWS, COLUMNS, PIXEL_DATA))
 ONLY_ASCII = ("", "ISO_IR 6")  # without one, texts have the letters of ASCII (PS3.5, 6.1.2)
 ONLY_VERSION = b"\0\1"  # of the meta information (PS3.10, 7.1)
-PAIRS = ((CLASS_IN_META, CLASS), (INSTANCE_IN_META, INSTANCE))
 ONE_ALONE = "one copy alone has it"
 CLEAR = 32  # so many bytes beside a loss are equal in all copies, where its place is clear
 KINDS = 8  # of so many different bytes, at least, the end of a copy that is cut shows where it stands
@@ -54,6 +50,7 @@ WRONG_VR = 4  # the strangeness of a known element with another VR
 ZEROS = bytes(8)
 ZERO_BEFORE, LONG_BEGIN = re.compile(rb"\.0\d"), 16
 ALIKE = 0.9  # such a share of bytes is of the values that stand behind a border, where a value goes on
+LOST = 16  # so many bytes of a copy that were not taken, at least, show that it lost the sector in which they stand
 NEAR = 1024  # so many bytes before the end of a foreign beginning can be of the copy itself
 
 
@@ -76,7 +73,7 @@ def held_by_one(copies: Sequence[Copy]) -> list[tuple[int, int]]:
 def confirmed(header: Header) -> set[int]:
     """The tags of the top level whose values the file itself confirms."""
     found = set(CONFIRMED)
-    for first, second in PAIRS:
+    for first, second in TWINS:
         one, two = header.value(first), header.value(second)
         if one is not None and two is not None and text_of(one) == text_of(two):
             found.update((first, second))
@@ -185,12 +182,23 @@ def is_against_rules(header: Header, element: Element, value: bytes) -> bool:
     return element.tag in (STORED, HIGH) and stored is not None and high is not None and high != stored - 1
 
 
+def is_in_lost_sector(header: Header, begin: int, end: int) -> bool:
+    """Whether a range that one copy alone has stands in sectors that this copy lost, as far as others have them and were taken there."""
+    first, last = begin // SECTOR * SECTOR, -(-end // SECTOR) * SECTOR
+    owners = {number for number, copy in enumerate(header.copies) if not copy.lacks(begin, end)}
+    chosen = header.chosen()
+    against = (number for number in header.runs.touching(first, last) if number in chosen and not owners & header.holders(number))
+    runs = (header.runs.runs[number] for number in against)
+    return sum(min(run.end, last) - max(run.begin, first) for run in runs) >= LOST
+
+
 class Doubts:
     """What speaks against the values that one copy alone has."""
 
     def __init__(self, header: Header, strangers: Sequence[Stranger]) -> None:
         self.header = header
         self.unclear = unclear_ranges(header)
+        self.lost = [pair for pair in held_by_one(header.copies) if is_in_lost_sector(header, *pair)]
         self.borders = [copy.absent[0][1] for copy in header.copies if copy.foreign and not ends_clearly(copy)]
         # (from where on it counts, the bytes)
         self.texts = [(len(copy.foreign) - NEAR, copy.foreign) for copy in header.copies if copy.foreign]
@@ -212,7 +220,7 @@ class Doubts:
             return True
         if step.kind == "leaf" and (element.vr in TEXTS and ZEROS in value or has_noise_within(self.data, element.value, element.end)):
             return True
-        if any(first < end and element.start < behind for first, behind in self.unclear):
+        if any(first < end and element.start < behind for first, behind in [*self.unclear, *self.lost]):
             return True
         if step.kind == "leaf" and any(is_across(element, border) for border in self.borders) and not is_chain(value):
             return True

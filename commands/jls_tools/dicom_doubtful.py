@@ -1,18 +1,20 @@
 """Damage that no copy contradicts and that shows by itself.
 
 Sectors look lost in each copy; a text that one copy alone has has a hole; most copies lack the same bytes, so that the others may have too
-many; or what was taken changes from one copy to another where these differ throughout: then damage of both has to end at one place, as it
-does at borders of sectors alone.
+many; a copy ends as a file does, ahead of what was found; a sector that was taken stands elsewhere in the file too; or what was taken
+changes from one copy to another where these differ throughout: then damage of both has to end at one place, as it does at borders of
+sectors alone.
 """
 from __future__ import annotations
 
 import re
 from collections import Counter
-from collections.abc import Iterable, Sequence
+from collections.abc import Iterable, Iterator, Sequence
 from typing import TYPE_CHECKING, Optional
 
 from jls_tools.dicom_align import Copy
 from jls_tools.dicom_bad import Range, in_both, outside, period_of
+from jls_tools.dicom_frames import DELIMITER
 from jls_tools.dicom_media import SECTOR
 from jls_tools.dicom_placed import in_no_copy
 from jls_tools.dicom_result import Place
@@ -24,6 +26,7 @@ if TYPE_CHECKING:
 HOLE = re.compile(rb"(?<=[\t\n\r\x20-\x7e]{32})([\0\x7f-\xff])\1{15,}(?=[\t\n\r\x20-\x7e]{32})", re.S)
 NEAR = 8  # so many equal bytes between two places, at least, show that damage ends there
 LONG = 16  # bytes on each side of a change
+LEAST_REST = 64  # bytes of a sector that the file ends in, at least, if it is compared with others
 BESIDE = 64  # bytes of the file beside a place, in which the text around a hole stands
 
 
@@ -69,6 +72,34 @@ def lost_in_most(copies: Sequence[Copy]) -> Optional[int]:
         if count > 1 and count * 2 > len(copies):
             return begin
     return None
+
+
+def ends_before(copies: Sequence[Copy], end: int) -> Optional[int]:
+    """Where a copy ends with the delimiter of Pixel Data, as a file does, ahead of `end`, where Pixel Data ends in what was found."""
+    for copy in copies:
+        first, last = copy.absent[-1] if copy.absent else (end, end)
+        begin = first - len(DELIMITER)
+        if last == len(copy.data) and first < end and copy.data[begin:first] == DELIMITER and not copy.lacks(begin, first):
+            return first
+    return None
+
+
+def stands_twice(header: Header, data: bytes) -> Optional[int]:
+    """Where a sector begins in which copies differ and that the file has elsewhere too, as if a disk had written it to a wrong place."""
+    for border in sorted({begin // SECTOR * SECTOR for parts in header.parts.values() for begin, _ in parts}):
+        sector = data[border : border + SECTOR]
+        if len(sector) >= LEAST_REST and not period_of(sector) and any(at != border for at in places_of(sector, data)):
+            return border
+    return None
+
+
+def places_of(sector: bytes, data: bytes) -> Iterator[int]:
+    """The borders of sectors at which some bytes stand."""
+    at = data.find(sector)
+    while at >= 0:
+        if at % SECTOR == 0:
+            yield at
+        at = data.find(sector, at + 1)
 
 
 def change_at(header: Header) -> Optional[int]:

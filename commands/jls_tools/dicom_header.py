@@ -11,9 +11,11 @@ from typing import Optional
 from jls_tools.dicom_align import Copy
 from jls_tools.dicom_alone import ONLY_VERSION, Stranger, held_by_one, places_alone
 from jls_tools.dicom_csa import Chains
-from jls_tools.dicom_decider import Decider
+from jls_tools.dicom_decider import DECIDED, IS_SECTOR, Decider
 from jls_tools.dicom_file import JPEG_LS, UNDEFINED, Element, tag_name, text_of
 from jls_tools.dicom_frames import Shape
+from jls_tools.dicom_media import SECTOR
+from jls_tools.dicom_most import are_lost_alike
 from jls_tools.dicom_result import Place
 from jls_tools.dicom_runs import Run, Runs
 from jls_tools.dicom_sectors import is_noise_alone
@@ -21,14 +23,10 @@ from jls_tools.dicom_structure import Structure
 from jls_tools.dicom_tables import Table, Tables
 from jls_tools.dicom_tags import (
     ALLOCATED,
-    CLASS,
-    CLASS_IN_META,
     COLUMNS,
     FRAMES,
     GROUP_LENGTH,
     HIGH,
-    INSTANCE,
-    INSTANCE_IN_META,
     LARGEST,
     PADDING,
     ROWS,
@@ -37,6 +35,7 @@ from jls_tools.dicom_tags import (
     SMALLEST,
     STORED,
     SYNTAX,
+    TWINS,
     VERSION,
 )
 from jls_tools.dicom_terms import KNOWN, has_terms, is_made_of, is_term
@@ -44,7 +43,6 @@ from jls_tools.dicom_uids import are_denied
 from jls_tools.dicom_values import NOT_IN_TEXT, TEXTS, allows, is_written
 
 BITS = [[allocated, stored, stored - 1] for allocated in (8, 16) for stored in range(1, allocated + 1)]  # allocated, stored, the high one
-TWINS = ((CLASS_IN_META, CLASS), (INSTANCE_IN_META, INSTANCE))
 MOST_TOGETHER = 4096
 PREAMBLE, PREFIX = 128, b"DICM"
 BY_MOST = "most copies have it"
@@ -316,12 +314,29 @@ class Header:
         return set(self.runs.runs[number].holders[self.left[number][0]])
 
     def by_most(self) -> None:
-        """Three copies or more: what most of them have."""
+        """Three copies or more: what most of them have, unless these lost the sector together."""
         for number in self.open_runs():
             holders = self.runs.runs[number].holders
             present = sum(len(each) for each in holders)
-            if present >= 3:
-                self.keep(number, {way for way in self.left[number] if len(holders[way]) * 2 > present}, BY_MOST)
+            most = next((way for way in self.left[number] if present >= 3 and len(holders[way]) * 2 > present), None)
+            if most is None:
+                continue
+            count, is_filled = self.decided_against(number, holders[most]), self.is_filled(number, holders[most])
+            if count >= DECIDED and is_filled:
+                self.keep(number, set(self.left[number]) - {most}, IS_SECTOR)
+            elif count == 0 and not is_filled:
+                self.keep(number, {most}, BY_MOST)
+
+    def decided_against(self, number: int, alike: Collection[int]) -> int:
+        """How many places in the sector of a run were decided against copies that are alike in it."""
+        first = self.runs.runs[number].begin // SECTOR * SECTOR
+        beside = (each for each in self.runs.touching(first, first + SECTOR) if len(self.left.get(each, ())) == 1)
+        return sum(bool(self.holders(each)) and not self.holders(each) & set(alike) for each in beside)
+
+    def is_filled(self, number: int, alike: Collection[int]) -> bool:
+        """Whether a run looks lost in all copies that are alike in it, and not in another one."""
+        run = self.runs.runs[number]
+        return are_lost_alike(self.copies, alike, [(run.begin, run.end)])
 
     def by_copy(self, copy: int) -> None:
         """Takes what one copy has wherever it is open."""

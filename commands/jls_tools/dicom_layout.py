@@ -8,13 +8,13 @@ from jls_tools.dicom_align import SHIFTED, Copy, differing, on_one_axis, size_of
 from jls_tools.dicom_alone import is_against_rules
 from jls_tools.dicom_file import JPEG_LS, Element, tag_name
 from jls_tools.dicom_frames import Fragments, FramePlace, Shape, shape_of
-from jls_tools.dicom_header import BY_MOST, TWINS, Header
+from jls_tools.dicom_header import BY_MOST, Header
 from jls_tools.dicom_most import agreed
 from jls_tools.dicom_placed import placed
 from jls_tools.dicom_runs import FINEST, Runs
 from jls_tools.dicom_structure import Structure, Walk
 from jls_tools.dicom_tables import Table
-from jls_tools.dicom_tags import ALLOCATED, COLUMNS, EXTENDED_LENGTHS, EXTENDED_TABLE, FRAMES, ROWS, SAMPLES, STORED, SYNTAX
+from jls_tools.dicom_tags import ALLOCATED, COLUMNS, EXTENDED_LENGTHS, EXTENDED_TABLE, FRAMES, ROWS, SAMPLES, STORED, SYNTAX, TWINS
 from jls_tools.dicom_values import DIGITS_AND_DOTS, NOT_IN_TEXT, TEXTS, is_doubtful, is_written
 from jls_tools.dicom_write import expected_tables
 

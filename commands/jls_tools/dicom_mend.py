@@ -12,7 +12,7 @@ from jls_tools import dicom_bad, dicom_bad_lists, dicom_gaps, partial_picture
 from jls_tools.dicom_align import Copy, merged
 from jls_tools.dicom_alone import Stranger
 from jls_tools.dicom_bad import Range
-from jls_tools.dicom_doubtful import change_at, hole_in_text, lost_in_each, lost_in_most
+from jls_tools.dicom_doubtful import change_at, ends_before, hole_in_text, lost_in_each, lost_in_most, stands_twice
 from jls_tools.dicom_finished import faults_of
 from jls_tools.dicom_frames import DELIMITER, FramePlace, Shape, by_search, paired_by_bytes
 from jls_tools.dicom_instance import Instances, TwoInstances
@@ -99,6 +99,8 @@ class Mending:
     def bad_places(self) -> list[list[Range]]:
         """For each copy what lists name as bad in it."""
         found: list[list[Range]] = [[] for _ in self.paths]
+        for at, places in self.options.bad_ranges:
+            found[at] = dicom_bad.clipped(places, 0, len(self.texts[at]))
         for at, path in self.options.bad:
             try:
                 ranges, behind = dicom_bad_lists.of_copy(path, len(self.texts[at]))
@@ -106,8 +108,8 @@ class Mending:
                 raise Refused(str(fault)) from fault
             found[at] = merged([*found[at], *ranges])
             if behind:
-                places = "a place" if behind == 1 else f"{behind} places"
-                self.result.notes.append(f"{path} names {places} behind the end of {self.paths[at]}, which has {len(self.texts[at])} bytes")
+                count = "a place" if behind == 1 else f"{behind} places"
+                self.result.notes.append(f"{path} names {count} behind the end of {self.paths[at]}, which has {len(self.texts[at])} bytes")
         return found
 
     def look_at_kinds(self) -> None:
@@ -371,6 +373,12 @@ class Mending:
         at = lost_in_most(self.copies)
         if at is not None:
             return f"most copies lack the same bytes at {at}"
+        at = ends_before(self.copies, self.layout.structure.end_of_pixels())
+        if at is not None:
+            return f"a copy has the end of Pixel Data before {at}, where others go on"
+        at = stands_twice(self.header, data)
+        if at is not None:
+            return f"the sector at {at} stands elsewhere in the file too"
         at = change_at(self.header)
         return None if at is None else f"damage of two copies has to touch at {at}, inside of a sector"
 

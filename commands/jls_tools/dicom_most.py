@@ -1,14 +1,16 @@
 """Whether most copies have one header that reads: then it is the file's, and no rule on values takes anything else from another copy.
 
-An empty or a shorter value can be the true one. So a copy alone whose value is longer does not outvote two whose headers agree.
+An empty or a shorter value can be the true one. So a copy alone whose value is longer does not outvote two whose headers agree. But disks
+of one kind can lose the same sectors: what looks lost outvotes nothing.
 """
 from __future__ import annotations
 
-from collections.abc import Sequence
+from collections.abc import Collection, Sequence
 from dataclasses import dataclass
 from typing import Optional
 
 from jls_tools.dicom_align import Copy
+from jls_tools.dicom_bad import clipped, in_all, in_both
 from jls_tools.dicom_file import Element
 from jls_tools.dicom_finished import Reading
 from jls_tools.dicom_tags import FIRST, PIXEL_DATA
@@ -38,9 +40,16 @@ def agreed(copies: Sequence[Copy], ranges: list[tuple[int, int]]) -> Optional[Ag
             continue
         own = copy.data[FIRST:until]
         alike = [number for number, each in enumerate(copies) if each.data[FIRST:until] == own and not each.lacks(FIRST, until)]
-        if at in alike and len(alike) * 2 > len(copies):
+        if at in alike and len(alike) * 2 > len(copies) and not are_lost_alike(copies, alike, clipped(ranges, FIRST, until)):
             return Agreed(frozenset(alike), FIRST, until)
     return None
+
+
+def are_lost_alike(copies: Sequence[Copy], alike: Collection[int], ranges: Sequence[tuple[int, int]]) -> bool:
+    """Whether some of these ranges looks lost in each of the copies that are alike, and another copy has other bytes there."""
+    others = [copy for at, copy in enumerate(copies) if at not in alike]
+    filled = in_both(ranges, in_all([copies[at].seen for at in alike]))
+    return any(not copy.lacks(*pair) and not clipped(copy.seen, *pair) for pair in filled for copy in others)
 
 
 def header_end(data: bytes, ranges: list[tuple[int, int]]) -> Optional[int]:

@@ -21,6 +21,7 @@ class MendOptions:
     tries: int | None = None
     bad: Sequence[tuple[int, str]] = ()  # (a copy by its place, from 0; a list of bad places in it)
     progress: Callable[[int, int], object] | None = None  # called with (frames done, frames)
+    bad_ranges: Sequence[tuple[int, Sequence[tuple[int, int]]]] = ()  # (a copy; bad places in it)
 
 
 @dataclass

@@ -1,0 +1,160 @@
+"""Checks of damage that several copies share, and of copies that end otherwise: nothing false comes of it."""
+from __future__ import annotations
+
+import random
+import types
+from collections.abc import Iterator
+from typing import Any
+
+from dicom_files import File, changed, element, with_value
+from dicom_rules import csa_header
+from jls_tools import dicom_alone, dicom_doubtful
+from jls_tools.dicom_align import Copy
+from jls_tools.dicom_frames import DELIMITER
+
+Check = tuple[str, bool]
+SECTOR = 512
+
+
+class Before:
+    """Bytes that stood in memory before a text was written over them: most are zeros."""
+
+    def randbytes(self, size: int) -> bytes:
+        return bytes(size - 20) + b"\xac\x45\x76\x4c" + bytes(16)
+
+
+def in_frame(made: File, true: bytes, number: int) -> tuple[int, bytes]:
+    """Eight zeros in a frame of a file whose header has another length."""
+    return true.index(made.frames[number]) + 70, bytes(8)
+
+
+def checks_of_sectors_lost_alike(bench: Any, made: File, rng: random.Random) -> Iterator[Check]:
+    """Two of three copies lost one sector, as disks of one array do: what they have there outvotes nothing."""
+    letters = bytes(rng.choice(b"abcdefgh ijklm.nop=") for _ in range(3000))
+    text, begin = with_value(made, letters)
+    zeros, _ = with_value(made, letters[:1000] + bytes(1000) + letters[:1000])
+    border = -(-(begin + 1100) // SECTOR) * SECTOR
+    csa, at = with_value(made, csa_header(Before()))
+    tags = csa.index(b"Field0") // SECTOR * SECTOR + SECTOR
+    assert at < tags and tags + SECTOR < csa.index(b"MrProtocol")
+    noise = rng.randbytes(SECTOR)
+    cases = {
+        "zeros in a private text": (text, (border, bytes(SECTOR)), 1),
+        "one byte in a private text": (text, (border, b"\xff" * SECTOR), 1),
+        "zeros within a sector": (text, (border + 100, bytes(64)), None),
+        "tags of a CSA header": (csa, (tags, bytes(SECTOR)), 0),
+    }
+    for name, (true, lost, wanted) in cases.items():
+        copies = [changed(true, in_frame(made, true, at), *([lost] if at else [])) for at in range(3)]
+        status, out, printed, _, _ = bench.mend(copies)
+        if wanted is None:  # a writer's, as far as anyone can tell
+            yield f"{name}: what most copies have ({status}, {printed})", (status, out == changed(true, lost)) == (0, True)
+        else:
+            yield f"{name}: {wanted} ({status}, {printed})", (status, out == true) == (wanted, wanted == 0)
+    copies = [changed(zeros, in_frame(made, zeros, at), *([] if at else [(border, noise)])) for at in range(3)]
+    status, out, printed, _, _ = bench.mend(copies)
+    yield f"true zeros, and noise over one of three: nothing false ({status}, {printed})", (status, out) == (1, None) or out == zeros
+    first = border + 40
+    copies = [changed(text, in_frame(made, text, at), *([(first, b"Doe^Jane")] if at else [])) for at in range(3)]
+    status, out, printed, _, _ = bench.mend(copies)
+    yield f"two of three agree ({status}, {printed})", (status, out == changed(text, (first, b"Doe^Jane"))) == (0, True)
+
+
+def checks_of_decided_beside(bench: Any, made: File, rng: random.Random) -> Iterator[Check]:
+    """Two of three copies have the same letters in a sector in which others of theirs were not taken: these say nothing."""
+    csa, _ = with_value(made, csa_header(rng))
+    field, text = csa.index(b"Field5\0"), csa.index(b"Field5\0") + 20
+    assert field // SECTOR == (field + 84) // SECTOR
+    other = (text, bytes([csa[text] ^ 0x11]))
+    broken = (field + 76, b"\x99")
+    own = [(csa.index(word), bytes(4)) for word in (b"ORIGINAL", b"20200131", b"MONOCHROME2")]  # so that no two have one header
+    for name, changes, wanted in (("a byte", [other], 0), ("a byte, and a broken tag", [other, broken], 1)):
+        copies = [changed(csa, in_frame(made, csa, at), own[at], *(changes if at else [])) for at in range(3)]
+        status, out, printed, _, _ = bench.mend(copies)
+        yield f"{name}: {wanted} ({status}, {printed})", status == wanted and (out == changed(csa, other) if wanted == 0 else out is None)
+
+
+def checks_of_other_ends() -> Iterator[Check]:
+    """Whether a copy ends as a file does, ahead of the end of what was found."""
+    data, end = bytes(492) + DELIMITER + bytes(492) + DELIMITER, 1000
+    inner, cut, behind = [(100, 200)], [(500, 1000)], [(600, 1000)]
+    for name, absent, until, wanted in (
+        ("one of three ends before", [cut, [], []], end, 500),
+        ("one of two", [[], cut], end, 500),
+        ("it lacks others too", [[*inner, *cut], []], end, 500),
+        ("Pixel Data ends there", [cut, []], 500, None),
+        ("it has no end of its own", [behind, []], end, None),
+        ("it lacks its end", [[(496, 1000)], []], end, None),
+        ("it goes on", [[(500, 900)], []], end, None),
+        ("none lacks anything", [[], []], end, None),
+    ):
+        found = dicom_doubtful.ends_before([Copy("", data, own) for own in absent], until)
+        yield f"{name}: {wanted} ({found})", found == wanted
+
+
+def checks_of_sectors_twice(bench: Any, made: File, rng: random.Random) -> Iterator[Check]:
+    """A sector that was written to a wrong place in two of three copies: it stands in the file twice."""
+    letters = bytes(rng.choice(b"abcdefgh ijklm.nop=") for _ in range(4000))
+    true, begin = with_value(made, letters)
+    border = -(-begin // SECTOR) * SECTOR
+    for name, source, wanted in (("another sector", border + 3 * SECTOR, 1), ("what stands at no border", border + 3 * SECTOR + 8, 0)):
+        wrong = changed(true, (border + SECTOR, true[source : source + SECTOR]))
+        copies = [changed(wrong if at else true, in_frame(made, true, at)) for at in range(3)]
+        status, out, printed, _, _ = bench.mend(copies)
+        told = not wanted or f"the sector at {border + SECTOR} stands elsewhere" in printed
+        yield f"{name}: {wanted} ({status}, {printed})", (status, out is not None, told) == (wanted, wanted == 0, True)
+    twice, _ = with_value(made, letters[:2048] + letters[:1024] + letters)
+    copies = [changed(twice, in_frame(made, twice, at)) for at in range(2)]
+    status, out, printed, _, _ = bench.mend(copies)
+    yield f"a file that has a sector twice ({status}, {printed})", (status, out == twice) == (0, True)
+
+
+def header_with(runs: list[tuple[int, int, set[int]]]) -> Any:
+    """What stands for a Header of three copies, of which the last one alone has bytes 600 to 606. `runs` are decided, for these copies."""
+    copies = [Copy("", bytes(1024), own) for own in ([(600, 606)], [(600, 606)], [])]
+    found = [types.SimpleNamespace(begin=begin, end=end) for begin, end, _ in runs]
+
+    def touching(first: int, last: int) -> list[int]:
+        return [at for at, (begin, end, _) in enumerate(runs) if begin < last and first < end]
+
+    return types.SimpleNamespace(
+        copies=copies,
+        runs=types.SimpleNamespace(runs=found, touching=touching),
+        chosen=lambda: dict.fromkeys(range(len(runs)), 0),
+        holders=lambda number: runs[number][2],
+    )
+
+
+def checks_of_lost_beside() -> Iterator[Check]:
+    """Whether a copy lost the sector of what it alone has: enough of it was not taken there."""
+    for name, runs, wanted in (
+        ("most of the sector", [(520, 560, {0, 1})], True),
+        ("two places of it", [(520, 528, {0, 1}), (700, 708, {0})], True),
+        ("few bytes", [(520, 535, {0, 1})], False),
+        ("another sector", [(400, 512, {0, 1})], False),
+        ("as far as it is of the sector", [(400, 520, {0, 1})], False),
+        ("what was taken of it", [(520, 560, {0, 2})], False),
+    ):
+        found = dicom_alone.is_in_lost_sector(header_with(runs), 600, 606)
+        yield f"{name}: {wanted} ({found})", found == wanted
+
+
+def checks_of_alone_in_lost_sectors(bench: Any, made: File) -> Iterator[Check]:
+    """Two copies are cut, and the third one lost its last sector: the end that it alone has is no end of the file."""
+    tail = element(0xFFFCFFFC, "OB", bytes(30))
+    end = element(0xFFFCFFFC, "OB", bytes(range(1, 35)) + b"\x08" + bytes(5))
+    size = 64 + -(len(made.bytes) - len(tail) + len(end) - 100) % SECTOR
+    longer, _ = with_value(made, bytes(at % 250 + 1 for at in range(size)))
+    head = longer[: -len(tail)] + end
+    border = len(head) - 100
+    zeroed = changed(head, (border, bytes(100)), in_frame(made, head, 0))
+    copies = [changed(head[:-6], in_frame(made, head, 1)), changed(head[:-7], in_frame(made, head, 2)), zeroed]
+    status, out, printed, _, _ = bench.mend(copies)
+    yield f"zeros where two copies are cut: undecided ({status}, {printed})", (status, out) == (1, None)
+    whole = changed(head, in_frame(made, head, 0))
+    status, out, printed, _, _ = bench.mend([*copies[:2], whole])
+    yield f"the end of a copy that lost nothing ({status}, {printed})", (status, out == head) == (0, True)
+
+
+TOGETHER = [checks_of_sectors_lost_alike, checks_of_decided_beside, checks_of_other_ends, checks_of_sectors_twice]
+TOGETHER += [checks_of_lost_beside, checks_of_alone_in_lost_sectors]
