@@ -13,8 +13,8 @@
 //! A decoder of an interval keeps a `CodeState`, and computes k, g and qbpp anew. `of_short` finds the state of an incomplete short code
 //! from all its bits at once, and `fed` gives these bits back.
 //!
-//! Definitions: `Bits`, `Pad`, `Front` (the bytes that bits fill), `Golomb`, `CodeState`, `Chunk`, `Unread`, `GolombBits`. Inside the crate: `Packing`, `Appending`,
-//! `Unstuffing`, `GolombReading`.
+//! Definitions: `Bits`, `Pad`, `Front` (the bytes that bits fill), `Golomb`, `CodeState`, `Chunk`, `Unread`, `GolombBits`. Inside
+//! the crate: `Packing`, `Appending`, `Unstuffing`, `GolombReading`.
 #![tactic(auto)]
 
 mod chunk;

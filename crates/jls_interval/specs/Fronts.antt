@@ -9,8 +9,8 @@ use Rattle.jls_interval.specs.Code.{code}
 use Rattle.jls_interval.specs.Reads.{BeginsWithCode}
 use Rattle.jls_interval.specs.declared.front.Front.{Front}
 
--- lines with which an interval of 1 to 4 components can begin: each of this width, with samples of at most MAXVAL. They may end inside a row
--- (T.87 B.2)
+-- lines with which an interval of 1 to 4 components can begin: each of this width, with samples of at most MAXVAL. They may end
+-- inside a row (T.87 B.2)
 pub record AreFirstLines (p : CodingParameters) (width components : ℕ) (lines : List (List ℕ)) : Type 0 where
   pub components_at_least : 1 ≤ components
   pub components_at_most : components ≤ 4
