@@ -1,5 +1,5 @@
-//! What speaks for a path of a search level by level: how many copies have its ways, and how many samples were read. No contract speaks
-//! of it, but that a place in a list is one.
+//! What speaks for a path of a search level by level: how many copies have its ways, and how many bits a code that learns saves on its
+//! lines. No contract speaks of it, but that a place in a list is one.
 
 ghost use Rattle.std.specs.Prelude.{◌<◌, ◌≤◌, length};
 ghost use Rattle.jls_diff.specs.PartsOf.{parts_of};
@@ -7,8 +7,11 @@ ghost use Rattle.jls_diff.specs.PartsOf.{parts_of};
 use crate::next_level::LivingPath;
 use jls_diff::{Part, Parts};
 
-/// For how many samples it counts that a copy has a way.
-const SAMPLES_A_COPY: u64 = 30;
+/// For how many bits it counts that a copy has a way.
+const BITS_A_COPY: u64 = 10;
+
+/// Of how many ways at most it is counted how many differ.
+const MANY_WAYS: usize = 64;
 
 /// Whether these bytes are all one byte.
 fn are_of_one_byte(way: &[u8]) -> bool {
@@ -43,10 +46,42 @@ pub(crate) fn backing_at(parts: &Parts<'_>, place: usize, choice: usize) -> u64
     }
 }
 
-/// What speaks for a path, in samples.
-fn weight(path: &LivingPath) -> u64 {
-    let backed = path.backing.saturating_mul(SAMPLES_A_COPY);
-    path.kept.reader.samples_read().saturating_add(backed)
+/// How many copies have the ways of a path, in bits.
+fn backed_bits(path: &LivingPath) -> i64 {
+    let backed = path.backing.saturating_mul(BITS_A_COPY);
+    i64::try_from(backed).unwrap_or(i64::MAX)
+}
+
+/// How many of these ways have bytes of their own.
+fn count_different(ways: &[&[u8]]) -> usize {
+    let mut count: usize = 0;
+    for place in 0..ways.len() {
+        let equal = count_equal(&ways[..place], ways[place]);
+        if equal == 0 {
+            count = count.saturating_add(1);
+        }
+    }
+    count
+}
+
+/// How many ways a part has that a search tries, if copies differ in it. Of many ways, equal ones are counted too.
+pub(crate) fn ways_at(parts: &Parts<'_>, place: usize) -> usize
+    requires { place < length parts.now }
+{
+    match parts.part(place) {
+        Part::Same(_) => 0,
+        Part::Differ(ways) if ways.len() > MANY_WAYS => ways.len(),
+        Part::Differ(ways) => count_different(ways),
+    }
+}
+
+/// What speaks for a path, in bits.
+fn weight(path: &LivingPath) -> i64 {
+    let backed = backed_bits(path);
+    match &path.saving {
+        Some(saving) => saving.bits().saturating_add(backed),
+        None => backed,
+    }
 }
 
 /// The place of the path for which least speaks; the last of equal ones.

@@ -200,7 +200,7 @@ fn news_from(copies: &[&[u8]], number: usize, from: usize) -> usize {
 }
 
 /// Whether the scan data of two copies, which begin at these offsets, are mostly alike where they could differ: three quarters of what the
-/// one has that has less.
+/// one has that has less. Where that is next to nothing, they aren't: it would be alike to any.
 fn are_mostly_alike(copies: &[&[u8]], parts: &Parts<'_>, pair: Pair, data: Offsets) -> bool {
     let found = compare(copies, parts, pair, data);
     let Some(from) = found.from else {
@@ -208,16 +208,27 @@ fn are_mostly_alike(copies: &[&[u8]], parts: &Parts<'_>, pair: Pair, data: Offse
     };
     let first = news_from(copies, pair.first, from.first.max(data.first));
     let second = news_from(copies, pair.second, from.second.max(data.second));
-    found.alike.saturating_mul(4) >= first.min(second).saturating_mul(3)
+    let less = first.min(second);
+    less >= WINDOW && found.alike.saturating_mul(4) >= less.saturating_mul(3)
 }
 
-/// For each copy the number of the first whose headers say the same as its own.
-fn first_with_same_headers(alloc: Global, codings: &[Coding]) -> Result<Vec<usize>, AllocError> {
+/// Whether a copy says nothing of its coding.
+fn is_silent(silent: &[bool], number: usize) -> bool {
+    silent.get(number) == Some(&true)
+}
+
+/// For each copy the number of the first whose headers say the same as its own. Copies that say nothing have their own.
+fn first_with_same_headers(
+    alloc: Global,
+    codings: &[Coding],
+    silent: &[bool],
+) -> Result<Vec<usize>, AllocError> {
     let mut firsts = Vec::new(alloc);
     for (number, coding) in codings.iter().enumerate() {
         let mut first = number;
         for (other, before) in codings.iter().enumerate() {
-            if other < first && say_the_same(before, coding) {
+            let speak = !is_silent(silent, number) && !is_silent(silent, other);
+            if speak && other < first && say_the_same(before, coding) {
                 first = other;
             }
         }
@@ -243,6 +254,29 @@ fn renumber(numbers: &mut [usize], from: usize, to: usize) {
     }
 }
 
+/// For each copy whether it says nothing of its coding: it has no scan, and hardly a byte that nothing before it foretells.
+fn which_are_silent(
+    alloc: Global,
+    copies: &[&[u8]],
+    codings: &[Coding],
+) -> Result<Vec<bool>, AllocError> {
+    let mut silent = Vec::new(alloc);
+    for number in 0..copies.len() {
+        silent.push(data_of(codings, number) == 0 && news_from(copies, number, 0) < WINDOW)?;
+    }
+    Ok(silent)
+}
+
+/// Joins copies that say nothing of their coding to the first that says something.
+fn join_silent(numbers: &mut [usize], silent: &[bool]) {
+    let first = silent.iter().position(|is| !*is).unwrap_or(0);
+    for (second, is) in silent.iter().enumerate() {
+        if let (true, Some((one, other))) = (*is, numbers_of(numbers, Pair { first, second })) {
+            renumber(numbers, one.max(other), one.min(other));
+        }
+    }
+}
+
 /// The numbers that two copies have.
 fn numbers_of(numbers: &[usize], pair: Pair) -> Option<(usize, usize)> {
     let first = numbers.get(pair.first)?;
@@ -261,12 +295,14 @@ pub fn codings_of(
     for copy in copies {
         codings.push(coding_of(alloc, copy)?)?;
     }
-    let firsts = first_with_same_headers(alloc, &codings)?;
+    let silent = which_are_silent(alloc, copies, &codings)?;
+    let firsts = first_with_same_headers(alloc, &codings, &silent)?;
     let mut numbers: Vec<usize> = firsts.iter().copied().collect(alloc)?;
     for second in 0..copies.len() {
         for first in 0..second {
             let pair = Pair { first, second };
-            if numbers_of(&firsts, pair) != Some((first, second)) {
+            let speak = !is_silent(&silent, first) && !is_silent(&silent, second);
+            if !speak || numbers_of(&firsts, pair) != Some((first, second)) {
                 continue;
             }
             let Some((one, other)) = numbers_of(&numbers, pair) else {
@@ -281,6 +317,7 @@ pub fn codings_of(
             }
         }
     }
+    join_silent(&mut numbers, &silent);
     Ok(numbers)
 }
 

@@ -11,7 +11,10 @@ ghost use Rattle.jls_search.specs.Search.{CameTo, IsKeptReader, IsShort, MakeFil
 
 use crate::faultless::is_sought;
 use crate::kept::{KeptReader, kept_reader};
-use crate::next_level::{LevelRules, LivingPath, NextLevel, next_level, next_stop, take_path};
+use crate::next_level::{
+    LevelRules, LivingPath, NextLevel, most_living, next_level, next_stop, take_path,
+};
+use crate::saving::first_saving;
 use crate::whole_search::Searched;
 use jls_copy::CopyReader;
 use jls_diff::Parts;
@@ -21,7 +24,8 @@ use std::alloc::{AllocError, Global};
 /// end. Of each level all ways of all paths that live are judged. A path lives unless it was found that no file that is sought begins with
 /// what it makes. Its reader is kept.
 ///
-/// At most 64 paths live. Where more would, or its tries are used up, the search is given up, and finds nothing; or it lets paths go.
+/// At most 64 paths live, or fewer where paths are let go and tries are short. Where more would, or its tries are used up, the search is
+/// given up, and finds nothing; or it lets paths go.
 #[derive(Drop)]
 pub struct LevelSearch {
     /// What it goes by.
@@ -45,8 +49,8 @@ pub(crate) struct FoundFiles {
     pub(crate) reader: Option<KeptReader>,
 }
 
-/// The path of no choices.
-fn no_path(alloc: Global) -> LivingPath
+/// The path of no choices. What is saved on its lines is counted where paths are let go.
+fn no_path(alloc: Global, lets_go: bool) -> LivingPath
     ensures { (parts : List SpecPart) → IsReadTo parts 0 result }
 {
     LivingPath {
@@ -55,6 +59,7 @@ fn no_path(alloc: Global) -> LivingPath
             choices: Vec::new(alloc),
         },
         backing: 0,
+        saving: first_saving(lets_go),
     }
 }
 
@@ -130,7 +135,7 @@ impl LevelSearch {
         ensures stands { IfOk result (λ begun. IsLevelSearch parts.now begun) }
         ensures rules { IfOk result (λ begun. begun.rules ≡ rules) }
     {
-        let from = no_path(alloc);
+        let from = no_path(alloc, rules.lets_go);
         let mut living = Vec::new(alloc);
         take_path(
             alloc,
@@ -169,6 +174,7 @@ impl LevelSearch {
         let end = parts.len();
         let begun = NextLevel {
             living: Vec::new(alloc),
+            most_living: most_living(parts, self.rules, self.count, self.tries),
             tries: self.tries,
             is_used_up: self.is_used_up,
             is_given_up: false,

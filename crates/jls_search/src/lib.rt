@@ -14,7 +14,8 @@
 //! - `searching`: the search, as a value that goes on as far as its caller wants; `adding`: the choices that it finds
 //! - `whole_search`: the search of whole files
 //! - `level_search`: the search of whole files level by level, as a value that goes on one level at a time; `next_level`: what the paths of
-//!   a level go on to; `backing`: what speaks for a path. No contract speaks of that
+//!   a level go on to; `backing`: what speaks for a path; `saving`: how many bits its lines would save in a code that learns, which is
+//!   `learning_code`. No contract speaks of these three
 //! - `levels`: the levels of the search for the cut file, and the last one at which exactly one path lives
 //! - `codings`: which copies are of one coding, as far as can be told. No contract speaks of it
 //! - `laws`: the laws of searches
@@ -52,7 +53,7 @@
 //! - How often a file is decoded.
 //! - Which groups are searched first (`order`), but that each has its turn.
 //! - How many ways a search level by level judges, how many of its paths live, which of them it lets go, and the order of what it finds
-//!   (`backing`).
+//!   (`backing`, `saving`, `learning_code`).
 #![tactic(auto)]
 
 mod adding;
@@ -70,6 +71,7 @@ mod found;
 mod group_search;
 mod kept;
 mod laws;
+mod learning_code;
 mod level_search;
 mod levels;
 mod lines;
@@ -83,6 +85,7 @@ mod reading_between;
 mod reading_files;
 mod reading_group;
 mod reading_splices;
+mod saving;
 mod searching;
 mod seen;
 mod setting;
@@ -107,6 +110,7 @@ pub use level_search::LevelSearch;
 pub use levels::lone_path;
 pub use next_level::{LevelRules, LivingPath};
 pub use reading_between::reads_between;
+pub use saving::Saving;
 pub use searching::Search;
 pub use setting::{Goal, Setting};
 pub use settling::{HeldFiles, Settled, settle_files};

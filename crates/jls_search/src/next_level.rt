@@ -10,7 +10,7 @@ ghost use Rattle.jls_search.specs.Faultless.{IsDead, IsSought};
 ghost use Rattle.jls_search.specs.LevelSearches.{AreGoneOn, IsLiving, IsNextStop, IsReadTo, IsTaken, paths_of, WentOn};
 ghost use Rattle.jls_search.specs.Search.{IsKeptReader, IsShort};
 
-use crate::backing::{backing_at, place_for, weakest};
+use crate::backing::{backing_at, place_for, ways_at, weakest};
 use crate::ceiling::is_above;
 use crate::choosing::{is_same_at, next_way_at};
 use crate::faultless::is_found_dead;
@@ -18,13 +18,17 @@ use crate::kept::{KeptReader, begun_from};
 use crate::levels::with_choice;
 use crate::living::living_from;
 use crate::path::follow;
+use crate::saving::{Saving, saving_on};
 use crate::setting::Goal;
 use jls_copy::CopyReader;
 use jls_diff::Parts;
 use std::alloc::{AllocError, Global};
 
 /// How many paths of a level live at most.
-pub(crate) const MOST_LIVING: usize = 64;
+const MOST_LIVING: usize = 64;
+
+/// How many may live at least, where paths are let go.
+const LEAST_LIVING: usize = 4;
 
 /// What a search level by level goes by.
 #[derive(Clone, Copy)]
@@ -44,6 +48,8 @@ pub struct LivingPath {
     pub kept: KeptReader,
     /// How many copies have its ways, summed over the parts in which copies differ.
     pub backing: u64,
+    /// What is saved on its lines, in a search that may let paths go.
+    pub saving: Option<Saving>,
 }
 
 /// A level that is gone on to.
@@ -51,12 +57,35 @@ pub struct LivingPath {
 pub(crate) struct NextLevel {
     /// Its paths so far that were not found dead.
     pub(crate) living: Vec<LivingPath>,
+    /// How many of its paths may live.
+    pub(crate) most_living: usize,
     /// How many ways were judged in all.
     pub(crate) tries: u32,
     /// Whether a way was passed over, or a path let go.
     pub(crate) is_used_up: bool,
     /// Whether the search is given up.
     pub(crate) is_given_up: bool,
+}
+
+/// How many ways each path has from this place on, if it were gone on from at each part. Those with equal bytes are counted once.
+fn ways_from(parts: &Parts<'_>, from: usize) -> usize {
+    let mut count: usize = 0;
+    for place in from..parts.len() {
+        count = count.saturating_add(ways_at(parts, place));
+    }
+    count
+}
+
+/// How many paths of the next level may live. Where paths are let go, that is as many as the tries that are left can go on from to the end.
+pub(crate) fn most_living(parts: &Parts<'_>, rules: LevelRules, count: usize, tries: u32) -> usize {
+    if !rules.lets_go {
+        return MOST_LIVING;
+    }
+    let left = rules.tries.saturating_sub(tries) as usize;
+    let each = ways_from(parts, count);
+    left.checked_div(each)
+        .unwrap_or(MOST_LIVING)
+        .clamp(LEAST_LIVING, MOST_LIVING)
 }
 
 /// The next part from this place on in which copies differ, or the end.
@@ -125,13 +154,21 @@ pub(crate) fn take_path(
     let Some(reader) = fed else {
         return Ok(());
     };
+    let saving = saving_on(&from.saving, &reader)?;
     let backing = backing_on(parts, from, &path);
     let place = place_for(living, &path, backing, count);
     let kept = KeptReader {
         reader,
         choices: path,
     };
-    living.insert(place, LivingPath { kept, backing })?;
+    living.insert(
+        place,
+        LivingPath {
+            kept,
+            backing,
+            saving,
+        },
+    )?;
     Ok(())
 }
 
@@ -154,7 +191,7 @@ fn make_room(lets_go: bool, next: &mut NextLevel)
     ensures all { next.new.is_used_up ≡ false → next.new ≡ next.old }
     ensures tries { next.new.tries ≡ next.old.tries }
 {
-    if next.living.len() <= MOST_LIVING {
+    if next.living.len() <= next.most_living {
         return;
     }
     next.is_used_up = true;

@@ -39,7 +39,11 @@ returns-clause-taken c =
     let old : List LivingPath = c.args.living.now.items in
     let new : List LivingPath = c.insert.new.self.items in
     let p : LivingPath =
-    record { kept = record { reader = c.in-Some.reader; choices = c.follow.new.path }; backing = c.backing_on-backing.result } in
+    record {
+      kept = record { reader = c.in-Some.reader; choices = c.follow.new.path };
+      backing = c.backing_on-backing.result;
+      saving = c.in_ok-saving.saving;
+    } in
     taken_on Sought ps c.args.begin.items c.follow.new.path.items (paths_of old) (paths_of new) on.path on.stop on.grew on.fixed
     (inl (added old new c.place_for-place.result p c.in_ok-insert.ensures.items))
     (still_added old new c.place_for-place.result p c.in_ok-insert.ensures.items)
@@ -50,7 +54,11 @@ returns-clause-each c = λ each.
     let on = c.in_ok-follow.ensures in
     let old : List LivingPath = c.args.living.now.items in
     let p : LivingPath =
-    record { kept = record { reader = c.in-Some.reader; choices = c.follow.new.path }; backing = c.backing_on-backing.result } in
+    record {
+      kept = record { reader = c.in-Some.reader; choices = c.follow.new.path };
+      backing = c.backing_on-backing.result;
+      saving = c.in_ok-saving.saving;
+    } in
     let fed : c.in-Some.reader ≡ Some (prefix_of ps c.deref.result.now) =
     subst (λ (o : Option (Option (List ℕ))). IfSome o (λ r. r ≡ Some (prefix_of ps c.deref.result.now))) c.in-Some.is
     c.in_ok-fed.ensures.living in
