@@ -1,5 +1,5 @@
--- The lines of two codings of three copies, worked out by hand.
-use Rattle.std.proofs.Common.{◌≡◌, true, false, List, [], ◌∷◌, ◌++◌, refl}
+-- The lines of two codings of copies, worked out by hand.
+use Rattle.std.proofs.Common.{◌≡◌, true, List, [], ◌∷◌, refl}
 use Rattle.std.specs.Prelude.{codes}
 use Rattle.jls_held.specs.Judging.{EditedCopy}
 use Rattle.jls_carried.specs.CodingLines.{are_all_printed, coding_lines, more_edits_line}
@@ -12,9 +12,14 @@ codings =
     (record { number = 0; edits = record { offset = 128; count = 0; bytes = 1 ∷ 2 ∷ 3 ∷ 4 ∷ [] } ∷ [] } ∷ record { number = 2; edits = [] } ∷ [])
     ∷ (record { number = 3; edits = record { offset = 12; count = 2; bytes = 9 ∷ [] } ∷ [] } ∷ []) ∷ []
 
-their_lines : coding_lines 4 codings
+their_lines : coding_lines 4 codings []
     ≡ codes "coding 1, copies 1 3\ncoding 2, copies 4\ncopy 2 left out\ncopy 1 differs 128 0 4\ncopy 4 differs 12 2 1\n"
 their_lines = rw (d0, d1, d2, d3, d4, d12, d128) refl
+
+-- copy 2 agrees with no other
+with_a_stranger : coding_lines 4 codings (1 ∷ [])
+    ≡ codes "coding 1, copies 1 3\ncoding 2, copies 4\ncopy 2 agrees with no other\ncopy 1 differs 128 0 4\ncopy 4 differs 12 2 1\n"
+with_a_stranger = rw (d0, d1, d2, d3, d4, d12, d128) refl
 
 all_printed : are_all_printed codings ≡ true
 all_printed = refl

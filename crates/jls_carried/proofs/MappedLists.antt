@@ -46,6 +46,20 @@ found_at p g [] i d l e = absurd (omega (arith, l))
 found_at p g (x ∷ xs) zero d l e = rw e refl
 found_at p g (x ∷ xs) (suc i) d l e = ap (λ b. p (g x) || b) (found_at p g xs i d (omega (arith, l)) e) ∙ or_true (p (g x))
 
+-- none so far, and not this one, of a list itself
+pub one_more_isnt : {A : Type 0} (p : A → Bool) (xs : List A) (i : ℕ) (x : A) → i < length xs → x ≡ get_or xs i x
+    → list_any p (take i xs) ≡ false → p x ≡ false → list_any p (take (i + 1) xs) ≡ false
+one_more_isnt p xs i x within is before here =
+    ap (list_any p) (take_more xs i x within ∙ ap (λ y. take i xs ++ y ∷ []) (sym is)) ∙ list_any-append p (take i xs) (x ∷ [])
+    ∙ (rw (before, here) refl)
+
+-- one that is found, of a list itself
+pub is_found_at : {A : Type 0} (p : A → Bool) (xs : List A) (i : ℕ) (d : A) → i < length xs → p (get_or xs i d) ≡ true
+    → list_any p xs ≡ true
+is_found_at p [] i d l e = absurd (omega (arith, l))
+is_found_at p (x ∷ xs) zero d l e = rw e refl
+is_found_at p (x ∷ xs) (suc i) d l e = ap (λ b. p x || b) (is_found_at p xs i d (omega (arith, l)) e) ∙ or_true (p x)
+
 -- and where one fails, not all pass
 pub fails_at : {A X : Type 0} (p : X → Bool) (g : A → X) (xs : List A) (i : ℕ) (d : A) → i < length xs → p (g (get_or xs i d)) ≡ false
     → list_all p (map g xs) ≡ false

@@ -30,13 +30,22 @@ coding_lines_from number (copies ∷ more) = coding_line number copies ++ coding
 abbrev pub is_listed : List (List EditedCopy) → ℕ → Bool
 is_listed codings number = list_any (list_any (λ e. nat_eq e.number number)) codings
 
+-- whether it is one of these copies that agree with no other
+abbrev pub is_stranger : List ℕ → ℕ → Bool
+is_stranger strangers number = list_any (λ stranger. nat_eq stranger number) strangers
+
+-- the end of the line of a copy that is in none of the codings
+abbrev pub unlisted_end : List ℕ → ℕ → List ℕ
+unlisted_end strangers number = if is_stranger strangers number then codes " agrees with no other\n" else codes " left out\n"
+
 -- the line of a copy that is in none of them; no line if it is in one
-abbrev pub left_out_line : List (List EditedCopy) → ℕ → List ℕ
-left_out_line codings number = if is_listed codings number then [] else codes "copy " ++ decimal (number + 1) ++ codes " left out\n"
+abbrev pub unlisted_line : List (List EditedCopy) → List ℕ → ℕ → List ℕ
+unlisted_line codings strangers number =
+    if is_listed codings number then [] else codes "copy " ++ decimal (number + 1) ++ unlisted_end strangers number
 
 -- the lines of those of so many copies that are in none of the codings
-abbrev pub left_out_lines : ℕ → List (List EditedCopy) → List ℕ
-left_out_lines count codings = flat_map (left_out_line codings) (range_with_len 0 count)
+abbrev pub unlisted_lines : ℕ → List (List EditedCopy) → List ℕ → List ℕ
+unlisted_lines count codings strangers = flat_map (unlisted_line codings strangers) (range_with_len 0 count)
 
 -- the line of an edit of the copy of this number, from 0: its offset in the copy, how many bytes the copy has there, and how many the
 -- mended file
@@ -56,9 +65,11 @@ more_edits_line number count =
 abbrev pub copy_lines : EditedCopy → List ℕ
 copy_lines e = flat_map (edit_line e.number) (take 4096 e.edits) ++ more_edits_line e.number (length e.edits)
 
--- all lines of codings of so many copies: which copies each has, which are in none, and then the edits of the copies
-abbrev pub coding_lines : ℕ → List (List EditedCopy) → List ℕ
-coding_lines count codings = coding_lines_from 1 codings ++ left_out_lines count codings ++ flat_map (flat_map copy_lines) codings
+-- all lines of codings of so many copies, of which these agree with no other: which copies each coding has, which are in none, and then the
+-- edits of the copies
+abbrev pub coding_lines : ℕ → List (List EditedCopy) → List ℕ → List ℕ
+coding_lines count codings strangers =
+    coding_lines_from 1 codings ++ unlisted_lines count codings strangers ++ flat_map (flat_map copy_lines) codings
 
 -- whether each edit of these copies has a line: a copy has 4,096 lines at most
 abbrev pub has_each_a_line : List EditedCopy → Bool

@@ -57,26 +57,48 @@ fn edited_copies(alloc: Global, coding: MendedCoding) -> Result<Vec<EditedCopy>,
     Ok(edited)
 }
 
+/// What is proposed, and the copies that agree with no other.
+#[derive(Drop)]
+struct Proposed {
+    codings: Vec<Vec<EditedCopy>>,
+    strangers: Vec<usize>,
+}
+
 /// What is proposed of each coding. Nothing, where a line that is settled has a sample above the limit.
-fn proposals_of(
+fn proposed_of(
     alloc: Global,
     carried: Carried,
     limit: Option<u16>,
-) -> Result<Vec<Vec<EditedCopy>>, AllocError> {
-    let Carried { codings, lines } = carried;
+) -> Result<Proposed, AllocError> {
+    let Carried {
+        codings,
+        strangers,
+        lines,
+    } = carried;
     let mut proposals = Vec::new(alloc);
-    if !lines.iter().all(|line| is_within(line, limit)) {
-        return Ok(proposals);
+    if lines.iter().all(|line| is_within(line, limit)) {
+        for coding in codings {
+            proposals.push(edited_copies(alloc, coding)?)?;
+        }
     }
-    for coding in codings {
-        proposals.push(edited_copies(alloc, coding)?)?;
-    }
-    Ok(proposals)
+    Ok(Proposed {
+        codings: proposals,
+        strangers,
+    })
 }
 
-/// What copies of these parts give each other, for a picture of this shape: mended files, one for each coding, with the edits that make it of
-/// its copies, and the lines that these files hold. `None` comes where the copies are of one coding, as far as can be told. Nothing is
-/// proposed that has a sample above the limit, if there is one. `Err` comes where memory is refused.
+/// What copies in several codings give each other.
+#[derive(Drop)]
+pub struct Between {
+    /// The mended files with their edits, and the lines that they hold.
+    pub judged: Judged,
+    /// The copies that agree with no other, by their indices.
+    pub strangers: Vec<usize>,
+}
+
+/// What copies of these parts give each other, for a picture of this shape: mended files, one for each coding, with the edits
+/// that make it of its copies, and the lines that these files hold. `None` comes where the copies are of one coding, as far as
+/// can be told. Nothing is proposed that has a sample above the limit, if there is one. `Err` comes where memory is refused.
 ///
 /// No contract speaks of what is found, but that it is as judged.
 pub fn carry_between(
@@ -85,18 +107,19 @@ pub fn carry_between(
     copies: &[&[u8]],
     parts: &Parts<'_>,
     limit: Option<u16>,
-) -> Result<Option<Judged>, AllocError>
-    ensures shape { IfOk result (λ carried. IfSome carried (λ judged. judged.held.shape ≡ shape)) }
-    ensures mended { IfOk result (λ carried. IfSome carried (λ judged.
-        AreMendedOf (bytes_of copies.now) (judged_codings judged.codings.items) (map file_of judged.files.items))) }
-    ensures held { IfOk result (λ carried. IfSome carried (λ judged. AreReadingsHeld (map file_of judged.files.items) judged.held)) }
+) -> Result<Option<Between>, AllocError>
+    ensures shape { IfOk result (λ carried. IfSome carried (λ between. between.judged.held.shape ≡ shape)) }
+    ensures mended { IfOk result (λ carried. IfSome carried (λ between.
+        AreMendedOf (bytes_of copies.now) (judged_codings between.judged.codings.items) (map file_of between.judged.files.items))) }
+    ensures held { IfOk result (λ carried. IfSome carried (λ between.
+        AreReadingsHeld (map file_of between.judged.files.items) between.judged.held)) }
 {
     let codings = codings_of(alloc, copies, parts)?;
     if !are_several(&codings) {
         return Ok(None);
     }
     let carried = carry(alloc, copies, &codings)?;
-    let proposals = proposals_of(alloc, carried, limit)?;
-    let judged = judge(alloc, shape, copies, proposals)?;
-    Ok(Some(judged))
+    let Proposed { codings, strangers } = proposed_of(alloc, carried, limit)?;
+    let judged = judge(alloc, shape, copies, codings)?;
+    Ok(Some(Between { judged, strangers }))
 }

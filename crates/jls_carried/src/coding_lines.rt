@@ -5,7 +5,8 @@ ghost use Rattle.std.specs.List.{AllByRecursion, flat_map, list_any};
 ghost use Rattle.jls_held.specs.Judging.{coding_of, codings_of, edited_copy_of};
 ghost use Rattle.jls_held.specs.Mending.{edit_of, edits_of};
 ghost use Rattle.jls_carried.specs.CodingLines.{coding_line, coding_lines, coding_lines_from, copy_lines, edit_line};
-ghost use Rattle.jls_carried.specs.CodingLines.{HasPrintedNumber, HavePrintedNumbers, left_out_line, left_out_lines, listed_number, more_edits_line};
+ghost use Rattle.jls_carried.specs.CodingLines.{HasPrintedNumber, HavePrintedNumbers, listed_number, more_edits_line};
+ghost use Rattle.jls_carried.specs.CodingLines.{unlisted_end, unlisted_line, unlisted_lines};
 ghost use Rattle.jls_carried.specs.CodingLines as spec;
 
 use jls_held::{CopyEdit, EditedCopy};
@@ -78,33 +79,60 @@ fn is_listed(codings: &[Vec<EditedCopy>], number: usize) -> bool
     false
 }
 
-/// Appends the line of a copy that is in none of the codings.
-fn put_unlisted(
-    out: &mut Vec<u8>,
-    codings: &[Vec<EditedCopy>],
-    number: usize,
-) -> Result<(), AllocError>
-    requires { number + 1 < 2 ^ 64 }
-    ensures { OnOk result (out.new.items ≡ out.old.items ++ left_out_line (codings_of codings.now) number) }
+/// Whether a copy is one of these that agree with no other.
+#[tactic(auto, using(crate::proofs::MappedLists::one_more_isnt, crate::proofs::MappedLists::is_found_at))]
+fn is_stranger(strangers: &[usize], number: usize) -> bool
+    ensures { result ≡ spec.is_stranger strangers.now number }
 {
-    if !is_listed(codings, number) {
-        out.extend_from_slice(b"copy ")?;
-        put_number(out, number as u64 + 1)?;
+    for stranger in strangers {
+        if *stranger == number {
+            return true;
+        }
+    }
+    false
+}
+
+/// Appends the end of the line of a copy that is in none of the codings.
+fn put_unlisted_end(out: &mut Vec<u8>, strangers: &[usize], number: usize) -> Result<(), AllocError>
+    ensures { OnOk result (out.new.items ≡ out.old.items ++ unlisted_end strangers.now number) }
+{
+    if is_stranger(strangers, number) {
+        out.extend_from_slice(b" agrees with no other\n")?;
+    } else {
         out.extend_from_slice(b" left out\n")?;
     }
     Ok(())
 }
 
+/// Appends the line of a copy that is in none of the codings.
+fn put_unlisted(
+    out: &mut Vec<u8>,
+    codings: &[Vec<EditedCopy>],
+    strangers: &[usize],
+    number: usize,
+) -> Result<(), AllocError>
+    requires { number + 1 < 2 ^ 64 }
+    ensures { OnOk result (out.new.items ≡ out.old.items ++ unlisted_line (codings_of codings.now) strangers.now number) }
+{
+    if is_listed(codings, number) {
+        return Ok(());
+    }
+    out.extend_from_slice(b"copy ")?;
+    put_number(out, number as u64 + 1)?;
+    put_unlisted_end(out, strangers, number)
+}
+
 /// Appends the lines of those of so many copies that are in none of the codings.
-fn put_left_out(
+fn put_all_unlisted(
     out: &mut Vec<u8>,
     count: usize,
     codings: &[Vec<EditedCopy>],
+    strangers: &[usize],
 ) -> Result<(), AllocError>
-    ensures { OnOk result (out.new.items ≡ out.old.items ++ left_out_lines count (codings_of codings.now)) }
+    ensures { OnOk result (out.new.items ≡ out.old.items ++ unlisted_lines count (codings_of codings.now) strangers.now) }
 {
     for number in 0..count {
-        put_unlisted(out, codings, number)?;
+        put_unlisted(out, codings, strangers, number)?;
     }
     Ok(())
 }
@@ -197,18 +225,20 @@ fn put_all_copies(out: &mut Vec<u8>, codings: &[Vec<EditedCopy>]) -> Result<(), 
     Ok(())
 }
 
-/// Appends all lines of codings of so many copies, in ASCII: which copies each has, which are in none, and then the edits of the copies. Each
-/// ends with a newline. Codings and copies count from 1. At `Err` a prefix of them may have been appended.
+/// Appends all lines of codings of so many copies, in ASCII: which copies each has, which are in none, and then the edits of the
+/// copies. Each ends with a newline. Codings and copies count from 1. Strangers are copies that agree with no other, by their
+/// indices. At `Err` a prefix of the lines may have been appended.
 pub fn put_all_codings(
     out: &mut Vec<u8>,
     count: usize,
     codings: &[Vec<EditedCopy>],
+    strangers: &[usize],
 ) -> Result<(), AllocError>
     requires { HavePrintedNumbers (codings_of codings.now) }
-    ensures { OnOk result (out.new.items ≡ out.old.items ++ coding_lines count (codings_of codings.now)) }
+    ensures { OnOk result (out.new.items ≡ out.old.items ++ coding_lines count (codings_of codings.now) strangers.now) }
 {
     put_codings(out, codings)?;
-    put_left_out(out, count, codings)?;
+    put_all_unlisted(out, count, codings, strangers)?;
     put_all_copies(out, codings)
 }
 

@@ -5,11 +5,11 @@
 //!
 //! Definitions: `CodingLines`. Its lemmas: `MappedLists`, `CodingNumbers`; worked values: `CodingLineExamples`.
 //!
-//! No program uses this crate yet. Not proved: what is found.
+//! `jls-splice` carries by this crate. Not proved: what is found.
 #![tactic(auto)]
 
 mod carrying;
 mod coding_lines;
 
-pub use carrying::carry_between;
+pub use carrying::{Between, carry_between};
 pub use coding_lines::{are_all_printed, put_all_codings};

@@ -16,6 +16,7 @@
 //! - `settling`, `between`, `closing`: which lines are settled. Lines between settled ones, and pieces that close by themselves
 //! - `rounds`: all of that, until nothing more is decided
 //! - `mending`, `edits`: the mended file of a coding, and the edits that make it of each copy
+//! - `strangers`: copies that agree with no other
 //! - `layouts`: the headers that are believed of each copy
 //!
 //! # The rule
@@ -41,6 +42,8 @@
 //! Where two copies have the same code, that code anew says nothing of its truth: garbage, coded anew, is the same garbage. There only what
 //! agrees from the start of an interval on is taken. It isn't, if the two agree with no other coding, and a copy of one says otherwise.
 //! They can be copies of one damaged file, or of another picture.
+//!
+//! A copy agrees with no other if no line is settled, or if it has scan data and no run of its mended file. It is left out of that file.
 #![tactic(auto)]
 
 mod between;
@@ -58,6 +61,7 @@ mod rounds;
 mod runs;
 mod settling;
 mod shifts;
+mod strangers;
 
 use crate::claims::CopyState;
 use crate::edits::edits_between;
@@ -65,6 +69,7 @@ use crate::layouts::{Layouts, layouts_of};
 use crate::mending::mended_file;
 use crate::picture::Picture;
 use crate::rounds::carry_on;
+use crate::strangers::{agrees, speaks};
 pub use edits::Edit;
 use std::alloc::{AllocError, Global};
 
@@ -79,20 +84,31 @@ pub struct MendedCoding {
     pub edits: Vec<Vec<Edit>>,
 }
 
-/// The mended file of a coding of which these are the copies, the first of which has the headers.
+/// The mended file of a coding of which these are the copies. Those that don't agree with it are left out. They are strangers, if they have
+/// scan data.
 fn mended_coding(
     alloc: Global,
-    copies: &[&[u8]],
-    numbers: Vec<usize>,
+    states: &[CopyState<'_>],
+    numbers: &[usize],
     bytes: Vec<u8>,
+    strangers: &mut Vec<usize>,
 ) -> Result<MendedCoding, AllocError> {
+    let mut copies = Vec::new(alloc);
     let mut edits = Vec::new(alloc);
-    for number in numbers.iter() {
-        let copy = copies.get(*number).copied().unwrap_or(&[]);
-        edits.push(edits_between(alloc, copy, &bytes)?)?;
+    for number in numbers {
+        let Some(state) = states.get(*number) else {
+            continue;
+        };
+        let made = edits_between(alloc, state.bytes, &bytes)?;
+        if agrees(state, &made) {
+            copies.push(*number)?;
+            edits.push(made)?;
+        } else if speaks(state) {
+            strangers.push(*number)?;
+        }
     }
     Ok(MendedCoding {
-        copies: numbers,
+        copies,
         bytes,
         edits,
     })
@@ -109,19 +125,32 @@ fn copies_of(alloc: Global, codings: &[usize], coding: usize) -> Result<Vec<usiz
     Ok(numbers)
 }
 
+/// The copies whose headers read, by their indices. `ends` has for each of them whether it ends with EOI.
+fn with_headers(alloc: Global, ends: &[Option<bool>]) -> Result<Vec<usize>, AllocError> {
+    let mut numbers = Vec::new(alloc);
+    for (number, end) in ends.iter().enumerate() {
+        if end.is_some() {
+            numbers.push(number)?;
+        }
+    }
+    Ok(numbers)
+}
+
 /// What copies bring back of each other.
 #[derive(Drop)]
 pub struct Carried {
-    /// The mended files, in the order of the first copies of their codings.
+    /// The mended files, in the order of the first copies of their codings. Each has a copy at least.
     pub codings: Vec<MendedCoding>,
+    /// The copies that agree with no other, by their indices.
+    pub strangers: Vec<usize>,
     /// The lines of the picture that are settled, row by row, and in a row by component.
     pub lines: Vec<Option<Vec<u16>>>,
 }
 
 /// What copies in different codings bring back of each other: the lines that are settled, and a mended file of each coding. `codings` has a
 /// number for each copy, the same for those of one coding. A coding has no mended file if no copy of it has headers that read, or if these
-/// are of a picture of another shape. The shape is that of the first copy whose headers read, but for the precision. `Err` comes where
-/// memory is refused.
+/// are of a picture of another shape. The shape is that of the first copy whose headers read, but for the precision. Nor has it one if its
+/// copies agree with no other. `Err` comes where memory is refused.
 ///
 /// No contract speaks of what is found.
 pub fn carry(alloc: Global, copies: &[&[u8]], codings: &[usize]) -> Result<Carried, AllocError> {
@@ -138,6 +167,14 @@ pub fn carry(alloc: Global, copies: &[&[u8]], codings: &[usize]) -> Result<Carri
         states.push(CopyState::new(alloc, number, bytes, layout, lines)?)?;
     }
     carry_on(alloc, &mut picture, &mut states)?;
+    if !picture.has_settled() {
+        return Ok(Carried {
+            codings: Vec::new(alloc),
+            strangers: with_headers(alloc, &ends)?,
+            lines: picture.into_lines()?,
+        });
+    }
+    let mut strangers = Vec::new(alloc);
     let mut mended = Vec::new(alloc);
     let mut done: Vec<usize> = Vec::new(alloc);
     for (number, coding) in codings.iter().enumerate() {
@@ -154,10 +191,14 @@ pub fn carry(alloc: Global, copies: &[&[u8]], codings: &[usize]) -> Result<Carri
         done.push(*coding)?;
         let bytes = mended_file(alloc, &picture, state, *has_eoi)?;
         let numbers = copies_of(alloc, codings, *coding)?;
-        mended.push(mended_coding(alloc, copies, numbers, bytes)?)?;
+        let made = mended_coding(alloc, &states, &numbers, bytes, &mut strangers)?;
+        if !made.copies.is_empty() {
+            mended.push(made)?;
+        }
     }
     Ok(Carried {
         codings: mended,
+        strangers,
         lines: picture.into_lines()?,
     })
 }

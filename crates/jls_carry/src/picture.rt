@@ -112,6 +112,11 @@ impl Picture {
         self.lines.get(place)?.settled
     }
 
+    /// Whether some line is settled.
+    pub(crate) fn has_settled(&self) -> bool {
+        self.lines.iter().any(|line| line.settled.is_some())
+    }
+
     /// Whether the line at this place is disputed.
     pub(crate) fn is_disputed(&self, place: usize) -> bool {
         match self.lines.get(place) {

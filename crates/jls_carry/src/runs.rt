@@ -38,7 +38,7 @@ fn is_foretold(code: &[u8], at: usize) -> bool {
 }
 
 /// Whether so many bytes of a stretch are not foretold.
-fn has_news(code: &[u8], begin: usize, end: usize) -> bool {
+pub(crate) fn has_news(code: &[u8], begin: usize, end: usize) -> bool {
     let mut news = 0usize;
     for at in begin..end {
         if !is_foretold(code, at) {

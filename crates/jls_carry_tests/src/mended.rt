@@ -1,6 +1,8 @@
 //! Copies that mend each other, to the last byte.
 
-use crate::files::{PLAIN, PLAIN_12, PLAIN_16, ROWS, STEEP, WIDTH, replaced, sample, zeroed};
+use crate::files::{
+    OTHER, PLAIN, PLAIN_12, PLAIN_16, ROWS, STEEP, WIDTH, replaced, sample, zeroed,
+};
 use jls_carry::{Edit, MendedCoding, carry};
 use std::alloc::{AllocError, Global};
 use std::test::Fail;
@@ -75,6 +77,21 @@ fn bring_back(
         }
     }
     Ok(true)
+}
+
+/// A copy of another picture is left out, and the others mend each other.
+#[test]
+fn stranger(rt: HostRuntime) -> Result<(), Fail> {
+    let alloc = rt.alloc();
+    let first = zeroed(alloc, PLAIN, 70, 12)?;
+    let second = zeroed(alloc, STEEP, 150, 12)?;
+    let third = zeroed(alloc, OTHER, 120, 12)?;
+    let copies: [&[u8]; 3] = [&first, &second, &third];
+    let carried = carry(alloc, &copies, &[0, 1, 2])?;
+    assert!(rt; are_of_picture(&carried.lines));
+    assert!(rt; carried.codings.len() == 2);
+    assert!(rt; carried.strangers.as_slice() == [2].as_slice());
+    Ok(())
 }
 
 /// Zeros stand in each copy at another place.

@@ -1,25 +1,24 @@
-//! Copies that bring back nothing of each other: no line is settled, and each stands as it was.
+//! Copies that bring back nothing of each other: no line is settled, no file is mended, and each agrees with no other.
 
 use crate::files::{BLANK, OTHER, PLAIN, STEEP, zeroed};
 use jls_carry::carry;
 use std::alloc::{AllocError, Global};
 use std::test::Fail;
 
-/// Whether copies of these codings bring back no line, and the first copy of each coding is the mended one.
-fn stand(alloc: Global, copies: &[&[u8]], codings: &[usize]) -> Result<bool, AllocError> {
+/// Whether copies of these codings bring back no line and no file, and all are said to agree with no other.
+fn are_strangers(alloc: Global, copies: &[&[u8]], codings: &[usize]) -> Result<bool, AllocError> {
     let carried = carry(alloc, copies, codings)?;
     for line in carried.lines.iter() {
         if line.is_some() {
             return Ok(false);
         }
     }
-    for mended in carried.codings.iter() {
-        let first = mended.copies.first().and_then(|number| copies.get(*number));
-        if first.copied() != Some(&mended.bytes) {
+    for (place, number) in carried.strangers.iter().enumerate() {
+        if *number != place {
             return Ok(false);
         }
     }
-    Ok(!carried.codings.is_empty())
+    Ok(carried.codings.is_empty() && carried.strangers.len() == copies.len())
 }
 
 /// A copy alone agrees with none, whether it is damaged or not.
@@ -27,8 +26,8 @@ fn stand(alloc: Global, copies: &[&[u8]], codings: &[usize]) -> Result<bool, All
 fn one_copy(rt: HostRuntime) -> Result<(), Fail> {
     let alloc = rt.alloc();
     let damaged = zeroed(alloc, PLAIN, 70, 12)?;
-    assert!(rt; stand(alloc, &[PLAIN], &[0])?);
-    assert!(rt; stand(alloc, &[&damaged], &[0])?);
+    assert!(rt; are_strangers(alloc, &[PLAIN], &[0])?);
+    assert!(rt; are_strangers(alloc, &[&damaged], &[0])?);
     Ok(())
 }
 
@@ -37,8 +36,8 @@ fn one_copy(rt: HostRuntime) -> Result<(), Fail> {
 fn blank_picture(rt: HostRuntime) -> Result<(), Fail> {
     let alloc = rt.alloc();
     let damaged = zeroed(alloc, PLAIN, 70, 12)?;
-    assert!(rt; stand(alloc, &[PLAIN, BLANK], &[0, 1])?);
-    assert!(rt; stand(alloc, &[BLANK, &damaged], &[0, 1])?);
+    assert!(rt; are_strangers(alloc, &[PLAIN, BLANK], &[0, 1])?);
+    assert!(rt; are_strangers(alloc, &[BLANK, &damaged], &[0, 1])?);
     Ok(())
 }
 
@@ -47,9 +46,9 @@ fn blank_picture(rt: HostRuntime) -> Result<(), Fail> {
 fn other_picture(rt: HostRuntime) -> Result<(), Fail> {
     let alloc = rt.alloc();
     let damaged = zeroed(alloc, OTHER, 120, 12)?;
-    assert!(rt; stand(alloc, &[PLAIN, OTHER], &[0, 1])?);
-    assert!(rt; stand(alloc, &[PLAIN, OTHER, &damaged], &[0, 1, 1])?);
-    assert!(rt; stand(alloc, &[&damaged, OTHER, PLAIN], &[0, 0, 1])?);
+    assert!(rt; are_strangers(alloc, &[PLAIN, OTHER], &[0, 1])?);
+    assert!(rt; are_strangers(alloc, &[PLAIN, OTHER, &damaged], &[0, 1, 1])?);
+    assert!(rt; are_strangers(alloc, &[&damaged, OTHER, PLAIN], &[0, 0, 1])?);
     Ok(())
 }
 
@@ -59,6 +58,6 @@ fn damaged_alike(rt: HostRuntime) -> Result<(), Fail> {
     let alloc = rt.alloc();
     let first = zeroed(alloc, PLAIN, 25, 182)?;
     let second = zeroed(alloc, STEEP, 42, 180)?;
-    assert!(rt; stand(alloc, &[&first, &second], &[0, 1])?);
+    assert!(rt; are_strangers(alloc, &[&first, &second], &[0, 1])?);
     Ok(())
 }

@@ -1,11 +1,9 @@
-use Rattle.std.proofs.Common.{◌≡◌, ℕ, ◌++◌, List, length, take, ap, sym, ◌∙◌, arith}
+use Rattle.std.proofs.Common.{◌≡◌, ◌++◌, List, length, take, ap, sym, ◌∙◌, arith}
 use Rattle.std.specs.List.{flat_map}
 use Rattle.std.proofs.lemmas.List.{append_assoc, length-map, take-map}
 use Rattle.std.proofs.lemmas.Result.{on_ok_weaker}
-use Rattle.jls_held.specs.Judging.{edited_copy_of}
 use Rattle.jls_held.specs.Mending.{edit_of, edits_of}
-use Rattle.jls_held.specs.declared.mending.CopyEdit.{CopyEdit}
-use Rattle.jls_carried.specs.CodingLines.{copy_lines, edit_line, more_edits_line}
+use Rattle.jls_carried.specs.CodingLines.{edit_line, more_edits_line}
 use Rattle.jls_carried.proofs.coding_lines.put_copy.Goals as goal
 
 pub returns : goal.returns
