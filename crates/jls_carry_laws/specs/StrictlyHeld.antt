@@ -25,8 +25,8 @@ pub record BeforePiece (f : MendedFile) (p : PieceOf f) : Type 0 where
   pub none_faulty : records earlier outcomes ≡ []
   pub outside : IsHeldOutside f earlier p.piece.offset
 
--- The reading is strictly held: as `IsHeld`, with two conditions more. Each reading of an earlier piece of the file is strictly held, and so
--- are the bytes before the piece that are in none
+-- The reading is strictly held: as `IsHeld`, with two conditions more. Each reading of an earlier piece of the file is strictly
+-- held, and so are the bytes before the piece that are in none
 pub data IsStrictlyHeld (files : List MendedFile) : Reading → Type 0 where
   in_file : (f : MendedFile) → Contains files f → (p : PieceOf f) → (before : List (List ℕ)) (line : List ℕ)
       → BeginsWithLines (interval_at f p) p.piece.bytes (before ++ line ∷ []) → HasHeldCode f p before line

@@ -6,7 +6,7 @@
 //! before it in its interval are held, in this mended file or another. The laws say that whatever undamaged files have these bytes, their
 //! held lines are the same.
 //!
-//! No program uses this crate yet. It has definitions and laws; what mended files and held lines are, stands in jls_held.
+//! It has definitions and laws, on which a promise of `jls-splice` rests; what mended files and held lines are, stands in jls_held.
 //! Definitions: `StrictlyHeld`, `TrueFiles` (undamaged files of one picture), `Laws`.
 //!
 //! The proofs, bottom up: `Walk` and `OneLine` (two pieces that agree on the bytes of a line have that line in common), `PlacedLines`

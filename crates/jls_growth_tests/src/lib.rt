@@ -3,7 +3,7 @@
 //! are proved once, without them.
 //!
 //! - `met`: the refusals that a test met, counted
-//! - `ten`, `four`: pictures of known lines, and their files
+//! - `ten`, `four`, `coded`: pictures of known lines, and their files
 //! - `room`: a writer that grows nothing
 //! - `readings`: pictures of equal samples, and their texts
 //! - `sets`, `partial`, `bits`, `interval`, `copies`, `writing`: the tests of single calls
@@ -13,6 +13,8 @@
 
 #[cfg(test)]
 mod bits;
+#[cfg(test)]
+mod coded;
 #[cfg(test)]
 mod copies;
 #[cfg(test)]

@@ -1,5 +1,6 @@
 //! Files of known lines, and two damaged copies of each.
 
+use crate::coded::{OTHER_FILE, USUAL_FILE};
 use crate::four::FOUR_LINES_CODE;
 use crate::ten::copy_of;
 use std::alloc::{AllocError, Global};
@@ -14,6 +15,17 @@ pub struct Pair {
     pub file: Vec<u8>,
     pub first: Vec<u8>,
     pub second: Vec<u8>,
+}
+
+/// Which pair.
+#[derive(Clone, Copy)]
+pub enum Which {
+    /// That of `mended_pair`.
+    Mended,
+    /// That of `half_lost_pair`.
+    HalfLost,
+    /// That of `coded_pair`.
+    Coded,
 }
 
 /// A copy of a file that has these bytes at these offsets.
@@ -47,4 +59,22 @@ pub fn half_lost_pair(alloc: Global) -> Result<Pair, AllocError> {
         second: damaged(alloc, &file, &[(31, 1), (34, 0)])?,
         file,
     })
+}
+
+/// Ten lines in two codings: one byte is zeroed in each. The file is that of the first.
+pub fn coded_pair(alloc: Global) -> Result<Pair, AllocError> {
+    Ok(Pair {
+        file: Vec::from_slice(alloc, USUAL_FILE)?,
+        first: damaged(alloc, USUAL_FILE, &[(45, 0)])?,
+        second: damaged(alloc, OTHER_FILE, &[(80, 0)])?,
+    })
+}
+
+/// The pair.
+pub fn pair_of(alloc: Global, which: Which) -> Result<Pair, AllocError> {
+    match which {
+        Which::Mended => mended_pair(alloc),
+        Which::HalfLost => half_lost_pair(alloc),
+        Which::Coded => coded_pair(alloc),
+    }
 }

@@ -1,8 +1,9 @@
 //! Runs of `jls-splice` over two damaged copies.
 
+use crate::coded::CODED_LINES;
 use crate::four::FOUR_LINES;
 use crate::met::{Met, Stopped, Tally};
-use crate::pairs::{half_lost_pair, mended_pair};
+use crate::pairs::{Which, pair_of};
 use crate::running::{Wanted, run_one};
 use jls_partial::Partial;
 use jls_values::Shape;
@@ -13,8 +14,7 @@ use std::process::Abort;
 #[derive(Clone, Copy)]
 struct Row {
     line: &'static str,
-    /// Whether it is the pair that is mended, or the one that is half lost.
-    is_mended: bool,
+    pair: Which,
     status: u8,
     source: Option<u32>,
     /// The lines of OUT, and the number of the first.
@@ -29,7 +29,7 @@ struct Row {
 /// Four lines come back.
 const FOUR_BACK: Row = Row {
     line: "jls-splice OUT 1 2",
-    is_mended: true,
+    pair: Which::Mended,
     status: 0,
     source: None,
     lines: FOUR_LINES,
@@ -44,7 +44,11 @@ const FOUR_BACK: Row = Row {
 
 /// What OUT holds.
 fn lines_of(alloc: Global, row: &Row) -> Result<Partial, Stopped> {
-    let (width, height) = if row.is_mended { (4, 4) } else { (1, 2) };
+    let (width, height) = match row.pair {
+        Which::Mended => (4, 4),
+        Which::HalfLost => (1, 2),
+        Which::Coded => (10, 10),
+    };
     let mut partial = Partial::empty(alloc, Shape::new(8, width, height, &[1])?);
     let mut number = row.begin;
     for line in row.lines {
@@ -58,11 +62,7 @@ fn lines_of(alloc: Global, row: &Row) -> Result<Partial, Stopped> {
 }
 
 fn run_over(rt: &impl Abort, alloc: Global, row: &Row) -> Result<Met, Stopped> {
-    let pair = if row.is_mended {
-        mended_pair(alloc)?
-    } else {
-        half_lost_pair(alloc)?
-    };
+    let pair = pair_of(alloc, row.pair)?;
     let mut output = lines_of(alloc, row)?.to_bytes(alloc)?;
     if row.has_file {
         output.extend_from_slice(&pair.file)?;
@@ -135,7 +135,7 @@ fn splice_cut_off(rt: HostRuntime) {
 #[test]
 fn splice_by_groups(rt: HostRuntime) {
     let row = Row {
-        is_mended: false,
+        pair: Which::HalfLost,
         status: 1,
         lines: &[&[1]],
         begin: 1,
@@ -144,4 +144,22 @@ fn splice_by_groups(rt: HostRuntime) {
         ..FOUR_BACK
     };
     run_row(&rt, rt.alloc(), "run of jls-splice by groups", &row);
+}
+
+/// Copies in two codings give each other what they lost, and the first file comes back.
+#[test]
+fn splice_two_codings(rt: HostRuntime) {
+    let row = Row {
+        line: "jls-splice --file NAME OUT 1 2",
+        pair: Which::Coded,
+        lines: CODED_LINES,
+        has_file: true,
+        report: "differ 16 0\ndiffer 41 63\ndiffer 104 1\nsplices 0\nby groups 0\ncoding 1, copies 1\ncoding 2, copies 2\n\
+            copy 1 differs 45 1 1\ncopy 2 differs 80 1 1\n\
+            promise picture if copies of one coding are of one file of it, true outside of their differs, there as long as printed, \
+            with the marker segments of the mended file\n\
+            picture 10x10, 8 bits, components 1\nsettled 10, missing 0, disputed 0\n",
+        ..FOUR_BACK
+    };
+    run_row(&rt, rt.alloc(), "run of jls-splice over two codings", &row);
 }

@@ -21,7 +21,7 @@
 //! `LineBytes` (the bytes between two ends of code are those of a line), `PieceChains` (lines of a piece follow each other), `FoundPieces`
 //! (what was in hand stands in the whole file), `HeldReadings`.
 //!
-//! No program uses this crate yet. Not proved:
+//! `jls-splice` judges by this crate what copies of several codings give each other. Not proved:
 //!
 //! - How lines and edits are found.
 //! - That `held_lines` leaves out no held line.

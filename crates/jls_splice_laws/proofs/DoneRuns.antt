@@ -19,6 +19,10 @@ use Rattle.jls_search.proofs.NoGroups.{splices_of_all}
 use Rattle.jls_search.specs.Shapes.{IsShapeTaken}
 use Rattle.jls_search.specs.Stations.{TakesFiles}
 use Rattle.jls_splice_laws.specs.WholeFiles.{WholeFilesAreFaultless}
+use Rattle.jls_values.specs.Shape.{PictureShape}
+use Rattle.jls_search.specs.Faultless.{IsFaultless}
+use Rattle.jls_splice_run.specs.Carrying.{Carried, IsCarried, are_sound, joined}
+use Rattle.jls_splice_run.specs.ReadsAs.{EachReadsAs}
 use Rattle.jls_cli.specs.SpliceAsking.{Asked, AskFor, Options, asked_with}
 use Rattle.jls_cli.specs.Outcomes.{exit_status, finished}
 use Rattle.jls_splice_run.specs.Copies.{AreWhole, bytes_read}
@@ -27,14 +31,15 @@ use Rattle.jls_splice_run.specs.Limits.{has_some}
 use Rattle.jls_splice_run.specs.Listing.{AreNamedAsked, is_named}
 use Rattle.jls_splice_run.specs.Single.{IsOnly, IsSingleAsked}
 use Rattle.jls_splice_run.specs.Making.{IsCutFile, IsCutTaken, IsMade, IsPictureOf, IsPictureOfFiles, Made, cut_file, is_of_picture}
-use Rattle.jls_splice_run.specs.Making.{files_taken, notes, promise_of, promise_on}
+use Rattle.jls_splice_run.specs.Making.{AreNamedOf, IsSingleOf, files_taken, notes, promise_on, promise_with}
 use Rattle.jls_splice_run.specs.Telling.{IsTold}
-use Rattle.jls_splice_run.specs.declared.found.Promise.TheVariants.{Picture, Lines}
+use Rattle.jls_splice_run.specs.declared.found.Promise.TheVariants.{Held, Picture, Lines}
 use Rattle.jls_copy_laws.proofs.Members.{none_in}
 use Rattle.jls_splice_run.specs.Runs.{Performs, came_of, no_names, at_copies, not_made, not_handed, done, texts}
 use Rattle.jls_splice_run.specs.Runs.{performed, named_twice, numbered_out, misused, helped, help_cut, nothing_begun, nothing_asked}
 use Rattle.jls_splice_laws.proofs.HandedFiles.{is_named_if_few}
 use Rattle.jls_splice_laws.proofs.StoppedRuns.{copies_above, handing_above, unmade_above}
+use Rattle.jls_splice_laws.specs.CutLaws.{WereCut}
 use Rattle.jls_splice_laws.specs.SplicingLaws.{SplicedCopiesGiveNoOther}
 use Rattle.jls_splice_laws.specs.RunLaws.{DidMake, DidStop, FailedReadsCauseStatus4, IsWholeSplice, SplicedRunsAreDone}
 use Rattle.jls_splice_laws.specs.RunLaws.{SplicedRunsGiveNoOther, SplicedRunsHandOutTheFile, SplicedRunsTakeTheCut}
@@ -201,18 +206,37 @@ cut_is_lone copies f ceiling lone cut path is found (inr (none, why)) = absurd c
 -- a cut file is taken only where the search of all splices found nothing
 module _ (a : Asked) (copies : List (List ℕ)) (m : Made) (is : IsMade a copies m) (file : List ℕ) where
   files_alone : (cut : Option (List ℕ)) → m.cut ≡ cut → Contains (files_of m.found.parts m.found.choices) file
-      → IsPictureOfFiles a.options.source copies (splices_in m.found) m.picture
+      → IsPictureOfFiles a.options.source copies (splices_in m.found) m.given
   files_alone None e among =
-      subst (λ (c : Option (List ℕ)). IsPictureOf a.options.source copies (splices_in m.found) (cut_file m.found c) m.picture)
-      e is.is_picture
+      subst (λ (c : Option (List ℕ)). IsPictureOf a.options.source copies (splices_in m.found) (cut_file m.found c) m.given)
+      e is.is_given
   files_alone (Some path) e among =
       let cut : IsCutFile m.cut_ceiling m.found path = cut_is_lone copies m.found m.cut_ceiling m.lone m.cut path e is.is_lone is.is_cut in
       absurd (none_in file (subst (λ (xs : List (List ℕ)). Contains (files_of m.found.parts xs) file) cut.0 among))
 
+-- copies gave each other nothing where a file taken is without a fault
+none_carried : (carried : Option Carried) (copies taken : List (List ℕ)) (shape : PictureShape) (cut : Option (List ℕ))
+    → (Reads : Carried → Type 0) → IfSome carried (λ c. IsCarried copies taken shape c × (cut ≡ None) × Reads c)
+    → (file : List ℕ) → Contains taken file → IsFaultless file → carried ≡ None
+none_carried None copies taken shape cut Reads is file among faultless = refl
+none_carried (Some c) copies taken shape cut Reads is file among faultless = absurd (is.0.none_faultless file among faultless)
+
+-- and where a cut file was taken
+none_with_cut : (carried : Option Carried) (copies taken : List (List ℕ)) (shape : PictureShape) (cut : Option (List ℕ))
+    → (Reads : Carried → Type 0) → IfSome carried (λ c. IsCarried copies taken shape c × (cut ≡ None) × Reads c)
+    → (path : List ℕ) → cut ≡ Some path → carried ≡ None
+none_with_cut None copies taken shape cut Reads is path e = refl
+none_with_cut (Some c) copies taken shape cut Reads is path e = let f : None ≡ Some path = sym is.1 ∙ e in absurd cc
+
+-- then the picture is what the files taken give
+picture_is_given : (a : Asked) (copies : List (List ℕ)) (m : Made) → IsMade a copies m → m.carried ≡ None → m.picture ≡ m.given
+picture_is_given a copies m is none = is.picture_is ∙ ap (λ (c : Option Carried). joined c m.given) none
+
 -- what the promise stands on
-promised : (ceiling limit : Option ℕ) (f : Found) (is_settled : Bool) → promise_of ceiling f is_settled ≡ Picture limit
+promised : (carried : Option Carried) (ceiling limit : Option ℕ) (f : Found) (is_settled : Bool)
+    → promise_with carried ceiling f is_settled ≡ Picture limit
     → (f.is_used_up ≡ false) × (has_some f.choices ≡ true) × (is_settled ≡ true) × (ceiling ≡ limit)
-promised ceiling limit f is_settled e = by f.is_used_up (has_some f.choices) is_settled e
+promised None ceiling limit f is_settled e = by f.is_used_up (has_some f.choices) is_settled e
   where
     by : (used some all : Bool)
         → (if used then Lines else (if some then (if all then Picture ceiling else Lines) else Lines)) ≡ Picture limit
@@ -221,6 +245,15 @@ promised ceiling limit f is_settled e = by f.is_used_up (has_some f.choices) is_
     by false false all e = absurd cc
     by false true false e = absurd cc
     by false true true e = (refl, refl, refl, cc)
+promised (Some c) ceiling limit f is_settled e = absurd (by is_settled c.is_held c.are_read (are_sound c.codings c.strangers) e)
+  where
+    by : (all held read sound : Bool)
+        → (if all then (if held then (if read then (if sound then Held else Lines) else Lines) else Lines) else Lines) ≡ Picture limit → ⊥
+    by false held read sound e = cc
+    by true false read sound e = cc
+    by true true false sound e = cc
+    by true true true false e = cc
+    by true true true true e = cc
 
 module _ (are_faultless : WholeFilesAreFaultless) (words : List Text) (a : Asked) (desk report faults : List Event)
     (d : DidMake words a desk report faults) where
@@ -252,13 +285,22 @@ module _ (are_faultless : WholeFilesAreFaultless) (words : List Text) (a : Asked
     taken =
         Contains-append_right copies (splices_in f) file (subst (λ (xs : List (List ℕ)). Contains xs file) (sym splices) among)
 
+    none : d.made.carried ≡ None
+    none =
+        none_carried d.made.carried copies (files_taken copies f) d.made.given.shape d.made.cut
+        (λ c. IsTrue c.are_read → EachReadsAs d.made.picture c.files) d.is_made.is_carried file taken
+        (are_faultless pic file is.whole)
+
+    given_is : d.made.picture ≡ d.made.given
+    given_is = picture_is_given a copies d.made d.is_made none
+
     -- the picture is that of the file
     is_its_picture : SplicedCopiesGiveNoOther → IsSettled d.made.picture → picture_of d.made.picture ≡ pic
     is_its_picture never settled =
-        let p : PartialPicture = d.made.picture in
+        let p : PartialPicture = d.made.given in
         let picture : IsPictureOfFiles a.options.source copies (splices_in f) p =
         files_alone a copies d.made d.is_made file d.made.cut refl among in
-        never d.made.ceiling copies f.parts a.options.source p (record {
+        ap picture_of given_is ∙ never d.made.ceiling copies f.parts a.options.source p (record {
           some_copy = copy_read;
           are_parts = d.is_made.is_found_for.is_found.are_parts;
           found = f.choices;
@@ -267,26 +309,30 @@ module _ (are_faultless : WholeFilesAreFaultless) (words : List Text) (a : Asked
           shape_is = subst (λ (xs : List (List ℕ)). IsShapeTaken copies xs p.shape) splices picture.shape_is;
           takes = subst (λ (xs : List (List ℕ)). TakesFiles a.options.source (copies ++ xs) (nothing_known p.shape) p)
               splices picture.union_is;
-        }) pic is.is_picture file is.whole is.within is.splice settled
+        }) pic is.is_picture file is.whole is.within is.splice (subst IsSettled given_is settled)
 
     -- the single file is the file
     single_is_it : (name single : List ℕ) → a.options.file ≡ Some name → d.made.single ≡ Some single → single ≡ file
     single_is_it name single asked found =
+        let of_taken : IsSingleAsked a.options.file (files_taken copies f) d.made.single =
+        subst (λ (c : Option Carried). IsSingleOf a (files_taken copies f) c d.made.is_settled d.made.single) none d.is_made.is_single in
         let only : IsOnly (files_taken copies f) single =
         subst (λ (o : Option (List ℕ)). IsSingleAsked (Some name) (files_taken copies f) o) found
-        (subst (λ (o : Option Text). IsSingleAsked o (files_taken copies f) d.made.single) asked d.is_made.is_single) in
+        (subst (λ (o : Option Text). IsSingleAsked o (files_taken copies f) d.made.single) asked of_taken) in
         sym (only.alone file taken (are_faultless pic file is.whole))
 
     -- the file has a name
     it_is_named : (prefix : List ℕ) → a.options.files ≡ Some prefix → length d.made.files < 64 → is_named d.made.files file ≡ true
     it_is_named prefix asked few =
+        let of_taken : AreNamedAsked a.options.files (files_taken copies f) d.made.files =
+        subst (λ (c : Option Carried). AreNamedOf a (files_taken copies f) c d.made.files) none d.is_made.are_named in
         is_named_if_few 64 prefix (files_taken copies f) d.made.files
-        (subst (λ (o : Option Text). AreNamedAsked o (files_taken copies f) d.made.files) asked d.is_made.are_named) few file taken
+        (subst (λ (o : Option Text). AreNamedAsked o (files_taken copies f) d.made.files) asked of_taken) few file taken
         (are_faultless pic file is.whole)
 
 pub spliced_runs_give_no_other : WholeFilesAreFaultless → SplicedCopiesGiveNoOther → SplicedRunsGiveNoOther
 spliced_runs_give_no_other are_faultless never words a desk report faults d limit promises =
-    let p = promised d.made.ceiling limit d.made.found d.made.is_settled promises in
+    let p = promised d.made.carried d.made.ceiling limit d.made.found d.made.is_settled promises in
     let settled : IsSettled d.made.picture = d.is_made.settled.0 p.2 in
     record {
       of_limit = p.3;
@@ -310,11 +356,16 @@ spliced_runs_take_the_cut words a desk report faults d path is =
     let copies : List (List ℕ) = bytes_read d.copies in
     let cut : IsCutFile m.cut_ceiling m.found path =
     cut_is_lone copies m.found m.cut_ceiling m.lone m.cut path is d.is_made.is_lone d.is_made.is_cut in
-    record {
+    let none : m.carried ≡ None =
+    none_with_cut m.carried copies (files_taken copies m.found) m.given.shape m.cut
+    (λ c. IsTrue c.are_read → EachReadsAs m.picture c.files) d.is_made.is_carried path is in
+    let of_cut : IsPictureOf a.options.source copies (splices_in m.found) (cut_file m.found (Some path)) m.given =
+    subst (λ (c : Option (List ℕ)). IsPictureOf a.options.source copies (splices_in m.found) (cut_file m.found c) m.given) is
+    d.is_made.is_given in
+    subst (λ (p : PartialPicture). WereCut m.cut_ceiling copies m.found.parts path a.options.source p)
+    (sym (picture_is_given a copies m d.is_made none)) (record {
       are_parts = d.is_made.is_found_for.is_found.are_parts;
       is_lone = cut.1;
       splices = splices_in m.found;
-      takes = subst (λ (c : Option (List ℕ)). IsPictureOf a.options.source copies (splices_in m.found) (cut_file m.found c) m.picture)
-          is
-          d.is_made.is_picture;
-    }
+      takes = of_cut;
+    })

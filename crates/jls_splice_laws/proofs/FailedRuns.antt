@@ -1,7 +1,7 @@
 -- Runs that end with status 4.
-use Rattle.std.proofs.Common.{◌≡◌, ◌+◌, ℕ, Bool, true, false, List, [], ◌∷◌, ◌++◌, length, Option, Some, None, Err}
+use Rattle.std.proofs.Common.{◌≡◌, ◌+◌, ℕ, Bool, true, false, List, [], ◌∷◌, ◌++◌, length, Option, Some, None}
 use Rattle.std.proofs.Common.{get_or, refl, sym, ap, ◌∙◌, subst, arith, inl, inr, filter}
-use Rattle.std.specs.Prelude.{◌⊎◌, ◌||◌, IsTrue}
+use Rattle.std.specs.Prelude.{◌⊎◌, ◌||◌}
 use Rattle.std.specs.List.{AllByRecursion, list_any}
 use Rattle.std.proofs.lemmas.Bool.{or_left, or_right}
 use Rattle.std.proofs.lemmas.List.{length-append}
@@ -10,8 +10,7 @@ use Rattle.std.proofs.lemmas.List.Folds.{list_any-append}
 use Rattle.clap.specs.Words.{Text}
 use Rattle.jls_io.specs.Event.{Event, gave, opened, not_opened, read_failed, write_failed, created, is_read, is_failed_opening}
 use Rattle.jls_io.specs.Event.{is_failed_write}
-use Rattle.jls_io.specs.Writing.{Printed, WrotePrefix}
-use Rattle.jls_io.specs.Outputs.{HandsOut}
+use Rattle.jls_io.specs.Writing.{WrotePrefix}
 use Rattle.jls_write.proofs.Lending.{or_false}
 use Rattle.jls_marker.specs.declared.fault.MarkerFault.{MarkerFault}
 use Rattle.jls_station.specs.CopyFiles.{CopyBytes, AreCopiesRead, IsTextPrefix, StopsAtCopy}
@@ -24,7 +23,7 @@ use Rattle.jls_station.specs.declared.input.ReadStop.TheVariants.{Whole, Failed,
 use Rattle.jls_search.specs.Shapes.{HasNoFrame, IsShapeFound}
 use Rattle.jls_search.specs.declared.shape_found.ShapeFound.{ShapeFound}
 use Rattle.jls_search.specs.declared.shape_found.ShapeFound.TheVariants.{Taken, Differ, NoFrame}
-use Rattle.jls_cli.specs.Outcomes.{status_of_cause, finished, exit_status}
+use Rattle.jls_cli.specs.Outcomes.{status_of_cause}
 use Rattle.jls_cli.specs.Outputs as outputs
 use Rattle.jls_cli.specs.Outputs.{StopsAtOutput}
 use Rattle.jls_cli.specs.SpliceAsking.{Asked, AskFor}
@@ -38,7 +37,7 @@ use Rattle.jls_splice_run.specs.Listing.{NamedFile}
 use Rattle.jls_splice_run.specs.Making.{CantMake, IsRefusedFor, is_of_picture, no_picture_cause, promise_on}
 use Rattle.jls_splice_run.specs.Runs.{Performs, came_of, no_names, at_copies, not_made, not_handed, done}
 use Rattle.jls_splice_run.specs.Runs.{performed, named_twice, numbered_out, misused, helped, help_cut, nothing_begun, nothing_asked}
-use Rattle.jls_splice_laws.specs.Failures.{StopsUnopened, StopsUnread, StopsAtAnOutput, StopsWith4, IsToldLast, DidInPart, RunsEndWith4}
+use Rattle.jls_splice_laws.specs.Failures.{StopsUnopened, StopsUnread, StopsWith4, IsToldLast, DidInPart, RunsEndWith4}
 use Rattle.jls_splice_laws.specs.Failures.{is_failure, HadFailure, NothingElseFailed}
 use Rattle.jls_splice_laws.specs.Failures.{SplicedFailuresCauseStatus4, SplicedBrokenReadsCauseStatus4}
 use Rattle.jls_splice_laws.proofs.DoneRuns.{was_done, not_whole, one_asked}

@@ -110,7 +110,7 @@ file_is_whole = record {
 abbrev no_scan : List ℕ
 no_scan = 0xFF ∷ 0xD8 ∷ 0xFF ∷ 0xF7 ∷ 0 ∷ 0x0B ∷ 8 ∷ 0 ∷ 2 ∷ 0 ∷ 1 ∷ 1 ∷ 1 ∷ 0x11 ∷ 0 ∷ 0xFF ∷ 0xD9 ∷ []
 
-abbrev bare : Course
+abbrev pub bare : Course
 bare = record { begin = 2; units = segment 0 0xF7 (column_frame 2) ∷ []; headers = framed 2; end = Eoi 15 }
 
 is_bare : IsCourse no_scan bare
@@ -125,15 +125,18 @@ is_bare =
     )
 
 -- there is a frame, and no piece is faulty; but no line is read, and that is a fault
-no_line_is_read : IsFaultless no_scan → ⊥
-no_line_is_read f =
-    let e = one_course no_scan f.course bare f.is_course is_bare in
+pub no_line_is_read : (bytes : List ℕ) → IsCourse bytes bare → IsFaultless bytes → ⊥
+no_line_is_read bytes is f =
+    let e = one_course bytes f.course bare f.is_course is in
     let same : Some shape ≡ Some f.shape = sym (ap (λ (c : Course). c.headers.frame) e) ∙ f.framed in
     let s : shape ≡ f.shape = cc in
     let g = f.whole 0 0 (subst (λ (t : PictureShape). 0 < length t.ids) s (lit< tt))
     (subst (λ (t : PictureShape). 0 < t.height) s (lit< tt)) in
     let none : CourseHasReading bare (reading_of 0 0 g.0) = subst (λ c. CourseHasReading c (reading_of 0 0 g.0)) e g.1 in
     elim none [ inl (p, m, lines, reads, has) ↦ none_in p m | inr (p, m, head, is, has) ↦ none_in p m ]
+
+headers_have_a_fault : IsFaultless no_scan → ⊥
+headers_have_a_fault = no_line_is_read no_scan is_bare
 
 -- What doesn't begin with SOI ----------------------------------------------------------------------------------------
 

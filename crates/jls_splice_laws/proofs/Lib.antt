@@ -8,7 +8,10 @@ pub mod HeldFiles
 pub mod SplicedCopies
 pub mod CutFiles
 pub mod DoneRuns
+mod TrueCodings
+mod CarriedRuns
 mod FailedRuns
 mod MadeExamples
+mod CarriedExamples
 mod HandedFiles
 mod StoppedRuns

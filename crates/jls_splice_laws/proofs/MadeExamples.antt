@@ -1,21 +1,18 @@
 -- A run of `jls-splice` over two copies of the file of two lines: the first is that file, and the second has another first byte. The search
 -- finds the file, each line is settled, and the run ends with status 0.
-use Rattle.std.proofs.Common.{◌≡◌, ℕ, zero, suc, ◌<◌, true, false, List, [], ◌∷◌, ◌++◌, Some, None, length, take, refl, sym, ap, ◌∙◌, subst}
+use Rattle.std.proofs.Common.{◌≡◌, ℕ, zero, suc, ◌<◌, true, false, List, [], ◌∷◌, ◌++◌, None, length, take, refl, sym, ap, ◌∙◌, subst}
 use Rattle.std.proofs.Common.{lit<, lit≤, arith, inl, inr}
-use Rattle.std.specs.Prelude.{codes, get_or, ◌↔◌}
+use Rattle.std.specs.Prelude.{codes, get_or}
 use Rattle.std.specs.List.{AllByRecursion, Contains}
 use Rattle.std.proofs.lemmas.List.{append-nil}
 use Rattle.clap.specs.Words.{Text}
 use Rattle.clap.proofs.OnLiterals.{clap_on_literals}
 use Rattle.jls_values.specs.OrderedSet as set
-use Rattle.jls_values.specs.SameShape.{same_shape}
-use Rattle.jls_values.specs.Shape.{PictureShape}
 use Rattle.jls_partial.specs.Partial.{PartialPicture, nothing_known, union, readings_at, without_sources}
 use Rattle.jls_partial.specs.PartialLaws.{shape_itself}
-use Rattle.jls_partial.specs.Reading.{Reading, reading_of, reading_cmp}
-use Rattle.jls_partial.specs.Status.{IsSettled}
+use Rattle.jls_partial.specs.Reading.{Reading, reading_cmp}
 use Rattle.jls_partial.specs.Text.{text}
-use Rattle.jls_io.specs.Event.{Event, opened, gave, created, took, bytes_taken}
+use Rattle.jls_io.specs.Event.{Event, opened, gave, created, took}
 use Rattle.jls_io.specs.Writing.{Wrote, Printed}
 use Rattle.jls_copy.specs.CopyReads.{CopyReads}
 use Rattle.jls_copy_laws.specs.Gives.{GivesReading}
@@ -26,17 +23,16 @@ use Rattle.jls_copy.specs.ReadCopy.{ReadCopy}
 use Rattle.jls_copy.specs.ScanData.{ClosedPiece}
 use Rattle.jls_copy.specs.declared.end.End.TheVariants.{Eoi, Header}
 use Rattle.jls_copy_laws.proofs.Members.{none_in, is_first, first_or_rest, bytes_of_test}
-use Rattle.jls_write.specs.Picture.{line_of, picture_of}
+use Rattle.jls_write.specs.Picture.{line_of}
 use Rattle.jls_station.specs.CopyFiles.{CopyBytes, IsCopyRead, IsTextPrefix, AreCopiesRead}
-use Rattle.jls_station.specs.Reading.{IsRead}
 use Rattle.jls_station.specs.declared.input.ReadStop.TheVariants.{Whole}
-use Rattle.jls_diff.specs.Parts.{Part, Same, Differ, way, HasWays, made, AreParts, IsSplice}
+use Rattle.jls_diff.specs.Parts.{Part, Same, Differ, made, AreParts}
 use Rattle.jls_search.specs.Faultless.{IsFaultless, IsSought}
 use Rattle.jls_search.specs.Found.{Found, IsFound}
-use Rattle.jls_search.specs.Search.{CameTo, HasEachSplice}
+use Rattle.jls_search.specs.Search.{CameTo}
 use Rattle.jls_search.specs.Shapes.{HasFrameOfShape, HasNoFrame, IsShapeTaken}
 use Rattle.jls_search.specs.Stations.{TakesFiles, gives, gives_nothing, no_file}
-use Rattle.jls_search.proofs.OneFile.{no_shape, one_shape_of, shape_read}
+use Rattle.jls_search.proofs.OneFile.{no_shape}
 use Rattle.jls_headline.specs.Collected.{new_station, reader_finished, partial_taken, CollectedFrom}
 use Rattle.jls_file_laws.specs.Covering.{IsLineOf}
 use Rattle.jls_headline.specs.Damaged.{picture_reading}
@@ -50,8 +46,7 @@ use Rattle.jls_headline.proofs.Held.{one_reading}
 use Rattle.jls_headline.proofs.Pictures.{gives_picture}
 use Rattle.jls_headline.proofs.TwoLineCopies.{shape, pic, is_picture, pieces_read, course_with, two_lines_taken}
 use Rattle.jls_cli.specs.Outcomes.{finished}
-use Rattle.jls_cli.specs.SpliceAsking.{Asked, AskFor, Options}
-use Rattle.jls_splice_run.specs.Copies.{AreWhole, bytes_read}
+use Rattle.jls_cli.specs.SpliceAsking.{Asked, AskFor}
 use Rattle.jls_splice_run.specs.Handing.{HandsAll, none_handed}
 use Rattle.jls_splice_run.specs.Making.{Made, IsMade, lines}
 use Rattle.jls_splice_run.specs.Runs.{Performs, Run, came_of, done, performed, texts}
@@ -113,10 +108,10 @@ is_found = record {
 abbrev kept : ClosedPiece
 kept = record { piece = 0x80 ∷ []; fill = 0; mark = 0 }
 
-abbrev course : Course
+abbrev pub course : Course
 course = course_with (kept ∷ []) (0x40 ∷ []) 35
 
-is_course : IsCourse file course
+pub is_course : IsCourse file course
 is_course =
     is_column_course 2 two_lines_taken (kept ∷ []) (0x40 ∷ []) by_marker ((byte_is_piece 0x80 (lit< tt), lit< tt), tt)
     (byte_is_piece 0x40 (lit< tt))
@@ -127,7 +122,7 @@ has_shape = (course, is_course, refl)
 abbrev outcomes : List PieceOutcome
 outcomes = Lines ((0 ∷ []) ∷ []) ∷ Lines ((255 ∷ []) ∷ []) ∷ []
 
-abbrev read : ReadCopy
+abbrev pub read : ReadCopy
 read = record {
   partial = without_sources shape (set.insert_all {R = reading_cmp} set.empty (readings (pieces course) outcomes ++ []));
   pieces = take 4096 (records (pieces course) outcomes);
@@ -135,7 +130,7 @@ read = record {
   ended = Eoi 35;
 }
 
-reads : CopyReads file read
+pub reads : CopyReads file read
 reads = record {
   course = course;
   is_course = is_course;
@@ -151,7 +146,7 @@ reads = record {
   ended_is = refl;
 }
 
-file_bytes : AllByRecursion (λ b. b < 256) file
+pub file_bytes : AllByRecursion (λ b. b < 256) file
 file_bytes = bytes_of_test file refl
 
 other_has_no_frame : HasNoFrame other
@@ -160,7 +155,7 @@ other_has_no_frame = (without_units 0 (Header fault.NoSoi 0), no_soi tail, refl)
 -- What is made of it -----------------------------------------------------------------------------------------------
 
 -- a new station took the file, which is the first copy and the splice
-abbrev station : PartialPicture
+abbrev pub station : PartialPicture
 station = union (union (nothing_known shape) read.partial) read.partial
 
 takes : TakesFiles None (file ∷ other ∷ file ∷ []) (nothing_known shape) station
@@ -203,11 +198,11 @@ collected = (
   λ copy c. absurd (none_in copy c),
 )
 
-holds : HoldsExactly station (file ∷ file ∷ [])
+pub holds : HoldsExactly station (file ∷ file ∷ [])
 holds = collected_holds station taken collected
 
 -- each reading that the file gives is the picture's line
-only_the_line : (r : Reading) → ReadingsOf (file ∷ file ∷ []) r → IsLineOf pic r
+pub only_the_line : (r : Reading) → ReadingsOf (file ∷ file ∷ []) r → IsLineOf pic r
 only_the_line r (bytes, c, g) =
     (file_reads.reads.readings r).0 (elim (first_or_rest bytes file (file ∷ []) c) [
       | inl e ↦ subst (λ b. GivesReading b r) (sym e) g
@@ -217,48 +212,48 @@ only_the_line r (bytes, c, g) =
       ]
     ])
 
-same_line : (component line : ℕ) (r : Reading) → IsLineOf pic r → r.component ≡ component → r.line ≡ line
+pub same_line : (component line : ℕ) (r : Reading) → IsLineOf pic r → r.component ≡ component → r.line ≡ line
     → r ≡ picture_reading pic component line
 same_line component line r is c l =
     let moved : line_of pic r.component r.line ≡ line_of pic component line = λ i. line_of pic (c i) (l i) in
     let samples : r.samples ≡ line_of pic component line = is.2 ∙ moved in
     λ i. record { component = c i; line = l i; samples = samples i }
 
-one_line : (component line : ℕ) → component < 1 → line < 2 → readings_at station component line ≡ line_of pic component line ∷ []
+pub one_line : (component line : ℕ) → component < 1 → line < 2 → readings_at station component line ≡ line_of pic component line ∷ []
 one_line component line c l =
     one_reading station component line (line_of pic component line)
     ((holds.readings (picture_reading pic component line)).1
     (file, is_first file (file ∷ []), (file_reads.reads.readings (picture_reading pic component line)).1 (c, l, refl)))
     (λ r held at_component at_line. same_line component line r (only_the_line r ((holds.readings r).0 held)) at_component at_line)
 
-is_the_picture : GivesPicture station pic
+pub is_the_picture : GivesPicture station pic
 is_the_picture = gives_picture station pic is_picture refl one_line
 
 -- The run ----------------------------------------------------------------------------------------------------------
 
 -- `jls-splice o a b`
-abbrev words : List Text
+abbrev pub words : List Text
 words = codes "jls-splice" ∷ codes "o" ∷ codes "a" ∷ codes "b" ∷ []
 
-abbrev asked : Asked
+abbrev pub asked : Asked
 asked = record {
   options = record { source = None; tries = 4096; ceiling = None; progress = false; file = None; files = None };
   out = codes "o";
   copies = codes "a" ∷ codes "b" ∷ [];
 }
 
-asks : AskFor words asked
+pub asks : AskFor words asked
 unfolding clap_on_literals
 asks = record { taken = inl refl; asks = refl }
 
 -- each copy is read at once, and a second read meets its end
-abbrev copy_read : List ℕ → CopyBytes
+abbrev pub copy_read : List ℕ → CopyBytes
 copy_read bytes = record { bytes = bytes; stop = Whole }
 
 read_of : List ℕ → List ℕ → List Event
 read_of name bytes = opened name ∷ gave 4096 bytes ∷ gave 4096 [] ∷ []
 
-is_read : (name bytes : List ℕ) → 0 < length bytes → AllByRecursion (λ b. b < 256) bytes → (IsTextPrefix bytes → ⊥)
+pub is_read : (name bytes : List ℕ) → 0 < length bytes → AllByRecursion (λ b. b < 256) bytes → (IsTextPrefix bytes → ⊥)
     → IsCopyRead name (copy_read bytes) (opened name ∷ gave 4096 bytes ∷ gave 4096 [] ∷ [])
 is_read name bytes some low none = record {
   reads = gave 4096 bytes ∷ gave 4096 [] ∷ [];
@@ -306,6 +301,8 @@ what_was_made = record {
   cut_ceiling = None;
   lone = None;
   cut = None;
+  given = station;
+  carried = None;
   picture = station;
   is_settled = true;
   single = None;
@@ -318,7 +315,9 @@ is_made = record {
   cut_ceiling_is = tt;
   is_lone = tt;
   is_cut = inl refl;
-  is_picture = record { shape_is = shape_is; union_is = takes };
+  is_given = record { shape_is = shape_is; union_is = takes };
+  is_carried = tt;
+  picture_is = refl;
   settled = (λ is. is_the_picture.0, λ is. refl);
   is_single = refl;
   are_named = refl;
@@ -329,7 +328,7 @@ pub one_by_one : List ℕ → List Event
 one_by_one [] = []
 one_by_one (b ∷ bs) = took (b ∷ []) ∷ one_by_one bs
 
-wrote_one_by_one : (bytes : List ℕ) → Wrote bytes (one_by_one bytes)
+pub wrote_one_by_one : (bytes : List ℕ) → Wrote bytes (one_by_one bytes)
 unfolding one_by_one
 wrote_one_by_one [] = record { are_writes = tt; they_took = refl }
 wrote_one_by_one (b ∷ bs) =
@@ -354,7 +353,7 @@ handed = record {
   files_handed = none_handed;
 }
 
-nothing_printed : Printed [] []
+pub nothing_printed : Printed [] []
 nothing_printed = inl (record { are_writes = tt; they_took = refl })
 
 pub did_make : DidMake words asked (reading ++ ((writing ++ []) ++ [])) report ([] ++ [])

@@ -6,4 +6,5 @@ pub mod SpliceLaws
 pub mod SplicingLaws
 pub mod CutLaws
 pub mod RunLaws
+pub mod CarryLaws
 pub mod Failures

@@ -6,16 +6,19 @@
 //! - `splicing`: stations of files taken, in the words of the laws of stations and pictures
 //! - `cut`: the cut file, where no splice is a file without a fault
 //! - `runs`: runs of `jls-splice`
+//! - `carry`: runs over copies in several codings that gave each other lines
 //!
-//! Definitions: `WholeFiles`, `Searches`, `Taken`, `SpliceLaws`, `SplicingLaws`, `CutLaws`, `RunLaws`, `Failures`.
+//! Definitions: `WholeFiles`, `Searches`, `Taken`, `SpliceLaws`, `SplicingLaws`, `CutLaws`, `RunLaws`, `CarryLaws`, `Failures`.
 #![tactic(auto)]
 
+mod carry;
 mod cut;
 mod runs;
 mod searches;
 mod settled;
 mod splicing;
 
+pub use carry::carried_runs_give_no_other;
 pub use cut::cut_lines_are_the_picture;
 pub use runs::{
     spliced_runs_are_done, spliced_runs_end_with_4, spliced_runs_give_no_other,

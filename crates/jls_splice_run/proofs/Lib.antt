@@ -1,5 +1,8 @@
 -- Lemmas of this crate.
 mod PrintedLineExamples
+mod MendedNumbers
+mod MappedMore
+mod CarriedCopies
 mod Offsets
 mod KeptLimits
 mod Told
@@ -10,6 +13,7 @@ mod Handed
 mod MakingLemmas
 mod Members
 mod Named
+mod ReadAlike
 mod Running
 mod Seen
 mod ReportedExamples

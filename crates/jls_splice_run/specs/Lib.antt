@@ -4,11 +4,14 @@ pub mod Limits
 pub mod Lines
 pub mod Telling
 pub mod FaultLines
+pub mod Carrying
+pub mod CodingLines
 pub mod Copies
 pub mod Files
 pub mod Handing
 pub mod Listing
 pub mod Making
+pub mod ReadsAs
 pub mod Runs
 pub mod Single
 pub mod Tasks

@@ -6,7 +6,7 @@ use Rattle.jls_splice_run.specs.declared.differences.Difference.{Difference}
 use Rattle.jls_splice_run.specs.declared.found.GroupSearch.{GroupSearch}
 use Rattle.jls_splice_run.specs.declared.found.CutEnd.{CutEnd}
 use Rattle.jls_splice_run.specs.declared.found.Promise.{Promise}
-use Rattle.jls_splice_run.specs.declared.found.Promise.TheVariants.{Picture, Lines}
+use Rattle.jls_splice_run.specs.declared.found.Promise.TheVariants.{Held, Picture, Lines}
 use Rattle.jls_splice_run.specs.declared.found.SearchReport.{SearchReport}
 
 -- the line of a difference: its offset in the first copy, and how many bytes that copy has there
@@ -57,9 +57,16 @@ before_line (Some end) = codes "before " ++ decimal end.offset ++ samples_end (c
 abbrev pub picture_words : List ℕ
 picture_words = codes "promise picture if the true file has what one copy has at each differ, and what all have elsewhere"
 
+-- the line of a promise that rests on what copies hold
+abbrev pub held_line : List ℕ
+held_line =
+    codes "promise picture if copies of one coding are of one file of it, true outside of their differs, there as long as printed, "
+    ++ codes "with the marker segments of the mended file\n"
+
 -- the line of the promise that holds
 abbrev pub promise_line : Promise → List ℕ
 promise_line (Picture limit) = picture_words ++ samples_end (codes " and samples are up to ") limit
+promise_line Held = held_line
 promise_line Lines = codes "promise lines\n"
 
 -- the line of how many files have no fault; no line if they were not asked for

@@ -1,23 +1,28 @@
 -- What is made of the copies.
-use Rattle.std.specs.Prelude.{◌≡◌, ◌↔◌, ◌⊎◌, ℕ, Bool, true, false, IsTrue, List, [], ◌∷◌, ◌++◌, Option, Some, None, IfSome, codes}
-use Rattle.std.specs.Prelude.{get_or, length, option_map, if◌then◌else◌}
+use Rattle.std.specs.Prelude.{◌≡◌, ◌↔◌, ◌⊎◌, ℕ, Bool, true, false, IsTrue, List, [], ◌++◌, Option, Some, None, IfSome, codes}
+use Rattle.std.specs.Prelude.{get_or, length, map, option_map, if◌then◌else◌}
+use Rattle.jls_held.specs.Mending.{file_of}
 use Rattle.std.specs.Str.{bytes_eq}
 use Rattle.std.specs.declared.vec.Vec.{Vec}
 use Rattle.std.specs.declared.alloc.Global.{Global}
 use Rattle.jls_marker.specs.declared.fault.MarkerFault.{MarkerFault}
-use Rattle.jls_partial.specs.Partial.{PartialPicture, nothing_known}
+use Rattle.jls_partial.specs.Partial.{PartialPicture, nothing_known, union}
 use Rattle.jls_partial.specs.Status.{IsSettled}
 use Rattle.jls_partial.specs.Text.{text}
 use Rattle.jls_diff.specs.Parts.{Part}
 use Rattle.jls_search.specs.Found.{ByGroups, Found, IsGroupSearch, IsFound, found_of, splices_in}
 use Rattle.jls_report.specs.Report.{report_of}
 use Rattle.jls_report.specs.ReportText.{report_text}
+use Rattle.jls_splice_run.specs.Carrying.{Carried, IsCarried, carried_file, carried_files, carried_of, carried_promise, joined}
+use Rattle.jls_carried.specs.declared.carrying.Between.{Between}
+use Rattle.jls_splice_run.specs.CodingLines.{carried_noted_text, carried_text}
 use Rattle.jls_splice_run.specs.Differences.{differences, offset_at}
 use Rattle.jls_splice_run.specs.Lines.{found_text, noted_text}
 use Rattle.jls_splice_run.specs.declared.found.CutEnd.{CutEnd}
 use Rattle.jls_splice_run.specs.declared.found.GroupSearch.{GroupSearch}
 use Rattle.jls_splice_run.specs.declared.found.Promise.{Promise}
-use Rattle.jls_splice_run.specs.declared.found.Promise.TheVariants.{Picture, Lines}
+use Rattle.jls_splice_run.specs.declared.found.Promise.TheVariants.{Held, Picture, Lines}
+use Rattle.jls_splice_run.specs.declared.differences.Difference.{Difference}
 use Rattle.jls_splice_run.specs.declared.found.SearchReport.{SearchReport}
 use Rattle.jls_splice_run.specs.Limits.{KeepsLimit, has_some}
 use Rattle.jls_station.specs.declared.input.ReadStop.{ReadStop}
@@ -38,6 +43,7 @@ use Rattle.jls_cli.specs.declared.outcome.Refusal.{Refusal}
 use Rattle.jls_splice_run.specs.Copies.{bytes_read, stops_read}
 use Rattle.jls_splice_run.specs.Files.{count_new}
 use Rattle.jls_splice_run.specs.Listing.{AreNamedAsked, NamedFile, named_files}
+use Rattle.jls_splice_run.specs.ReadsAs.{EachReadsAs}
 use Rattle.jls_splice_run.specs.Single.{IsSingleAsked}
 use Rattle.jls_splice_run.specs.declared.limits.FoundInTurn.{FoundInTurn}
 use Rattle.jls_splice_run.specs.declared.made.Made.{Made as MadeValue}
@@ -73,14 +79,17 @@ IsCutTaken copies f lone cut =
     (cut ≡ lone) ⊎ ((cut ≡ None) × IfSome lone (λ path. TakesNoCut copies (splices_in f) (prefix_of f.parts path)))
 
 -- what is made of copies: the limit of samples of the search that counts, if it had one; what was found; the limit under which a cut file
--- was sought, if there was one; its choices, if one was found; and those of the one that was taken; the picture, and whether each line of
--- it is settled; the single file without a fault; and the files that have numbers
+-- was sought, if there was one; its choices, if one was found; and those of the one that was taken; what the files taken give; what copies
+-- in several codings gave each other, if that was looked for; the picture, and whether each line of it is settled; the single file; and the
+-- files that have numbers
 pub record Made : Type 0 where
   pub ceiling : Option ℕ
   pub found : Found
   pub cut_ceiling : Option ℕ
   pub lone : Option (List ℕ)
   pub cut : Option (List ℕ)
+  pub given : PartialPicture
+  pub carried : Option Carried
   pub picture : PartialPicture
   pub is_settled : Bool
   pub single : Option (List ℕ)
@@ -93,16 +102,35 @@ pub record IsFoundFor (a : Asked) (copies : List (List ℕ)) (ceiling : Option �
   pub is_found : IsFound ceiling copies f
   pub of_groups : IfSome f.by_groups (IsGroupSearch a.options.tries (length copies) f.parts)
 
+-- What copies in several codings gave each other, if that was looked for, is so where these files are taken. Then no cut file was taken.
+-- The mended files read as the picture if they were found to
+abbrev pub IsCarriedFor : List (List ℕ) → Made → Type 0
+IsCarriedFor copies m =
+    IfSome m.carried (λ c. IsCarried copies (files_taken copies m.found) m.given.shape c × (m.cut ≡ None)
+    × (IsTrue c.are_read → EachReadsAs m.picture c.files))
+
+-- the single file, if it is asked for: the one of the files taken that has no fault, or the first mended file
+abbrev pub IsSingleOf : Asked → List (List ℕ) → Option Carried → Bool → Option (List ℕ) → Type 0
+IsSingleOf a taken None is_settled single = IsSingleAsked a.options.file taken single
+IsSingleOf a taken (Some c) is_settled single = single ≡ carried_file a.options.file (carried_promise c is_settled) c.files
+
+-- the files that have numbers, if they are asked for: those taken that have no fault, or the mended files
+abbrev pub AreNamedOf : Asked → List (List ℕ) → Option Carried → List NamedFile → Type 0
+AreNamedOf a taken None named = AreNamedAsked a.options.files taken named
+AreNamedOf a taken (Some c) named = named ≡ carried_files a.options.files c.files
+
 -- all of it is made of these copies
 pub record IsMade (a : Asked) (copies : List (List ℕ)) (m : Made) : Type 0 where
   pub is_found_for : IsFoundFor a copies m.ceiling m.found
   pub cut_ceiling_is : KeepsLimit a.options.ceiling m.cut_ceiling
   pub is_lone : IfSome m.lone (IsCutFile m.cut_ceiling m.found)
   pub is_cut : IsCutTaken copies m.found m.lone m.cut
-  pub is_picture : IsPictureOf a.options.source copies (splices_in m.found) (cut_file m.found m.cut) m.picture
+  pub is_given : IsPictureOf a.options.source copies (splices_in m.found) (cut_file m.found m.cut) m.given
+  pub is_carried : IsCarriedFor copies m
+  pub picture_is : m.picture ≡ joined m.carried m.given
   pub settled : IsTrue m.is_settled ↔ IsSettled m.picture
-  pub is_single : IsSingleAsked a.options.file (files_taken copies m.found) m.single
-  pub are_named : AreNamedAsked a.options.files (files_taken copies m.found) m.files
+  pub is_single : IsSingleOf a (files_taken copies m.found) m.carried m.is_settled m.single
+  pub are_named : AreNamedOf a (files_taken copies m.found) m.carried m.files
 
 -- ---- what is reported of it
 
@@ -136,13 +164,19 @@ abbrev pub promise_of : Option ℕ → Found → Bool → Promise
 promise_of ceiling f is_settled =
     if f.is_used_up then Lines else (if has_some f.choices then (if is_settled then Picture ceiling else Lines) else Lines)
 
+-- the promise that holds where copies in several codings may have given each other something
+abbrev pub promise_with : Option Carried → Option ℕ → Found → Bool → Promise
+promise_with None ceiling f is_settled = promise_of ceiling f is_settled
+promise_with (Some c) ceiling f is_settled = carried_promise c is_settled
+
 -- the promise of what was made, which is printed
 abbrev pub promise_on : Made → Promise
-promise_on m = promise_of m.ceiling m.found m.is_settled
+promise_on m = promise_with m.carried m.ceiling m.found m.is_settled
 
 -- whether a promise is of the picture
 abbrev pub is_of_picture : Promise → Bool
 is_of_picture (Picture limit) = true
+is_of_picture Held = true
 is_of_picture Lines = false
 
 -- what is reported of the search
@@ -158,15 +192,26 @@ report_on a copies m = record {
   promise = promise_on m;
 }
 
+-- the lines of what was found in so many copies, and of what they gave each other if they are in several codings
+abbrev pub text_with : Option Carried → List Difference → ℕ → SearchReport → List ℕ
+text_with None ds count report = found_text ds report
+text_with (Some c) ds count report = carried_text ds count c.codings c.strangers report
+
 -- what is printed: the lines of what was found and the report. Nothing, if the output is standard output
 abbrev pub lines : Asked → List (List ℕ) → Made → List ℕ
 lines a copies m =
     if bytes_eq a.out (codes "-") then []
-    else found_text (differences m.found.parts) (report_on a copies m) ++ report_text (report_of m.picture)
+    else text_with m.carried (differences m.found.parts) (length copies) (report_on a copies m) ++ report_text (report_of m.picture)
+
+-- the lines of the search in so many copies, and those of their codings if they gave each other something
+abbrev pub noted_with : Option Carried → ℕ → SearchReport → List ℕ
+noted_with None count report = noted_text report
+noted_with (Some c) count report = carried_noted_text count c.codings c.strangers report
 
 -- what is printed on the fault output before anything is handed out: if the output is standard output, the lines of the search
 abbrev pub notes : Asked → List (List ℕ) → Made → List ℕ
-notes a copies m = if bytes_eq a.out (codes "-") then noted_text (report_on a copies m) else []
+notes a copies m =
+    if bytes_eq a.out (codes "-") then noted_with m.carried (length copies) (report_on a copies m) else []
 
 -- ---- why nothing is made
 
@@ -200,8 +245,8 @@ CantMake a copies r =
 
 -- ---- as the code has it
 
--- what was made, by what was found with the limit of a cut file, the choices of the one found and of the one taken, the picture, whether
--- each line of it is settled, and what the code holds of it
+-- what was made of copies of one coding, or of a file without a fault: by what was found with the limit of a cut file, the choices of the
+-- one found and of the one taken, the picture, whether each line of it is settled, and what the code holds of it
 abbrev pub made_of : FoundInTurn → Option (Vec ℕ Global) → Option (Vec ℕ Global) → PartialPicture → Bool → MadeValue → Made
 made_of all lone cut p is_settled v = record {
   ceiling = all.splices.ceiling;
@@ -209,7 +254,26 @@ made_of all lone cut p is_settled v = record {
   cut_ceiling = all.cut_limit;
   lone = option_map (λ path. path.items) lone;
   cut = option_map (λ path. path.items) cut;
+  given = p;
+  carried = None;
   picture = p;
+  is_settled = is_settled;
+  single = option_map (λ f. f.items) v.file;
+  files = named_files v.files.items;
+}
+
+-- and what was made of copies in several codings: by what was found, the choices of the cut file that was found, what the files taken give,
+-- what the copies gave each other, whether each line of both is settled, and what the code holds of it
+abbrev pub carried_made : FoundInTurn → Option (Vec ℕ Global) → PartialPicture → Carried → Bool → MadeValue → Made
+carried_made all lone given c is_settled v = record {
+  ceiling = all.splices.ceiling;
+  found = found_of all.splices;
+  cut_ceiling = all.cut_limit;
+  lone = option_map (λ path. path.items) lone;
+  cut = None;
+  given = given;
+  carried = Some c;
+  picture = union c.held given;
   is_settled = is_settled;
   single = option_map (λ f. f.items) v.file;
   files = named_files v.files.items;
@@ -227,3 +291,24 @@ pub record AreTextsOf (a : Asked) (copies : List (List ℕ)) (m : Made) (v : Mad
 -- and it was made of these copies
 abbrev pub HoldsMade : Asked → List CopyBytes → MadeValue → Type 0
 HoldsMade a copies v = (m : Made) × IsMade a (bytes_read copies) m × AreTextsOf a (bytes_read copies) m v
+
+-- the code holds what is handed out of what was judged
+pub record AreTextsOfJudged (a : Asked) (copies : List (List ℕ)) (all : FoundInTurn) (given : PartialPicture) (b : Between) (v : MadeValue)
+    : Type 0 where
+  pub is_held : Bool
+  pub is_settled : Bool
+  pub are_read : Bool
+  pub each_read : IsTrue are_read → EachReadsAs (union b.judged.held given) (map file_of b.judged.files.items)
+  pub all_held : IsTrue is_held ↔ IsSettled b.judged.held
+  pub settled : IsTrue is_settled ↔ IsSettled (union b.judged.held given)
+  pub texts : (lone : Option (Vec ℕ Global))
+      → AreTextsOf a copies (carried_made all lone given (carried_of b is_held are_read) is_settled v) v
+  pub single : IsSingleOf a [] (Some (carried_of b is_held are_read)) is_settled (option_map (λ f. f.items) v.file)
+  pub named : AreNamedOf a [] (Some (carried_of b is_held are_read)) (named_files v.files.items)
+
+-- and what was judged is so for these copies, where these files are taken and give that
+pub record IsCarriedMade (a : Asked) (copies taken : List (List ℕ)) (all : FoundInTurn) (given : PartialPicture) (v : MadeValue)
+    : Type 0 where
+  pub between : Between
+  pub texts : AreTextsOfJudged a copies all given between v
+  pub is_carried : IsCarried copies taken given.shape (carried_of between texts.is_held texts.are_read)

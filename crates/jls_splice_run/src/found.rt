@@ -27,7 +27,10 @@ pub enum Promise {
     /// Each line of OUT is settled. All are the picture's, if the true file is a splice of the copies, and if no sample of it is above the
     /// limit, where there is one.
     Picture(Option<u16>),
-    /// Only what holds of each line of a `join`.
+    /// Each line of OUT is settled, and held. All are the picture's, if the copies of each coding are of one file of it. That file has the
+    /// bytes that they have outside of their edits. At the edits it has as many bytes as the mended file, and the same marker segments.
+    Held,
+    /// Only what holds of each line of a `join`, and of lines that mended files hold.
     Lines,
 }
 
@@ -37,7 +40,7 @@ impl Promise {
         ensures { result ≡ spec.is_of_picture self }
     {
         match self {
-            Promise::Picture(_) => true,
+            Promise::Picture(_) | Promise::Held => true,
             Promise::Lines => false,
         }
     }

@@ -4,6 +4,8 @@
 //! - `task`: what is asked for, as one value
 //! - `splicing`: a run that is asked for: copies are read, files made, and all is handed out
 //! - `copies`, `made`, `settling`: the copies that are read; what is made of them; their station
+//! - `carried`, `coding_lines`: what is made of what copies in several codings give each other; its lines
+//! - `reading_as`: whether mended files read as the picture that is handed out
 //! - `files`, `single`, `listing`: the files that were found, as bytes; the single one without a fault; all of these with their names
 //! - `printed_lines`, `noting`: the lines that are printed; those on the fault output, where OUT is standard output
 //! - `handing`: the events that hand out all
@@ -15,9 +17,9 @@
 //! - `hosted`: the program as `run_program` of jls_host runs it
 //! - `printing`: the lines on the fault output that this program alone has
 //!
-//! Definitions: `Tasks`, `Copies`, `Making`, `Single`, `Files`, `Listing`, `Handing`, `Runs`; `Limits`, `Telling`; `Differences`,
-//! `Lines`; `FaultLines`. `PrintedLineExamples` of `proofs/` has each line, and all lines of three runs, worked by hand. What came of a
-//! run, why it stopped, its exit status and its fault line are in jls_cli.
+//! Definitions: `Tasks`, `Copies`, `Making`, `Carrying`, `ReadsAs`, `Single`, `Files`, `Listing`, `Handing`, `Runs`; `Limits`, `Telling`;
+//! `Differences`, `Lines`, `CodingLines`; `FaultLines`. `PrintedLineExamples` of `proofs/` has each line, and all lines of three runs, worked
+//! by hand. What came of a run, why it stopped, its exit status and its fault line are in jls_cli.
 //!
 //! Not proved:
 //!
@@ -27,6 +29,8 @@
 //! - That a cut file is as long as it could be.
 #![tactic(auto)]
 
+mod carried;
+mod coding_lines;
 mod copies;
 mod differences;
 mod files;
@@ -42,6 +46,7 @@ mod options;
 mod printed_lines;
 mod printing;
 mod program;
+mod reading_as;
 mod searching;
 mod settling;
 mod shallow;
@@ -49,6 +54,7 @@ mod single;
 mod splicing;
 mod task;
 
+pub use coding_lines::put_carried;
 pub use differences::{Difference, differences_of};
 pub use found::{CutEnd, GroupSearch, Promise, SearchReport};
 pub use hosted::Splice;
@@ -56,7 +62,7 @@ pub use limits::{FoundInTurn, search_and_tell};
 pub use lines::{put_found, put_progress};
 pub use listing::NumberedFile;
 pub use made::Made;
-pub use noting::put_noted;
+pub use noting::{put_carried_noted, put_noted};
 pub use options::SearchOptions;
 pub use printing::{PROGRAM, print_named_twice, print_not_understood, print_numbered_out};
 pub use program::run;

@@ -3,7 +3,8 @@
 ghost use Rattle.std.specs.Prelude.{◌≡◌, ◌++◌, codes, decimal, OnOk, take};
 ghost use Rattle.std.specs.List.{flat_map};
 ghost use Rattle.jls_splice_run.specs.Lines.{before_line, differ_line, differ_lines, files_line, found_text, groups_end as spec_groups_end};
-ghost use Rattle.jls_splice_run.specs.Lines.{groups_line, limit_line, more_line, outcome_lines, progress_line, promise_line, samples_end};
+ghost use Rattle.jls_splice_run.specs.Lines.{groups_line, held_line, limit_line, more_line, outcome_lines, progress_line};
+ghost use Rattle.jls_splice_run.specs.Lines.{promise_line, samples_end};
 ghost use Rattle.jls_splice_run.specs.Lines.{search_lines, single_line, splices_line, used_up_line};
 
 use crate::differences::Difference;
@@ -61,7 +62,10 @@ fn first_ones(differences: &[Difference]) -> &[Difference]
 }
 
 /// Appends the lines of the first differences, and how many more there are.
-fn put_differences(out: &mut Vec<u8>, differences: &[Difference]) -> Result<(), AllocError>
+pub(crate) fn put_differences(
+    out: &mut Vec<u8>,
+    differences: &[Difference],
+) -> Result<(), AllocError>
     ensures { OnOk result (out.new.items ≡ out.old.items ++ differ_lines differences.now) }
 {
     put_each(out, first_ones(differences))?;
@@ -159,12 +163,24 @@ fn put_picture(out: &mut Vec<u8>, limit: Option<u16>) -> Result<(), AllocError>
     put_samples(out, b" and samples are up to ", limit)
 }
 
+/// Appends that the picture is promised by what copies hold.
+fn put_held(out: &mut Vec<u8>) -> Result<(), AllocError>
+    ensures { OnOk result (out.new.items ≡ out.old.items ++ held_line) }
+{
+    out.extend_from_slice(
+        b"promise picture if copies of one coding are of one file of it, true outside of their differs, there as long as printed, ",
+    )?;
+    out.extend_from_slice(b"with the marker segments of the mended file\n")?;
+    Ok(())
+}
+
 /// Appends which promise holds.
 fn put_promise(out: &mut Vec<u8>, promise: Promise) -> Result<(), AllocError>
     ensures { OnOk result (out.new.items ≡ out.old.items ++ promise_line promise) }
 {
     match promise {
         Promise::Picture(limit) => put_picture(out, limit),
+        Promise::Held => put_held(out),
         Promise::Lines => {
             out.extend_from_slice(b"promise lines\n")?;
             Ok(())

@@ -32,7 +32,7 @@ pub struct NumberedFile {
 }
 
 /// The name of the output of a number.
-fn numbered_name(alloc: Global, prefix: &str, number: u64) -> Result<String, AllocError>
+pub(crate) fn numbered_name(alloc: Global, prefix: &str, number: u64) -> Result<String, AllocError>
     ensures { IfOk result (λ name. string_bytes name ≡ numbered prefix.now number) }
 {
     format!(in alloc; "{prefix}-{number}")

@@ -24,6 +24,7 @@ ghost use Rattle.jls_splice_run.specs.Single.{IsSingleAsked};
 ghost use Rattle.jls_splice_run.specs.Telling.{IsTold};
 ghost use Rattle.jls_splice_run.specs.Tasks.{task_of};
 
+use crate::carried::carried_texts;
 use crate::copies::slices_of;
 use crate::differences::offset_at;
 use crate::files::count_new;
@@ -100,7 +101,7 @@ fn file_asked(
 }
 
 /// Whether a single file is asked for, and there is none.
-fn lacks_file(name: Option<&str>, file: &Option<Vec<u8>>) -> bool
+pub(crate) fn lacks_file(name: Option<&str>, file: &Option<Vec<u8>>) -> bool
     ensures { result ≡ lacks_single name.entry file.now }
 {
     match (name, file) {
@@ -131,7 +132,7 @@ fn files_asked(
 }
 
 /// How many files have a name, if names are asked for.
-fn files_reported(prefix: Option<&str>, files: &[NumberedFile]) -> Option<usize>
+pub(crate) fn files_reported(prefix: Option<&str>, files: &[NumberedFile]) -> Option<usize>
     ensures { result ≡ spec.files_reported prefix.entry files.now }
 {
     match prefix {
@@ -141,7 +142,7 @@ fn files_reported(prefix: Option<&str>, files: &[NumberedFile]) -> Option<usize>
 }
 
 /// What is reported of the search by groups.
-fn groups_reported(by_groups: Option<GroupsReported>) -> Option<GroupSearch>
+pub(crate) fn groups_reported(by_groups: Option<GroupsReported>) -> Option<GroupSearch>
     ensures { (choices : List (List ℕ)) → result ≡ spec.groups_reported (option_map (by_groups_of choices) by_groups) }
 {
     match by_groups {
@@ -154,7 +155,7 @@ fn groups_reported(by_groups: Option<GroupsReported>) -> Option<GroupSearch>
 }
 
 /// The limit of the search that counts, where none was given.
-fn limit_reported(given: Option<u16>, limit: Option<u16>) -> Option<u16>
+pub(crate) fn limit_reported(given: Option<u16>, limit: Option<u16>) -> Option<u16>
     ensures { result ≡ spec.limit_reported given limit }
 {
     match given {
@@ -259,7 +260,8 @@ fn search_options(task: &Task<'_, '_>) -> SearchOptions
     }
 }
 
-/// What is made of the copies of a task. The search tells how far it is, if that is asked for.
+/// What is made of the copies of a task. The search tells how far it is, if that is asked for. Where no file taken is without a fault,
+/// copies of several codings give each other lines.
 pub(crate) fn make<'a, E: Sink>(
     alloc: Global,
     task: &Task<'_, 'a>,
@@ -291,6 +293,11 @@ pub(crate) fn make<'a, E: Sink>(
         reader: &found.splices.reader,
     };
     let held = settle(alloc, task, copies, &files, cut)?;
+    match carried_texts(alloc, task, &files, &found, &held) {
+        Ok(Some(made)) => return Ok(made),
+        Ok(None) => {}
+        Err(_) => return Err(want_of_memory(task)),
+    }
     match texts_of(alloc, task, &files, &found, &held) {
         Ok(made) => Ok(made),
         Err(_) => Err(want_of_memory(task)),

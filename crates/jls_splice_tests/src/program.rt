@@ -54,7 +54,13 @@ where all differ, and a flipped bit of the restart interval: restarts: 20+1=6 45
 before 140
 where all differ, and a zeroed header: eight: 0+25=0 100+8=0 300+8=0 / 200+8=0 300+8=85: OUT 1 2: 1 other: before 300
 two codings, and no other way to a line: narrow: 70+8=0 / reset 40+8=0: OUT 1 2: 1 other: missing 1 0-19
-two codings, with intervals: fives: 445+8=0 / tens 355+8=0: OUT 1 2: 1 other: missing 1 15-19
+two codings, with intervals: fives: 445+8=0 / tens 355+8=0: OUT 1 2: 0 narrow: coding 2, copies 2
+a promise of two codings: fives: 445+8=0 / tens 355+8=0: OUT 1 2: 0 narrow: \
+promise picture if copies of one coding are of one file of it, true outside of their differs, there as long as printed, \
+with the marker segments of the mended file
+two codings, and a limit that is too low: fives: 445+8=0 / tens 355+8=0: --max 1 OUT 1 2: 1 other: promise lines
+two codings, and an empty copy: fives: 445+8=0 / tens 355+8=0 / 0+999=lost: OUT 1 2 3: 0 narrow: copy 3 left out
+a height that no scan follows: fives: 8+1=3 21+2=0 445+8=85 / 445+8=0 / tens 355+8=0: OUT 1 2 3: 1 other: promise lines
 three copies of two codings: narrow: 70+8=0 / reset 40+8=0 / narrow 200+8=0: OUT 1 2 3: 0 narrow: splices 1
 one try: eight: 100+8=0 / 400+8=0: --tries 1 OUT 1 2: 1 other: before 100
 lines of one try: eight: 100+8=0 / 400+8=0: --tries 1 OUT 1 2: 1 other: missing 1 2-19

@@ -1,4 +1,4 @@
-use Rattle.std.proofs.Common.{◌≡◌, ℕ, ◌<◌, Bor, List, Option, None, length, sym, ◌∙◌, subst}
+use Rattle.std.proofs.Common.{ℕ, Option, None, sym, subst}
 use Rattle.std.specs.Prelude.{IfSome}
 use Rattle.jls_diff.specs.PartsOf.{bytes_of}
 use Rattle.jls_search.specs.Faultless.{IsSought}

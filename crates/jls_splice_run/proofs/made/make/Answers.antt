@@ -1,4 +1,4 @@
-use Rattle.std.proofs.Common.{◌≡◌, ℕ, Bool, Vec, Global, Option, Some, None, List, length, inl, inr, ap, sym, ◌∙◌, subst}
+use Rattle.std.proofs.Common.{◌≡◌, ℕ, Vec, Global, Option, Some, None, List, ◌++◌, length, inl, inr, ap, refl, sym, ◌∙◌, subst}
 use Rattle.std.specs.Prelude.{◌⊎◌, IfSome, option_map}
 use Rattle.std.proofs.lemmas.Result.{err_from_is_err_and}
 use Rattle.jls_station.specs.CopyFiles.{CopyBytes, copies_of}
@@ -13,7 +13,10 @@ use Rattle.jls_search.specs.Found.{IsFound, IsGroupSearch, found_of, splices_in}
 use Rattle.jls_splice_run.specs.Limits.{KeepsLimit}
 use Rattle.jls_splice_run.specs.Telling.{IsTold}
 use Rattle.jls_splice_run.specs.Copies.{bytes_read}
-use Rattle.jls_splice_run.specs.Making.{AreTextsOf, CantMake, IsCutFile, IsFoundFor, IsPictureOf, IsUnsettled, cut_file, files_taken, made_of}
+use Rattle.jls_splice_run.specs.Making.{AreTextsOf, IsCutFile, IsCutTaken, IsFoundFor, IsPictureOf, IsUnsettled}
+use Rattle.jls_splice_run.specs.Making.{IsCarriedMade, carried_made, cut_file, files_taken, made_of}
+use Rattle.jls_splice_run.specs.declared.made.Made.{Made as MadeValue}
+use Rattle.jls_splice_run.specs.Carrying.{IsCarried, carried_of}
 use Rattle.jls_splice_run.specs.Listing.{AreNamedAsked, named_files}
 use Rattle.jls_splice_run.specs.Single.{IsSingleAsked}
 use Rattle.jls_splice_run.specs.Tasks.{task_of}
@@ -152,7 +155,9 @@ returns-in-Ok-texts_of-clause-made g c =
             (subst (λ (xs : List (List ℕ)). (held.cut ≡ c.in-Ok-find_cut.cut)
             ⊎ ((held.cut ≡ None) × IfSome c.in-Ok-find_cut.cut (λ path. TakesNoCut copies xs (prefix_of parts path.items)))) splices
             c.in_ok-held.ensures.cut);
-        is_picture = subst (λ (o : Option (List ℕ)). IsPictureOf a.options.source copies (splices_in (found_of found)) o held.station) cut
+        is_carried = tt;
+        picture_is = refl;
+        is_given = subst (λ (o : Option (List ℕ)). IsPictureOf a.options.source copies (splices_in (found_of found)) o held.station) cut
             (subst (λ (xs : List (List ℕ)). IsPictureOf a.options.source copies xs
             (option_map (λ (path : Vec ℕ Global). prefix_of found.parts path.items) held.cut) held.station) splices
             c.in_ok-held.ensures.settled);
@@ -164,4 +169,63 @@ returns-in-Ok-texts_of-clause-made g c =
       },
       subst (λ (xs : List (List ℕ)). AreTextsOf a xs (made_of all c.in-Ok-find_cut.cut held.cut held.station settled v) v)
           reported (c.in-Ok-texts_of.ensures.texts.2 c.in-Ok-find_cut.cut),
+    )
+
+pub returns-in-Ok-Some-clause-made : goal.returns-in-Ok-Some-clause-made
+returns-in-Ok-Some-clause-made g c =
+    let a = task_of c.args.task.now in
+    let copies = bytes_read (copies_of c.args.copies.now) in
+    let v = c.in-Ok-Some.made in
+    let all = c.in-Ok-search_and_tell.found in
+    let found = all.splices in
+    let f = found_of found in
+    let held = c.in_ok-held.held in
+    let lone = c.in-Ok-find_cut.cut in
+    let parts = found.parts in
+    let taken = bytes_of c.deref-2.result.now ++ files_of parts (lists_of c.deref-3.result.now) in
+    let carrying : (held.cut ≡ None) × IsCarriedMade a (bytes_of c.deref-2.result.now) taken all held.station v =
+    subst (λ (o : Option MadeValue). IfSome o (λ made. (held.cut ≡ None)
+    × IsCarriedMade a (bytes_of c.deref-2.result.now) taken all held.station made)) c.in-Ok-Some.field-0-is c.in-Ok-Some.ensures in
+    let cut_is : held.cut ≡ None = carrying.0 in
+    let made = carrying.1 in
+    let texts = made.texts in
+    let carried = carried_of made.between texts.is_held texts.are_read in
+    let searched : bytes_of c.deref.result.now ≡ copies = ap bytes_of c.deref.ensures.value ∙ c.in-Ok.ensures in
+    let reported : bytes_of c.deref-2.result.now ≡ copies = ap bytes_of c.deref-2.ensures.value ∙ c.in-Ok.ensures in
+    let splices : files_of found.parts (lists_of c.deref-3.result.now) ≡ splices_in f =
+    (λ i. files_of found.parts (lists_of (c.deref-3.ensures.value i))) ∙ c.in-Ok-search_and_tell.ensures.splices in
+    let e = c.in-Ok-search_and_tell.ensures in
+    let groups = subst (λ (n : ℕ). IfSome f.by_groups (IsGroupSearch c.search_options.result.tries n parts))
+    (sym (count_of_slices c.deref.result.now)) e.of_groups in
+    let lone_path = option_map (λ (path : Vec ℕ Global). path.items) lone in (
+      carried_made all lone held.station carried texts.is_settled v,
+      record {
+        is_found_for = found_for a all c.search_options.result (bytes_of c.deref.result.now) copies c.search_options.ensures searched e.limit
+            e.found groups;
+        cut_ceiling_is = subst (λ (o : SearchOptions). KeepsLimit o.ceiling all.cut_limit) c.search_options.ensures e.cut;
+        is_lone = found_mapped (IsCutFile all.cut_limit f) lone c.in-Ok-find_cut.ensures.lone;
+        is_cut = subst (λ (o : Option (Vec ℕ Global)). IsCutTaken copies f lone_path (option_map (λ (path : Vec ℕ Global). path.items) o))
+            cut_is (cut_mapped (λ path. TakesNoCut copies (splices_in f) (prefix_of parts path)) held.cut lone
+            (subst (λ (xs : List (List ℕ)). (held.cut ≡ lone)
+            ⊎ ((held.cut ≡ None) × IfSome lone (λ path. TakesNoCut copies xs (prefix_of parts path.items)))) splices
+            c.in_ok-held.ensures.cut));
+        is_given = subst (λ (o : Option (Vec ℕ Global)). IsPictureOf a.options.source copies (splices_in f)
+            (option_map (λ (path : Vec ℕ Global). prefix_of parts path.items) o) held.station) cut_is
+            (subst (λ (xs : List (List ℕ)). IsPictureOf a.options.source copies xs
+            (option_map (λ (path : Vec ℕ Global). prefix_of parts path.items) held.cut) held.station) splices
+            c.in_ok-held.ensures.settled);
+        is_carried = (
+          subst (λ (xs : List (List ℕ)). IsCarried copies (copies ++ xs) held.station.shape carried) splices
+              (subst (λ (cs : List (List ℕ)). IsCarried cs (cs ++ files_of parts (lists_of c.deref-3.result.now)) held.station.shape carried)
+              reported made.is_carried),
+          refl,
+          texts.each_read,
+        );
+        picture_is = refl;
+        settled = texts.settled;
+        is_single = texts.single;
+        are_named = texts.named;
+      },
+      subst (λ (xs : List (List ℕ)). AreTextsOf a xs (carried_made all lone held.station carried texts.is_settled v) v)
+          reported (texts.texts lone),
     )

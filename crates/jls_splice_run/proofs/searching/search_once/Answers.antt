@@ -1,4 +1,4 @@
-use Rattle.std.proofs.Common.{◌≡◌, sym, ◌∙◌, subst, ap, arith}
+use Rattle.std.proofs.Common.{sym, ◌∙◌, subst, ap, arith}
 use Rattle.jls_search.specs.Faultless.{IsSought}
 use Rattle.jls_search.specs.Search.{CameTo, lists_of}
 use Rattle.jls_splice_run.proofs.Told.{tells_none, tells_on}

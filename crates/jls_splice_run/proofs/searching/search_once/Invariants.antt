@@ -1,5 +1,4 @@
 use Rattle.std.proofs.Common.{◌≡◌, ◌-◌, length}
-use Rattle.jls_diff.specs.PartsOf.{parts_of}
 use Rattle.jls_io.specs.Event.{GrewBy}
 use Rattle.jls_search.specs.LevelSearches.{IsLevelSearch}
 use Rattle.jls_splice_run.specs.Telling.{IsTold}
