@@ -52,14 +52,23 @@ class File:
     """A DICOM file with these frames, an icon, a private element, and padding after Pixel Data."""
 
     def __init__(
-        self, frames: list[bytes], bits: int, width: int, height: int, uid: str = UID, syntax: str = SYNTAX, stored: int | None = None
+        self,
+        frames: list[bytes],
+        bits: int,
+        width: int,
+        height: int,
+        uid: str = UID,
+        syntax: str = SYNTAX,
+        stored: int | None = None,
+        samples: int = 1,
     ) -> None:
         meta = element(0x20001, "OB", b"\0\1") + element(0x20002, "UI", CLASS) + element(0x20003, "UI", uid)
         meta += element(0x20010, "UI", syntax)
         meta = element(0x20000, "UL", struct.pack("<I", len(meta))) + meta
         data = element(0x80008, "CS", "ORIGINAL\\PRIMARY") + element(0x80016, "UI", CLASS) + element(0x80018, "UI", uid)
         data += element(0x80020, "DA", "20200131") + element(0x90010, "LO", "PRIVATE") + element(0x91001, "OB", bytes(range(64)))
-        data += element(0x100010, "PN", "Doe^Jane") + element(0x280002, "US", 1) + element(0x280004, "CS", "MONOCHROME2")
+        data += element(0x100010, "PN", "Doe^Jane") + element(0x280002, "US", samples)
+        data += element(0x280004, "CS", "MONOCHROME2" if samples == 1 else "RGB")
         data += element(0x280008, "IS", str(len(frames))) + element(0x280010, "US", height) + element(0x280011, "US", width)
         stored = stored or bits
         data += element(0x280100, "US", 8 if bits <= 8 else 16) + element(0x280101, "US", stored) + element(0x280102, "US", stored - 1)

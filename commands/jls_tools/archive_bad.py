@@ -5,7 +5,7 @@ Of copies that differ, bytes are bad where these do. Of equal ones they are what
 from __future__ import annotations
 
 import re
-from typing import Iterable, Iterator, List, Sequence, Tuple
+from typing import Iterable, Iterator, List, Mapping, Sequence, Tuple
 
 CELLS = 64
 LARGEST = 1 << 25  # bytes: of larger files nothing is said
@@ -41,6 +41,13 @@ def of_copies(texts: Sequence[bytes]) -> str:
         own = [text[begin:end] for text in texts]
         found.append(digit(max(apart(own[0], each) for each in own[1:]), end - begin))
     return "".join(found)
+
+
+def of_edits(differs: Mapping[int, Sequence[Tuple[int, int, int]]], sizes: Sequence[int]) -> str:
+    """Where any of several copies has other bytes than the mended file of its coding: (offset, length, new length) by copy, from 1 on."""
+    lists = ([(offset, offset + max(1, length)) for offset, length, _ in differs.get(at, ())] for at in range(1, len(sizes) + 1))
+    cells = [of_ranges(ranges, size) for ranges, size in zip(lists, sizes)]
+    return "".join(map(max, zip(*cells)))
 
 
 def of_ranges(ranges: Iterable[Range], size: int) -> str:

@@ -71,6 +71,7 @@ def mend_files(desk: Desk, row: Row, copies: Sequence[Copy]) -> Row:
         raise ProgramFailed(str(result.refusal), 4)
     take(row, result.frames)
     take_decisions(desk, row, copies, result)
+    row.bad = bad_of(copies, result, desk.place(out))
     for path, why in result.left_out:
         row.say(f"{archive_names.printable(path)} is left out: {why}")
     if result.status == dicom_result.WHOLE and result.written:
@@ -90,9 +91,18 @@ def take_decisions(desk: Desk, row: Row, copies: Sequence[Copy], result: MendRes
     row.decided, row.one_copy = len(decided), sum(len(names) == 1 for names in decided)
     texts = list(bytes_of(copies))
     row.versions = archive_versions.count(texts)
-    row.bad = archive_bad.of_copies(texts)
     if not desk.options.no_names:
         row.patient, row.study = archive_versions.whose(texts)
+
+
+def bad_of(copies: Sequence[Copy], result: MendResult, out: str) -> str:
+    """Where bytes of copies are bad, as far as that shows: those in another coding than OUT have none in common with it."""
+    others = {path for group in result.other_codings for path in group}
+    texts = list(bytes_of([copy for copy in copies if copy.path not in others]))
+    if others and result.written:
+        with open(out, "rb") as file:
+            texts.append(file.read())
+    return archive_bad.of_copies(texts)
 
 
 def bytes_of(copies: Sequence[Copy]) -> Iterator[bytes]:

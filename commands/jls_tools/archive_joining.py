@@ -22,6 +22,7 @@ class Joining:
         self.unread: List[str] = []
         self.said: Dict[str, List[str]] = {}  # by name: the lines of `check`
         self.refused = 0
+        self.coded: Optional[Splice] = None  # what jls-splice came to of copies in several codings
 
     def note(self, title: str, outcome: Outcome) -> None:
         self.log.append(f"{title}: status {outcome.status}\n{outcome.printed}{outcome.faults}")
@@ -69,6 +70,8 @@ class Joining:
         for place in places:
             with open(place, "rb") as file:
                 texts.append(file.read())
+        if self.coded:
+            return archive_bad.of_edits(self.coded.report.differs, list(map(len, texts)))
         found = archive_bad.of_copies(texts)
         return found if found.strip("0") else archive_bad.of_ranges(archive_bad.ranges_in(texts[0], self.said[names[0]]), len(texts[0]))
 
@@ -88,6 +91,7 @@ class Joining:
         spliced = self.desk.name("spliced")
         outcome = self.desk.programs.splice(spliced, names, None, self.desk.folder, ["--tries", str(self.desk.options.tries)])
         self.note("splice", outcome)
+        self.coded = outcome if outcome.report.codings else self.coded
         if not os.path.exists(self.desk.place(spliced)):
             return known, status, None
         return (*self.join(known, [spliced], status), outcome)

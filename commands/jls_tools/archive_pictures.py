@@ -97,7 +97,7 @@ def mend(desk: Desk, row: Row, copies: Sequence[Copy]) -> Row:
     outcome = desk.sure(desk.programs.splice(spliced, names, mended, desk.folder, ["--tries", str(desk.options.tries)]))
     log = log_of(copies, names, outcome)
     row.take(outcome.report)
-    row.bad = archive_bad.of_copies([copy.data for copy in copies if copy.data is not None])
+    row.bad = bad_of(copies, outcome.report)
     odd = None if outcome.report.settled else odd_in_all(desk, names)
     if odd is not None:
         row.settled = row.missing = row.disputed = None
@@ -113,6 +113,14 @@ def mend(desk: Desk, row: Row, copies: Sequence[Copy]) -> Row:
         return row.end("mended", 0)
     desk.set_aside(row, copies)
     return keep(desk, row, (spliced, mended, copies[0].path), outcome, log)
+
+
+def bad_of(copies: Sequence[Copy], report: Report) -> str:
+    """Where bytes of copies are bad, as far as that shows."""
+    texts = [copy.data for copy in copies if copy.data is not None]
+    if report.codings and len(texts) == len(copies):
+        return archive_bad.of_edits(report.differs, list(map(len, texts)))
+    return archive_bad.of_copies(texts)
 
 
 def keep(desk: Desk, row: Row, names: Tuple[str, str, str], outcome: Splice, log: str) -> Row:

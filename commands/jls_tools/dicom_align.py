@@ -6,7 +6,7 @@ copies have one length then, and where they differ each has a byte of its own.
 from __future__ import annotations
 
 import re
-from collections.abc import Iterable, Iterator, Sequence
+from collections.abc import Collection, Iterable, Iterator, Sequence
 from dataclasses import dataclass, field, replace
 from typing import Optional
 
@@ -34,6 +34,7 @@ class Copy:
     """A copy on the axis. `absent` are the ranges of the axis that it has not; `foreign` is what was written over its beginning.
 
     `bad` are ranges that a list names as bad, and `seen` those that look so: of the copy itself, and on the axis once they are `placed`.
+    `recoded` are those of `absent` that the copy has in another coding: there it lost nothing.
     """
 
     path: str
@@ -42,6 +43,16 @@ class Copy:
     foreign: bytes = b""
     bad: Sequence[tuple[int, int]] = ()
     seen: Sequence[tuple[int, int]] = ()
+    recoded: Sequence[tuple[int, int]] = ()
+
+    @property
+    def lost(self) -> list[tuple[int, int]]:
+        """What it has in no coding."""
+        found = list(self.absent)
+        for begin, end in self.recoded:
+            parts = (part for first, last in found for part in ((first, min(last, begin)), (max(first, end), last)))
+            found = [part for part in parts if part[0] < part[1]]
+        return found
 
     def lacks(self, begin: int, end: int) -> bool:
         return any(first < end and begin < last for first, last in self.absent)
@@ -169,20 +180,26 @@ def pieces(one: bytes, other: bytes, is_free: bool = False) -> Iterator[tuple[in
     yield 0, len(other) - beside
 
 
-def insert_gaps(copy: Copy, gaps: Iterable[tuple[int, int, int]], source: bytes) -> Copy:
+def insert_gaps(copy: Copy, gaps: Collection[tuple[int, int, int]], source: bytes) -> Copy:
     """Puts bytes into a copy that it has not: `gaps` are (its offset, count, offset in the source)."""
-    parts, absent, at = [], [], 0
-    shift, old = 0, copy.absent
+    parts, absent, at, shift = [], [], 0, 0
     for offset, count, place in gaps:
         parts += [copy.data[at:offset], source[place : place + count]]
         absent.append((offset + shift, offset + shift + count))
         shift, at = shift + count, offset
     parts.append(copy.data[at:])
-    moved = []
-    for begin, end in old:
-        move = sum(count for offset, count, _ in gaps if offset <= begin)
-        moved.append((begin + move, end + move))
-    return replace(copy, data=b"".join(parts), absent=merged(absent + moved))
+    absent += moved_by(copy.absent, gaps)
+    return replace(copy, data=b"".join(parts), absent=merged(absent), recoded=moved_by(copy.recoded, gaps))
+
+
+def moved_by(ranges: Iterable[tuple[int, int]], gaps: Collection[tuple[int, int, int]]) -> list[tuple[int, int]]:
+    """Where ranges stand when gaps are put in. One with a gap inside gets longer."""
+    found = []
+    for begin, end in ranges:
+        before = sum(count for offset, count, _ in gaps if offset <= begin)
+        inside = sum(count for offset, count, _ in gaps if begin < offset < end)
+        found.append((begin + before, end + before + inside))
+    return found
 
 
 def merged(ranges: Iterable[tuple[int, int]]) -> list[tuple[int, int]]:
@@ -248,7 +265,7 @@ def slid(copies: Sequence[Copy]) -> list[Copy]:
     for number, copy in enumerate(copies):
         if len(copy.absent) > MOST_SLID:
             continue
-        for gaps in near_each_other(copy.absent) + [[gap] for gap in copy.absent]:
+        for gaps in near_each_other(copy.lost) + [[gap] for gap in copy.lost]:
             others = found[:number] + found[number + 1 :]
             changed = (in_one_place(found[number], other, gaps) for other in others if set(gaps) <= set(found[number].absent))
             found[number] = next((each for each in changed if each), found[number])

@@ -120,8 +120,8 @@ def unclear_ranges(header: Header) -> list[tuple[int, int]]:
     """What a copy lacks, where the copies differ beside it, or damage of another may hide where it stood: then that is not clear."""
     found = []
     for copy in header.copies:
-        others = [pair for other in header.copies for pair in other.absent if other is not copy]
-        for begin, end in copy.absent[1:] if copy.foreign else copy.absent:
+        others = [pair for other in header.copies for pair in other.lost if other is not copy]
+        for begin, end in copy.lost[1:] if copy.foreign else copy.lost:
             beside = any(last <= begin <= last + CLEAR or end <= first <= end + CLEAR for first, last in others)
             is_moved = any(may_stand_elsewhere(copy, other, (begin, end)) for other in header.copies if other is not copy)
             if beside or is_moved or differs_before(header, begin, end) or header.runs.touching(end, end + CLEAR):

@@ -67,7 +67,7 @@ def hole_in_text(places: Iterable[Place], data: bytes) -> Optional[int]:
 
 def lost_in_most(copies: Sequence[Copy]) -> Optional[int]:
     """Where most copies lost the same bytes, and go on behind them: a foreign file that stands over another copy can have moved it."""
-    inner = (pair for copy in copies for pair in copy.absent if 0 < pair[0] and pair[1] < len(copy.data) and not in_both([pair], copy.bad))
+    inner = (pair for copy in copies for pair in copy.lost if 0 < pair[0] and pair[1] < len(copy.data) and not in_both([pair], copy.bad))
     for (begin, _), count in Counter(inner).items():
         if count > 1 and count * 2 > len(copies):
             return begin

@@ -6,9 +6,10 @@ import os
 import shutil
 import tempfile
 from collections.abc import Sequence
+from dataclasses import replace
 from typing import Optional
 
-from jls_tools import dicom_bad, dicom_bad_lists, dicom_gaps, partial_picture
+from jls_tools import dicom_bad, dicom_bad_lists, dicom_codings, dicom_gaps, partial_picture
 from jls_tools.dicom_align import Copy, merged
 from jls_tools.dicom_alone import Stranger
 from jls_tools.dicom_bad import Range
@@ -28,6 +29,7 @@ from jls_tools.dicom_transfers import moved, undone
 from jls_tools.dicom_versions import versions_of
 from jls_tools.dicom_write import packed, put_frames, store, top_level
 from jls_tools.mending import FrameMender, Mended, is_connected, is_spliced, shapes_of
+from jls_tools.mending_codings import CodingsMender
 from jls_tools.programs import Programs
 
 __all__ = ["FrameResult", "MendOptions", "MendResult", "Place", "mend"]
@@ -50,9 +52,21 @@ def mend(paths: Sequence[str], out: str, options: Optional[MendOptions] = None, 
 
     `out` must not be there. A folder `OUT.frames` of an earlier run is made anew. Nothing is printed. The copies are only read.
     """
+    options, programs = options or MendOptions(), programs or Programs()
+    result = mended_once(paths, out, options, programs)
+    if options.sha256 is None or result.matched or not result.other_codings:
+        return result
+    for group in result.other_codings:
+        other = mended_once(paths, out, replace(options, stands=group[0]), programs)
+        if other.matched:
+            return other
+    return mended_once(paths, out, options, programs)
+
+
+def mended_once(paths: Sequence[str], out: str, options: MendOptions, programs: Programs) -> MendResult:
     result = MendResult()
     try:
-        Mending(list(paths), out, options or MendOptions(), programs or Programs(), result).run()
+        Mending(list(paths), out, options, programs, result).run()
     except Refused as refused:
         result.status, result.refusal, result.is_unsupported = refused.status, str(refused), isinstance(refused, Unsupported)
     except OSError as fault:
@@ -125,11 +139,26 @@ class Mending:
         for at, text in undone(texts).items():
             self.bad[at] = moved(self.bad[at], texts[at])
             texts[at] = text
-            note = f"a transfer put a carriage return before each line feed of {self.paths[at]}: that was undone"
-            self.result.notes.append(note)
+            self.result.notes.append(f"a transfer put a carriage return before each line feed of {self.paths[at]}: that was undone")
         self.seen = [dicom_bad.seen(text) for text in texts]
-        self.tails = without_tails(texts)
+        self.tails = without_tails(self.in_one_coding(texts))
         self.texts = self.tails.texts
+
+    def in_one_coding(self, texts: list[bytes]) -> list[bytes]:
+        """The copies, those of other codings with the Pixel Data of one that stands."""
+        wanted = (self.options.stands, self.options.header)
+        stands, named = (next((at for at, path in enumerate(self.paths) if path == each), None) for each in wanted)
+        self.codings = dicom_codings.codings_of(texts, self.options.same, (stands, named), self.reads)
+        self.result.other_codings = [[self.paths[at] for at in group] for group in self.codings.further]
+        for known in (self.bad, self.seen):
+            known[:] = [dicom_codings.moved(ranges, texts[at], self.codings, at) for at, ranges in enumerate(known)]
+        return self.codings.texts
+
+    def reads(self, stream: bytes) -> bool:
+        """Whether a codestream is whole."""
+        if self.programs.library and self.programs.library.whole(stream):
+            return True
+        return self.programs.run([self.programs.salvage, "check", "-"], given=stream).status == 0
 
     def look_at_versions(self, instances: Instances) -> None:
         """Gives all copies one header, where those of several read whole and have other lengths."""
@@ -140,6 +169,8 @@ class Mending:
         for at, (before, text) in enumerate(zip(self.texts, texts)):
             if text != before:
                 self.bad[at], self.seen[at] = (self.versions.moved(ranges, before) for ranges in (self.bad[at], self.seen[at]))
+                if at in self.codings.absent:
+                    self.codings.absent[at] = self.versions.moved(self.codings.absent[at], before)
         self.texts = texts
 
     # Copies ----------------------------------------------------------------------------
@@ -198,6 +229,7 @@ class Mending:
             self.streams = paired_by_bytes([self.searched(at) for at in chosen])
             self.own = [dict(enumerate(streams)) for streams in self.streams]
         self.bad_in_all, self.seen_in_all = in_no_copy(self.copies), in_no_copy(self.copies, True)
+        self.take_others(chosen)
         self.mended: list[Mended] = []
         for number, streams in enumerate(self.streams):
             begin = self.layout.places[number].begin if self.layout.places else 0
@@ -206,11 +238,27 @@ class Mending:
                 self.options.progress(number + 1, len(self.streams))
         self.refuse_unsupported()
 
+    def take_others(self, chosen: Sequence[int]) -> None:
+        """Frames of copies in other codings, by number, if as many are there as in the coding that stands."""
+        self.others: dict[int, list[bytes]] = {}
+        self.paired: dict[int, bool] = {}
+        for at in (at for at in chosen if at in self.codings.others):
+            ways = (streams for streams in self.codings.others[at] if len(streams) == len(self.layout.places))
+            streams = next(ways, None)
+            self.paired[at] = streams is not None
+            for number, stream in enumerate(streams or []):
+                self.others.setdefault(number, []).append(stream)
+
     def mended_frame(self, number: int, streams: list[bytes], begin: int) -> Mended:
         """A Mended: of all streams, or if it isn't whole of those that are of this file, if these are fewer and it is whole then."""
         place = self.layout.places[number] if self.layout.places else None
         if place and place.is_exact and any(self.layout.structure.has_rival(first - 8, last) for first, last in place.fragments):
             return Mended(FrameResult(number, "disputed", note="other items are as likely here"))
+        mended = self.mended_of_one_coding(number, streams, begin)
+        others = self.others.get(number)
+        return CodingsMender(self.mender).mend(mended, self.kept.get(number, streams), others) if others else mended
+
+    def mended_of_one_coding(self, number: int, streams: list[bytes], begin: int) -> Mended:
         mended = self.mended_by_most(number, begin) or self.mender.mend(number, streams, begin)
         kept = self.kept.get(number, streams)
         if mended.is_whole or not 0 < len(kept) < len(streams):
@@ -240,13 +288,13 @@ class Mending:
             parts = self.layout.places[number].fragments
             bad = dicom_bad.within(self.seen_in_all, parts)
             places = [pair for part in parts for pair in dicom_bad.clipped(self.seen_in_all, *part)]
-            is_sure = bool(dicom_bad.within(self.bad_in_all, parts))
+            is_sure = bool(dicom_bad.within(self.bad_in_all, parts)) and number not in self.others
         return self.mender.mend_beside(mended, self.kept.get(number) or streams, bad, dicom_bad.note_of(places), is_sure)
 
     def mended_by_most(self, number: int, begin: int) -> Optional[Mended]:
         """A Mended of three copies or more: what most of them have, if it is whole; or nothing."""
         place = self.layout.places[number] if self.layout.places else None
-        if place is None or any(copy.lacks(place.begin, place.end) for copy in self.copies):
+        if place is None or any(copy.lacks(place.begin, place.end) for copy in self.copies if not copy.recoded):
             return None
         own = self.own[number]
         stream = equal_in_most(own, self.copies) or most_of(list(own.values()))
@@ -256,10 +304,12 @@ class Mending:
     def copy_at(self, at: int) -> Copy:
         """A copy. One whose beginning a foreign file has overwritten has only the rest."""
         text, known = self.texts[at], (self.bad[at], self.seen[at])
+        recoded = dicom_bad.clipped(self.codings.absent.get(at, []), 0, len(text))
         if at not in self.rests:
-            return Copy(self.paths[at], text, [], b"", *known)
+            return Copy(self.paths[at], text, recoded, b"", *known, recoded)
         until, beside = self.rests[at]
-        return Copy(self.paths[at], self.texts[beside][:until] + text[until:], [(0, until)], text[:until], *known)
+        absent = merged([(0, until), *recoded])
+        return Copy(self.paths[at], self.texts[beside][:until] + text[until:], absent, text[:until], *known, recoded)
 
     def own_streams(self, place: FramePlace, texts: Sequence[bytes]) -> dict[int, bytes]:
         """{copy: its stream of a frame}, of copies that have some of it. `texts` are the bytes of the copies."""
@@ -295,6 +345,7 @@ class Mending:
             self.header.by_copy(names.index(self.options.header))
         self.deny_other_shapes()
         self.result.frames = [frame.result for frame in self.mended]
+        self.note_codings()
         self.note_breaks()
         self.data = self.header.merged()
         if self.options.sha256 is not None:
@@ -322,6 +373,13 @@ class Mending:
 
     def fragments(self) -> list[Range]:
         return [fragment for place in self.layout.places for fragment in place.fragments]
+
+    def note_codings(self) -> None:
+        """Says which copies are in another coding than that of OUT."""
+        for at, is_paired in self.paired.items():
+            model = self.paths[self.codings.stands if self.codings.stands is not None else at]
+            rest = "" if is_paired else ", and can't be paired with them: their lines don't count"
+            self.result.notes.append(f"the frames of {self.paths[at]} are in another coding than those of {model}{rest}")
 
     def note_breaks(self) -> None:
         for number, ranges in alone(self.copies, self.fragments()).items():

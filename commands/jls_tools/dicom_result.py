@@ -22,6 +22,7 @@ class MendOptions:
     bad: Sequence[tuple[int, str]] = ()  # (a copy by its place, from 0; a list of bad places in it)
     progress: Callable[[int, int], object] | None = None  # called with (frames done, frames)
     bad_ranges: Sequence[tuple[int, Sequence[tuple[int, int]]]] = ()  # (a copy; bad places in it)
+    stands: str | None = None  # the path of a copy whose coding the file gets, where copies are of several
 
 
 @dataclass
@@ -86,6 +87,7 @@ class MendResult:
     sha256: str | None = None  # the sum of OUT
     matched: bool = False  # --sha256 matched
     left_out: list[tuple[str, str]] = field(default_factory=list)  # (path, why)
+    other_codings: list[list[str]] = field(default_factory=list)  # the copies of each coding that OUT hasn't
     notes: list[str] = field(default_factory=list)
     refusal: str | None = None
     is_unsupported: bool = False  # refused for what these programs don't read: nothing says that it is damaged

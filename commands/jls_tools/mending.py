@@ -25,6 +25,8 @@ MOST_CROSSED, MOST_SECTORS = 40, 5
 SAME_RUN, SAME_KINDS, REST_KINDS = re.compile(rb"\0{8,}"), 6, 24
 ZERO_RUN = re.compile(rb"\0{8,}")
 EQUAL_RUN = re.compile(rb"\0{4,}")
+FEWEST_TRIES = 1
+GAVE_LINES = "copies of several codings gave each other lines"
 AnyOutcome = TypeVar("AnyOutcome", bound=Outcome)
 
 
@@ -159,13 +161,15 @@ class FrameMender:
     def __init__(self, programs: Programs, folder: str, options: MendOptions) -> None:
         self.programs = programs
         self.folder = folder
-        self.words: list[str] = []
-        if options.most is not None:
-            self.words += ["--max", str(options.most)]
-        if options.tries is not None:
-            self.words += ["--tries", str(options.tries)]
+        self.most, self.tries = options.most, options.tries
+        self.words = self.words_for(options.tries)
         self.has_files = programs.has_option("--files")
         self.wants_all = options.sha256 is not None
+
+    def words_for(self, tries: int | None) -> list[str]:
+        """The options of jls-splice, with so many tries."""
+        given = {"--max": self.most, "--tries": tries}
+        return [word for name, value in given.items() if value is not None for word in (name, str(value))]
 
     def name(self, number: int, ending: str) -> str:
         return f"{number}{ending}"
@@ -293,9 +297,15 @@ class FrameMender:
         found = re.search(r"no picture, (fault .*)", faults)
         return found.group(1) if found else "no copy reads"
 
-    def of_several(self, number: int, streams: Sequence[bytes], names: Sequence[str], way: str = "") -> Mended:
+    def of_several(
+        self, number: int, streams: Sequence[bytes], names: Sequence[str], way: str = "", further: Sequence[bytes] = ()
+    ) -> Mended:
+        """A Mended of several streams. `further` are those of them that are in other codings than the first.
+
+        No bytes of these are the first's, and what has some of both is no file of the picture. So jls-splice doesn't look for one.
+        """
         partial, file, prefix = (self.name(number, way + ending) for ending in (".jlsp", ".mended", ".other"))
-        words = list(self.words)
+        words = self.words_for(FEWEST_TRIES) if further else list(self.words)
         if self.has_files and self.wants_all:
             words += ["--files", prefix]
         splice = self.sure(self.programs.splice(partial, names, file, self.folder, words))
@@ -312,8 +322,12 @@ class FrameMender:
         kind, note = self.kind_of(splice, report), ""
         if stream is not None and not splice.file_written:
             kind, note = "whole", "of several files of this picture that with the usual parameters"
-        if kind == "whole" and stream is not None and any(shares_little(stream, other) for other in streams):
-            if stream in streams:
+        if kind == "whole" and report.codings:
+            note = GAVE_LINES
+        elif kind == "whole" and further and stream not in streams:
+            kind = "lines"
+        if kind == "whole" and stream is not None and stream not in further:
+            if stream in streams and any(shares_little(stream, other) for other in streams if other not in further):
                 kind, note = "disputed", "another copy has less than half of these bytes here"
         return Mended(self.result(number, kind, report, promise, note), stream, others, self.path(partial), report.shape)
 

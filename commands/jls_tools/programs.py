@@ -13,6 +13,8 @@ from . import library
 PICTURE = re.compile(r"picture (\d+)x(\d+), (\d+) bits, components (\d+(?:,\d+)*)$")
 FAULT = re.compile(r"^end fault (\d+)|no picture, fault (\d+)", re.M)
 COUNTS = re.compile(r"settled (\d+), missing (\d+), disputed (\d+)$")
+CODING = re.compile(r"coding \d+, copies((?: \d+)+)$")
+DIFFERS = re.compile(r"copy (\d+) differs (\d+) (\d+) (\d+)$")
 # No verdict on a picture: out of memory, not built, not executable, not there
 NO_VERDICT = {5, 125, 126, 127}
 
@@ -38,6 +40,8 @@ class Report:
         self.promise: str | None = None  # the words after "promise", if that line is there
         self.before: int | None = None  # the offset of the line "before", if it is there
         self.end: str | None = None  # the words after "end"
+        self.codings: list[list[int]] = []  # copies of each coding, from 1 on, where copies of several gave each other lines
+        self.differs: dict[int, list[tuple[int, int, int]]] = {}  # (offset, length, new length) by copy, from 1 on
         for line in self.lines:
             self.take(line)
 
@@ -47,6 +51,8 @@ class Report:
         if picture:
             self.width, self.height, self.bits = (int(picture.group(at)) for at in (1, 2, 3))
             self.components = [int(name) for name in picture.group(4).split(",")]
+        elif word in ("coding", "copy"):
+            self.take_coding(line)
         elif counts:
             self.settled, self.missing, self.disputed = map(int, counts.groups())
         elif word == "missing":
@@ -59,6 +65,15 @@ class Report:
         elif word == "before":
             offset = rest.partition(",")[0]
             self.before = int(offset) if offset.isdigit() else None
+
+    def take_coding(self, line: str) -> None:
+        """A line of copies in several codings: which are of one, and where one of them differs from the mended file of its coding."""
+        coding, differs = CODING.match(line), DIFFERS.match(line)
+        if coding:
+            self.codings.append([int(copy) for copy in coding.group(1).split()])
+        elif differs:
+            copy, offset, length, new = map(int, differs.groups())
+            self.differs.setdefault(copy, []).append((offset, length, new))
 
     @property
     def shape(self) -> str:

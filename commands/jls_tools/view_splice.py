@@ -1,13 +1,14 @@
 """What jls-view draws of several copies: in each the lines whose bytes are damaged, and what jls-splice makes of all.
 
-Where bytes are damaged is known from the mended file. Where there is none, each copy is drawn as the lines that it gives by itself. Which
-lines stand before a byte is asked of jls-salvage, for the file cut there: it uses the lines that are complete.
+Where bytes are damaged is known from the mended file. Where there is none, each copy is drawn as the lines that it gives by itself. Copies
+in several codings have a mended file for each, and jls-splice says where a copy differs from it. Which lines stand before a byte is asked
+of jls-salvage, for the file cut there: it uses the lines that are complete.
 """
 from __future__ import annotations
 
 import copy
 import os
-from typing import Iterator
+from collections.abc import Iterable, Iterator
 
 from . import partial_picture, view_canvas
 from .programs import Programs
@@ -24,10 +25,24 @@ def stretches(damaged: bytes, mended: bytes) -> list[tuple[int, int]]:
         tail = len(os.path.commonprefix([damaged[begin:][::-1], mended[begin:][::-1]]))
         return [(begin, max(begin + 1, len(mended) - tail))]
     found = partial_picture.ranges(at for at, (left, right) in enumerate(zip(damaged, mended)) if left != right)
+    return fewer([(first, last + 1) for first, last in found])
+
+
+def edited(edits: Iterable[tuple[int, int, int]]) -> list[tuple[int, int]]:
+    """The same where jls-splice says it: at an offset of the copy the mended file has so many new bytes in place of so many."""
+    found, moved = [], 0
+    for offset, length, new in edits:
+        found.append((offset + moved, offset + moved + max(1, new)))
+        moved += new - length
+    return fewer(found)
+
+
+def fewer(found: list[tuple[int, int]]) -> list[tuple[int, int]]:
+    """Not more stretches than are drawn."""
     while len(found) > MOST:
         at = min(range(1, len(found)), key=lambda place: found[place][0] - found[place - 1][1])
         found[at - 1 : at + 1] = [(found[at - 1][0], found[at][1])]
-    return [(first, last + 1) for first, last in found]
+    return found
 
 
 class Splice:
@@ -35,9 +50,10 @@ class Splice:
 
     def __init__(self, names: list[str], folder: str) -> None:
         self.names, self.folder, self.programs = names, folder, Programs()
-        outcome = self.programs.splice("spliced", names, "mended", folder)
+        outcome = self.programs.splice("spliced", names, "mended", folder, ["--files", "mended"])
         self.faults = outcome.faults.strip()
         self.status = outcome.status
+        self.codings, self.differs = outcome.report.codings, outcome.report.differs
         self.result = self.picture("spliced")
 
     def picture(self, name: str) -> partial_picture.PartialPicture | None:
@@ -70,9 +86,12 @@ class Splice:
         first = [index for index, count in enumerate(counts) if count < picture.height][:1]
         return {(index, counts[index]) for index in begun or first}
 
-    def damaged_lines(self, name: str, mended: bytes, picture: partial_picture.PartialPicture) -> set[Line]:
+    def damaged_lines(
+        self, places: list[tuple[int, int]], mended: bytes, picture: partial_picture.PartialPicture
+    ) -> set[Line]:
+        """The lines whose code stands at these places of a mended file."""
         found: set[Line] = set()
-        for begin, end in stretches(self.content(name), mended):
+        for begin, end in places:
             until = self.lines_before(mended, end)
             found |= (until | self.next_lines(until, picture)) - self.lines_before(mended, begin)
         return found
@@ -82,14 +101,28 @@ class Splice:
         if self.result is None:
             return
         whole = self.picture_of_mended()
-        for name in self.names:
-            if whole is None:
-                given = self.given_by(name)
-                is_alike = given is not None and shape_of(given) == shape_of(self.result)
-                yield given if given and is_alike else without(self.result, set(self.result.readings))
+        for number, name in enumerate(self.names, 1):
+            if self.codings:
+                yield self.panel_of_coding(number, name, self.result)
+            elif whole is None:
+                yield self.alone(name, self.result)
             else:
-                yield without(whole, self.damaged_lines(name, self.content("mended"), whole))
+                mended = self.content("mended")
+                yield without(whole, self.damaged_lines(stretches(self.content(name), mended), mended, whole))
         yield self.result
+
+    def alone(self, name: str, result: partial_picture.PartialPicture) -> partial_picture.PartialPicture:
+        """A copy as the lines that it gives by itself."""
+        given = self.given_by(name)
+        return given if given and shape_of(given) == shape_of(result) else without(result, set(result.readings))
+
+    def panel_of_coding(self, number: int, name: str, result: partial_picture.PartialPicture) -> partial_picture.PartialPicture:
+        """A copy beside others in other codings, without the lines whose bytes it lost."""
+        coding = next((at for at, copies in enumerate(self.codings, 1) if number in copies), None)
+        if coding is None or not os.path.exists(os.path.join(self.folder, f"mended-{coding}")):
+            return self.alone(name, result)
+        places = edited(self.differs.get(number, []))
+        return without(result, self.damaged_lines(places, self.content(f"mended-{coding}"), result))
 
     def picture_of_mended(self) -> partial_picture.PartialPicture | None:
         return self.given_by("mended") if os.path.exists(os.path.join(self.folder, "mended")) else None

@@ -1,0 +1,80 @@
+"""Pictures in different codings, and damage of a copy at one place, for interop/codings and interop/dicom_codings."""
+from __future__ import annotations
+
+import array
+import math
+import random
+from collections.abc import Sequence
+from typing import Optional
+
+from charls_coder import Charls, Picture
+
+SECTOR = 512
+KINDS = ("thresholds", "RESET", "interleave", "precision", "three copies")
+DAMAGES = ("zeros", "lost", "inserted", "noise", "flip", "cut")
+
+
+def some_samples(
+    chance: random.Random, bits: int, components: int, size: Optional[tuple[int, int]] = None
+) -> tuple[int, int, array.array[int]]:
+    """The width, the rows, and samples row by row and in a row by component."""
+    width, rows = size or (chance.randint(100, 240), chance.randint(100, 240))
+    most = 2**bits - 1
+    across, down, phase = chance.uniform(5, 40), chance.uniform(5, 40), chance.uniform(0, 6)
+    noise = most * chance.choice([0.002, 0.004, 0.01])
+    samples = array.array("H")
+    for y in range(rows):
+        for component in range(components):
+            for x in range(width):
+                level = 0.5 + 0.22 * math.sin(x / across + phase + component) + 0.22 * math.cos(y / down)
+                samples.append(min(most, max(0, int(most * level + chance.gauss(0, noise)))))
+    return width, rows, samples
+
+
+def presets(bits: int) -> tuple[tuple[int, ...], tuple[int, ...]]:
+    """Parameters with other thresholds, and with another RESET: MAXVAL, T1, T2, T3, RESET."""
+    most = 2**bits - 1
+    scale = max(1, (min(most, 4095) + 128) // 256)
+    return (most, 2 * scale + 3, 5 * scale + 9, 13 * scale + 30, 64), (most, scale + 2, 4 * scale + 3, 17 * scale + 4, 31)
+
+
+def codings(chance: random.Random, charls: Charls, kind: str) -> tuple[Picture, list[bytes]]:
+    """A picture, and its file in two or three codings. The order of the codings is free."""
+    bits = 12 if kind == "precision" else chance.choice([8, 8, 12, 16])
+    components = 3 if kind == "interleave" else 1
+    width, rows, samples = some_samples(chance, bits, components)
+    plain = Picture((bits, 0, 0, 0, 0, 0), width, rows, components, samples)
+    thresholds, reset = (plain._replace(params=(bits, *preset)) for preset in presets(bits))
+    if kind == "interleave":
+        files = [charls.write(plain), charls.write_planes(plain)]
+    elif kind == "precision":
+        files = [charls.write(plain), charls.write(plain._replace(params=(16, 0, 0, 0, 0, 0)))]
+    else:
+        others = {"thresholds": [thresholds], "RESET": [reset], "three copies": [thresholds, reset]}[kind]
+        files = [charls.write(picture) for picture in (plain, *others)]
+    chance.shuffle(files)
+    return plain, files
+
+
+def damaged(
+    chance: random.Random, file: bytes, first: float, last: float, damages: Sequence[str] = DAMAGES, sector: int = SECTOR
+) -> bytes:
+    """A copy of a file with one damaged place between these parts of it."""
+    begin = chance.randint(int(len(file) * first), max(int(len(file) * first), int(len(file) * last) - sector))
+    begin = max(60, min(begin, len(file) - 20))
+    damage = chance.choice(damages)
+    if damage == "zeros":
+        begin -= begin % sector
+        begin = max(begin, 60)
+        end = min(len(file), begin - begin % sector + sector)
+        return file[:begin] + bytes(end - begin) + file[end:]
+    if damage == "lost":
+        return file[:begin] + file[begin + chance.randint(1, 40) :]
+    if damage == "inserted":
+        return file[:begin] + chance.randbytes(chance.randint(1, 40)) + file[begin:]
+    if damage == "noise":
+        length = chance.randint(1, 64)
+        return file[:begin] + chance.randbytes(length) + file[begin + length :]
+    if damage == "flip":
+        return file[:begin] + bytes([file[begin] ^ 1 << chance.randrange(8)]) + file[begin + 1 :]
+    return file[: max(begin, 2 * len(file) // 3)]
