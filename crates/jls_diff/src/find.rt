@@ -5,14 +5,14 @@ ghost use Rattle.jls_diff.specs.Parts.{AreParts};
 ghost use Rattle.jls_diff.specs.PartsOf.{bytes_of};
 
 use crate::checking::are_parts;
-use crate::finer::cut_finer;
+use crate::finer::{CutPlaces, cut_finer};
 use crate::part::Part;
 use crate::parts::Parts;
 use crate::propose::proposed;
 use std::alloc::{AllocError, Global};
 
-/// All of the copies as one part: no part, where there are no copies.
-fn one_part<'a>(alloc: Global, copies: &[&'a [u8]]) -> Result<Parts<'a>, AllocError>
+/// All of the copies as one part: no part, where there are no copies. `Err` comes if memory is refused.
+pub fn one_part<'a>(alloc: Global, copies: &[&'a [u8]]) -> Result<Parts<'a>, AllocError>
     ensures { IfOk result (λ parts. AreParts (bytes_of copies.now) parts) }
 {
     let mut parts = Vec::new(alloc);
@@ -63,9 +63,29 @@ pub fn find_finer_parts<'a>(
 ) -> Result<Option<Parts<'a>>, AllocError>
     ensures { IfOk result (λ finer. IfSome finer (AreParts (bytes_of copies.now))) }
 {
-    let finer = cut_finer(alloc, copies, parts)?;
+    let finer = cut_finer(alloc, copies, parts, CutPlaces::Sectors)?;
     if are_same_cuts(&finer, parts.list()) || !are_parts(copies, &finer) {
         return Ok(None);
     }
     Ok(Some(Parts::of(finer)))
+}
+
+/// Parts of the copies that these are the parts of, which are cut at these offsets in the first copy, in any order. `None` comes if such
+/// parts make other copies. `Err` comes if memory is refused.
+///
+/// They are as `find_finer_parts` has them, but that stretches of more than 16 bytes are cut there alone, and else stay whole. They are
+/// checked as the others are.
+pub fn find_cut_parts<'a>(
+    alloc: Global,
+    copies: &[&'a [u8]],
+    parts: &Parts<'a>,
+    offsets: &[usize],
+) -> Result<Option<Parts<'a>>, AllocError>
+    ensures { IfOk result (λ cut. IfSome cut (AreParts (bytes_of copies.now))) }
+{
+    let cut = cut_finer(alloc, copies, parts, CutPlaces::Offsets(offsets))?;
+    if !are_parts(copies, &cut) {
+        return Ok(None);
+    }
+    Ok(Some(Parts::of(cut)))
 }

@@ -17,10 +17,20 @@ const FEW: usize = 4;
 /// The size of a sector of a disk. Longer stretches are cut at its multiples.
 const SECTOR: usize = 512;
 
+/// Where long stretches are cut.
+#[derive(Clone, Copy)]
+pub(crate) enum CutPlaces<'c> {
+    /// At multiples of a sector.
+    Sectors,
+    /// At these offsets, in any order.
+    Offsets(&'c [usize]),
+}
+
 /// Parts that are cut so far, and what follows them.
 #[derive(Drop)]
-struct Cutting<'a> {
+struct Cutting<'a, 'c> {
     alloc: Global,
+    places: CutPlaces<'c>,
     parts: Vec<Part<'a>>,
     /// What each copy has after these parts.
     rests: Vec<&'a [u8]>,
@@ -53,9 +63,20 @@ fn next_step(rests: &[&[u8]], most: usize) -> usize {
     if different > FEW { different } else { 1 }
 }
 
-/// How many bytes there are up to the next multiple of a sector, after an offset.
-fn to_next_sector(offset: usize) -> usize {
-    SECTOR - offset % SECTOR
+/// How many bytes there are from an offset to the next place after it at which a long stretch is cut; `usize::MAX`, if there is none.
+fn to_next_place(places: CutPlaces<'_>, offset: usize) -> usize {
+    match places {
+        CutPlaces::Sectors => SECTOR - offset % SECTOR,
+        CutPlaces::Offsets(offsets) => {
+            let mut least = usize::MAX;
+            for place in offsets {
+                if *place > offset {
+                    least = least.min(*place - offset);
+                }
+            }
+            least
+        }
+    }
 }
 
 /// Whether all have the same bytes.
@@ -76,7 +97,7 @@ fn common_length(ways: &[&[u8]]) -> Option<usize> {
     }
 }
 
-impl<'a> Cutting<'a> {
+impl<'a> Cutting<'a, '_> {
     /// Adds the next bytes of all copies, so many of each, as a part.
     fn add(&mut self, count: usize) -> Result<(), AllocError> {
         let mut ways = Vec::new(self.alloc);
@@ -103,7 +124,7 @@ impl<'a> Cutting<'a> {
             let count = if length <= SHORT {
                 next_step(&self.rests, left)
             } else {
-                to_next_sector(self.offset).min(left)
+                to_next_place(self.places, self.offset).min(left)
             };
             self.add(count)?;
             left = left.saturating_sub(count);
@@ -145,14 +166,16 @@ impl<'a> Cutting<'a> {
 }
 
 /// The parts of these copies, from parts that are coarser. Those that are near each other are joined, and each stretch is cut at each byte
-/// if it is short, and at multiples of a sector if not.
+/// if it is short, and at these places if not.
 pub(crate) fn cut_finer<'a>(
     alloc: Global,
     copies: &[&'a [u8]],
     parts: &Parts<'a>,
+    places: CutPlaces<'_>,
 ) -> Result<Vec<Part<'a>>, AllocError> {
     let mut cutting = Cutting {
         alloc,
+        places,
         parts: Vec::new(alloc),
         rests: Vec::from_slice(alloc, copies)?,
         offset: 0,

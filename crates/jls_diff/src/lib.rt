@@ -1,10 +1,11 @@
 //! Where copies of one file differ: the parts that all have alike or in which they differ, and groups of parts between two markers.
 //!
 //! - `part`, `parts`: a part: bytes that all copies have, or what each copy has there; all of them
-//! - `find`: answers the parts of some copies (`find_parts`), and finer ones (`find_finer_parts`)
+//! - `find`: answers the parts of some copies (`find_parts`), finer ones (`find_finer_parts`), those cut at given offsets
+//!   (`find_cut_parts`), and one part over all (`one_part`)
 //! - `propose`: searches for parts. It goes from a stretch where copies differ to the next: `stretches`, `lengths`, `inside`, `merging`.
 //!   `steps` compares copies without a shift, `seeds` with one, and `zeros` finds lost sectors. No contract speaks of these modules
-//! - `finer`: cuts parts at bytes and at sectors, for places that touch. No contract speaks of it either
+//! - `finer`: cuts parts at bytes, at sectors and at given offsets, for places that touch. No contract speaks of it either
 //! - `checking`: tests what they propose. If the test fails, `find` takes all of the copies as one part
 //! - `laws`: the laws of splices
 //! - `border`: places after a marker, SOS or a restart marker, that all copies have alike
@@ -39,7 +40,7 @@ mod stretches;
 mod zeros;
 
 pub use border::Border;
-pub use find::{find_finer_parts, find_parts};
+pub use find::{find_cut_parts, find_finer_parts, find_parts, one_part};
 pub use group::Group;
 pub use grouping::find_groups;
 pub use laws::{choices_make_splices, copies_are_splices, splices_are_listed};

@@ -1,0 +1,87 @@
+//! Readers that are fed as long as a file without a fault may begin so.
+
+ghost use Rattle.std.specs.Prelude.{◌≡◌, ◌+◌, ◌-◌, ◌^◌, ◌≤◌, length, IfSome};
+ghost use Rattle.jls_diff.specs.PartsOf.{parts_of};
+
+use jls_copy::CopyReader;
+use jls_diff::Parts;
+use std::alloc::AllocError;
+
+/// How many bytes a reader takes at most.
+const MOST_BYTES: u64 = 0x7FFF_FFFF_FFFF_FFFF;
+
+/// How many bytes are fed at first before it is asked whether the reader is dead.
+const FIRST_STEP: usize = 16;
+
+/// How many are fed at most.
+const LAST_STEP: usize = 4096;
+
+/// How far a reader came.
+#[derive(Clone, Copy)]
+pub(crate) struct Life {
+    /// How many bytes were fed, about as many as it lived.
+    pub(crate) bytes: usize,
+    /// Whether it was found that no file without a fault begins so.
+    pub(crate) is_dead: bool,
+}
+
+/// Feeds a reader. `Err` comes where memory is refused, and where it would be fed too much.
+pub(crate) fn feed(reader: &mut CopyReader, bytes: &[u8]) -> Result<(), AllocError> {
+    let fed = reader.fed();
+    if fed > MOST_BYTES || bytes.len() as u64 > MOST_BYTES - fed {
+        return Err(AllocError);
+    }
+    reader.feed(bytes)
+}
+
+/// Whether it is known that no file without a fault begins with the bytes fed.
+pub(crate) fn is_dead(reader: &CopyReader) -> bool {
+    reader.has_faulty_piece() || reader.is_piece_broken()
+}
+
+impl Life {
+    /// That of a reader that was fed nothing more.
+    pub(crate) fn new() -> Life {
+        Life {
+            bytes: 0,
+            is_dead: false,
+        }
+    }
+
+    /// Feeds a reader until it is dead.
+    pub(crate) fn go_on(
+        &mut self,
+        reader: &mut CopyReader,
+        bytes: &[u8],
+    ) -> Result<(), AllocError> {
+        let mut rest = bytes;
+        for _ in 0..bytes.len() {
+            if rest.is_empty() || self.is_dead {
+                break;
+            }
+            let step = self.bytes.clamp(FIRST_STEP, LAST_STEP).min(rest.len());
+            let (slice, later) = rest.split_at(step);
+            feed(reader, slice)?;
+            self.bytes = self.bytes.saturating_add(step);
+            self.is_dead = is_dead(reader);
+            rest = later;
+        }
+        Ok(())
+    }
+
+    /// Feeds a reader what all copies have from a part on, up to the next in which they differ, until it is dead.
+    pub(crate) fn go_through(
+        &mut self,
+        reader: &mut CopyReader,
+        parts: &Parts<'_>,
+        from: usize,
+    ) -> Result<(), AllocError> {
+        for place in from..parts.len() {
+            if self.is_dead || parts.is_differ(place) {
+                break;
+            }
+            self.go_on(reader, parts.way(place, 0))?;
+        }
+        Ok(())
+    }
+}
