@@ -1,4 +1,4 @@
 -- Lemmas of this crate.
 mod MappedLists
 mod CodingNumbers
-mod CodingLineExamples
+pub mod CodingLineExamples

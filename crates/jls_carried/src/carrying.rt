@@ -5,9 +5,11 @@ ghost use Rattle.jls_diff.specs.PartsOf.{bytes_of};
 ghost use Rattle.jls_held.specs.HeldPictures.{AreReadingsHeld};
 ghost use Rattle.jls_held.specs.Judging.{AreMendedOf, codings_of as judged_codings};
 ghost use Rattle.jls_held.specs.Mending.{file_of};
+ghost use Rattle.jls_values.specs.OrderedSet as set;
 
+use crate::own_splices::{SearchBounds, own_splices};
 use jls_carry::{Carried, Edit, MendedCoding, carry};
-use jls_diff::Parts;
+use jls_diff::find_parts;
 use jls_held::{CopyEdit, EditedCopy, Judged, judge};
 use jls_search::codings_of;
 use jls_values::Shape;
@@ -44,15 +46,21 @@ fn edits_of(alloc: Global, proposed: Vec<Edit>) -> Result<Vec<CopyEdit>, AllocEr
     Ok(edits)
 }
 
-/// The copies of a coding with their edits, as they are judged.
-fn edited_copies(alloc: Global, coding: MendedCoding) -> Result<Vec<EditedCopy>, AllocError> {
+/// The copies of a coding with their edits, as they are judged. Numbers from `count` on are those of its splices, which aren't.
+fn edited_copies(
+    alloc: Global,
+    coding: MendedCoding,
+    count: usize,
+) -> Result<Vec<EditedCopy>, AllocError> {
     let MendedCoding { copies, edits, .. } = coding;
     let mut edited = Vec::new(alloc);
     for (number, proposed) in copies.iter().copied().zip(edits) {
-        edited.push(EditedCopy {
-            number,
-            edits: edits_of(alloc, proposed)?,
-        })?;
+        if number < count {
+            edited.push(EditedCopy {
+                number,
+                edits: edits_of(alloc, proposed)?,
+            })?;
+        }
     }
     Ok(edited)
 }
@@ -64,10 +72,11 @@ struct Proposed {
     strangers: Vec<usize>,
 }
 
-/// What is proposed of each coding. Nothing, where a line that is settled has a sample above the limit.
+/// What is proposed of each coding of so many copies. Nothing, where a line that is settled has a sample above the limit.
 fn proposed_of(
     alloc: Global,
     carried: Carried,
+    count: usize,
     limit: Option<u16>,
 ) -> Result<Proposed, AllocError> {
     let Carried {
@@ -78,13 +87,91 @@ fn proposed_of(
     let mut proposals = Vec::new(alloc);
     if lines.iter().all(|line| is_within(line, limit)) {
         for coding in codings {
-            proposals.push(edited_copies(alloc, coding)?)?;
+            let edited = edited_copies(alloc, coding, count)?;
+            if !edited.is_empty() {
+                proposals.push(edited)?;
+            }
+        }
+    }
+    let mut named = Vec::new(alloc);
+    for number in strangers {
+        if number < count {
+            named.push(number)?;
         }
     }
     Ok(Proposed {
         codings: proposals,
-        strangers,
+        strangers: named,
     })
+}
+
+/// The splices of each coding, with its number.
+fn splices_of_codings(
+    alloc: Global,
+    copies: &[&[u8]],
+    codings: &[usize],
+    bounds: SearchBounds,
+) -> Result<Vec<(usize, Vec<u8>)>, AllocError> {
+    let mut found = Vec::new(alloc);
+    for (number, coding) in codings.iter().copied().enumerate() {
+        if number == coding {
+            for file in own_splices(alloc, copies, codings, coding, bounds)? {
+                found.push((coding, file))?;
+            }
+        }
+    }
+    Ok(found)
+}
+
+/// The bytes of copies, and of splices behind them.
+fn with_splices(
+    alloc: Global,
+    copies: &[&[u8]],
+    splices: Vec<(usize, Vec<u8>)>,
+) -> Result<Vec<Vec<u8>>, AllocError> {
+    let mut all = Vec::new(alloc);
+    for copy in copies {
+        all.push(Vec::from_slice(alloc, copy)?)?;
+    }
+    for (_, file) in splices {
+        all.push(file)?;
+    }
+    Ok(all)
+}
+
+/// The numbers of copies, and of splices behind them.
+fn numbers_with(
+    alloc: Global,
+    codings: &[usize],
+    splices: &[(usize, Vec<u8>)],
+) -> Result<Vec<usize>, AllocError> {
+    let mut numbers: Vec<usize> = codings.iter().copied().collect(alloc)?;
+    for (coding, _) in splices {
+        numbers.push(*coding)?;
+    }
+    Ok(numbers)
+}
+
+/// What copies in several codings give each other, where the splices of each coding speak beside its copies.
+fn carry_with_splices(
+    alloc: Global,
+    copies: &[&[u8]],
+    codings: &[usize],
+    bounds: SearchBounds,
+) -> Result<Proposed, AllocError> {
+    let splices = splices_of_codings(alloc, copies, codings, bounds)?;
+    if splices.is_empty() {
+        let carried = carry(alloc, copies, codings)?;
+        return proposed_of(alloc, carried, copies.len(), bounds.limit);
+    }
+    let numbers = numbers_with(alloc, codings, &splices)?;
+    let all = with_splices(alloc, copies, splices)?;
+    let mut slices: Vec<&[u8]> = Vec::new(alloc);
+    for bytes in &all {
+        slices.push(bytes)?;
+    }
+    let carried = carry(alloc, &slices, &numbers)?;
+    proposed_of(alloc, carried, copies.len(), bounds.limit)
 }
 
 /// What copies in several codings give each other.
@@ -96,30 +183,31 @@ pub struct Between {
     pub strangers: Vec<usize>,
 }
 
-/// What copies of these parts give each other, for a picture of this shape: mended files, one for each coding, with the edits
+/// What copies give each other, for a picture of this shape: mended files, one for each coding, with the edits
 /// that make it of its copies, and the lines that these files hold. `None` comes where the copies are of one coding, as far as
-/// can be told. Nothing is proposed that has a sample above the limit, if there is one. `Err` comes where memory is refused.
+/// can be told. Nothing is proposed that has a sample above the limit, if there is one. The splices of each coding are searched, and speak
+/// beside its copies. `Err` comes where memory is refused.
 ///
 /// No contract speaks of what is found, but that it is as judged.
 pub fn carry_between(
     alloc: Global,
     shape: Shape,
     copies: &[&[u8]],
-    parts: &Parts<'_>,
-    limit: Option<u16>,
+    bounds: SearchBounds,
 ) -> Result<Option<Between>, AllocError>
     ensures shape { IfOk result (λ carried. IfSome carried (λ between. between.judged.held.shape ≡ shape)) }
+    ensures marks { IfOk result (λ carried. IfSome carried (λ between. between.judged.held.marks ≡ set.empty)) }
     ensures mended { IfOk result (λ carried. IfSome carried (λ between.
         AreMendedOf (bytes_of copies.now) (judged_codings between.judged.codings.items) (map file_of between.judged.files.items))) }
     ensures held { IfOk result (λ carried. IfSome carried (λ between.
         AreReadingsHeld (map file_of between.judged.files.items) between.judged.held)) }
 {
-    let codings = codings_of(alloc, copies, parts)?;
-    if !are_several(&codings) {
+    let parts = find_parts(alloc, copies)?;
+    let numbers = codings_of(alloc, copies, &parts)?;
+    if !are_several(&numbers) {
         return Ok(None);
     }
-    let carried = carry(alloc, copies, &codings)?;
-    let Proposed { codings, strangers } = proposed_of(alloc, carried, limit)?;
+    let Proposed { codings, strangers } = carry_with_splices(alloc, copies, &numbers, bounds)?;
     let judged = judge(alloc, shape, copies, codings)?;
     Ok(Some(Between { judged, strangers }))
 }

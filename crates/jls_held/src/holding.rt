@@ -1,6 +1,7 @@
 //! The lines that mended files hold.
 
 ghost use Rattle.std.specs.Prelude.{◌≡◌, All, List, IfOk, OnOk, Contains, map};
+ghost use Rattle.jls_values.specs.OrderedSet as set;
 ghost use Rattle.jls_held.specs.MendedFiles.{MendedFile};
 ghost use Rattle.jls_held.specs.Mending.{file_of};
 ghost use Rattle.jls_held.specs.FilePieces.{IsPieceOf};
@@ -36,12 +37,13 @@ fn add_chains(
 
 /// A picture of this shape with lines that the mended files hold. All bytes of such a line's code are held in one of the files, and all
 /// lines before it in its interval are held too, in that file or another. Lines that don't fit the shape are left out, with those after
-/// them in their interval. Two readings of a line can both be held.
+/// them in their interval. Two readings of a line can both be held. None has a source.
 ///
 /// That no held line is left out, no clause says. Lines of each piece are looked for that reads, and of the last one if the file's end cuts
 /// it off. The only refusal is out of memory.
 pub fn held_lines(alloc: Global, shape: Shape, files: &[MendedCopy]) -> Result<Partial, AllocError>
     ensures shape { IfOk result (λ held. held.shape ≡ shape) }
+    ensures marks { IfOk result (λ held. held.marks ≡ set.empty) }
     ensures held { IfOk result (λ held. AreReadingsHeld (map file_of files.now) held) }
 {
     let mut chains = Vec::new(alloc);

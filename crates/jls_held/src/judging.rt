@@ -1,6 +1,7 @@
 //! Judges which proposals of edited copies make one file, and which lines the mended files hold.
 
 ghost use Rattle.std.specs.Prelude.{◌≡◌, length, map, IfOk, MatchBool, MatchOption};
+ghost use Rattle.jls_values.specs.OrderedSet as set;
 ghost use Rattle.jls_held.specs.Edits.{AreEdits, held_by_either};
 ghost use Rattle.jls_held.specs.MendedFiles.{MendedFile};
 ghost use Rattle.jls_held.specs.Mending.{edits_of, file_of};
@@ -116,6 +117,7 @@ pub fn judge(
     proposals: Vec<Vec<EditedCopy>>,
 ) -> Result<Judged, AllocError>
     ensures shape { IfOk result (λ j. j.held.shape ≡ shape) }
+    ensures marks { IfOk result (λ j. j.held.marks ≡ set.empty) }
     ensures taken { IfOk result (λ j. AreTaken (bytes_of copies.now) (codings_of proposals.items) (codings_of j.codings.items)) }
     ensures mended { IfOk result (λ j. AreMendedOf (bytes_of copies.now) (codings_of j.codings.items) (map file_of j.files.items)) }
     ensures held { IfOk result (λ j. AreReadingsHeld (map file_of j.files.items) j.held) }

@@ -32,6 +32,7 @@ fn is_taken(held: &Partial, component: u8, row: u16, samples: &[u16]) -> bool
 /// `false` says that it isn't known to be held, or doesn't fit the shape.
 fn take(held: &mut Partial, line: &ChainLine) -> Result<bool, AllocError>
     ensures shape { OnOk result (held.new.shape ≡ held.old.shape) }
+    ensures marks { OnOk result (held.new.marks ≡ held.old.marks) }
     ensures held { IfOk result (λ taken. (files : List MendedFile)
         → (line.now.is_code_held ≡ true → IsHeld files (reading_in line.now)) → AreReadingsHeld files held.old
         → AreReadingsHeld files held.new × (taken ≡ true → IsHeld files (reading_in line.now))) }
@@ -50,6 +51,7 @@ fn take(held: &mut Partial, line: &ChainLine) -> Result<bool, AllocError>
 fn advance(held: &mut Partial, chain: &[ChainLine], from: usize) -> Result<usize, AllocError>
     ensures from { IfOk result (λ next. from ≤ next) }
     ensures shape { OnOk result (held.new.shape ≡ held.old.shape) }
+    ensures marks { OnOk result (held.new.marks ≡ held.old.marks) }
     ensures held { IfOk result (λ next. (files : List MendedFile) → IsChain files chain.now → AreFirstHeld files chain.now from
         → AreReadingsHeld files held.old → AreReadingsHeld files held.new × AreFirstHeld files chain.now next) }
 {
@@ -69,6 +71,7 @@ fn advance_each(
 ) -> Result<bool, AllocError>
     requires { length places.old ≡ length chains.now }
     ensures shape { OnOk result (held.new.shape ≡ held.old.shape) }
+    ensures marks { OnOk result (held.new.marks ≡ held.old.marks) }
     ensures held { OnOk result ((files : List MendedFile) → AreChains files chains.now → ArePlacesHeld files chains.now places.old
         → AreReadingsHeld files held.old → AreReadingsHeld files held.new × ArePlacesHeld files chains.now places.new) }
 {
@@ -99,6 +102,7 @@ pub(crate) fn take_held(
     chains: &[Vec<ChainLine>],
 ) -> Result<(), AllocError>
     ensures shape { OnOk result (held.new.shape ≡ held.old.shape) }
+    ensures marks { OnOk result (held.new.marks ≡ held.old.marks) }
     ensures held { OnOk result ((files : List MendedFile) → AreChains files chains.now → AreReadingsHeld files held.old
         → AreReadingsHeld files held.new) }
 {

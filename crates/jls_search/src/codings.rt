@@ -5,6 +5,7 @@
 //! header can say something else. So copies are also of one coding if their scan data are mostly alike, from the first place on where
 //! these differ. Files of one picture in two codings have stretches alike too, so single ones don't count.
 
+use crate::first_lines::are_two_codings;
 use jls_diff::Parts;
 use jls_marker::codes::{DRI, LSE, SOS, has_segment};
 use jls_marker::{Headers, ScanPlan};
@@ -107,12 +108,12 @@ fn are_same_scans(first: &ScanPlan, second: &ScanPlan) -> bool {
         && first.rows(0) == second.rows(0)
 }
 
-/// Whether the headers of two copies say the same, of one scan at least.
+/// Whether the headers of two copies say the same, of one scan at least. A copy may have lost the headers of later scans.
 fn say_the_same(first: &Coding, second: &Coding) -> bool {
     let (Some(shape), Some(other)) = (first.headers.shape(), second.headers.shape()) else {
         return false;
     };
-    if *shape != *other || first.scans.is_empty() || first.scans.len() != second.scans.len() {
+    if *shape != *other || first.scans.is_empty() || second.scans.is_empty() {
         return false;
     }
     for (scan, other) in first.scans.iter().zip(&second.scans) {
@@ -237,7 +238,7 @@ fn first_with_same_headers(
     Ok(firsts)
 }
 
-/// Where the scan data of a copy begin, as its headers say.
+/// Where the scan data of a copy begin, as its headers say; 0 where there are none.
 fn data_of(codings: &[Coding], number: usize) -> usize {
     match codings.get(number) {
         Some(coding) => coding.data,
@@ -284,6 +285,28 @@ fn numbers_of(numbers: &[usize], pair: Pair) -> Option<(usize, usize)> {
     Some((*first, *second))
 }
 
+/// Whether a copy of a coding has the same first lines as a copy of another one, though its bytes differ there.
+fn has_witness(
+    alloc: Global,
+    copies: &[&[u8]],
+    codings: &[Coding],
+    numbers: &[usize],
+    coding: usize,
+) -> Result<bool, AllocError> {
+    for (first, (copy, number)) in copies.iter().zip(numbers).enumerate() {
+        for (second, (other, another)) in copies.iter().zip(numbers).enumerate() {
+            if *number != coding || *another == coding {
+                continue;
+            }
+            let data = (data_of(codings, first), data_of(codings, second));
+            if are_two_codings(alloc, (copy, data.0), (other, data.1))? {
+                return Ok(true);
+            }
+        }
+    }
+    Ok(false)
+}
+
 /// A number for each copy, the same for those of one coding, as far as can be told: that of the first of them, from 0. The parts are those
 /// of the copies. `Err` comes where memory is refused.
 pub fn codings_of(
@@ -319,6 +342,26 @@ pub fn codings_of(
     }
     join_silent(&mut numbers, &silent);
     Ok(numbers)
+}
+
+/// Whether copies are of several codings for sure: there are several, as far as can be told, and for each of them a copy has the same first
+/// lines as a copy of another, though its bytes differ there. The parts are those of the copies. `Err` comes where memory is refused.
+pub fn are_surely_of_several_codings(
+    alloc: Global,
+    copies: &[&[u8]],
+    parts: &Parts<'_>,
+) -> Result<bool, AllocError> {
+    let numbers = codings_of(alloc, copies, parts)?;
+    let mut codings = Vec::new(alloc);
+    for copy in copies {
+        codings.push(coding_of(alloc, copy)?)?;
+    }
+    for coding in &numbers {
+        if !has_witness(alloc, copies, &codings, &numbers, *coding)? {
+            return Ok(false);
+        }
+    }
+    Ok(numbers.iter().any(|number| *number != 0))
 }
 
 /// Whether copies are of one coding, as far as can be told. The parts are those of the copies. `Err` comes where memory is refused.

@@ -17,7 +17,8 @@
 //!   a level go on to; `backing`: what speaks for a path; `saving`: how many bits its lines would save in a code that learns, which is
 //!   `learning_code`. No contract speaks of these three
 //! - `levels`: the levels of the search for the cut file, and the last one at which exactly one path lives
-//! - `codings`: which copies are of one coding, as far as can be told. No contract speaks of it
+//! - `codings`: which copies are of one coding, as far as can be told; `first_lines`: whether two surely aren't. No contract speaks of
+//!   these two
 //! - `laws`: the laws of searches
 //!
 //! The search by groups: splices that read between two markers, where no splice is without a fault.
@@ -67,6 +68,7 @@ mod faultless;
 mod feeding;
 mod file;
 mod files;
+mod first_lines;
 mod found;
 mod group_search;
 mod kept;
@@ -97,7 +99,7 @@ mod taking;
 mod whole_search;
 
 pub use choosing::next_way_at;
-pub use codings::{are_of_one_coding, codings_of};
+pub use codings::{are_of_one_coding, are_surely_of_several_codings, codings_of};
 pub use cut::settle_with_cut;
 pub use faultless::{is_dead, is_faultless, is_read_faultless, is_sought};
 pub use feeding::{feed_prefix, reader_of};

@@ -7,6 +7,7 @@ use Rattle.jls_held.proofs.rounds.advance.Given as goal
 abbrev pub invariant-loop-at : goal.invariant-loop-at
 invariant-loop-at l = record {
   shape : l.held.shape ≡ l.fn.held.shape;
+  marks : l.held.marks ≡ l.fn.held.marks;
   are : (files : List MendedFile) → IsChain files l.chain → AreFirstHeld files l.chain l.from → AreReadingsHeld files l.fn.held
       → AreReadingsHeld files l.held × AreFirstHeld files l.chain l.at;
 }

@@ -8,6 +8,7 @@ abbrev pub invariant-loop-round : goal.invariant-loop-round
 invariant-loop-round l = record {
   count : length l.places.items ≡ length l.chains;
   shape : l.held.shape ≡ l.fn.held.shape;
+  marks : l.held.marks ≡ l.fn.held.marks;
   are : (files : List MendedFile) → AreChains files l.chains → AreReadingsHeld files l.fn.held
       → AreReadingsHeld files l.held × ArePlacesHeld files l.chains l.places.items;
 }
