@@ -26,6 +26,7 @@ SAME_RUN, SAME_KINDS, REST_KINDS = re.compile(rb"\0{8,}"), 6, 24
 ZERO_RUN = re.compile(rb"\0{8,}")
 EQUAL_RUN = re.compile(rb"\0{4,}")
 FEWEST_TRIES = 1
+EOI, EOI_ADDED = b"\xff\xd9", "eoi added"
 GAVE_LINES = "copies of several codings gave each other lines"
 AnyOutcome = TypeVar("AnyOutcome", bound=Outcome)
 
@@ -43,6 +44,13 @@ class Mended:
     @property
     def is_whole(self) -> bool:
         return self.result.kind == "whole"
+
+
+def as_copied(stream: bytes, streams: Sequence[bytes], splice: Outcome) -> bytes:
+    """A frame's stream that jls-splice made. If no copy has EOI, it is without the EOI that was added: its item has no place for it."""
+    if not splice.report.has(EOI_ADDED) or any(copy.rstrip(b"\0").endswith(EOI) for copy in streams):
+        return stream
+    return stream.removesuffix(EOI[1:] if any(copy.endswith(EOI[:1]) for copy in streams) else EOI)
 
 
 def equal_bytes(one: bytes, other: bytes) -> int:
@@ -199,6 +207,8 @@ class FrameMender:
         usable = [stream for stream in dict.fromkeys(streams) if stream.strip(b"\0")]
         if not usable:
             return Mended(FrameResult(number, "missing", note="no copy has it"))
+        if len(usable) == 1 and (whole := self.whole(number, usable[0])):
+            return whole
         names = [self.put(self.name(number, f"-{at}.jls"), stream) for at, stream in enumerate(usable)]
         try:
             if len(usable) == 1:
@@ -277,6 +287,11 @@ class FrameMender:
     def result(self, number: int, kind: str, report: Report, promise: str = "", note: str = "") -> FrameResult:
         return FrameResult(number, kind, report.settled, report.missing, report.disputed, promise, note)
 
+    def whole(self, number: int, stream: bytes) -> Mended | None:
+        """A Mended of a stream that is whole, as the library says in this process; nothing if it isn't, or there is no library."""
+        whole = self.programs.library.whole(stream) if self.programs.library else None
+        return Mended(FrameResult(number, "whole", whole.settled), stream, [], None, whole.shape) if whole else None
+
     def of_one(self, number: int, stream: bytes, name: str) -> Mended:
         outcome = self.check(name)
         if outcome.status == 0:
@@ -309,8 +324,11 @@ class FrameMender:
         if self.has_files and self.wants_all:
             words += ["--files", prefix]
         splice = self.sure(self.programs.splice(partial, names, file, self.folder, words))
-        stream = self.get(file) if splice.file_written else self.usual_of_several(splice, names, prefix, words)
-        others = self.others(prefix, streams, names)
+        if splice.file_written:
+            stream: bytes | None = as_copied(self.get(file), streams, splice)
+        else:
+            stream = self.usual_of_several(splice, streams, names, prefix, words)
+        others = self.others(splice, prefix, streams, names)
         self.drop([file])
         report = splice.report
         name = self.unsupported_of(streams, names) if stream is None and not report.settled else None
@@ -336,15 +354,17 @@ class FrameMender:
         found = {unsupported(stream, self.check(name).fault) for stream, name in zip(streams, names)}
         return found.pop() if len(found) == 1 else None
 
-    def usual_of_several(self, splice: Splice, names: Sequence[str], prefix: str, words: list[str]) -> bytes | None:
+    def usual_of_several(
+        self, splice: Splice, streams: Sequence[bytes], names: Sequence[str], prefix: str, words: list[str]
+    ) -> bytes | None:
         """Of several files that have one picture, which is promised: the one whose coding parameters are the usual ones; or nothing."""
         report = splice.report
         is_one = (report.promise or "").startswith("picture") and report.settled and not report.missing and not report.disputed
         if not (is_one and self.has_files):
             return None
         partial = f"{prefix}.jlsp"
-        self.sure(self.programs.splice(partial, names, None, self.folder, words + ["--files", prefix]))
-        found = [stream for stream in self.files(prefix) if has_usual_parameters(stream)]
+        listed = self.sure(self.programs.splice(partial, names, None, self.folder, words + ["--files", prefix]))
+        found = [as_copied(stream, streams, listed) for stream in self.files(prefix) if has_usual_parameters(stream)]
         self.drop([partial])
         return found[0] if len(found) == 1 else None
 
@@ -355,13 +375,13 @@ class FrameMender:
             return "disputed"
         return "missing" if report.settled == 0 else "lines"
 
-    def others(self, prefix: str, streams: Sequence[bytes], names: Sequence[str]) -> list[bytes]:
+    def others(self, splice: Splice, prefix: str, streams: Sequence[bytes], names: Sequence[str]) -> list[bytes]:
         """Streams that decode and may be the one that a checksum is of, where one is given."""
         if not self.wants_all:
             return []
         if not self.has_files:
             return [stream for stream, name in zip(streams, names) if self.check(name).status == 0]
-        return self.files(prefix)
+        return [as_copied(stream, streams, splice) for stream in self.files(prefix)]
 
     def files(self, prefix: str) -> list[bytes]:
         """What jls-splice wrote for --files."""

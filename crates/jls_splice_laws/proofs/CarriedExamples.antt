@@ -6,13 +6,14 @@ use Rattle.std.specs.Prelude.{codes, get_or, slice_get}
 use Rattle.std.specs.List.{AllByRecursion, Contains}
 use Rattle.std.proofs.lemmas.List.Sorted.{IsPermutation-refl}
 use Rattle.jls_values.specs.OrderedSet as set
-use Rattle.jls_values.specs.OrderedSetLaws.{contains-empty, contains-union}
+use Rattle.jls_values.specs.OrderedSetLaws.{contains-empty, contains-union, same_set}
+use Rattle.jls_partial.specs.Marks.{mark_cmp}
 use Rattle.jls_marker.specs.ComponentIndex.{index_of}
 use Rattle.jls_marker.specs.MarkerCodes.{has_segment}
 use Rattle.jls_marker.specs.Headers.{headers_after}
 use Rattle.jls_partial.specs.Partial.{PartialPicture, nothing_known, readings_at, union, without_sources}
 use Rattle.jls_partial.specs.Reading.{Reading, reading_cmp}
-use Rattle.jls_partial.specs.ReadingOrder.{reading_total}
+use Rattle.jls_partial.specs.ReadingOrder.{marks_exact, marks_total, reading_total}
 use Rattle.jls_partial.specs.Status.{status_of, IsSettled}
 use Rattle.jls_partial.specs.Text.{text}
 use Rattle.jls_partial.proofs.Marked.{got_held}
@@ -273,13 +274,31 @@ are_held r among =
     subst (IsHeld files) (sym (same_line r.component r.line r is refl refl)) (line_held r.component r.line is.0 is.1)
 
 abbrev carried : Carried
-carried = record { codings = codings; files = files; strangers = []; held = station; is_held = true; are_read = true }
+carried = record {
+  codings = codings;
+  files = files;
+  strangers = [];
+  held = station;
+  is_alone = true;
+  is_held = true;
+  are_read = true;
+}
+
+-- no held line has a source
+no_marks : station.marks ≡ set.empty
+no_marks =
+    same_set marks_total marks_exact station.marks set.empty (λ q.
+    let e = contains-empty (mark_cmp reading_cmp) q in
+    contains-union marks_total (union (nothing_known shape) read.partial).marks read.partial.marks q
+    ∙ ap (λ b. b || set.contains read.partial.marks q) (contains-union marks_total set.empty read.partial.marks q)
+    ∙ ap (λ b. (b || b) || b) e ∙ sym e)
 
 is_carried : IsCarried copies copies shape carried
 is_carried = record {
-  none_faultless = none_faultless;
+  alone = λ t. none_faultless;
   are_mended = are_mended;
   shape_is = refl;
+  marks_are = no_marks;
   are_held = are_held;
   all_held = (λ is. is_the_picture.0, λ is. refl);
 }
@@ -376,11 +395,11 @@ is_made = record {
   is_lone = tt;
   is_cut = inl refl;
   is_given = record { shape_is = shape_is; union_is = takes };
-  is_carried = (is_carried, refl, λ are. each_reads);
+  is_carried = (is_carried, refl, λ are. each_reads, λ no. absurd cc);
   picture_is = refl;
   settled = (λ is. both_settled, λ is. refl);
   is_single = refl;
-  are_named = refl;
+  are_named = (λ t. tt, λ no. absurd cc);
 }
 
 abbrev copies_given : List CopyBytes

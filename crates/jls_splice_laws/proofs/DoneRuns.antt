@@ -21,14 +21,16 @@ use Rattle.jls_search.specs.Stations.{TakesFiles}
 use Rattle.jls_splice_laws.specs.WholeFiles.{WholeFilesAreFaultless}
 use Rattle.jls_values.specs.Shape.{PictureShape}
 use Rattle.jls_search.specs.Faultless.{IsFaultless}
-use Rattle.jls_splice_run.specs.Carrying.{Carried, IsCarried, are_sound, joined}
+use Rattle.jls_held.specs.MendedFiles.{MendedFile}
+use Rattle.jls_splice_run.specs.Carrying.{Carried, IsCarried, are_sound, carried_file, carried_promise, joined}
 use Rattle.jls_splice_run.specs.ReadsAs.{EachReadsAs}
 use Rattle.jls_cli.specs.SpliceAsking.{Asked, AskFor, Options, asked_with}
 use Rattle.jls_cli.specs.Outcomes.{exit_status, finished}
+use Rattle.jls_splice_run.specs.Completing.{IsCompleted, IsCompletedIn}
 use Rattle.jls_splice_run.specs.Copies.{AreWhole, bytes_read}
 use Rattle.jls_splice_run.specs.Handing.{HandsAll}
 use Rattle.jls_splice_run.specs.Limits.{has_some}
-use Rattle.jls_splice_run.specs.Listing.{AreNamedAsked, is_named}
+use Rattle.jls_splice_run.specs.Listing.{AreNamedAsked, NamedFile, is_named}
 use Rattle.jls_splice_run.specs.Single.{IsOnly, IsSingleAsked}
 use Rattle.jls_splice_run.specs.Making.{IsCutFile, IsCutTaken, IsMade, IsPictureOf, IsPictureOfFiles, Made, cut_file, is_of_picture}
 use Rattle.jls_splice_run.specs.Making.{AreNamedOf, IsSingleOf, files_taken, notes, promise_on, promise_with}
@@ -214,19 +216,50 @@ module _ (a : Asked) (copies : List (List ℕ)) (m : Made) (is : IsMade a copies
       let cut : IsCutFile m.cut_ceiling m.found path = cut_is_lone copies m.found m.cut_ceiling m.lone m.cut path e is.is_lone is.is_cut in
       absurd (none_in file (subst (λ (xs : List (List ℕ)). Contains (files_of m.found.parts xs) file) cut.0 among))
 
--- copies gave each other nothing where a file taken is without a fault
-none_carried : (carried : Option Carried) (copies taken : List (List ℕ)) (shape : PictureShape) (cut : Option (List ℕ))
-    → (Reads : Carried → Type 0) → IfSome carried (λ c. IsCarried copies taken shape c × (cut ≡ None) × Reads c)
-    → (file : List ℕ) → Contains taken file → IsFaultless file → carried ≡ None
-none_carried None copies taken shape cut Reads is file among faultless = refl
-none_carried (Some c) copies taken shape cut Reads is file among faultless = absurd (is.0.none_faultless file among faultless)
+-- where a file taken is without a fault, it is not said that each has one
+not_alone : (copies taken : List (List ℕ)) (shape : PictureShape) (c : Carried) → IsCarried copies taken shape c
+    → (file : List ℕ) → Contains taken file → IsFaultless file → c.is_alone ≡ false
+not_alone copies taken shape c is file among faultless = by c.is_alone refl
+  where
+    by : (b : Bool) → c.is_alone ≡ b → c.is_alone ≡ false
+    by true e = absurd (is.alone e file among faultless)
+    by false e = e
 
--- and where a cut file was taken
+-- no mended file is given without the promise
+no_file : {A : Type 0} (name : Option A) (files : List MendedFile) → carried_file name Lines files ≡ None
+no_file None files = refl
+no_file (Some name) [] = refl
+no_file (Some name) (f ∷ files) = refl
+
+module _ (a : Asked) (copies taken : List (List ℕ)) (shape : PictureShape) (cut : Option (List ℕ)) (Reads : Carried → Type 0)
+    (is_settled : Bool) (file : List ℕ) (among : Contains taken file) (faultless : IsFaultless file) where
+  abbrev IsSo : Option Carried → Type 0
+  IsSo carried =
+      IfSome carried (λ c. IsCarried copies taken shape c × (cut ≡ None) × Reads c × (c.is_alone ≡ false → is_settled ≡ false))
+
+  -- there a single file that is given is one of those taken
+  single_of_taken : (carried : Option Carried) → IsSo carried → (given : Option (List ℕ)) (single : List ℕ) → given ≡ Some single
+      → IsSingleOf a taken carried is_settled given → IsSingleAsked a.options.file taken given
+  single_of_taken None is given single e of = of
+  single_of_taken (Some c) is given single e of =
+      let unsettled : is_settled ≡ false = is.3 (not_alone copies taken shape c is.0 file among faultless) in
+      let none : given ≡ None =
+      subst (λ (o : Option (List ℕ)). IsCompletedIn o given)
+      ((λ i. carried_file a.options.file (carried_promise c (unsettled i)) c.files) ∙ no_file a.options.file c.files) of in
+      let no : None ≡ Some single = sym none ∙ e in absurd cc
+
+  -- and so are the files that have numbers
+  named_of_taken : (carried : Option Carried) → IsSo carried → (named : List NamedFile) → AreNamedOf a taken carried named
+      → AreNamedAsked a.options.files taken named
+  named_of_taken None is named of = of
+  named_of_taken (Some c) is named of = of.1 (not_alone copies taken shape c is.0 file among faultless)
+
+-- copies gave each other nothing where a cut file was taken
 none_with_cut : (carried : Option Carried) (copies taken : List (List ℕ)) (shape : PictureShape) (cut : Option (List ℕ))
-    → (Reads : Carried → Type 0) → IfSome carried (λ c. IsCarried copies taken shape c × (cut ≡ None) × Reads c)
+    → (Reads Doubts : Carried → Type 0) → IfSome carried (λ c. IsCarried copies taken shape c × (cut ≡ None) × Reads c × Doubts c)
     → (path : List ℕ) → cut ≡ Some path → carried ≡ None
-none_with_cut None copies taken shape cut Reads is path e = refl
-none_with_cut (Some c) copies taken shape cut Reads is path e = let f : None ≡ Some path = sym is.1 ∙ e in absurd cc
+none_with_cut None copies taken shape cut Reads Doubts is path e = refl
+none_with_cut (Some c) copies taken shape cut Reads Doubts is path e = let f : None ≡ Some path = sym is.1 ∙ e in absurd cc
 
 -- then the picture is what the files taken give
 picture_is_given : (a : Asked) (copies : List (List ℕ)) (m : Made) → IsMade a copies m → m.carried ≡ None → m.picture ≡ m.given
@@ -235,8 +268,9 @@ picture_is_given a copies m is none = is.picture_is ∙ ap (λ (c : Option Carri
 -- what the promise stands on
 promised : (carried : Option Carried) (ceiling limit : Option ℕ) (f : Found) (is_settled : Bool)
     → promise_with carried ceiling f is_settled ≡ Picture limit
-    → (f.is_used_up ≡ false) × (has_some f.choices ≡ true) × (is_settled ≡ true) × (ceiling ≡ limit)
-promised None ceiling limit f is_settled e = by f.is_used_up (has_some f.choices) is_settled e
+    → (f.is_used_up ≡ false) × (has_some f.choices ≡ true) × (is_settled ≡ true) × (ceiling ≡ limit) × (carried ≡ None)
+promised None ceiling limit f is_settled e =
+    let p = by f.is_used_up (has_some f.choices) is_settled e in (p.0, p.1, p.2, p.3, refl)
   where
     by : (used some all : Bool)
         → (if used then Lines else (if some then (if all then Picture ceiling else Lines) else Lines)) ≡ Picture limit
@@ -285,18 +319,10 @@ module _ (are_faultless : WholeFilesAreFaultless) (words : List Text) (a : Asked
     taken =
         Contains-append_right copies (splices_in f) file (subst (λ (xs : List (List ℕ)). Contains xs file) (sym splices) among)
 
-    none : d.made.carried ≡ None
-    none =
-        none_carried d.made.carried copies (files_taken copies f) d.made.given.shape d.made.cut
-        (λ c. IsTrue c.are_read → EachReadsAs d.made.picture c.files) d.is_made.is_carried file taken
-        (are_faultless pic file is.whole)
-
-    given_is : d.made.picture ≡ d.made.given
-    given_is = picture_is_given a copies d.made d.is_made none
-
-    -- the picture is that of the file
-    is_its_picture : SplicedCopiesGiveNoOther → IsSettled d.made.picture → picture_of d.made.picture ≡ pic
-    is_its_picture never settled =
+    -- the picture is that of the file, where copies gave each other nothing
+    is_its_picture : SplicedCopiesGiveNoOther → d.made.carried ≡ None → IsSettled d.made.picture → picture_of d.made.picture ≡ pic
+    is_its_picture never none settled =
+        let given_is : d.made.picture ≡ d.made.given = picture_is_given a copies d.made d.is_made none in
         let p : PartialPicture = d.made.given in
         let picture : IsPictureOfFiles a.options.source copies (splices_in f) p =
         files_alone a copies d.made d.is_made file d.made.cut refl among in
@@ -311,24 +337,30 @@ module _ (are_faultless : WholeFilesAreFaultless) (words : List Text) (a : Asked
               splices picture.union_is;
         }) pic is.is_picture file is.whole is.within is.splice (subst IsSettled given_is settled)
 
-    -- the single file is the file
-    single_is_it : (name single : List ℕ) → a.options.file ≡ Some name → d.made.single ≡ Some single → single ≡ file
-    single_is_it name single asked found =
+    -- the single file is the file, completed
+    single_is_it : (whole : List ℕ) → IsCompleted file whole
+        → (name single : List ℕ) → a.options.file ≡ Some name → d.made.single ≡ Some single → single ≡ whole
+    single_is_it whole completed name single asked found =
         let of_taken : IsSingleAsked a.options.file (files_taken copies f) d.made.single =
-        subst (λ (c : Option Carried). IsSingleOf a (files_taken copies f) c d.made.is_settled d.made.single) none d.is_made.is_single in
+        single_of_taken a copies (files_taken copies f) d.made.given.shape d.made.cut
+        (λ c. IsTrue c.are_read → EachReadsAs d.made.picture c.files) d.made.is_settled file taken (are_faultless pic file is.whole)
+        d.made.carried d.is_made.is_carried d.made.single single found d.is_made.is_single in
         let only : IsOnly (files_taken copies f) single =
         subst (λ (o : Option (List ℕ)). IsSingleAsked (Some name) (files_taken copies f) o) found
         (subst (λ (o : Option Text). IsSingleAsked o (files_taken copies f) d.made.single) asked of_taken) in
-        sym (only.alone file taken (are_faultless pic file is.whole))
+        sym (only.alone file whole taken (are_faultless pic file is.whole) completed)
 
-    -- the file has a name
-    it_is_named : (prefix : List ℕ) → a.options.files ≡ Some prefix → length d.made.files < 64 → is_named d.made.files file ≡ true
-    it_is_named prefix asked few =
+    -- the file has a name, completed
+    it_is_named : (whole : List ℕ) → IsCompleted file whole
+        → (prefix : List ℕ) → a.options.files ≡ Some prefix → length d.made.files < 64 → is_named d.made.files whole ≡ true
+    it_is_named whole completed prefix asked few =
         let of_taken : AreNamedAsked a.options.files (files_taken copies f) d.made.files =
-        subst (λ (c : Option Carried). AreNamedOf a (files_taken copies f) c d.made.files) none d.is_made.are_named in
+        named_of_taken a copies (files_taken copies f) d.made.given.shape d.made.cut
+        (λ c. IsTrue c.are_read → EachReadsAs d.made.picture c.files) d.made.is_settled file taken (are_faultless pic file is.whole)
+        d.made.carried d.is_made.is_carried d.made.files d.is_made.are_named in
         is_named_if_few 64 prefix (files_taken copies f) d.made.files
-        (subst (λ (o : Option Text). AreNamedAsked o (files_taken copies f) d.made.files) asked of_taken) few file taken
-        (are_faultless pic file is.whole)
+        (subst (λ (o : Option Text). AreNamedAsked o (files_taken copies f) d.made.files) asked of_taken) few file whole taken
+        (are_faultless pic file is.whole) completed
 
 pub spliced_runs_give_no_other : WholeFilesAreFaultless → SplicedCopiesGiveNoOther → SplicedRunsGiveNoOther
 spliced_runs_give_no_other are_faultless never words a desk report faults d limit promises =
@@ -341,13 +373,13 @@ spliced_runs_give_no_other are_faultless never words a desk report faults d limi
       settled = settled;
       no_other = λ pic file is.
           is_its_picture are_faultless words a desk report faults d p.0 pic file
-          (subst (λ (l : Option ℕ). IsWholeSplice l (bytes_read d.copies) d.made pic file) (sym p.3) is) never settled;
+          (subst (λ (l : Option ℕ). IsWholeSplice l (bytes_read d.copies) d.made pic file) (sym p.3) is) never p.4 settled;
     }
 
 pub spliced_runs_hand_out_the_file : WholeFilesAreFaultless → SplicedRunsHandOutTheFile
-spliced_runs_hand_out_the_file are_faultless words a desk report faults d enough pic whole is = (
-  single_is_it are_faultless words a desk report faults d enough pic whole is,
-  it_is_named are_faultless words a desk report faults d enough pic whole is,
+spliced_runs_hand_out_the_file are_faultless words a desk report faults d enough pic part whole is completed = (
+  single_is_it are_faultless words a desk report faults d enough pic part is whole completed,
+  it_is_named are_faultless words a desk report faults d enough pic part is whole completed,
 )
 
 pub spliced_runs_take_the_cut : SplicedRunsTakeTheCut
@@ -358,7 +390,7 @@ spliced_runs_take_the_cut words a desk report faults d path is =
     cut_is_lone copies m.found m.cut_ceiling m.lone m.cut path is d.is_made.is_lone d.is_made.is_cut in
     let none : m.carried ≡ None =
     none_with_cut m.carried copies (files_taken copies m.found) m.given.shape m.cut
-    (λ c. IsTrue c.are_read → EachReadsAs m.picture c.files) d.is_made.is_carried path is in
+    (λ c. IsTrue c.are_read → EachReadsAs m.picture c.files) (λ c. c.is_alone ≡ false → m.is_settled ≡ false) d.is_made.is_carried path is in
     let of_cut : IsPictureOf a.options.source copies (splices_in m.found) (cut_file m.found (Some path)) m.given =
     subst (λ (c : Option (List ℕ)). IsPictureOf a.options.source copies (splices_in m.found) (cut_file m.found c) m.given) is
     d.is_made.is_given in

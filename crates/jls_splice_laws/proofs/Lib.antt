@@ -15,3 +15,5 @@ mod MadeExamples
 mod CarriedExamples
 mod HandedFiles
 mod StoppedRuns
+mod LongerFiles
+mod CompletedFiles

@@ -7,4 +7,5 @@ pub mod SplicingLaws
 pub mod CutLaws
 pub mod RunLaws
 pub mod CarryLaws
+pub mod CompletedLaws
 pub mod Failures

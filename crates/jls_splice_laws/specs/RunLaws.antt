@@ -14,6 +14,7 @@ use Rattle.jls_splice_laws.specs.WholeFiles.{IsWholeFile}
 use Rattle.jls_cli.specs.FaultLines.{fault_line}
 use Rattle.jls_cli.specs.SpliceAsking.{Asked, AskFor}
 use Rattle.jls_cli.specs.declared.outcome.Refusal.{Refusal}
+use Rattle.jls_splice_run.specs.Completing.{IsCompleted}
 use Rattle.jls_splice_run.specs.Copies.{AreWhole, bytes_read}
 use Rattle.jls_splice_run.specs.FaultLines.{program}
 use Rattle.jls_splice_run.specs.Handing.{HandsAll}
@@ -97,13 +98,14 @@ SplicedRunsGiveNoOther =
     (words : List Text) (a : Asked) (desk report faults : List Event) (did : DidMake words a desk report faults) (limit : Option ℕ)
     → PromisesPicture limit did.made → IsPromised limit (bytes_read did.copies) did.made
 
--- The search that counts was not cut off, and an undamaged file within its limit is a splice. Then a file that `--file` gives is that file.
--- Where `--files` gives fewer than 64 files, it is among them
+-- The search that counts was not cut off, and an undamaged file within its limit is a splice, with or without its EOI. Then a file that
+-- `--file` gives is that file with its EOI. Where `--files` gives fewer than 64 files, it is among them
 abbrev pub SplicedRunsHandOutTheFile : Type 0
 SplicedRunsHandOutTheFile =
     (words : List Text) (a : Asked) (desk report faults : List Event) (did : DidMake words a desk report faults)
     → did.made.found.is_used_up ≡ false
-    → (pic : WholePicture) (whole : List ℕ) → IsWholeSplice did.made.ceiling (bytes_read did.copies) did.made pic whole
+    → (pic : WholePicture) (part whole : List ℕ) → IsWholeSplice did.made.ceiling (bytes_read did.copies) did.made pic part
+    → IsCompleted part whole
     → ((name file : List ℕ) → a.options.file ≡ Some name → did.made.single ≡ Some file → file ≡ whole)
     × ((prefix : List ℕ) → a.options.files ≡ Some prefix → length did.made.files < 64 → is_named did.made.files whole ≡ true)
 

@@ -6,12 +6,15 @@
 //! - `splicing`: stations of files taken, in the words of the laws of stations and pictures
 //! - `cut`: the cut file, where no splice is a file without a fault
 //! - `runs`: runs of `jls-splice`
+//! - `completed`: files completed by EOI
 //! - `carry`: runs over copies in several codings that gave each other lines
 //!
-//! Definitions: `WholeFiles`, `Searches`, `Taken`, `SpliceLaws`, `SplicingLaws`, `CutLaws`, `RunLaws`, `CarryLaws`, `Failures`.
+//! Definitions: `WholeFiles`, `Searches`, `Taken`, `SpliceLaws`, `SplicingLaws`, `CutLaws`, `RunLaws`, `CompletedLaws`, `CarryLaws`,
+//! `Failures`.
 #![tactic(auto)]
 
 mod carry;
+mod completed;
 mod cut;
 mod runs;
 mod searches;
@@ -19,6 +22,7 @@ mod settled;
 mod splicing;
 
 pub use carry::carried_runs_give_no_other;
+pub use completed::completed_files_read_alike;
 pub use cut::cut_lines_are_the_picture;
 pub use runs::{
     spliced_runs_are_done, spliced_runs_end_with_4, spliced_runs_give_no_other,

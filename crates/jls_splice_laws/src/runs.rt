@@ -36,9 +36,9 @@ pub fn spliced_runs_give_no_other()
     spliced_copies_give_no_other();
 }
 
-/// A law: assume that the search that counts was not cut off. Assume also that an undamaged file is a splice of the copies, with no sample
-/// above the limit of that search, if it has one. Then the file that `--file` gives has its bytes. Where `--files` gives fewer than 64
-/// files, one of them has its bytes.
+/// A law: assume that the search that counts was not cut off. Assume also that an undamaged file, with or without its EOI, is a splice of
+/// the copies. No sample of it is above the limit of that search, if it has one. Then the file that `--file` gives is that file, completed
+/// by EOI. Where `--files` gives fewer than 64 files, it is one of them. A file with its EOI stays as it is.
 pub fn spliced_runs_hand_out_the_file()
     ensures { SplicedRunsHandOutTheFile }
 {

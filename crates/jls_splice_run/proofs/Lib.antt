@@ -1,5 +1,7 @@
 -- Lemmas of this crate.
 mod PrintedLineExamples
+pub mod Eois
+mod NewFiles
 mod MendedNumbers
 mod MappedMore
 mod CarriedCopies
@@ -17,3 +19,4 @@ mod ReadAlike
 mod Running
 mod Seen
 mod ReportedExamples
+mod CarryingExamples

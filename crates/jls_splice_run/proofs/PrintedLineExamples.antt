@@ -3,7 +3,7 @@ use Rattle.std.proofs.Common.{◌≡◌, true, false, List, [], ◌∷◌, ◌++
 use Rattle.std.specs.Prelude.{codes}
 use Rattle.jls_diff.specs.Parts.{Part, Same, Differ}
 use Rattle.jls_splice_run.specs.Differences.{differences}
-use Rattle.jls_splice_run.specs.Lines.{before_line, differ_lines, files_line, found_text, groups_line, limit_line, more_line, progress_line}
+use Rattle.jls_splice_run.specs.Lines.{before_line, differ_lines, eoi_line, files_line, found_text, groups_line, limit_line, more_line, progress_line}
 use Rattle.jls_splice_run.specs.Lines.{promise_line, single_line, splices_line, used_up_line}
 use Rattle.jls_splice_run.specs.declared.differences.Difference.{Difference}
 use Rattle.jls_splice_run.specs.declared.found.Promise.TheVariants.{Picture, Lines}
@@ -61,6 +61,9 @@ two_files = rw d2 refl
 no_files : files_line None ≡ []
 no_files = refl
 
+completed : eoi_line true ≡ codes "eoi added\n"
+completed = refl
+
 lacking : single_line true ≡ codes "no single file\n"
 lacking = refl
 
@@ -100,12 +103,14 @@ cut_short = record {
   by_groups = Some (record { groups = 2; is_used_up = true });
   before = None;
   files = Some 12;
+  is_eoi_added = true;
   lacks_single_file = true;
   promise = Lines;
 }
 
 its_text : found_text two cut_short
-    ≡ codes "differ 2 1\ndiffer 4 0\nsplices 3\ntries used up\nby groups 2, tries used up\nfiles 12\nno single file\npromise lines\n"
+    ≡ codes "differ 2 1\ndiffer 4 0\nsplices 3\ntries used up\nby groups 2, tries used up\nfiles 12\neoi added\n"
+    ++ codes "no single file\npromise lines\n"
 its_text = rw (d0, d1, d2, d3, d4, d12) refl
 
 abbrev before_a_place : SearchReport
@@ -116,6 +121,7 @@ before_a_place = record {
   by_groups = Some (record { groups = 1; is_used_up = false });
   before = Some (record { offset = 4; limit = None });
   files = None;
+  is_eoi_added = false;
   lacks_single_file = false;
   promise = Lines;
 }
@@ -132,6 +138,7 @@ complete = record {
   by_groups = None;
   before = None;
   files = None;
+  is_eoi_added = false;
   lacks_single_file = false;
   promise = Picture (Some 4095);
 }

@@ -8,19 +8,25 @@ use Rattle.std.proofs.lemmas.List.Elements.{Contains-append_left, Contains-appen
 use Rattle.jls_values.proofs.Lists.{is_first, none_in, first_or_rest}
 use Rattle.jls_search.specs.Faultless.{IsFaultless}
 use Rattle.jls_search.specs.Shapes.{NoneIsFaultless}
+use Rattle.jls_splice_run.specs.Completing.{IsCompleted}
+use Rattle.jls_splice_run.proofs.Eois.{completed_once}
 use Rattle.jls_splice_run.specs.Listing.{AreNamed, NamedFile, is_named, left_out, named_files, none_named, one_named}
 use Rattle.jls_splice_run.specs.Single.{IsOnly}
 use Rattle.jls_splice_run.specs.declared.listing.NumberedFile.{NumberedFile}
 
--- two have none, and differ
+-- two have none, and differ when they are completed
 pub record TwoDiffer (files : List (List ℕ)) : Type 0 where
   pub file : List ℕ
   pub among : Contains files file
   pub faultless : IsFaultless file
+  pub whole : List ℕ
+  pub completed : IsCompleted file whole
   pub other : List ℕ
   pub other_among : Contains files other
   pub other_faultless : IsFaultless other
-  pub differ : file ≡ other → ⊥
+  pub other_whole : List ℕ
+  pub other_completed : IsCompleted other other_whole
+  pub differ : whole ≡ other_whole → ⊥
 
 -- what is known of the files without a fault among these, by those listed
 abbrev AreSeenSo : List (List ℕ) → List NamedFile → Type 0
@@ -42,45 +48,60 @@ module _ (files : List (List ℕ)) (file : List ℕ) where
   last : Contains (files ++ file ∷ []) file
   last = Contains-append_right files (file ∷ []) file (is_first file [])
 
-  first_one : NoneIsFaultless files → IsFaultless file → IsOnly (files ++ file ∷ []) file
-  first_one none f = record {
+  first_one : (whole : List ℕ) → NoneIsFaultless files → IsFaultless file → IsCompleted file whole → IsOnly (files ++ file ∷ []) whole
+  first_one whole none f made = record {
+    file = file;
     among = last;
     faultless = f;
-    alone = λ other c g. elim (one_of other c) [ inl before ↦ absurd (none other before g) | inr e ↦ sym e ];
+    completed = made;
+    alone = λ x bytes c g m. elim (one_of x c) [
+      | inl before ↦ absurd (none x before g)
+      | inr e ↦ completed_once file bytes whole (subst (λ (z : List ℕ). IsCompleted z bytes) (sym e) m) made
+    ];
   }
 
-  other_one : (other : List ℕ) → IsOnly files other → IsFaultless file → (other ≡ file → ⊥) → TwoDiffer (files ++ file ∷ [])
-  other_one other only f differ = record {
-    file = other;
-    among = Contains-append_left files (file ∷ []) other only.among;
+  other_one : (other whole : List ℕ) → IsOnly files other → IsFaultless file → IsCompleted file whole → (other ≡ whole → ⊥)
+      → TwoDiffer (files ++ file ∷ [])
+  other_one other whole only f made differ = record {
+    file = only.file;
+    among = Contains-append_left files (file ∷ []) only.file only.among;
     faultless = only.faultless;
+    whole = other;
+    completed = only.completed;
     other = file;
     other_among = last;
     other_faultless = f;
+    other_whole = whole;
+    other_completed = made;
     differ = differ;
   }
 
-  one_listed : (prefix : List ℕ) (listed : List NamedFile) → AreSeenSo files listed → IsFaultless file → is_named listed file ≡ false
-      → length listed < 2 → (new : NamedFile) → new.bytes ≡ file → AreSeenSo (files ++ file ∷ []) (listed ++ new ∷ [])
-  one_listed prefix [] none f other few new is = subst (IsOnly (files ++ file ∷ [])) (sym is) (first_one none f)
-  one_listed prefix (x ∷ []) only f other few new is =
-      other_one x.bytes only f (other_text x.bytes file (sym other ∙ or_nothing (bytes_eq x.bytes file)))
-  one_listed prefix (x ∷ y ∷ more) two f other few new is = absurd (omega (arith, few))
+  one_listed : (whole : List ℕ) (listed : List NamedFile) → AreSeenSo files listed → IsFaultless file → IsCompleted file whole
+      → is_named listed whole ≡ false → length listed < 2 → (new : NamedFile) → new.bytes ≡ whole
+      → AreSeenSo (files ++ file ∷ []) (listed ++ new ∷ [])
+  one_listed whole [] none f made other few new is =
+      subst (IsOnly (files ++ file ∷ [])) (sym is) (first_one whole none f made)
+  one_listed whole (x ∷ []) only f made other few new is =
+      other_one x.bytes whole only f made (other_text x.bytes whole (sym other ∙ or_nothing (bytes_eq x.bytes whole)))
+  one_listed whole (x ∷ y ∷ more) two f made other few new is = absurd (omega (arith, few))
 
   one_left_out : (listed : List NamedFile) → AreSeenSo files listed
-      → (IsFaultless file → (is_named listed file ≡ true) ⊎ (2 ≤ length listed))
+      → (IsFaultless file → ((whole : List ℕ) × IsCompleted file whole × (is_named listed whole ≡ true)) ⊎ (2 ≤ length listed))
       → AreSeenSo (files ++ file ∷ []) listed
   one_left_out [] none why = λ x c g. elim (one_of x c) [
     | inl before ↦ none x before g
-    | inr e ↦ elim (why (subst IsFaultless (sym e) g)) [ inl t ↦ absurd cc | inr l ↦ absurd (omega (arith, l)) ]
+    | inr e ↦ elim (why (subst IsFaultless (sym e) g)) [ inl t ↦ (let no = t.2 in absurd cc) | inr l ↦ absurd (omega (arith, l)) ]
   ]
   one_left_out (one ∷ []) only why = record {
-    among = Contains-append_left files (file ∷ []) one.bytes only.among;
+    file = only.file;
+    among = Contains-append_left files (file ∷ []) only.file only.among;
     faultless = only.faultless;
-    alone = λ x c g. elim (one_of x c) [
-      | inl before ↦ only.alone x before g
+    completed = only.completed;
+    alone = λ x bytes c g m. elim (one_of x c) [
+      | inl before ↦ only.alone x bytes before g m
       | inr e ↦ elim (why (subst IsFaultless (sym e) g)) [
-        | inl same ↦ sym e ∙ sym (same_text one.bytes file (sym same ∙ or_nothing (bytes_eq one.bytes file)))
+        | inl t ↦ completed_once file bytes t.0 (subst (λ (z : List ℕ). IsCompleted z bytes) (sym e) m) t.1
+            ∙ sym (same_text one.bytes t.0 (sym t.2 ∙ or_nothing (bytes_eq one.bytes t.0)))
         | inr l ↦ absurd (omega (arith, l))
       ]
     ];
@@ -89,16 +110,20 @@ module _ (files : List (List ℕ)) (file : List ℕ) where
     file = two.file;
     among = Contains-append_left files (file ∷ []) two.file two.among;
     faultless = two.faultless;
+    whole = two.whole;
+    completed = two.completed;
     other = two.other;
     other_among = Contains-append_left files (file ∷ []) two.other two.other_among;
     other_faultless = two.other_faultless;
+    other_whole = two.other_whole;
+    other_completed = two.other_completed;
     differ = two.differ;
   }
 
 seen_so : (prefix : List ℕ) (files : List (List ℕ)) (listed : List NamedFile) → AreNamed 2 prefix files listed → AreSeenSo files listed
 seen_so prefix _ _ none_named = λ file c f. none_in file c
-seen_so prefix _ _ (one_named files listed file are f new few) =
-    one_listed files file prefix listed (seen_so prefix files listed are) f new few _ refl
+seen_so prefix _ _ (one_named files listed file whole are f made new few) =
+    one_listed files file whole listed (seen_so prefix files listed are) f made new few _ refl
 seen_so prefix _ _ (left_out files listed file are why) = one_left_out files file listed (seen_so prefix files listed are) why
 
 module _ {prefix : List ℕ} (files : List (List ℕ)) (listed : List NumberedFile) where
@@ -110,13 +135,14 @@ module _ {prefix : List ℕ} (files : List (List ℕ)) (listed : List NumberedFi
       by [] many seen file only = absurd (omega (arith, many))
       by (x ∷ []) many seen file only = absurd (omega (arith, many))
       by (x ∷ y ∷ more) many two file only =
-          two.differ (only.alone two.file two.among two.faultless ∙ sym (only.alone two.other two.other_among two.other_faultless))
+          two.differ (only.alone two.file two.whole two.among two.faultless two.completed
+          ∙ sym (only.alone two.other two.other_whole two.other_among two.other_faultless two.other_completed))
 
   pub none_is_single : listed ≡ [] → AreNamed 2 prefix files (named_files listed) → (file : List ℕ) → IsOnly files file → ⊥
   none_is_single is are file only =
       let none : NoneIsFaultless files = subst (λ (xs : List NumberedFile). AreSeenSo files (named_files xs)) is
       (seen_so prefix files (named_files listed) are) in
-      none file only.among only.faultless
+      none only.file only.among only.faultless
 
   -- the last of one is the only one
   pub only_one : (x : NumberedFile) (rest : List NumberedFile) → listed ≡ rest ++ x ∷ [] → length listed ≤ 1

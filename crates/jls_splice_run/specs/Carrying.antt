@@ -1,8 +1,9 @@
--- What copies in several codings give each other, where no file taken is without a fault: mended files, and the lines that these hold.
+-- What copies in several codings give each other: mended files, and the lines that these hold.
 use Rattle.std.specs.Prelude.{◌≡◌, ◌↔◌, ℕ, ◌+◌, Bool, false, IsTrue, List, [], ◌∷◌, Option, Some, None, length, map, take}
 use Rattle.std.specs.Prelude.{nat_eq}
 use Rattle.std.specs.Prelude.{if◌then◌else◌}
 use Rattle.std.specs.List.{Contains}
+use Rattle.jls_values.specs.OrderedSet as set
 use Rattle.jls_values.specs.Shape.{PictureShape}
 use Rattle.jls_partial.specs.Partial.{PartialPicture, union}
 use Rattle.jls_partial.specs.Status.{IsSettled}
@@ -18,21 +19,23 @@ use Rattle.jls_splice_run.specs.declared.found.Promise.{Promise}
 use Rattle.jls_splice_run.specs.declared.found.Promise.TheVariants.{Held, Lines}
 
 -- of each coding its copies, with the edits of each, and their mended file; the copies that agree with no other, by their numbers from 0;
--- the lines that the mended files hold; whether these are all lines, each with one reading; and whether each mended file was found to read
--- as what is handed out
+-- the lines that the mended files hold; whether each file taken has a fault; whether the held lines are all lines, each with one reading;
+-- and whether each mended file was found to read as what is handed out
 pub record Carried : Type 0 where
   pub codings : List (List EditedCopy)
   pub files : List MendedFile
   pub strangers : List ℕ
   pub held : PartialPicture
+  pub is_alone : Bool
   pub is_held : Bool
   pub are_read : Bool
 
--- so it is for these copies and a shape, where these files are taken
+-- so it is for these copies and a shape, where these files are taken. What is held has no sources
 pub record IsCarried (copies taken : List (List ℕ)) (shape : PictureShape) (c : Carried) : Type 0 where
-  pub none_faultless : (file : List ℕ) → Contains taken file → ¬ IsFaultless file
+  pub alone : IsTrue c.is_alone → (file : List ℕ) → Contains taken file → ¬ IsFaultless file
   pub are_mended : AreMendedOf copies c.codings c.files
   pub shape_is : c.held.shape ≡ shape
+  pub marks_are : c.held.marks ≡ set.empty
   pub are_held : AreReadingsHeld c.files c.held
   pub all_held : IsTrue c.is_held ↔ IsSettled c.held
 
@@ -74,13 +77,14 @@ carried_files (Some prefix) files = numbered_from prefix 1 (take 64 files)
 
 -- As the code has it ------------------------------------------------------------------------------------------------
 
--- what was judged, whether each line is held, and whether the mended files were found to read so
-abbrev pub carried_of : Between → Bool → Bool → Carried
-carried_of b is_held are_read = record {
+-- what was judged, whether each file taken has a fault, whether each line is held, and whether the mended files were found to read so
+abbrev pub carried_of : Between → Bool → Bool → Bool → Carried
+carried_of b is_alone is_held are_read = record {
   codings = codings_of b.judged.codings.items;
   files = map file_of b.judged.files.items;
   strangers = b.strangers.items;
   held = b.judged.held;
+  is_alone = is_alone;
   is_held = is_held;
   are_read = are_read;
 }

@@ -6,6 +6,7 @@ pub mod Telling
 pub mod FaultLines
 pub mod Carrying
 pub mod CodingLines
+pub mod Completing
 pub mod Copies
 pub mod Files
 pub mod Handing

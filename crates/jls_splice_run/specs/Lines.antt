@@ -74,6 +74,10 @@ abbrev pub files_line : Option ℕ → List ℕ
 files_line None = []
 files_line (Some count) = codes "files " ++ decimal count ++ codes "\n"
 
+-- the line of EOI that was added to a file that is handed out; no line if it was added to none
+abbrev pub eoi_line : Bool → List ℕ
+eoi_line is_eoi_added = if is_eoi_added then codes "eoi added\n" else []
+
 -- the line of a run that was asked for a single file and has none
 abbrev pub single_line : Bool → List ℕ
 single_line lacks_single_file = if lacks_single_file then codes "no single file\n" else []
@@ -84,7 +88,8 @@ search_lines r = splices_line r.splices ++ used_up_line r.is_used_up ++ limit_li
 
 -- the lines of what is made of it, in their order
 abbrev pub outcome_lines : SearchReport → List ℕ
-outcome_lines r = before_line r.before ++ files_line r.files ++ single_line r.lacks_single_file ++ promise_line r.promise
+outcome_lines r =
+    before_line r.before ++ files_line r.files ++ eoi_line r.is_eoi_added ++ single_line r.lacks_single_file ++ promise_line r.promise
 
 -- all lines of what was found: where copies differ, what the searches came to, and what is made of it
 abbrev pub found_text : List Difference → SearchReport → List ℕ

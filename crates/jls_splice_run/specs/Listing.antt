@@ -1,10 +1,11 @@
--- The files without a fault, each once, with the names that they get.
+-- The files without a fault, completed by EOI, each once, with the names that they get.
 use Rattle.std.specs.Prelude.{◌≡◌, ◌<◌, ◌≤◌, ◌+◌, ◌⊎◌, ℕ, Bool, true, false, List, [], ◌∷◌, ◌++◌, Option, Some, None, codes, decimal}
 use Rattle.std.specs.Prelude.{length, map}
-use Rattle.std.specs.List.{list_any}
+use Rattle.std.specs.List.{AllZip, list_any}
 use Rattle.std.specs.Str.{bytes_eq}
 use Rattle.std.specs.String.{string_bytes}
 use Rattle.jls_search.specs.Faultless.{IsFaultless}
+use Rattle.jls_splice_run.specs.Completing.{IsCompleted}
 use Rattle.jls_splice_run.specs.declared.listing.NumberedFile.{NumberedFile}
 
 -- the name of an output that has a number: what it begins with, `-`, and the number
@@ -24,15 +25,15 @@ pub record NamedFile : Type 0 where
 abbrev pub is_named : List NamedFile → List ℕ → Bool
 is_named named file = list_any (λ n. bytes_eq n.bytes file) named
 
--- of some files these have a name: each file without a fault, once, in the order of the files, until so many have one. Their numbers begin
--- at 1
+-- of some files these have a name: each file without a fault, completed by EOI, once, in the order of the files, until so many have one.
+-- Files that are equal when they are completed are one. Their numbers begin at 1
 pub data AreNamed (most : ℕ) (prefix : List ℕ) : List (List ℕ) → List NamedFile → Type 0 where
   none_named : AreNamed most prefix [] []
-  one_named : (files : List (List ℕ)) (named : List NamedFile) (file : List ℕ) → AreNamed most prefix files named
-      → IsFaultless file → is_named named file ≡ false → length named < most
-      → AreNamed most prefix (files ++ file ∷ []) (named ++ record { name = numbered prefix (length named + 1); bytes = file } ∷ [])
+  one_named : (files : List (List ℕ)) (named : List NamedFile) (file whole : List ℕ) → AreNamed most prefix files named
+      → IsFaultless file → IsCompleted file whole → is_named named whole ≡ false → length named < most
+      → AreNamed most prefix (files ++ file ∷ []) (named ++ record { name = numbered prefix (length named + 1); bytes = whole } ∷ [])
   left_out : (files : List (List ℕ)) (named : List NamedFile) (file : List ℕ) → AreNamed most prefix files named
-      → (IsFaultless file → (is_named named file ≡ true) ⊎ (most ≤ length named))
+      → (IsFaultless file → ((whole : List ℕ) × IsCompleted file whole × (is_named named whole ≡ true)) ⊎ (most ≤ length named))
       → AreNamed most prefix (files ++ file ∷ []) named
 
 -- these have a name if that is asked for, 64 at most, and else none
@@ -44,6 +45,10 @@ AreNamedAsked (Some prefix) files named = AreNamed 64 prefix files named
 abbrev pub prefix_in : Option (List ℕ) → List ℕ
 prefix_in None = []
 prefix_in (Some prefix) = prefix
+
+-- each file completed by EOI, under its name
+abbrev pub AreCompleted : List NamedFile → List NamedFile → Type 0
+AreCompleted files wholes = AllZip (λ file whole. (whole.name ≡ file.name) × IsCompleted file.bytes whole.bytes) files wholes
 
 -- a file and its name, as the code holds them
 abbrev pub named_file : NumberedFile → NamedFile

@@ -2,6 +2,7 @@
 use Rattle.std.specs.Prelude.{◌≡◌, ◌↔◌, ◌⊎◌, ℕ, Bool, true, false, IsTrue, List, [], ◌++◌, Option, Some, None, IfSome, codes}
 use Rattle.std.specs.Prelude.{get_or, length, map, option_map, if◌then◌else◌}
 use Rattle.jls_held.specs.Mending.{file_of}
+use Rattle.jls_held.specs.MendedFiles.{MendedFile}
 use Rattle.std.specs.Str.{bytes_eq}
 use Rattle.std.specs.declared.vec.Vec.{Vec}
 use Rattle.std.specs.declared.alloc.Global.{Global}
@@ -41,8 +42,9 @@ use Rattle.jls_cli.specs.declared.outcome.Cause.{Cause}
 use Rattle.jls_cli.specs.declared.outcome.Cause.TheVariants as cause
 use Rattle.jls_cli.specs.declared.outcome.Refusal.{Refusal}
 use Rattle.jls_splice_run.specs.Copies.{bytes_read, stops_read}
-use Rattle.jls_splice_run.specs.Files.{count_new}
-use Rattle.jls_splice_run.specs.Listing.{AreNamedAsked, NamedFile, named_files}
+use Rattle.jls_splice_run.specs.Completing.{IsCompletedIn}
+use Rattle.jls_splice_run.specs.Files.{count_new, is_eoi_added}
+use Rattle.jls_splice_run.specs.Listing.{AreCompleted, AreNamedAsked, NamedFile, named_files}
 use Rattle.jls_splice_run.specs.ReadsAs.{EachReadsAs}
 use Rattle.jls_splice_run.specs.Single.{IsSingleAsked}
 use Rattle.jls_splice_run.specs.declared.limits.FoundInTurn.{FoundInTurn}
@@ -103,21 +105,25 @@ pub record IsFoundFor (a : Asked) (copies : List (List ℕ)) (ceiling : Option �
   pub of_groups : IfSome f.by_groups (IsGroupSearch a.options.tries (length copies) f.parts)
 
 -- What copies in several codings gave each other, if that was looked for, is so where these files are taken. Then no cut file was taken.
--- The mended files read as the picture if they were found to
+-- The mended files read as the picture if they were found to. If a file taken may be without a fault, a line is not settled: what the copies
+-- gave each other speaks against that file
 abbrev pub IsCarriedFor : List (List ℕ) → Made → Type 0
 IsCarriedFor copies m =
     IfSome m.carried (λ c. IsCarried copies (files_taken copies m.found) m.given.shape c × (m.cut ≡ None)
-    × (IsTrue c.are_read → EachReadsAs m.picture c.files))
+    × (IsTrue c.are_read → EachReadsAs m.picture c.files) × (c.is_alone ≡ false → m.is_settled ≡ false))
 
--- the single file, if it is asked for: the one of the files taken that has no fault, or the first mended file
+-- the single file, if it is asked for: the one of the files taken that has no fault, or the first mended file. It is completed by EOI
 abbrev pub IsSingleOf : Asked → List (List ℕ) → Option Carried → Bool → Option (List ℕ) → Type 0
 IsSingleOf a taken None is_settled single = IsSingleAsked a.options.file taken single
-IsSingleOf a taken (Some c) is_settled single = single ≡ carried_file a.options.file (carried_promise c is_settled) c.files
+IsSingleOf a taken (Some c) is_settled single = IsCompletedIn (carried_file a.options.file (carried_promise c is_settled) c.files) single
 
--- the files that have numbers, if they are asked for: those taken that have no fault, or the mended files
+-- the files that have numbers, if they are asked for: those taken that have no fault, or the mended files where each of them has one. Each is
+-- completed by EOI
 abbrev pub AreNamedOf : Asked → List (List ℕ) → Option Carried → List NamedFile → Type 0
 AreNamedOf a taken None named = AreNamedAsked a.options.files taken named
-AreNamedOf a taken (Some c) named = named ≡ carried_files a.options.files c.files
+AreNamedOf a taken (Some c) named =
+    (IsTrue c.is_alone → AreCompleted (carried_files a.options.files c.files) named)
+    × (c.is_alone ≡ false → AreNamedAsked a.options.files taken named)
 
 -- all of it is made of these copies
 pub record IsMade (a : Asked) (copies : List (List ℕ)) (m : Made) : Type 0 where
@@ -179,6 +185,15 @@ is_of_picture (Picture limit) = true
 is_of_picture Held = true
 is_of_picture Lines = false
 
+-- the files of which those that are handed out were made: the mended files, or the files taken if one may have no fault
+abbrev pub files_held : Bool → List MendedFile → List (List ℕ) → List (List ℕ)
+files_held is_alone mended taken = if is_alone then map (λ f. f.bytes) mended else taken
+
+-- and so where copies in several codings may have given each other something
+abbrev pub files_made_of : Option Carried → List (List ℕ) → List (List ℕ)
+files_made_of None taken = taken
+files_made_of (Some c) taken = files_held c.is_alone c.files taken
+
 -- what is reported of the search
 abbrev pub report_on : Asked → List (List ℕ) → Made → SearchReport
 report_on a copies m = record {
@@ -188,6 +203,7 @@ report_on a copies m = record {
   by_groups = groups_reported m.found.by_groups;
   before = option_map (cut_end m.found.parts m.cut_ceiling) m.cut;
   files = files_reported a.options.files m.files;
+  is_eoi_added = is_eoi_added (files_made_of m.carried (files_taken copies m.found)) m.single m.files;
   lacks_single_file = lacks_single a.options.file m.single;
   promise = promise_on m;
 }
@@ -245,7 +261,7 @@ CantMake a copies r =
 
 -- ---- as the code has it
 
--- what was made of copies of one coding, or of a file without a fault: by what was found with the limit of a cut file, the choices of the
+-- what was made where copies gave each other nothing: by what was found with the limit of a cut file, the choices of the
 -- one found and of the one taken, the picture, whether each line of it is settled, and what the code holds of it
 abbrev pub made_of : FoundInTurn → Option (Vec ℕ Global) → Option (Vec ℕ Global) → PartialPicture → Bool → MadeValue → Made
 made_of all lone cut p is_settled v = record {
@@ -292,9 +308,9 @@ pub record AreTextsOf (a : Asked) (copies : List (List ℕ)) (m : Made) (v : Mad
 abbrev pub HoldsMade : Asked → List CopyBytes → MadeValue → Type 0
 HoldsMade a copies v = (m : Made) × IsMade a (bytes_read copies) m × AreTextsOf a (bytes_read copies) m v
 
--- the code holds what is handed out of what was judged
-pub record AreTextsOfJudged (a : Asked) (copies : List (List ℕ)) (all : FoundInTurn) (given : PartialPicture) (b : Between) (v : MadeValue)
-    : Type 0 where
+-- the code holds what is handed out of what was judged, where these files are taken and each of them has a fault, or may have none
+pub record AreTextsOfJudged (a : Asked) (copies taken : List (List ℕ)) (all : FoundInTurn) (given : PartialPicture) (b : Between)
+    (is_alone : Bool) (v : MadeValue) : Type 0 where
   pub is_held : Bool
   pub is_settled : Bool
   pub are_read : Bool
@@ -302,13 +318,15 @@ pub record AreTextsOfJudged (a : Asked) (copies : List (List ℕ)) (all : FoundI
   pub all_held : IsTrue is_held ↔ IsSettled b.judged.held
   pub settled : IsTrue is_settled ↔ IsSettled (union b.judged.held given)
   pub texts : (lone : Option (Vec ℕ Global))
-      → AreTextsOf a copies (carried_made all lone given (carried_of b is_held are_read) is_settled v) v
-  pub single : IsSingleOf a [] (Some (carried_of b is_held are_read)) is_settled (option_map (λ f. f.items) v.file)
-  pub named : AreNamedOf a [] (Some (carried_of b is_held are_read)) (named_files v.files.items)
+      → AreTextsOf a copies (carried_made all lone given (carried_of b is_alone is_held are_read) is_settled v) v
+  pub single : IsSingleOf a taken (Some (carried_of b is_alone is_held are_read)) is_settled (option_map (λ f. f.items) v.file)
+  pub named : AreNamedOf a taken (Some (carried_of b is_alone is_held are_read)) (named_files v.files.items)
+  pub doubted : is_alone ≡ false → is_settled ≡ false
 
 -- and what was judged is so for these copies, where these files are taken and give that
 pub record IsCarriedMade (a : Asked) (copies taken : List (List ℕ)) (all : FoundInTurn) (given : PartialPicture) (v : MadeValue)
     : Type 0 where
   pub between : Between
-  pub texts : AreTextsOfJudged a copies all given between v
-  pub is_carried : IsCarried copies taken given.shape (carried_of between texts.is_held texts.are_read)
+  pub is_alone : Bool
+  pub texts : AreTextsOfJudged a copies taken all given between is_alone v
+  pub is_carried : IsCarried copies taken given.shape (carried_of between is_alone texts.is_held texts.are_read)

@@ -13,23 +13,26 @@ ghost use Rattle.jls_search.specs.Search.{lists_of};
 ghost use Rattle.jls_search.specs.Found.{found_of, splices_in};
 ghost use Rattle.jls_search.specs.Files.{AreVerdicts, files_taken, splices_found};
 ghost use Rattle.jls_splice_run.specs.Carrying as spec;
-ghost use Rattle.jls_splice_run.specs.Listing.{named_files};
-ghost use Rattle.jls_splice_run.specs.Making.{AreTextsOfJudged, IsCarriedMade};
+ghost use Rattle.jls_splice_run.specs.Files.{is_eoi_added as added};
+ghost use Rattle.jls_splice_run.specs.Listing.{AreCompleted, AreNamedAsked, named_files};
+ghost use Rattle.jls_splice_run.specs.Making.{AreTextsOfJudged, IsCarriedMade, files_held};
 ghost use Rattle.jls_splice_run.specs.ReadsAs.{EachReadsAs};
 ghost use Rattle.jls_splice_run.specs.Tasks.{task_of};
 
-use crate::files::count_new;
+use crate::completing::{completed, completed_in};
+use crate::files::{count_new, is_eoi_added};
 use crate::found::{Promise, SearchReport};
 use crate::limits::FoundInTurn;
 use crate::listing::{MOST_NAMED, NumberedFile, numbered_name};
-use crate::made::{Made, files_reported, groups_reported, lacks_file, limit_reported};
+use crate::made::{Made, files_asked, files_reported, groups_reported, lacks_file, limit_reported};
 use crate::printed_lines::{lines_of_carried, notes_of_carried};
 use crate::reading_as::each_reads_as;
 use crate::task::Task;
-use jls_carried::{Between, are_all_printed, carry_between};
+use jls_carried::{Between, SearchBounds, are_all_printed, carry_between};
+use jls_diff::find_parts;
 use jls_held::{EditedCopy, Judged, MendedCopy};
 use jls_partial::Partial;
-use jls_search::{Files, HeldFiles};
+use jls_search::{Files, HeldFiles, are_surely_of_several_codings};
 use jls_values::Merge;
 use std::alloc::{AllocError, Global};
 
@@ -83,14 +86,14 @@ fn carried_file(
     }
 }
 
-/// The mended files with their names, if what these begin with is given.
+/// The mended files with their names, completed by EOI, if what these begin with is given.
 fn carried_files(
     alloc: Global,
     prefix: Option<&str>,
     files: &[MendedCopy],
 ) -> Result<Vec<NumberedFile>, AllocError>
-    ensures { IfOk result (λ named. named_files named.items
-        ≡ spec.carried_files (option_map (λ s. s.now) prefix.entry) (map file_of files.now)) }
+    ensures { IfOk result (λ named.
+        AreCompleted (spec.carried_files (option_map (λ s. s.now) prefix.entry) (map file_of files.now)) (named_files named.items)) }
 {
     let mut named = Vec::new(alloc);
     let Some(prefix) = prefix else {
@@ -98,10 +101,86 @@ fn carried_files(
     };
     for place in 0..MOST_NAMED.min(files.len()) {
         let name = numbered_name(alloc, prefix, place as u64 + 1)?;
-        let bytes = Vec::from_slice(alloc, &files[place].bytes)?;
+        let bytes = completed(alloc, &files[place].bytes)?;
         named.push(NumberedFile { name, bytes })?;
     }
     Ok(named)
+}
+
+/// The files that have numbers, with their names: the mended files, or those taken that have no fault if one may have none.
+fn numbered_files(
+    alloc: Global,
+    prefix: Option<&str>,
+    files: &Files<'_, '_>,
+    verdicts: &[bool],
+    mended: &[MendedCopy],
+    is_alone: bool,
+) -> Result<Vec<NumberedFile>, AllocError>
+    requires whole { AllByRecursion (IsWhole files.now.parts.now) (lists_of files.now.splices.now) }
+    requires verdicts { AreVerdicts (files_taken files.now) verdicts.now }
+    ensures mended { is_alone ≡ true → IfOk result (λ named.
+        AreCompleted (spec.carried_files (option_map (λ s. s.now) prefix.entry) (map file_of mended.now)) (named_files named.items)) }
+    ensures taken { is_alone ≡ false → IfOk result (λ named.
+        AreNamedAsked (option_map (λ s. s.now) prefix.entry) (files_taken files.now) (named_files named.items)) }
+{
+    if is_alone {
+        carried_files(alloc, prefix, mended)
+    } else {
+        files_asked(alloc, prefix, files, verdicts)
+    }
+}
+
+/// The bytes of the mended files.
+fn mended_slices<'m>(alloc: Global, mended: &'m [MendedCopy]) -> Result<Vec<&'m [u8]>, AllocError>
+    ensures { IfOk result (λ slices. bytes_of slices.items ≡ map (λ f. f.bytes) (map file_of mended.now)) }
+{
+    let mut slices: Vec<&[u8]> = Vec::new(alloc);
+    for file in mended {
+        slices.push(&file.bytes)?;
+    }
+    Ok(slices)
+}
+
+/// Whether EOI was added to the single file or to one that has a number: no mended file has its bytes.
+fn is_eoi_added_to_mended(
+    alloc: Global,
+    files: &Files<'_, '_>,
+    mended: &[MendedCopy],
+    single: &Option<Vec<u8>>,
+    numbered: &[NumberedFile],
+) -> Result<bool, AllocError>
+    ensures { IfOk result (λ is. is ≡ added (map (λ f. f.bytes) (map file_of mended.now)) (option_map (λ f. f.items) single.now)
+        (named_files numbered.now)) }
+{
+    let slices = mended_slices(alloc, mended)?;
+    let alone = Files {
+        copies: &slices,
+        parts: files.parts,
+        splices: &[],
+        reader: files.reader,
+    };
+    is_eoi_added(alloc, &alone, single, numbered)
+}
+
+/// Whether EOI was added to the single file or to one that has a number: none of the files that they were made of has its bytes. These are
+/// the mended files, or the files taken if one may have no fault.
+fn is_eoi_added_to_handed(
+    alloc: Global,
+    files: &Files<'_, '_>,
+    mended: &[MendedCopy],
+    is_alone: bool,
+    single: &Option<Vec<u8>>,
+    numbered: &[NumberedFile],
+) -> Result<bool, AllocError>
+    requires { AllByRecursion (IsWhole files.now.parts.now) (lists_of files.now.splices.now) }
+    ensures { IfOk result (λ is. is ≡ added (files_held is_alone (map file_of mended.now) (files_taken files.now))
+        (option_map (λ f. f.items) single.now) (named_files numbered.now)) }
+{
+    if is_alone {
+        is_eoi_added_to_mended(alloc, files, mended, single, numbered)
+    } else {
+        is_eoi_added(alloc, files, single, numbered)
+    }
 }
 
 /// Takes what files give to what is held. `Err` comes where memory is refused, and where their shapes differ.
@@ -137,38 +216,54 @@ fn are_read_as(
     each_reads_as(alloc, files, picture)
 }
 
-/// What is handed out of what copies in several codings gave each other.
+/// What is handed out of what copies in several codings gave each other. If a file taken may be without a fault, `None` comes unless
+/// that speaks against it: unless a line is not settled by both.
 fn texts_of_judged(
     alloc: Global,
     task: &Task<'_, '_>,
     files: &Files<'_, '_>,
     all: &FoundInTurn<'_>,
-    given: &Partial,
+    held: &HeldFiles,
     between: Between,
-) -> Result<Made, AllocError>
+    is_alone: bool,
+) -> Result<Option<Made>, AllocError>
     requires splices { splices_found files.now ≡ splices_in (found_of all.now.splices) }
     requires each { AllByRecursion (IsWhole files.now.parts.now) (lists_of files.now.splices.now) }
     requires small { length (made 0 all.now.splices.parts) < 2 ^ 64 }
+    requires verdicts { AreVerdicts (files_taken files.now) held.now.faultless.items }
     requires mended { AreMendedOf (bytes_of files.now.copies.now) (codings_of between.judged.codings.items)
         (map file_of between.judged.files.items) }
-    ensures { IfOk result (λ made. AreTextsOfJudged (task_of task.now) (bytes_of files.now.copies.now) all.now given.now between made) }
+    ensures { IfOk result (λ made. IfSome made (AreTextsOfJudged (task_of task.now) (bytes_of files.now.copies.now)
+        (files_taken files.now) all.now held.now.station between is_alone)) }
 {
     let Between { judged, strangers } = between;
     let Judged {
         codings,
         files: mended,
-        held,
+        held: mut picture,
     } = judged;
-    let is_held = held.is_settled();
-    let mut picture = held;
-    join(&mut picture, given)?;
+    let is_held = picture.is_settled();
+    join(&mut picture, held.station.partial())?;
     let is_settled = picture.is_settled();
+    if !is_alone && is_settled {
+        return Ok(None);
+    }
     let are_read = are_read_as(alloc, &mended, &picture, is_held, is_settled)?;
     let promise = carried_promise(&codings, &strangers, is_held, are_read, is_settled);
-    let file = carried_file(alloc, task.options.file, promise, &mended)?;
-    let numbered = carried_files(alloc, task.options.files, &mended)?;
+    let mended_file = carried_file(alloc, task.options.file, promise, &mended)?;
+    let file = completed_in(alloc, mended_file)?;
+    let verdicts = held.faultless.as_slice();
+    let numbered = numbered_files(
+        alloc,
+        task.options.files,
+        files,
+        verdicts,
+        &mended,
+        is_alone,
+    )?;
     let found = &all.splices;
     let splices = count_new(alloc, files.copies, files.parts, files.splices)?;
+    let is_added = is_eoi_added_to_handed(alloc, files, &mended, is_alone, &file, &numbered)?;
     let report = SearchReport {
         splices,
         is_used_up: found.is_used_up,
@@ -176,6 +271,7 @@ fn texts_of_judged(
         by_groups: groups_reported(found.by_groups),
         before: None,
         files: files_reported(task.options.files, &numbered),
+        is_eoi_added: is_added,
         lacks_single_file: lacks_file(task.options.file, &file),
         promise,
     };
@@ -192,18 +288,31 @@ fn texts_of_judged(
     )?;
     let notes = notes_of_carried(alloc, task.out, count, &codings, &strangers, &report)?;
     let text = picture.to_bytes(alloc)?;
-    Ok(Made {
+    Ok(Some(Made {
         lines,
         notes,
         text,
         file,
         files: numbered,
         promise,
-    })
+    }))
 }
 
-/// What is handed out of copies in several codings, where no file taken is without a fault. `None` comes where one is, where a cut file was
-/// taken, and where the copies are of one coding, as far as can be told.
+/// Whether copies may speak against files that settle each line: they surely are of several codings.
+fn can_be_doubted(
+    alloc: Global,
+    files: &Files<'_, '_>,
+    given: &Partial,
+) -> Result<bool, AllocError> {
+    if !given.is_settled() {
+        return Ok(false);
+    }
+    let parts = find_parts(alloc, files.copies)?;
+    are_surely_of_several_codings(alloc, files.copies, &parts)
+}
+
+/// What is handed out of copies in several codings, where no file taken is without a fault, or what the copies gave each other speaks
+/// against one that is. `None` comes where a cut file was taken, and where the copies are of one coding, as far as can be told.
 pub(crate) fn carried_texts(
     alloc: Global,
     task: &Task<'_, '_>,
@@ -218,15 +327,24 @@ pub(crate) fn carried_texts(
     ensures { IfOk result (λ made. IfSome made (λ made. (held.now.cut ≡ None) × IsCarriedMade (task_of task.now)
         (bytes_of files.now.copies.now) (files_taken files.now) all.now held.now.station made)) }
 {
-    if held.cut.is_some() || !is_none_faultless(&held.faultless) {
+    if held.cut.is_some() {
         return Ok(None);
     }
     let given = held.station.partial();
+    let is_alone = is_none_faultless(&held.faultless);
+    if !is_alone && !can_be_doubted(alloc, files, given)? {
+        return Ok(None);
+    }
     let shape = given.shape().to_owned();
-    let limit = task.options.ceiling;
-    let Some(between) = carry_between(alloc, shape, files.copies, files.parts, limit)? else {
+    let bounds = SearchBounds {
+        limit: task.options.ceiling,
+        tries: task.options.tries,
+    };
+    let Some(between) = carry_between(alloc, shape, files.copies, bounds)? else {
         return Ok(None);
     };
-    let made = texts_of_judged(alloc, task, files, all, given, between)?;
+    let Some(made) = texts_of_judged(alloc, task, files, all, held, between, is_alone)? else {
+        return Ok(None);
+    };
     Ok(Some(made))
 }

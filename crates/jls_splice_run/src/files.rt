@@ -1,14 +1,18 @@
-//! The files that a search found, as bytes.
+//! The files that a search found, as bytes; and whether others have bytes that none of them has.
 
-ghost use Rattle.std.specs.Prelude.{◌≡◌, ◌-◌, ◌^◌, ◌≤◌, ◌<◌, length, IfOk, get_or, []};
+ghost use Rattle.std.specs.Prelude.{◌≡◌, ◌-◌, ◌^◌, ◌≤◌, ◌<◌, length, IfOk, get_or, [], map, option_map};
 ghost use Rattle.std.specs.List.{AllByRecursion};
 ghost use Rattle.jls_diff.specs.Parts.{Same, way};
 ghost use Rattle.jls_diff.specs.PartsOf.{bytes_of, part_of, parts_of};
 ghost use Rattle.jls_search.specs.Choices.{IsFirstWay, IsPath, IsWhole, prefix_of};
+ghost use Rattle.jls_search.specs.Files.{files_taken};
 ghost use Rattle.jls_search.specs.Search.{files_of, lists_of};
 ghost use Rattle.jls_splice_run.specs.Files as spec;
+ghost use Rattle.jls_splice_run.specs.Listing.{named_files};
 
+use crate::listing::NumberedFile;
 use jls_diff::Parts;
+use jls_search::Files;
 use std::alloc::{AllocError, Global};
 
 /// The bytes that choices make.
@@ -58,4 +62,71 @@ pub(crate) fn count_new(
         }
     }
     Ok(count)
+}
+
+/// Whether one of the files taken has these bytes. Each splice is made in memory for it, one at a time.
+fn is_taken(alloc: Global, files: &Files<'_, '_>, file: &[u8]) -> Result<bool, AllocError>
+    requires { AllByRecursion (IsWhole files.now.parts.now) (lists_of files.now.splices.now) }
+    ensures { IfOk result (λ is. is ≡ spec.is_copy (files_taken files.now) file.now) }
+{
+    if is_copy(files.copies, file) {
+        return Ok(true);
+    }
+    for place in 0..files.splices.len() {
+        let made = file_of(alloc, files.parts, &files.splices[place])?;
+        if *made == *file {
+            return Ok(true);
+        }
+    }
+    Ok(false)
+}
+
+/// Whether there is a file, and none of the files taken has its bytes.
+fn is_new(alloc: Global, files: &Files<'_, '_>, file: &Option<Vec<u8>>) -> Result<bool, AllocError>
+    requires { AllByRecursion (IsWhole files.now.parts.now) (lists_of files.now.splices.now) }
+    ensures { IfOk result (λ is. is ≡ spec.has_new (files_taken files.now) (spec.in_list (option_map (λ f. f.items) file.now))) }
+{
+    match file {
+        Some(file) => {
+            let taken = is_taken(alloc, files, file)?;
+            Ok(!taken)
+        }
+        None => Ok(false),
+    }
+}
+
+/// Whether some of these files have bytes that none of the files taken has.
+fn has_new(
+    alloc: Global,
+    files: &Files<'_, '_>,
+    numbered: &[NumberedFile],
+) -> Result<bool, AllocError>
+    requires { AllByRecursion (IsWhole files.now.parts.now) (lists_of files.now.splices.now) }
+    ensures { IfOk result (λ has. has ≡ spec.has_new (files_taken files.now) (map (λ f. f.bytes) (named_files numbered.now))) }
+{
+    for file in numbered {
+        let taken = is_taken(alloc, files, &file.bytes)?;
+        if !taken {
+            return Ok(true);
+        }
+    }
+    Ok(false)
+}
+
+/// Whether EOI was added to the single file or to one that has a number: none of the files taken has its bytes.
+pub(crate) fn is_eoi_added(
+    alloc: Global,
+    files: &Files<'_, '_>,
+    single: &Option<Vec<u8>>,
+    numbered: &[NumberedFile],
+) -> Result<bool, AllocError>
+    requires { AllByRecursion (IsWhole files.now.parts.now) (lists_of files.now.splices.now) }
+    ensures { IfOk result (λ is. is ≡ spec.is_eoi_added (files_taken files.now) (option_map (λ f. f.items) single.now)
+        (named_files numbered.now)) }
+{
+    let is_single_new = is_new(alloc, files, single)?;
+    if is_single_new {
+        return Ok(true);
+    }
+    has_new(alloc, files, numbered)
 }

@@ -61,6 +61,8 @@ pub struct SearchReport {
     pub before: Option<CutEnd>,
     /// How many files have no fault, if they were asked for.
     pub files: Option<usize>,
+    /// Whether EOI was added to a file that is handed out.
+    pub is_eoi_added: bool,
     /// Whether a single file was asked for, and there is none.
     pub lacks_single_file: bool,
     /// Which promise holds.

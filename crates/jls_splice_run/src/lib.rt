@@ -7,6 +7,7 @@
 //! - `carried`, `coding_lines`: what is made of what copies in several codings give each other; its lines
 //! - `reading_as`: whether mended files read as the picture that is handed out
 //! - `files`, `single`, `listing`: the files that were found, as bytes; the single one without a fault; all of these with their names
+//! - `completing`: files that are completed by EOI
 //! - `printed_lines`, `noting`: the lines that are printed; those on the fault output, where OUT is standard output
 //! - `handing`: the events that hand out all
 //! - `options`, `searching`: how a search is made; a search that goes on 64 tries at a time, and tells how far it is
@@ -17,9 +18,9 @@
 //! - `hosted`: the program as `run_program` of jls_host runs it
 //! - `printing`: the lines on the fault output that this program alone has
 //!
-//! Definitions: `Tasks`, `Copies`, `Making`, `Carrying`, `ReadsAs`, `Single`, `Files`, `Listing`, `Handing`, `Runs`; `Limits`, `Telling`;
-//! `Differences`, `Lines`, `CodingLines`; `FaultLines`. `PrintedLineExamples` of `proofs/` has each line, and all lines of three runs, worked
-//! by hand. What came of a run, why it stopped, its exit status and its fault line are in jls_cli.
+//! Definitions: `Tasks`, `Copies`, `Making`, `Carrying`, `ReadsAs`, `Completing`, `Single`, `Files`, `Listing`, `Handing`, `Runs`;
+//! `Limits`, `Telling`; `Differences`, `Lines`, `CodingLines`; `FaultLines`. `PrintedLineExamples` of `proofs/` has each line, and all lines
+//! of three runs, worked by hand. What came of a run, why it stopped, its exit status and its fault line are in jls_cli.
 //!
 //! Not proved:
 //!
@@ -31,6 +32,7 @@
 
 mod carried;
 mod coding_lines;
+mod completing;
 mod copies;
 mod differences;
 mod files;

@@ -19,11 +19,11 @@ ghost use Rattle.jls_splice_run.specs.Telling.{IsTold};
 use crate::options::SearchOptions;
 use crate::searching::search_once;
 use crate::shallow::{CutLimit, shallow_limit};
-use jls_diff::{Parts, find_finer_parts, find_parts};
+use jls_diff::{Parts, find_finer_parts, find_parts, one_part};
 use jls_io::Sink;
 use jls_search::{
-    FoundSplices, LevelRules, Searched, are_of_one_coding, are_short, complete_by_groups,
-    parts_can_be_searched,
+    FoundSplices, LevelRules, Searched, are_of_one_coding, are_short,
+    are_surely_of_several_codings, complete_by_groups, parts_can_be_searched,
 };
 use std::alloc::{AllocError, Global};
 
@@ -311,6 +311,18 @@ fn search_finer<'a, E: Sink>(
     Ok(new)
 }
 
+/// The parts of copies over which their splices are searched. If the copies surely are of several codings, a mix of their bytes is no
+/// file, though it may decode. Then all is one part, so that each copy is tried as it is.
+fn parts_to_search<'a>(alloc: Global, copies: &[&'a [u8]]) -> Result<Parts<'a>, AllocError>
+    ensures { IfOk result (λ parts. AreParts (bytes_of copies.now) parts) }
+{
+    let parts = find_parts(alloc, copies)?;
+    if are_surely_of_several_codings(alloc, copies, &parts)? {
+        return one_part(alloc, copies);
+    }
+    Ok(parts)
+}
+
 /// Finds the parts of copies and makes all searches over them, and over finer ones if these find no file.
 fn search_copies<'a, E: Sink>(
     alloc: Global,
@@ -324,7 +336,7 @@ fn search_copies<'a, E: Sink>(
     ensures counts { IfOk result (λ new. IsCounting options.ceiling new.parts new.all) }
     ensures told { GrewBy (IsTold options.tells) (E.history faults.old) (E.history faults.new) }
 {
-    let parts = find_parts(alloc, copies)?;
+    let parts = parts_to_search(alloc, copies)?;
     let before = search_over(alloc, copies, parts, options, faults)?;
     search_finer(alloc, copies, before, options, faults)
 }
@@ -371,6 +383,8 @@ fn limit_of_cut(
 /// file is to be sought where it found nothing, unless the copies are of several codings.
 ///
 /// If no search found a file, all are made once more over finer parts. If these find one, the finer parts stand in place of the first.
+///
+/// Copies that surely are of several codings are tried as they are, in one part.
 ///
 /// With `options.tells` each search of whole files prints a line after every 64 tries, and one at its end. A write that fails is ignored.
 /// `Err` comes where memory is refused, and where copies are longer than `are_short` of jls_search allows.

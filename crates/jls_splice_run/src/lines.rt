@@ -2,9 +2,9 @@
 
 ghost use Rattle.std.specs.Prelude.{◌≡◌, ◌++◌, codes, decimal, OnOk, take};
 ghost use Rattle.std.specs.List.{flat_map};
-ghost use Rattle.jls_splice_run.specs.Lines.{before_line, differ_line, differ_lines, files_line, found_text, groups_end as spec_groups_end};
-ghost use Rattle.jls_splice_run.specs.Lines.{groups_line, held_line, limit_line, more_line, outcome_lines, progress_line};
-ghost use Rattle.jls_splice_run.specs.Lines.{promise_line, samples_end};
+ghost use Rattle.jls_splice_run.specs.Lines.{before_line, differ_line, differ_lines, eoi_line, files_line, found_text};
+ghost use Rattle.jls_splice_run.specs.Lines.{groups_end as spec_groups_end, groups_line, held_line, limit_line, more_line};
+ghost use Rattle.jls_splice_run.specs.Lines.{outcome_lines, progress_line, promise_line, samples_end};
 ghost use Rattle.jls_splice_run.specs.Lines.{search_lines, single_line, splices_line, used_up_line};
 
 use crate::differences::Difference;
@@ -201,6 +201,16 @@ fn put_files(out: &mut Vec<u8>, files: Option<usize>) -> Result<(), AllocError>
     Ok(())
 }
 
+/// Appends that EOI was added to a file that is handed out, if it was.
+fn put_eoi(out: &mut Vec<u8>, is_eoi_added: bool) -> Result<(), AllocError>
+    ensures { OnOk result (out.new.items ≡ out.old.items ++ eoi_line is_eoi_added) }
+{
+    if is_eoi_added {
+        out.extend_from_slice(b"eoi added\n")?;
+    }
+    Ok(())
+}
+
 /// Appends that there is no single file, if one was asked for.
 fn put_single(out: &mut Vec<u8>, lacks_single_file: bool) -> Result<(), AllocError>
     ensures { OnOk result (out.new.items ≡ out.old.items ++ single_line lacks_single_file) }
@@ -227,6 +237,7 @@ pub(crate) fn put_outcome(out: &mut Vec<u8>, report: &SearchReport) -> Result<()
 {
     put_before(out, report.before)?;
     put_files(out, report.files)?;
+    put_eoi(out, report.is_eoi_added)?;
     put_single(out, report.lacks_single_file)?;
     put_promise(out, report.promise)
 }

@@ -1,4 +1,4 @@
-//! The files without a fault, each once, with the names that they get.
+//! The files without a fault, completed by EOI, each once, with the names that they get.
 
 ghost use Rattle.std.specs.Prelude.{◌≡◌, ◌↔◌, ◌++◌, ◌∷◌, [], ℕ, List, IfOk, OnOk, IsTrue};
 ghost use Rattle.std.specs.List.{AllByRecursion};
@@ -10,6 +10,7 @@ ghost use Rattle.jls_search.specs.Faultless.{IsFaultless};
 ghost use Rattle.jls_search.specs.Files.{AreVerdicts, files_taken, splices_found};
 ghost use Rattle.jls_splice_run.specs.Listing.{AreNamed, IsNumbered, is_named, named_files, numbered};
 
+use crate::completing::completed;
 use crate::files::file_of;
 use jls_search::Files;
 use std::alloc::{AllocError, Global};
@@ -24,7 +25,7 @@ pub(crate) struct Naming<'a> {
     pub(crate) most: usize,
 }
 
-/// A file without a fault, and the name that it gets.
+/// A file without a fault, completed by EOI, and the name that it gets.
 #[derive(Drop)]
 pub struct NumberedFile {
     pub name: String,
@@ -63,7 +64,8 @@ fn has_name(named: &[NumberedFile], file: &[u8]) -> bool
     false
 }
 
-/// One file more, with the verdict on it. It gets a name if it has no fault, and has none yet, and fewer than may have one do.
+/// One file more, with the verdict on it. It is completed by EOI. It gets a name if it has no fault, and has none yet, and fewer than may
+/// have one do.
 fn name_file(
     alloc: Global,
     naming: Naming<'_>,
@@ -75,18 +77,22 @@ fn name_file(
     ensures { OnOk result ((files : List (List ℕ)) → AreNamed naming.entry.most naming.entry.prefix.now files (named_files named.old.items)
         → AreNamed naming.entry.most naming.entry.prefix.now (files ++ file.now ∷ []) (named_files named.new.items)) }
 {
-    if named.len() >= naming.most || has_name(named, file) {
+    if named.len() >= naming.most {
         return Ok(());
     }
-    if faultless {
-        let name = numbered_name(alloc, naming.prefix, named.len() as u64 + 1)?;
-        let bytes = Vec::from_slice(alloc, file)?;
-        named.push(NumberedFile { name, bytes })?;
+    if !faultless {
+        return Ok(());
     }
+    let bytes = completed(alloc, file)?;
+    if has_name(named, &bytes) {
+        return Ok(());
+    }
+    let name = numbered_name(alloc, naming.prefix, named.len() as u64 + 1)?;
+    named.push(NumberedFile { name, bytes })?;
     Ok(())
 }
 
-/// The copies without a fault, by the verdict on each.
+/// The copies without a fault, by the verdict on each, completed by EOI.
 fn name_copies(
     alloc: Global,
     naming: Naming<'_>,
@@ -103,7 +109,7 @@ fn name_copies(
     Ok(named)
 }
 
-/// The splices without a fault, after those that have a name. Each splice is made in memory for it, one at a time.
+/// The splices without a fault, completed by EOI, after those that have a name. Each splice is made in memory for it, one at a time.
 fn name_splices(
     alloc: Global,
     naming: Naming<'_>,
@@ -124,7 +130,7 @@ fn name_splices(
     Ok(())
 }
 
-/// Of the files taken those without a fault, by the verdict on each: each once, until so many have a name.
+/// Of the files taken those without a fault, by the verdict on each, completed by EOI: each once, until so many have a name.
 pub(crate) fn name_files(
     alloc: Global,
     naming: Naming<'_>,

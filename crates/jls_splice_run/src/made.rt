@@ -27,7 +27,7 @@ ghost use Rattle.jls_splice_run.specs.Tasks.{task_of};
 use crate::carried::carried_texts;
 use crate::copies::slices_of;
 use crate::differences::offset_at;
-use crate::files::count_new;
+use crate::files::{count_new, is_eoi_added};
 use crate::found::{CutEnd, GroupSearch, Promise, SearchReport};
 use crate::limits::{FoundInTurn, search_and_tell};
 use crate::listing::{MOST_NAMED, Naming, NumberedFile, name_files};
@@ -51,9 +51,9 @@ pub struct Made {
     pub notes: Vec<u8>,
     /// The text of the partial picture.
     pub text: Vec<u8>,
-    /// The single file without a fault, if one is asked for and there is one.
+    /// The single file without a fault, completed by EOI, if one is asked for and there is one.
     pub file: Option<Vec<u8>>,
-    /// The files without a fault, with their names, if they are asked for.
+    /// The files without a fault, completed by EOI, with their names, if they are asked for.
     pub files: Vec<NumberedFile>,
     /// Which promise is printed.
     pub promise: Promise,
@@ -111,7 +111,7 @@ pub(crate) fn lacks_file(name: Option<&str>, file: &Option<Vec<u8>>) -> bool
 }
 
 /// The files without a fault, with their names, if what these begin with is given.
-fn files_asked(
+pub(crate) fn files_asked(
     alloc: Global,
     prefix: Option<&str>,
     files: &Files<'_, '_>,
@@ -221,6 +221,7 @@ fn texts_of(
     let file = file_asked(alloc, task.options.file, files, verdicts)?;
     let numbered = files_asked(alloc, task.options.files, files, verdicts)?;
     let splices = count_new(alloc, files.copies, files.parts, files.splices)?;
+    let is_added = is_eoi_added(alloc, files, &file, &numbered)?;
     let promise = promise_of(found, settled);
     let report = SearchReport {
         splices,
@@ -229,6 +230,7 @@ fn texts_of(
         by_groups: groups_reported(found.by_groups),
         before: cut_end(all, &held.cut),
         files: files_reported(task.options.files, &numbered),
+        is_eoi_added: is_added,
         lacks_single_file: lacks_file(task.options.file, &file),
         promise,
     };
@@ -261,7 +263,7 @@ fn search_options(task: &Task<'_, '_>) -> SearchOptions
 }
 
 /// What is made of the copies of a task. The search tells how far it is, if that is asked for. Where no file taken is without a fault,
-/// copies of several codings give each other lines.
+/// copies of several codings give each other lines. These may also speak against a file that is.
 pub(crate) fn make<'a, E: Sink>(
     alloc: Global,
     task: &Task<'_, 'a>,

@@ -1,4 +1,4 @@
-//! The single file without a fault.
+//! The single file without a fault, completed by EOI.
 
 ghost use Rattle.std.specs.Prelude.{IfOk, option_map};
 ghost use Rattle.std.specs.List.{AllByRecursion};
@@ -18,8 +18,8 @@ const LISTED: Naming<'static> = Naming {
     most: 2,
 };
 
-/// The bytes of the file without a fault, where exactly one of the files taken has none, by the verdict on each. Files of the same bytes
-/// are one.
+/// The bytes of the file without a fault, completed by EOI, where exactly one of the files taken has none, by the verdict on each. Files
+/// that are equal when they are completed are one.
 pub(crate) fn single_file(
     alloc: Global,
     files: &Files<'_, '_>,

@@ -300,7 +300,7 @@ fn picture_of(name: &str) -> Option<Picture> {
             begin: 4,
             ..OF_EIGHT
         }),
-        "narrow" => Some(Picture {
+        "narrow" | "reset" | "fives" | "tens" => Some(Picture {
             values: 32,
             begin: 5,
             ..OF_EIGHT

@@ -41,6 +41,7 @@ fn one_byte_differs(rt: HostRuntime) -> Result<(), Fail> {
                 limit: Some(4095),
             }),
             files: Some(12),
+            is_eoi_added: true,
             lacks_single_file: true,
             promise: Promise::Lines,
         },
@@ -52,6 +53,7 @@ limit 2896
 by groups 1, tries used up
 before 4321, samples up to 4095
 files 12
+eoi added
 no single file
 promise lines
 4096 tries, 3 files
@@ -81,6 +83,7 @@ fn many_places_differ(rt: HostRuntime) -> Result<(), Fail> {
             by_groups: None,
             before: None,
             files: None,
+            is_eoi_added: false,
             lacks_single_file: false,
             promise: Promise::Lines,
         },

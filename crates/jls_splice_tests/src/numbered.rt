@@ -23,7 +23,7 @@ struct Row {
     reported: &'static str,
 }
 
-const ROWS: [Row; 10] = [
+const ROWS: [Row; 15] = [
     Row {
         file: "eight",
         copies: "100+8=0 / 400+8=0",
@@ -53,6 +53,36 @@ const ROWS: [Row; 10] = [
         numbered: &["other", "eight"],
         count: 2,
         reported: "no single file",
+    },
+    Row {
+        file: "eight",
+        copies: "100+8=0 684+2=lost / 400+8=0 684+2=lost",
+        words: "--files NAME OUT 1 2",
+        prefix: "NAME",
+        status: 0,
+        numbered: &["eight"],
+        count: 1,
+        reported: "eoi added",
+    },
+    Row {
+        file: "eight",
+        copies: "684+2=lost / 685+1=lost / whole",
+        words: "--files NAME OUT 1 2 3",
+        prefix: "NAME",
+        status: 0,
+        numbered: &["eight"],
+        count: 1,
+        reported: "files 1",
+    },
+    Row {
+        file: "eight",
+        copies: "685+1=lost / other",
+        words: "--files NAME OUT 1 2",
+        prefix: "NAME",
+        status: 1,
+        numbered: &["eight", "other"],
+        count: 2,
+        reported: "files 2",
     },
     Row {
         file: "eight",
@@ -113,6 +143,26 @@ const ROWS: [Row; 10] = [
         numbered: &["eight"],
         count: 1,
         reported: "jls-splice: files 1",
+    },
+    Row {
+        file: "fives",
+        copies: "445+8=0 / tens 355+8=0",
+        words: "--files NAME OUT 1 2",
+        prefix: "NAME",
+        status: 0,
+        numbered: &["fives", "tens"],
+        count: 2,
+        reported: "files 2",
+    },
+    Row {
+        file: "fives",
+        copies: "other 60+8=0 / tens 355+8=0 / 445+8=0",
+        words: "--files NAME OUT 1 2 3",
+        prefix: "NAME",
+        status: 1,
+        numbered: &["tens", "fives"],
+        count: 2,
+        reported: "copy 1 agrees with no other",
     },
     Row {
         file: "sixteen",

@@ -12,7 +12,9 @@ use std::test::Fail;
 
 /// What stands in a row after its name: the file; what is damaged in each copy; the words after the program's name, where `1..65` are the
 /// numbers from 1 to 65; the status; the picture that OUT is to be, or `other` where it is to be none of them, or `nothing` where no output
-/// is created; and a line that is printed.
+/// is created; and lines that are printed, with ` | ` between them.
+///
+/// Where a copy differs from its mended file was counted in the files, and in the damage: a byte that is 0 by itself doesn't differ.
 ///
 /// How often a search of levels tries is counted by hand: at each place, each path that lives goes on by both ways. In *three intervals*
 /// each wrong way ends with its interval, so there are 2 tries at each of 3 places. In the rows of `deep` nothing dies without a limit, so
@@ -54,12 +56,38 @@ where all differ, and a flipped bit of the restart interval: restarts: 20+1=6 45
 before 140
 where all differ, and a zeroed header: eight: 0+25=0 100+8=0 300+8=0 / 200+8=0 300+8=85: OUT 1 2: 1 other: before 300
 two codings, and no other way to a line: narrow: 70+8=0 / reset 40+8=0: OUT 1 2: 1 other: missing 1 0-19
-two codings, with intervals: fives: 445+8=0 / tens 355+8=0: OUT 1 2: 0 narrow: coding 2, copies 2
+two codings, with intervals: fives: 445+8=0 / tens 355+8=0: OUT 1 2: 0 narrow: \
+coding 1, copies 1 | coding 2, copies 2 | copy 1 differs 446 7 7 | copy 2 differs 355 8 8
 a promise of two codings: fives: 445+8=0 / tens 355+8=0: OUT 1 2: 0 narrow: \
 promise picture if copies of one coding are of one file of it, true outside of their differs, there as long as printed, \
 with the marker segments of the mended file
-two codings, and a limit that is too low: fives: 445+8=0 / tens 355+8=0: --max 1 OUT 1 2: 1 other: promise lines
-two codings, and an empty copy: fives: 445+8=0 / tens 355+8=0 / 0+999=lost: OUT 1 2 3: 0 narrow: copy 3 left out
+two codings, on standard error: fives: 445+8=0 / tens 355+8=0: - 1 2: 0 narrow: \
+jls-splice: coding 1, copies 1 | jls-splice: coding 2, copies 2 | jls-splice: copy 1 differs 446 7 7 | jls-splice: copy 2 differs 355 8 8
+two codings, and a limit that fits: fives: 445+8=0 / tens 355+8=0: --max 31 OUT 1 2: 0 narrow: coding 2, copies 2
+two codings, and a limit that is too low: fives: 445+8=0 / tens 355+8=0: --max 30 OUT 1 2: 1 other: \
+copy 1 left out | copy 2 left out | promise lines
+two codings, and an empty copy: fives: 445+8=0 / tens 355+8=0 / 0+999=lost: OUT 1 2 3: 0 narrow: \
+coding 1, copies 1 | coding 2, copies 2 | copy 3 left out
+two codings, and a copy of another size: fives: 445+8=0 / tens 355+8=0 / sixteen 80+8=0: OUT 1 2 3: 0 narrow: \
+coding 1, copies 1 | coding 2, copies 2 | copy 3 left out
+a copy of another size, and two codings: fives: sixteen 80+8=0 / 445+8=0 / tens 355+8=0: OUT 1 2 3: 1 other: \
+copy 1 agrees with no other | copy 2 left out | copy 3 left out | promise lines
+three codings: fives: 445+8=0 / tens 355+8=0 / reset 100+8=0: OUT 1 2 3: 0 narrow: coding 1, copies 1 | coding 2, copies 2 | \
+coding 3, copies 3 | copy 1 differs 446 7 7 | copy 2 differs 355 8 8 | copy 3 differs 100 8 8
+two codings, one of two copies: fives: 445+8=0 / tens 355+8=0 / 447+4=85: OUT 1 2 3: 0 narrow: coding 1, copies 1 3 | \
+coding 2, copies 2 | copy 1 differs 446 7 7 | copy 3 differs 447 4 4 | copy 2 differs 355 8 8
+two codings, and another picture: fives: 445+8=0 / tens 355+8=0 / other 60+8=0: OUT 1 2 3: 1 narrow: coding 1, copies 1 | \
+coding 2, copies 2 | copy 3 agrees with no other | copy 1 differs 446 7 7 | copy 2 differs 355 8 8 | promise lines
+another picture, and two codings: fives: other 60+8=0 / 445+8=0 / tens 355+8=0: OUT 1 2 3: 1 narrow: coding 1, copies 2 | \
+coding 2, copies 3 | copy 1 agrees with no other | copy 2 differs 446 7 7 | copy 3 differs 355 8 8 | promise lines
+two codings, and two other pictures: fives: 445+8=0 / tens 355+8=0 / other 40+8=0 / eight 200+8=0: OUT 1 2 3 4: 1 narrow: \
+copy 3 agrees with no other | copy 4 agrees with no other | promise lines
+two pictures, in two codings: fives: 445+8=0 / eight 60+8=0: OUT 1 2: 1 other: \
+copy 1 agrees with no other | copy 2 agrees with no other | promise lines
+an undamaged copy of another coding: narrow: reset / 70+8=0: OUT 1 2: 0 narrow: splices 0
+an undamaged copy of another coding, last: narrow: 70+8=0 / reset: OUT 1 2: 0 narrow: splices 0
+the mended file of two codings: fives: 445+8=0 / tens 355+8=0: --file NAME OUT 1 2: 0 fives: coding 1, copies 1
+no mended file beside another picture: fives: 445+8=0 / tens 355+8=0 / other 60+8=0: --file NAME OUT 1 2 3: 1 narrow: no single file
 a height that no scan follows: fives: 8+1=3 21+2=0 445+8=85 / 445+8=0 / tens 355+8=0: OUT 1 2 3: 1 other: promise lines
 three copies of two codings: narrow: 70+8=0 / reset 40+8=0 / narrow 200+8=0: OUT 1 2 3: 0 narrow: splices 1
 one try: eight: 100+8=0 / 400+8=0: --tries 1 OUT 1 2: 1 other: before 100
@@ -115,6 +143,12 @@ two shapes: eight: whole / restarts: OUT 1 2: 3 nothing: jls-splice: 2: shape di
 nothing in common, and one has a fault: eight: 300+8=0 / scans: OUT 1 2: 0 scans: splices 0
 not there: eight: whole / whole: OUT 1 3: 4 nothing: jls-splice: 3: cannot be opened
 the mended file: eight: 100+8=0 / 400+8=0: --file NAME OUT 1 2: 0 eight: splices 1
+the mended file, of copies without EOI: eight: 100+8=0 684+2=lost / 400+8=0 684+2=lost: --file NAME OUT 1 2: 0 eight: eoi added
+the mended file, of copies that end within EOI: eight: 100+8=0 685+1=lost / 400+8=0 685+1=lost: --file NAME OUT 1 2: 0 eight: eoi added
+the mended file, of copies of which one has EOI: eight: 100+8=0 684+2=lost / 400+8=0: --file NAME OUT 1 2: 0 eight: splices 2
+the mended file, of copies with and within EOI: eight: 100+8=0 685+1=lost / 400+8=0: --file NAME OUT 1 2: 0 eight: splices 2
+a copy without EOI: eight: 684+2=lost / 684+2=lost: --file NAME OUT 1 2: 0 eight: eoi added
+copies without EOI and no file asked for: eight: 100+8=0 684+2=lost / 400+8=0 684+2=lost: OUT 1 2: 0 eight: splices 1
 the mended file at OUT: eight: 100+8=0 / 400+8=0: --file OUT OUT 1 2: 2 nothing: jls-splice: OUT: is named as OUT and by --file
 the mended file without a promise: eight: 100+8=0 / 400+8=0: --file NAME --max 254 OUT 1 2: 1 eight: promise lines
 no mended file: eight: 300+8=0 / 300+8=85: --file NAME OUT 1 2: 1 other: no single file
@@ -197,9 +231,14 @@ pub(crate) fn has_line(text: &[u8], line: &str) -> bool {
     }
 }
 
-/// Whether the line of a row is printed.
+/// Whether each line of a row is printed.
 fn is_reported(row: Row<'_>, ending: &Ending) -> bool {
-    has_line(&ending.report, row.reported) || has_line(&ending.faults, row.reported)
+    for line in row.reported.split(" | ") {
+        if !has_line(&ending.report, line) && !has_line(&ending.faults, line) {
+            return false;
+        }
+    }
+    true
 }
 
 /// Whether OUT is as the row says.

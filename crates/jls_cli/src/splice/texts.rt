@@ -9,6 +9,9 @@ them has what one of them has there. The program takes the COPYs, and each splic
 writes all their readings to OUT: a partial picture, as jls-salvage join writes it. The program neither
 guesses nor chooses: if two readings of a line differ, the line is disputed.
 
+COPYs of one picture in different codings have hardly a byte in common: with other thresholds, restart
+intervals or scans, or with 12 bits in 16. Then lines that one gives mend the others.
+
 It prints
   differ OFFSET LENGTH, for each place where the copies differ, as the first COPY has it
   differ more N, if there are more than 4,096 such places: N of them are not listed
@@ -19,10 +22,17 @@ It prints
     with ', tries used up' after it if that search was cut off
   before OFFSET, if no file decodes whole: up to there in the first COPY one prefix alone fits, and OUT has
     its lines; with ', samples up to N' after it if files with samples above N were left aside
-  files N, if --files was given: N files that decode whole are written, at most 64
-  no single file, if --file was given and not exactly one file decodes whole
+  files N, if --files was given: N files are written, at most 64
+  no single file, if --file was given and writes nothing
+  eoi added, if a file that --file or --files writes ended without the marker EOI, and got it
+  coding N, copies NUMBERS, if there are several codings, for each of them: its copies, counted from 1
+  copy N left out, if its headers don't read, and copy N agrees with no other, if its lines are nobody's
+  copy N differs OFFSET LENGTH NEW, for each place where its mended file has NEW bytes for LENGTH of it
+  copy N differs more COUNT, if there are more than 4,096 such places: COUNT of them are not listed
   promise picture if the true file has what one copy has at each differ, and what all have elsewhere:
     if that is so, OUT is its picture; with ' and samples are up to N' after it, if that is so too
+  promise picture if copies of one coding are of one file of it, true outside of their differs, there as
+    long as printed, with the marker segments of the mended file: if that is so, OUT is that picture
   promise lines, if no picture is promised: lines are missing or disputed, or not all splices were tried
 and then what jls-salvage show prints for OUT. If OUT is -, only the text of OUT is printed, and standard
 error has the lines from splices to promise.
@@ -54,10 +64,10 @@ pub(crate) const PROGRESS_HELP: &str =
     "Prints on standard error how much was tried, after 64 tries or more";
 
 pub(crate) const FILE_HELP: &str =
-    "The file to write if exactly one file decodes whole: that file, byte for byte";
+    "The file to write if exactly one file decodes whole, or the first mended file if that is promised";
 
 pub(crate) const FILES_HELP: &str =
-    "What the names PREFIX-1, PREFIX-2, .. begin with: each file that decodes whole, at most 64";
+    "What the names PREFIX-1, PREFIX-2, .. begin with: each file that decodes or is mended, at most 64";
 
 pub(crate) const OUT_HELP: &str =
     "The partial picture to write, created or replaced after the search; - is standard output";

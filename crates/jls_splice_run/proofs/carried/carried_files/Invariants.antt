@@ -1,8 +1,8 @@
-use Rattle.std.proofs.Common.{◌≡◌, map, take}
+use Rattle.std.proofs.Common.{map, take}
 use Rattle.jls_held.specs.Mending.{file_of}
 use Rattle.jls_splice_run.specs.Carrying.{numbered_from}
-use Rattle.jls_splice_run.specs.Listing.{named_files}
+use Rattle.jls_splice_run.specs.Listing.{AreCompleted, named_files}
 use Rattle.jls_splice_run.proofs.carried.carried_files.Given as goal
 
 abbrev pub invariant-loop-place : goal.invariant-loop-place
-invariant-loop-place l = named_files l.named.items ≡ numbered_from l.prefix 1 (map file_of (take l.place l.files))
+invariant-loop-place l = AreCompleted (numbered_from l.prefix 1 (map file_of (take l.place l.files))) (named_files l.named.items)

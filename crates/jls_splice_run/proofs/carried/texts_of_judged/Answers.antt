@@ -1,4 +1,4 @@
-use Rattle.std.proofs.Common.{◌≡◌, ℕ, ◌<◌, List, [], ◌++◌, Vec, Global, Bor, None, drop, length, map, ap, refl, sym, ◌∙◌, subst, arith}
+use Rattle.std.proofs.Common.{◌≡◌, ℕ, ◌<◌, true, false, List, [], ◌++◌, Vec, Global, Bor, Option, None, drop, length, map, ap, refl, sym, ◌∙◌, subst, arith}
 use Rattle.std.specs.Prelude.{◌↔◌, ◌^◌, IsTrue, codes, option_map, if◌then◌else◌}
 use Rattle.std.specs.Str.{bytes_eq}
 use Rattle.jls_diff.specs.PartsOf.{bytes_of}
@@ -6,6 +6,7 @@ use Rattle.jls_diff.proofs.Slices.{count_of_slices}
 use Rattle.jls_report.specs.Report.{report_of}
 use Rattle.jls_report.specs.ReportText.{report_text}
 use Rattle.jls_search.specs.Search.{lists_of}
+use Rattle.jls_search.specs.Files.{files_taken}
 use Rattle.jls_search.specs.Found.{found_of, splices_in}
 use Rattle.jls_held.specs.Judging.{codings_of}
 use Rattle.jls_held.specs.Mending.{file_of}
@@ -18,14 +19,17 @@ use Rattle.jls_partial.specs.Text.{text}
 use Rattle.jls_splice_run.specs.Carrying.{carried_file, carried_files, promise_for}
 use Rattle.jls_splice_run.specs.CodingLines.{carried_noted_text, carried_text}
 use Rattle.jls_splice_run.specs.Differences.{differences}
-use Rattle.jls_splice_run.specs.Files.{count_new}
-use Rattle.jls_splice_run.specs.Listing.{named_file, named_files}
-use Rattle.jls_splice_run.specs.Making.{files_reported, groups_reported, lacks_single, limit_reported}
+use Rattle.jls_splice_run.specs.Completing.{IsCompletedIn}
+use Rattle.jls_splice_run.specs.Files.{count_new, is_eoi_added}
+use Rattle.jls_splice_run.specs.Listing.{AreCompleted, named_file, named_files}
+use Rattle.jls_splice_run.specs.Making.{files_held, files_reported, groups_reported, lacks_single, limit_reported}
 use Rattle.jls_splice_run.specs.ReadsAs.{EachReadsAs}
 use Rattle.jls_splice_run.specs.declared.found.SearchReport.{SearchReport}
 use Rattle.jls_splice_run.proofs.CarriedCopies.{are_printed, carried_file_maps}
 use Rattle.jls_splice_run.proofs.MakingLemmas.{lacks_maps, reported_maps}
 use Rattle.jls_splice_run.proofs.carried.texts_of_judged.Goals as goal
+use Rattle.jls_splice_run.proofs.carried.texts_of_judged.Goals.{else-not-is_alone-via-then-not-is_alone+else-is_settled}
+use Rattle.jls_splice_run.proofs.carried.texts_of_judged.Goals.{else-not-is_alone-via-else-not-is_alone}
 
 pub lines_of_carried-requires-clause-numbers : goal.lines_of_carried-requires-clause-numbers
 lines_of_carried-requires-clause-numbers c =
@@ -33,7 +37,7 @@ lines_of_carried-requires-clause-numbers c =
     let judged = c.args.between.judged in
     let counted = count_of_slices slices in
     let few : length (bytes_of slices) < 2 ^ 64 = omega (arith, counted, c.count_copies-count.ensures, c.count_copies-count.type_inv) in
-    subst (λ (codings : List (Vec EditedCopy Global)). HavePrintedNumbers (codings_of codings)) (sym c.deref-7.ensures.value)
+    subst (λ (codings : List (Vec EditedCopy Global)). HavePrintedNumbers (codings_of codings)) (sym c.deref-9.ensures.value)
     (are_printed (bytes_of slices) few (codings_of judged.codings.items) (map file_of judged.files.items) c.requires.mended)
 
 pub notes_of_carried-requires : goal.notes_of_carried-requires
@@ -42,7 +46,7 @@ notes_of_carried-requires c =
     let judged = c.args.between.judged in
     let counted = count_of_slices slices in
     let few : length (bytes_of slices) < 2 ^ 64 = omega (arith, counted, c.count_copies-count.ensures, c.count_copies-count.type_inv) in
-    subst (λ (codings : List (Vec EditedCopy Global)). HavePrintedNumbers (codings_of codings)) (sym c.deref-9.ensures.value)
+    subst (λ (codings : List (Vec EditedCopy Global)). HavePrintedNumbers (codings_of codings)) (sym c.deref-11.ensures.value)
     (are_printed (bytes_of slices) few (codings_of judged.codings.items) (map file_of judged.files.items) c.requires.mended)
 
 pub returns : goal.returns
@@ -61,7 +65,8 @@ returns c =
     let is_held = c.is_settled-is_held.result in
     let are_read = c.in_ok-are_read.are_read in
     let is_settled = c.is_settled-is_settled.result in
-    let joined : c.join.new.held ≡ union judged.held c.args.given.now = c.in_ok-join.ensures in
+    let given = c.args.held.now.station in
+    let joined : c.join.new.held ≡ union judged.held given = c.in_ok-join.ensures ∙ ap (union judged.held) c.partial.ensures in
     let promise : c.carried_promise-promise.result ≡ promise_for codings strangers is_held are_read is_settled =
     c.carried_promise-promise.ensures
     ∙ (λ i. promise_for (codings_of (c.deref-2.ensures.value i)) (c.deref-3.ensures.value i) is_held are_read is_settled) in
@@ -70,11 +75,22 @@ returns c =
     let name_asked = option_map (λ (s : Bor (List ℕ)). s.now) options.file in
     let prefix_asked = option_map (λ (s : Bor (List ℕ)). s.now) options.files in
     let numbered = c.in_ok-numbered.numbered.items in
-    let is_single : single ≡ carried_file name_asked (promise_for codings strangers is_held are_read is_settled) mended =
-    c.in_ok-file.ensures ∙ (λ i. carried_file options.file (promise i) (map file_of (c.deref-4.ensures.value i)))
+    let of_first : option_map (λ (f : Vec ℕ Global). f.items) c.in_ok-mended_file.mended_file
+    ≡ carried_file name_asked (promise_for codings strangers is_held are_read is_settled) mended =
+    c.in_ok-mended_file.ensures ∙ (λ i. carried_file options.file (promise i) (map file_of (c.deref-4.ensures.value i)))
     ∙ sym (carried_file_maps (λ (s : Bor (List ℕ)). s.now) options.file (promise_for codings strangers is_held are_read is_settled) mended) in
-    let are_named : named_files numbered ≡ carried_files prefix_asked mended =
-    c.in_ok-numbered.ensures ∙ (λ i. carried_files prefix_asked (map file_of (c.deref-5.ensures.value i))) in
+    let is_single = subst (λ (o : Option (List ℕ)). IsCompletedIn o single) of_first c.in_ok-file.ensures in
+    let is_alone = c.args.is_alone in
+    let taken = files_taken c.args.files.now in
+    let all_taken : taken ≡ copies ++ splices_in (found_of found) = ap (λ (xs : List (List ℕ)). copies ++ xs) c.requires.splices in
+    let are_mended : is_alone ≡ true → AreCompleted (carried_files prefix_asked mended) (named_files numbered) =
+    λ alone. subst (λ (fs : List MendedCopy). AreCompleted (carried_files prefix_asked (map file_of fs)) (named_files numbered))
+    c.deref-5.ensures.value (c.in_ok-numbered.ensures.mended alone) in
+    let added : c.in_ok-is_added.is_added
+    ≡ is_eoi_added (files_held is_alone mended (copies ++ splices_in (found_of found))) single (named_files numbered) =
+    c.in_ok-is_added.ensures
+    ∙ (λ i. is_eoi_added (files_held is_alone (map file_of (c.deref-6.ensures.value i)) (all_taken i)) single
+    (named_files (c.deref-7.ensures.value i))) in
     let count : c.count_copies-count.result ≡ length copies = c.count_copies-count.ensures ∙ sym (count_of_slices slices) in
     let new : c.in_ok-splices.splices ≡ count_new copies (splices_in (found_of found)) =
     c.in_ok-splices.ensures ∙ ap (count_new copies) c.requires.splices in
@@ -83,7 +99,7 @@ returns c =
     let lacks : c.lacks_file.result ≡ lacks_single name_asked single =
     c.lacks_file.ensures ∙ sym (lacks_maps (λ (s : Bor (List ℕ)). s.now) (λ (f : Vec ℕ Global). f.items) options.file file) in
     let files : c.files_reported.result ≡ files_reported prefix_asked (named_files numbered) =
-    c.files_reported.ensures ∙ (λ i. files_reported options.files (c.deref-6.ensures.value i))
+    c.files_reported.ensures ∙ (λ i. files_reported options.files (c.deref-8.ensures.value i))
     ∙ sym (reported_maps (λ (s : Bor (List ℕ)). s.now) named_file options.files numbered) in
     let reported : SearchReport = record {
       splices = c.in_ok-splices.splices;
@@ -92,6 +108,7 @@ returns c =
       by_groups = c.groups_reported.result;
       before = None;
       files = c.files_reported.result;
+      is_eoi_added = c.in_ok-is_added.is_added;
       lacks_single_file = c.lacks_file.result;
       promise = c.carried_promise-promise.result;
     } in
@@ -102,6 +119,7 @@ returns c =
       by_groups = groups_reported (found_of found).by_groups;
       before = None;
       files = files_reported prefix_asked (named_files numbered);
+      is_eoi_added = is_eoi_added (files_held is_alone mended (copies ++ splices_in (found_of found))) single (named_files numbered);
       lacks_single_file = lacks_single name_asked single;
       promise = promise_for codings strangers is_held are_read is_settled;
     } =
@@ -112,6 +130,7 @@ returns c =
       by_groups = groups i;
       before = None;
       files = files i;
+      is_eoi_added = added i;
       lacks_single_file = lacks i;
       promise = promise i;
     } in
@@ -127,16 +146,20 @@ returns c =
       texts = λ lone. record {
         lines_are = c.in_ok-lines.ensures
             ∙ (λ i. if bytes_eq name (codes "-") then []
-            else carried_text (differences parts) (count i) (codings_of (c.deref-7.ensures.value i)) (c.deref-8.ensures.value i) (report i)
+            else carried_text (differences parts) (count i) (codings_of (c.deref-9.ensures.value i)) (c.deref-10.ensures.value i) (report i)
             ++ report_text (report_of (joined i)));
         notes_are = c.in_ok-notes.ensures
             ∙ (λ i. if bytes_eq name (codes "-")
-            then carried_noted_text (count i) (codings_of (c.deref-9.ensures.value i)) (c.deref-10.ensures.value i) (report i) else []);
+            then carried_noted_text (count i) (codings_of (c.deref-11.ensures.value i)) (c.deref-12.ensures.value i) (report i) else []);
         text_is = c.in_ok-text.ensures ∙ ap text joined;
         file_is = refl;
         files_are = refl;
         promise_is = promise;
       };
       single = is_single;
-      named = are_named;
+      named = (are_mended, c.in_ok-numbered.ensures.taken);
+      doubted = λ no. elim c.else-not-is_alone.branch [
+        | else-not-is_alone-via-then-not-is_alone+else-is_settled w ↦ w.if-is_settled.false
+        | else-not-is_alone-via-else-not-is_alone w ↦ absurd (let e : true ≡ false = sym w.if-not-is_alone.false ∙ no in cc)
+      ];
     }

@@ -14,7 +14,7 @@ use Rattle.jls_splice_run.specs.Limits.{KeepsLimit}
 use Rattle.jls_splice_run.specs.Telling.{IsTold}
 use Rattle.jls_splice_run.specs.Copies.{bytes_read}
 use Rattle.jls_splice_run.specs.Making.{AreTextsOf, IsCutFile, IsCutTaken, IsFoundFor, IsPictureOf, IsUnsettled}
-use Rattle.jls_splice_run.specs.Making.{IsCarriedMade, carried_made, cut_file, files_taken, made_of}
+use Rattle.jls_splice_run.specs.Making.{AreNamedOf, IsCarriedMade, carried_made, cut_file, files_taken, made_of}
 use Rattle.jls_splice_run.specs.declared.made.Made.{Made as MadeValue}
 use Rattle.jls_splice_run.specs.Carrying.{IsCarried, carried_of}
 use Rattle.jls_splice_run.specs.Listing.{AreNamedAsked, named_files}
@@ -189,7 +189,7 @@ returns-in-Ok-Some-clause-made g c =
     let cut_is : held.cut ≡ None = carrying.0 in
     let made = carrying.1 in
     let texts = made.texts in
-    let carried = carried_of made.between texts.is_held texts.are_read in
+    let carried = carried_of made.between made.is_alone texts.is_held texts.are_read in
     let searched : bytes_of c.deref.result.now ≡ copies = ap bytes_of c.deref.ensures.value ∙ c.in-Ok.ensures in
     let reported : bytes_of c.deref-2.result.now ≡ copies = ap bytes_of c.deref-2.ensures.value ∙ c.in-Ok.ensures in
     let splices : files_of found.parts (lists_of c.deref-3.result.now) ≡ splices_in f =
@@ -220,11 +220,13 @@ returns-in-Ok-Some-clause-made g c =
               reported made.is_carried),
           refl,
           texts.each_read,
+          texts.doubted,
         );
         picture_is = refl;
         settled = texts.settled;
         is_single = texts.single;
-        are_named = texts.named;
+        are_named = subst (λ (xs : List (List ℕ)). AreNamedOf a xs (Some carried) (named_files v.files.items))
+            (λ i. reported i ++ splices i) texts.named;
       },
       subst (λ (xs : List (List ℕ)). AreTextsOf a xs (carried_made all lone held.station carried texts.is_settled v) v)
           reported (texts.texts lone),

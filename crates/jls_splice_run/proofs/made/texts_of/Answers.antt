@@ -8,7 +8,7 @@ use Rattle.jls_search.specs.Files.{AreVerdicts}
 use Rattle.jls_search.specs.Files as given
 use Rattle.jls_search.specs.Search.{lists_of}
 use Rattle.jls_search.specs.Found.{found_of, splices_in}
-use Rattle.jls_splice_run.specs.Files.{count_new}
+use Rattle.jls_splice_run.specs.Files.{count_new, is_eoi_added}
 use Rattle.jls_partial.specs.Partial.{PartialPicture}
 use Rattle.jls_partial.specs.Status.{IsSettled}
 use Rattle.jls_partial.specs.Text.{text}
@@ -46,8 +46,11 @@ returns-clause-texts c = (
       c.lacks_file.ensures ∙ sym (lacks_maps (λ (s : Bor (List ℕ)). s.now) (λ (f : Vec ℕ Global). f.items) options.file file) in
       let numbered = c.in_ok-numbered.numbered.items in
       let files : c.files_reported.result ≡ files_reported (option_map (λ (s : Bor (List ℕ)). s.now) options.files) (named_files numbered) =
-      c.files_reported.ensures ∙ (λ i. files_reported options.files (c.deref.ensures.value i))
+      c.files_reported.ensures ∙ (λ i. files_reported options.files (c.deref-2.ensures.value i))
       ∙ sym (reported_maps (λ (s : Bor (List ℕ)). s.now) named_file options.files numbered) in
+      let added : c.in_ok-is_added.is_added ≡ is_eoi_added (copies ++ splices_in (found_of found)) single (named_files numbered) =
+      c.in_ok-is_added.ensures
+      ∙ (λ i. is_eoi_added (copies ++ c.requires.splices i) single (named_files (c.deref.ensures.value i))) in
       let name = c.args.task.now.out.now in
       let reported : SearchReport = record {
         splices = c.in_ok-splices.splices;
@@ -56,6 +59,7 @@ returns-clause-texts c = (
         by_groups = c.groups_reported.result;
         before = c.cut_end.result;
         files = c.files_reported.result;
+        is_eoi_added = c.in_ok-is_added.is_added;
         lacks_single_file = c.lacks_file.result;
         promise = c.promise_of-promise.result;
       } in
@@ -66,6 +70,7 @@ returns-clause-texts c = (
         by_groups = groups_reported (found_of found).by_groups;
         before = option_map (cut_end parts limit) (option_map (λ (v : Vec ℕ Global). v.items) cut);
         files = files_reported (option_map (λ (s : Bor (List ℕ)). s.now) options.files) (named_files numbered);
+        is_eoi_added = is_eoi_added (copies ++ splices_in (found_of found)) single (named_files numbered);
         lacks_single_file = lacks_single name_asked single;
         promise = promise_of found.ceiling (found_of found) c.is_settled-settled.result;
       } =
@@ -76,6 +81,7 @@ returns-clause-texts c = (
         by_groups = groups i;
         before = before i;
         files = files i;
+        is_eoi_added = added i;
         lacks_single_file = lacks i;
         promise = c.promise_of-promise.ensures i;
       } in
