@@ -1,0 +1,16 @@
+pub mod WorkedExamples
+pub mod PixelLists
+pub mod EventsApart
+pub mod RowsGrow
+pub mod CodesApart
+pub mod GrowthEnds
+pub mod PixelSteps
+pub mod ContextZero
+pub mod CellSteps
+pub mod SampleSteps
+pub mod RunReads
+pub mod PixelBegun
+pub mod EventSteps
+pub mod RowSteps
+pub mod DecodedPieces
+pub mod EventBits

@@ -1,0 +1,10 @@
+use Rattle.std.proofs.Common.{◌≡◌, ◌^◌, ◌<◌, ◌++◌}
+use Rattle.jls_bits.specs.Bits.{bits}
+use Rattle.jls_pixel.proofs.run.read_number.Given as goal
+
+abbrev pub invariant-loop-place : goal.invariant-loop-place
+invariant-loop-place l = record {
+  bits_are : l.initial.reader.left ≡ bits l._place l.value ++ l.reader.left;
+  below : l.value < 2 ^ l._place;
+  whole : l.reader.whole ≡ l.initial.reader.whole;
+}

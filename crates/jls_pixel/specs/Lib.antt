@@ -1,0 +1,16 @@
+pub mod Pixels
+pub mod Events
+pub mod Cells
+pub mod Code
+pub mod Reads
+pub mod Growth
+pub mod Laws
+pub mod Place
+pub mod After
+pub mod CodeLengths
+pub mod Reading
+pub mod RunRead
+pub mod EventRead
+pub mod InterruptionRead
+pub mod RowRead
+pub mod PieceFaults

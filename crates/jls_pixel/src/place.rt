@@ -1,0 +1,118 @@
+//! Where a row stands in its interval, and the samples round its next pixel.
+
+ghost use Rattle.std.specs.Prelude.{◌≡◌, ◌^◌, ◌<◌, ◌≤◌, length, get_or, map};
+ghost use Rattle.jls_context.specs.Mode.{is_run_mode};
+ghost use Rattle.jls_pixel.specs.Pixels.{samples_of, row_back, rows_above, component_neighbours, pixel_neighbours, is_run_pixel, run_value};
+
+use crate::pixel::Pixel;
+use jls_context::Neighbours;
+use std::convert::AsSlice;
+
+/// The sample of a component in a column. Where there is none it is 0.
+fn sample_at(row: &[Pixel], x: usize, component: usize) -> u16
+    ensures { result ≡ get_or (samples_of component row.now) x 0 }
+{
+    match row.get(x) {
+        None => 0,
+        Some(pixel) => pixel.sample(component),
+    }
+}
+
+/// The row so many places before the end of these rows, or none.
+fn row_back<L: AsSlice<Pixel>>(rows: &[L], back: usize) -> &[Pixel]
+    ensures { result.now ≡ row_back (map L.items rows.now) back }
+{
+    if rows.len() < back {
+        return &[];
+    }
+    match rows.get(rows.len() - back) {
+        None => &[],
+        Some(row) => row.as_slice(),
+    }
+}
+
+/// Where a row stands in its interval: the two rows above it, its columns, and the components of its pixels.
+#[derive(Drop)]
+pub(crate) struct Place<'a> {
+    pub width: usize,
+    pub components: usize,
+    pub row_above: &'a [Pixel],
+    pub row_two_above: &'a [Pixel],
+    ghost width_below: { width < 2 ^ 16 },
+    ghost components_at_most: { components ≤ 4 },
+}
+
+impl<'a> Place<'a> {
+    ghost use Rattle.jls_pixel.specs.Place.{above_of};
+
+    /// The place of the row that follows these rows.
+    pub(crate) fn after<L: AsSlice<Pixel>>(rows: &'a [L], width: u16, components: u8) -> Place<'a>
+        requires { components ≤ 4 }
+        ensures width { result.width ≡ width }
+        ensures components { result.components ≡ components }
+        ensures above { above_of result ≡ rows_above (map L.items rows.now) }
+    {
+        Place {
+            width: usize::from(width),
+            components: usize::from(components),
+            row_above: row_back(rows, 1),
+            row_two_above: row_back(rows, 2),
+        }
+    }
+
+    /// The samples round a component of the pixel that follows these pixels of the row.
+    pub(crate) fn neighbours(&self, row: &[Pixel], component: usize) -> Neighbours
+        requires { length row.now < self.now.width }
+        ensures { result ≡ component_neighbours self.now.width (above_of self.now) row.now component }
+    {
+        let x = row.len();
+        let rb = sample_at(self.row_above, x, component);
+        let rd = if x + 1 < self.width {
+            sample_at(self.row_above, x + 1, component)
+        } else {
+            rb
+        };
+        if x == 0 {
+            let rc = sample_at(self.row_two_above, 0, component);
+            Neighbours { ra: rb, rb, rc, rd }
+        } else {
+            let ra = sample_at(row, x - 1, component);
+            let rc = sample_at(self.row_above, x - 1, component);
+            Neighbours { ra, rb, rc, rd }
+        }
+    }
+
+    /// Whether the gradients of a component of the pixel that follows these pixels of the row are 0.
+    fn has_no_gradient(&self, row: &[Pixel], component: usize) -> bool
+        requires { length row.now < self.now.width }
+        ensures { result ≡ is_run_mode (component_neighbours self.now.width (above_of self.now) row.now component) }
+    {
+        let near = self.neighbours(row, component);
+        near.rd == near.rb && near.rb == near.rc && near.rc == near.ra
+    }
+
+    /// Whether the pixel that follows these pixels of the row is in run mode.
+    pub(crate) fn is_run(&self, row: &[Pixel]) -> bool
+        requires { length row.now < self.now.width }
+        ensures { result ≡ is_run_pixel (pixel_neighbours self.now.width (above_of self.now) row.now self.now.components) }
+    {
+        for component in 0..self.components {
+            if !self.has_no_gradient(row, component) {
+                return false;
+            }
+        }
+        true
+    }
+
+    /// The value of a run that begins or goes on at the pixel that follows these pixels of the row.
+    pub(crate) fn run_value(&self, row: &[Pixel]) -> Pixel
+        requires { length row.now < self.now.width }
+        ensures { result ≡ run_value (pixel_neighbours self.now.width (above_of self.now) row.now self.now.components) }
+    {
+        let mut value = Pixel::new();
+        for component in 0..self.components {
+            value.push(self.neighbours(row, component).ra);
+        }
+        value
+    }
+}
