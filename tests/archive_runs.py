@@ -13,6 +13,7 @@ import time
 import types
 from typing import Any, Callable, Dict, Iterator, List, Tuple
 
+import archive_cases
 from archive_cases import ARCHIVE, PROGRAMS, TOP, get, put
 
 sys.path.insert(0, os.path.join(TOP, "commands"))
@@ -20,7 +21,7 @@ sys.path.insert(0, os.path.join(TOP, "commands"))
 from jls_tools import archive_report
 from jls_tools.archive_ledger import Ledger
 from jls_tools.archive_main import Trees
-from jls_tools.archive_places import Places
+from jls_tools.archive_places import MOST_ALONE, Places
 from jls_tools.archive_progress import Progress
 from jls_tools.archive_rows import FIELDS, TITLES, Row, Store
 from jls_tools.archive_trees import kind_of
@@ -284,6 +285,13 @@ def checks_of_batches(work: str) -> Iterator[Check]:
     yield "batches: all files, then all rows", order == [*names, "write", "1-of-1.rows"]
     again = Ledger(f"{work}/batch.report/rows")
     yield "batches: the rows are there", [known.name for known in again.rows(work)] == sorted([*names, "gone"])
+    few, many = 3, MOST_ALONE + 1
+    for number in range(few + many):
+        put(f"{work}/batch/{'few' if number < few else 'many'}/{number}", b"text")
+    order = order_of(lambda: Trees.keep(job, [Row("frames", outputs=[["out", "few"], ["out", "many"]])]))
+    alone = [name for name in order if name.isdigit()]
+    is_once = len(alone) in (few, few + many)  # the latter without syncfs
+    yield "batches: a folder of many files waits for the disk once", is_once and order[-2:] == ["write", "1-of-1.rows"]
 
 
 def together(calls: List[List[str]]) -> List[Tuple[int, str]]:
@@ -322,6 +330,29 @@ def checks_of_locks(work: str) -> Iterator[Check]:
         yield f"locks: {name} that was killed leaves nothing", not left_over(f"{out}.report") and not is_alive(asleep(work))
         run.communicate()
         subprocess.run(["rm", "-r", out, f"{out}.differ", f"{out}.partial", f"{out}.report"])
+
+
+def checks_of_job_arrays(work: str) -> Iterator[Check]:
+    """Parts that run beside one another, and are killed at any time. The same calls again come to the files and rows of one run."""
+    work = f"{work}/array"
+    cases: Any = archive_cases  # a module without types
+    rng = cases.random_of(29)
+    trees = [f"{work}/a", f"{work}/b"]
+    cases.write_trees(cases.cases(rng, 24, work), trees)
+    subprocess.run([ARCHIVE, "--quiet", f"{work}/whole", *trees], env=PROGRAMS)
+    words = [[ARCHIVE, "--quiet", "--jobs", "1", "--part", f"{index}/4", f"{work}/out", *trees] for index in range(1, 5)]
+    for _ in range(3):
+        runs = [subprocess.Popen(each, env=PROGRAMS, start_new_session=True) for each in words]
+        for run in rng.sample(runs, 3):
+            time.sleep(rng.uniform(0.05, 0.4))
+            os.killpg(run.pid, signal.SIGKILL)
+        for run in runs:
+            run.wait()
+    ended = together(words)
+    yield f"job array: each part comes to its end {ended}", all(status in (0, 1) and not faults for status, faults in ended)
+    yield "job array: the same files and rows as of one run", cases.results_of(f"{work}/out") == cases.results_of(f"{work}/whole")
+    yield "job array: a file of rows for each part", len(files_of_rows(f"{work}/out")) == 4
+    yield "job array: nothing of the work stays", not left_over(f"{work}/out.report")
 
 
 def checks_of_changes(work: str) -> Iterator[Check]:
@@ -372,5 +403,5 @@ def checks_of_progress(work: str) -> Iterator[Check]:
     yield "progress: ten in ten minutes, so ninety minutes are left", progress.text() == "910 of 1000, 10 not whole, about 1:30:00 left"
 
 
-OF_RUNS = (checks_of_signals, checks_of_report, checks_of_seconds, checks_of_locks, checks_of_changes)
+OF_RUNS = (checks_of_signals, checks_of_report, checks_of_seconds, checks_of_locks, checks_of_job_arrays, checks_of_changes)
 CHECKS = (*OF_RUNS, checks_of_rows, checks_of_table, checks_of_batches, checks_of_progress)

@@ -3,6 +3,7 @@ from __future__ import annotations
 
 import contextlib
 import io
+import itertools
 import os
 import struct
 import subprocess
@@ -76,7 +77,7 @@ class File:
         data += element(0x880200, "SQ", item(element(0x280010, "US", 8) + element(0x7FE00010, "OB", b"\xff\xd8\xff\xf7" + bytes(60))))
         self.name_at = 132 + len(meta) + data.index(b"Doe^Jane")
         even = [stream + b"\0" * (len(stream) % 2) for stream in frames]
-        starts = [sum(8 + len(stream) for stream in even[:at]) for at in range(len(even))]
+        starts = [0, *itertools.accumulate(8 + len(stream) for stream in even)][: len(even)]
         head = bytes(128) + b"DICM" + meta + data + b"\xe0\x7f\x10\x00OB\0\0\xff\xff\xff\xff"
         self.table_at = len(head) + 8
         head += item(struct.pack(f"<{len(starts)}I", *starts))

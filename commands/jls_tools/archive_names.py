@@ -5,7 +5,7 @@ import os
 import re
 from typing import List, Match, Sequence
 
-# What would move the cursor or turn the direction of a line: docs/GUIDE.md, Standard error
+# What would move the cursor or turn the direction of a line: docs/GUIDE.md, What the programs print
 CONTROL = re.compile("[\x00-\x1f\x7f-\x9f\u200e\u200f\u202a-\u202e\u2066-\u2069\\\\]")
 
 

@@ -2,6 +2,7 @@
 from __future__ import annotations
 
 import contextlib
+import ctypes
 import errno
 import fcntl
 import hashlib
@@ -20,6 +21,7 @@ from .archive_rows import PART
 MARK = ".run.json"  # says that jls-archive made the folder
 LOCK = "lock"
 PATIENCE = 3.0  # seconds in which the processes of a run that was killed are gone
+MOST_ALONE = 256  # so many files of a folder wait for the disk one by one, at most
 IS_PART = re.compile(re.escape(PART) + "[a-z0-9_]{8}")
 
 
@@ -49,6 +51,30 @@ def store(path: str) -> None:
         os.fsync(handle)
     finally:
         os.close(handle)
+
+
+def store_folder(folder: str) -> None:
+    """Waits until the files in a folder are on the disk: together, if they are many and the system can."""
+    paths = [entry.path for entry in os.scandir(folder)]
+    if len(paths) <= MOST_ALONE or not store_disk(folder):
+        for path in paths:
+            store(path)
+
+
+def store_disk(path: str) -> bool:
+    """Waits until all that was written to the disk of a path is on it; false if the system can't. An OSError says that a write failed."""
+    handle = os.open(path, os.O_RDONLY)
+    try:
+        if ctypes.CDLL(None, use_errno=True).syncfs(handle) == 0:
+            return True
+        fault = ctypes.get_errno()
+    except AttributeError:
+        return False
+    finally:
+        os.close(handle)
+    if fault == errno.ENOSYS:
+        return False
+    raise OSError(fault, os.strerror(fault), path)
 
 
 def mode_like(seen: os.stat_result) -> int:
@@ -174,9 +200,10 @@ class Places:
         for place in (self.path(*output) for output in outputs):
             with contextlib.suppress(FileNotFoundError):
                 seen = os.lstat(place)
-                for path in [entry.path for entry in os.scandir(place)] if stat.S_ISDIR(seen.st_mode) else [place]:
-                    if not stat.S_ISLNK(seen.st_mode):
-                        store(path)
+                if stat.S_ISDIR(seen.st_mode):
+                    store_folder(place)
+                elif not stat.S_ISLNK(seen.st_mode):
+                    store(place)
 
     def has(self, output: Sequence[str]) -> bool:
         return os.path.lexists(self.path(*output))

@@ -19,8 +19,8 @@ Beside OUT stand:
   OUT.report/         pictures.csv, a row for each path; report.html, a page of those that aren't whole or were mended; and logs
 
 --bad names bytes of the Nth TREE that are bad. PLACE is a folder that has for PATH a list PATH or PATH.map: a mapfile of GNU ddrescue,
-or lines with an offset and a length. Or it is the mapfile of the disk or image that TREE is mounted from, with @OFFSET behind it
-where the file system begins on it later. Bytes that are bad in one copy are taken from others.
+or lines with an offset and a length. Or it is the mapfile of the disk or image that TREE is mounted from. If the file system begins
+later on it, @OFFSET follows. Bytes that are bad in one copy are taken from others.
 
 With --folders, each folder of IN has copies of one picture, and OUT gets a picture for each folder.
 

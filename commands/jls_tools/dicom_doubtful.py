@@ -1,9 +1,12 @@
 """Damage that no copy contradicts and that shows by itself.
 
-Sectors look lost in each copy; a text that one copy alone has has a hole; most copies lack the same bytes, so that the others may have too
-many; a copy ends as a file does, ahead of what was found; a sector that was taken stands elsewhere in the file too; or what was taken
-changes from one copy to another where these differ throughout: then damage of both has to end at one place, as it does at borders of
-sectors alone.
+- Sectors look lost in each copy.
+- A text that one copy alone has has a hole.
+- Most copies lack the same bytes, so that the others may have too many.
+- A copy ends as a file does, ahead of what was found.
+- A sector that was taken stands elsewhere in the file too.
+- What was taken changes from one copy to another where these differ throughout. Then damage of both has to end at one place, as it does at
+  borders of sectors alone.
 """
 from __future__ import annotations
 

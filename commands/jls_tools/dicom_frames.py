@@ -1,6 +1,7 @@
 """Where the frames of Pixel Data stand (PS3.5, A.4): fragments of a frame together, paired by place. A search comes last."""
 from __future__ import annotations
 
+import bisect
 import re
 import struct
 from collections.abc import Sequence
@@ -89,8 +90,9 @@ class Fragments:
     def split_unread(self) -> None:
         """Cuts what stands between two items that read at the places that the tables have."""
         parts = []
+        places = sorted(self.places)
         for start, value, end, is_read in self.found:
-            borders = [start, *sorted(place for place in self.places if start < place < end), end]
+            borders = [start, *places[bisect.bisect_right(places, start) : bisect.bisect_left(places, end)], end]
             if is_read or len(borders) == 2:
                 parts.append((start, value, end, is_read))
                 continue

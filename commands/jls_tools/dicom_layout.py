@@ -110,10 +110,16 @@ def laid_out(copies: Sequence[Copy]) -> tuple[list[Copy], Layout]:
     return found, layout
 
 
-def has_shape(header: Header, stream: bytes) -> Optional[bool]:
-    """Whether a codestream has the shape that the header says; None if one of both can't be told."""
-    shape, wanted = shape_of(stream), [header.short(tag) for tag in (ROWS, COLUMNS, SAMPLES)]
-    return None if shape is None or None in wanted else [shape.rows, shape.columns, shape.components] == wanted
+def shape_said(header: Header) -> Optional[list[Optional[int]]]:
+    """Rows, Columns and Samples per Pixel as the header says them; None if one of them can't be told."""
+    said = [header.short(tag) for tag in (ROWS, COLUMNS, SAMPLES)]
+    return None if None in said else said
+
+
+def has_shape(stream: bytes, said: Optional[list[Optional[int]]]) -> Optional[bool]:
+    """Whether a codestream has the shape that a header says; None if one of both can't be told."""
+    shape = shape_of(stream)
+    return None if shape is None or said is None else [shape.rows, shape.columns, shape.components] == said
 
 
 def forbidden(header: Header) -> Optional[str]:

@@ -18,7 +18,7 @@ from jls_tools.dicom_finished import faults_of
 from jls_tools.dicom_frames import DELIMITER, FramePlace, Shape, by_search, paired_by_bytes
 from jls_tools.dicom_instance import Instances, TwoInstances
 from jls_tools.dicom_kinds import NoKind, other_kinds
-from jls_tools.dicom_layout import contradiction, forbidden, has_shape, is_through, laid_out
+from jls_tools.dicom_layout import contradiction, forbidden, has_shape, is_through, laid_out, shape_said
 from jls_tools.dicom_lost import Lost, equal_in_most, most_of
 from jls_tools.dicom_outputs import put_frames_folder, take_away, why_kept
 from jls_tools.dicom_placed import alone, in_no_copy
@@ -357,11 +357,12 @@ class Mending:
 
     def deny_other_shapes(self) -> None:
         """A frame of another shape than the header says is of another file, if most bytes of codestreams are of the header's."""
+        said = shape_said(self.header)
         sizes: dict[Optional[bool], int] = {True: 0, False: 0, None: 0}
         for stream in (stream for streams in self.streams for stream in streams):
-            sizes[has_shape(self.header, stream)] += len(stream)
+            sizes[has_shape(stream, said)] += len(stream)
         for frame in self.mended if sizes[True] > sizes[False] else ():
-            if frame.is_whole and frame.stream is not None and has_shape(self.header, frame.stream) is False:
+            if frame.is_whole and frame.stream is not None and has_shape(frame.stream, said) is False:
                 frame.result.kind, frame.result.note = "disputed", "it has another shape than the header says"
 
     def name_counts(self) -> None:

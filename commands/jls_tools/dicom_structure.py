@@ -6,6 +6,7 @@ values that their VRs allow. `Structure` says what the ways that are left have i
 """
 from __future__ import annotations
 
+import bisect
 import heapq
 import itertools
 import math
@@ -321,6 +322,7 @@ class Structure:
         self.steps = self.best_steps(start) if self.is_found else []
         if self.is_found:
             self.collect(start)
+        self.item_begins, self.item_ends = (sorted(item[at] for item in self.items) for at in (0, 1))
         self.costs = {}
         walk.forget()
 
@@ -397,7 +399,8 @@ class Structure:
 
     def has_rival(self, begin: int, end: int) -> bool:
         """Whether another of the best ways has other items where this item stands."""
-        return any(first < end and begin < last and (first, last) != (begin, end) for first, last in self.items)
+        beside = bisect.bisect_left(self.item_begins, end) - bisect.bisect_right(self.item_ends, begin)
+        return beside > ((begin, end) in self.items)
 
     def is_open(self, element: Element) -> bool:
         """Whether another of the best ways has other values where this value stands: it can be empty or shorter in the true file."""
