@@ -1,10 +1,10 @@
 # For the Makefile: what only the repository can do
 #
-# make check      the tests and checks that need no toolchain, on what `make` built
-# make test       the gate
-# make proved     proves and builds the programs from the sources, and compares them with dist/: this one needs the toolchain (rt)
-# make renew      makes dist/ anew from the sources
-# make dist, make deb, make release     archives for each processor, a Debian package for each, and both
+# - make check: the tests and checks that need no toolchain, on what `make` built
+# - make test: the gate
+# - make proved: proves and builds the programs from the sources, and compares them with dist/; it needs the toolchain (rt)
+# - make renew: makes dist/ anew from the sources
+# - make dist, make deb, make release: archives for each processor, Debian packages for each, and both
 
 .PHONY: check test proved renew dist deb release current
 check: all

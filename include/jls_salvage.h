@@ -122,7 +122,7 @@ typedef struct jls_info {
     uint8_t fault; /* enum jls_fault */
 } jls_info;
 
-/* What the headers of a copy say, up to its first scan. What stands behind a fault, or behind EOI, says nothing. */
+/* What the headers of a copy say, up to its first scan. What stands after a fault, or after EOI, says nothing. */
 typedef struct jls_header {
     uint32_t size;             /* what the caller sets: sizeof(jls_header) */
     uint32_t unsupported;      /* enum jls_unsupported */
@@ -203,7 +203,7 @@ uint32_t jls_read_header(const uint8_t *copy, size_t size, jls_header *header);
 uint32_t jls_check(const uint8_t *copy, size_t size, jls_info *info, jls_piece *pieces, size_t piece_room);
 
 /* Reads a copy, which may be damaged. Line y of component c has its status in statuses[c * height + y], and its samples from
-   samples[(c * height + y) * width] on. A line that is missing or disputed has zeros. What lies behind the last line stays as it was.
+   samples[(c * height + y) * width] on. A line that is missing or disputed has zeros. What lies beyond the last line stays as it was.
    Answers JLS_DONE, JLS_UNSUPPORTED, JLS_SHORT_ROOM, JLS_NO_PICTURE or JLS_OUT_OF_MEMORY. At JLS_SHORT_ROOM and JLS_NO_PICTURE only `info`
    is written. */
 uint32_t jls_read(const uint8_t *copy, size_t size, jls_info *info, uint16_t *samples, size_t sample_room, uint8_t *statuses,
