@@ -1,7 +1,7 @@
 # make            builds bin/jls-salvage and bin/jls-splice from dist/ with a C compiler, and puts the commands of commands/ beside them
 # make install, make uninstall     PREFIX=.. (default /usr/local), DESTDIR=.., and BINDIR=, LIBDIR=, INCLUDEDIR=, DATADIR=, MANDIR=
 # make clean      removes what was built in bin/
-# make wheel      a Python package with the library in it, for pip, in WHEELS=.. (default out)
+# make wheel      a Python package with the library and jls-splice in it, for pip, in WHEELS=.. (default out)
 #
 # In the repository, checks/repository.mk has more: check, test, proved, renew, dist, deb and release.
 #

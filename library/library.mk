@@ -33,8 +33,9 @@ $(BUILD)/$(SONAME): $(BUILD)/libjls_salvage.o library/symbols.map
 	$(CC) $(CFLAGS) $(LDFLAGS) -shared -Wl,-soname,$(SONAME) -Wl,--version-script=library/symbols.map -Wl,-z,text -Wl,-z,defs -o $@ $<
 endif
 
-# A wheel of the Python package with the library in it, which pip takes where glibc is as new
+# A wheel of the Python package with the library and jls-splice in it, which pip takes where glibc is as new. With STATIC=1 the program
+# needs none
 WHEELS ?= out
 .PHONY: wheel
-wheel: library
-	python3 python/jls_build.py "$(WHEELS)" $(BUILD)/$(SONAME)
+wheel: library $(BUILD)/jls-splice
+	python3 python/jls_build.py "$(WHEELS)" $(BUILD)/$(SONAME) $(BUILD)/jls-splice

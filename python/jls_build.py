@@ -1,9 +1,9 @@
 """Makes wheels of the package jls_salvage, without any other package: pip calls it as pyproject.toml says, and `make wheel` by hand.
 
-    python3 python/jls_build.py FOLDER [LIBRARY]
+    python3 python/jls_build.py FOLDER [LIBRARY [PROGRAM]]
 
-writes a wheel into FOLDER. LIBRARY is libjls_salvage.so, which then is in the wheel: its name says for which processor and from which
-glibc on (PEP 600). The same files give the same bytes.
+writes a wheel into FOLDER. LIBRARY is libjls_salvage.so and PROGRAM jls-splice, which then are in the wheel: its name says for which
+processor and from which glibc on (PEP 600). The same files give the same bytes.
 """
 from __future__ import annotations
 
@@ -19,6 +19,7 @@ from typing import Any, Iterator
 
 HERE = os.path.dirname(os.path.abspath(__file__))
 PACKAGE = "jls_salvage"
+PROGRAM = f"{PACKAGE}/jls-splice"
 LICENCES = ("LICENSE", "dist/NOTICES")
 DATE = (2026, 1, 1, 0, 0, 0)
 # e_machine of ELF: the processor, and the first glibc whose wheels pip knows there
@@ -47,15 +48,24 @@ def metadata() -> bytes:
     return "\n".join([*lines, "License: MIT", f"Requires-Python: {field('requires-python')}", ""]).encode()
 
 
-def platform_of(library: bytes) -> str:
-    """The platform tag of a shared object: the newest version of glibc that it names."""
-    if library[:6] != b"\x7fELF\x02\x01" or int.from_bytes(library[18:20], "little") not in MACHINES:
-        raise Refused("the library is no ELF file of x86-64 or aarch64")
+def machine_of(what: str, binary: bytes) -> int:
+    """The processor of a library or program, by its number."""
+    machine = int.from_bytes(binary[18:20], "little")
+    if binary[:6] != b"\x7fELF\x02\x01" or machine not in MACHINES:
+        raise Refused(f"the {what} is no ELF file of x86-64 or aarch64")
+    return machine
+
+
+def platform_of(library: bytes, program: bytes | None) -> str:
+    """The platform tag of a shared object and a program: the newest version of glibc that they name. A static program names none."""
+    machine = machine_of("library", library)
     if b"\0libc.so.6\0" not in library:
         raise Refused("the library needs another C library than glibc")
-    processor, first = MACHINES[int.from_bytes(library[18:20], "little")]
-    named = [(int(major), int(minor)) for major, minor in re.findall(rb"\0GLIBC_(\d+)\.(\d+)", library)]
-    major, minor = max([first, *named])
+    if program is not None and machine_of("program", program) != machine:
+        raise Refused("the program is for another processor than the library")
+    processor, first = MACHINES[machine]
+    named = re.findall(rb"\0GLIBC_(\d+)\.(\d+)", library + (program or b""))
+    major, minor = max([first, *((int(major), int(minor)) for major, minor in named)])
     return f"manylinux_{major}_{minor}_{processor}"
 
 
@@ -82,13 +92,19 @@ def record(files: dict[str, bytes], own: str) -> bytes:
     return "\n".join([*lines, f"{own},,", ""]).encode()
 
 
-def make_wheel(folder: str, library: str | None = None) -> str:
+def binaries(library: str, program: str | None) -> tuple[str, dict[str, bytes]]:
+    """The tag of a wheel that has these, and where they stand in it."""
+    shared, called = content(library), content(program) if program else None
+    files = {f"{PACKAGE}/libjls_salvage.so": shared, **({PROGRAM: called} if called is not None else {})}
+    return f"py3-none-{platform_of(shared, called)}", files
+
+
+def make_wheel(folder: str, library: str | None = None, program: str | None = None) -> str:
     """Writes the wheel, and answers its name."""
     tag, files = "py3-none-any", dict(modules())
     if library:
-        shared = content(library)
-        tag = f"py3-none-{platform_of(shared)}"
-        files[f"{PACKAGE}/libjls_salvage.so"] = shared
+        tag, found = binaries(library, program)
+        files.update(found)
     base = f"{PACKAGE}-{field('version')}"
     about = f"{base}.dist-info"
     files[f"{about}/METADATA"] = metadata()
@@ -100,7 +116,7 @@ def make_wheel(folder: str, library: str | None = None) -> str:
     with zipfile.ZipFile(os.path.join(folder, name), "w", zipfile.ZIP_DEFLATED) as wheel:
         for path, data in files.items():
             entry = zipfile.ZipInfo(path, DATE)
-            entry.external_attr = 0o100644 << 16
+            entry.external_attr = (0o100755 if path == PROGRAM else 0o100644) << 16
             entry.compress_type = zipfile.ZIP_DEFLATED
             wheel.writestr(entry, data)
     return name
@@ -127,8 +143,8 @@ def build_sdist(sdist_directory: str, config_settings: Any = None) -> str:
 
 
 def main(words: list[str]) -> int:
-    if len(words) not in (1, 2):
-        print("usage: jls_build.py FOLDER [LIBRARY]", file=sys.stderr)
+    if len(words) not in (1, 2, 3):
+        print("usage: jls_build.py FOLDER [LIBRARY [PROGRAM]]", file=sys.stderr)
         return 2
     try:
         os.makedirs(words[0], exist_ok=True)

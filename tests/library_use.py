@@ -1,8 +1,8 @@
 """tests/library_use.py FILE.jls: does the Python package take and refuse what a programmer gives it? FILE has lines that are lost.
 
-It calls each function with many kinds of buffers, sequences and arrays, at once from four threads, and through pickle. What is refused
-raises an error of the package, or TypeError or ValueError, and never one of ctypes. Without numpy or pydicom these are left out. It prints
-each difference.
+It calls each function with many kinds of buffers, sequences and arrays, at once from four threads, and through pickle. A call lets other
+threads run. What is refused raises an error of the package, or TypeError or ValueError, and never one of ctypes. Without numpy or pydicom
+these are left out. It prints each difference.
 """
 from __future__ import annotations
 
@@ -13,10 +13,11 @@ import pickle
 import pydoc
 import sys
 import threading
+import time
 from typing import Any, Callable
 
 import jls_salvage
-from jls_salvage import NotWritable, pydicom_handler
+from jls_salvage import NotWritable, _library, pydicom_handler
 
 TOP = os.path.dirname(os.path.dirname(os.path.realpath(__file__)))
 
@@ -213,6 +214,32 @@ def threads(copy: bytes) -> None:
     differ("four threads", found, [True] * 4)
 
 
+def lets_go() -> None:
+    """While a call runs, this thread runs on: it keeps no lock of Python's. Else no moment of its own would be amid the call."""
+    big = jls_salvage.write(array.array("H", range(65536)) * 64, 16, 2048, 2048)
+    began, ended = threading.Event(), threading.Event()
+    moments: list[float] = []
+
+    def reads() -> None:
+        data, info = _library.Buffer(big), _library.info_struct()
+        began.set()
+        start = time.perf_counter()
+        _library.library().jls_check(data.address, data.size, ctypes.byref(info), None, 0)
+        moments.extend((start, time.perf_counter()))
+        ended.set()
+
+    running = threading.Thread(target=reads)
+    own: list[float] = []
+    running.start()
+    began.wait()
+    while not ended.is_set():
+        own.append(time.perf_counter())
+    running.join()
+    first, last = moments
+    amid = [at for at in own if first + (last - first) / 4 < at < last - (last - first) / 4]
+    differ("a call lets other threads run", len(amid) > 10, True)
+
+
 def frames() -> None:
     """What pydicom 2 gets: frames that don't fit are refused before room is taken."""
     from pydicom.encaps import encapsulate
@@ -258,6 +285,7 @@ def main() -> int:
     sources(copy)
     written()
     threads(copy)
+    lets_go()
     if numpy is not None:
         arrays()
         masks(copy)

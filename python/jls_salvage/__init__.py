@@ -6,6 +6,11 @@
     picture.line(0, 17)             # the samples of a line, or None
     picture.array()                 # numpy: (height, width), or (height, width, components); lost lines are masked
 
+    mended = jls_salvage.mend([one, other])         # what jls-splice makes of damaged copies
+    mended.promise, mended.file, mended.picture     # is the picture promised, the mended file, and what it shows
+
+`mend` calls the program jls-splice, which has to be there. `help(jls_salvage.Mended)` lists what is told.
+
 `check` tells the same without the samples, and `header` without reading any. A copy without a frame raises `NoPicture`, and one of a coding
 that isn't read raises `Unsupported`.
 
@@ -24,6 +29,8 @@ import sys
 if sys.version_info < (3, 9):  # here, before a module that an older Python can't read
     raise ImportError("Python 3.9 or later is needed, and this is %d.%d" % tuple(sys.version_info[:2]))
 
+from ._mended import Differ, Edit, Mended, Promise  # noqa: E402
+from ._mending import mend  # noqa: E402
 from ._reading import check, header, join, lines, partial, read, read_file  # noqa: E402
 from ._types import (  # noqa: E402
     BEYOND,
@@ -41,8 +48,10 @@ from ._types import (  # noqa: E402
     Header,
     Info,
     MissingLibrary,
+    MissingProgram,
     NoPartial,
     NoPicture,
+    NotMendable,
     NotWritable,
     OldProcessor,
     Picture,
@@ -63,25 +72,32 @@ __all__ = [
     "SETTLED",
     "Answer",
     "Coding",
+    "Differ",
+    "Edit",
     "End",
     "Error",
     "Fault",
     "Faulty",
     "Header",
     "Info",
+    "Mended",
     "MissingLibrary",
+    "MissingProgram",
     "NoPartial",
     "NoPicture",
+    "NotMendable",
     "NotWritable",
     "OldProcessor",
     "Picture",
     "Piece",
+    "Promise",
     "ShapesDiffer",
     "Unsupported",
     "check",
     "header",
     "join",
     "lines",
+    "mend",
     "partial",
     "read",
     "read_file",

@@ -7,7 +7,7 @@ import functools
 import os
 import site
 import sys
-from typing import Any, Tuple
+from typing import Any, Sequence, Tuple
 
 from ._types import Answer, Bytes, Error, Fault, MissingLibrary, NoPartial, NoPicture, OldProcessor, ShapesDiffer
 
@@ -72,15 +72,19 @@ def header_struct() -> HeaderStruct:
     return HeaderStruct(size=ctypes.sizeof(HeaderStruct))
 
 
+def prefixes() -> Sequence[str]:
+    """Below which `make install` can have put the library and the programs: those of Python and of the user, and /usr/local."""
+    return [sys.prefix, *([] if sys.flags.no_user_site else [site.getuserbase()]), "/usr/local"]
+
+
 def _place() -> str:
     """Where the library is: what the variable names, the one beside this file (in a wheel), the one below the prefix of Python, of the
     user or /usr/local (after `make install`), or where the system looks."""
     named = os.environ.get("JLS_SALVAGE_LIBRARY")
     if named:
         return named
-    prefixes = [sys.prefix, *([] if sys.flags.no_user_site else [site.getuserbase()]), "/usr/local"]
     beside = os.path.join(os.path.dirname(os.path.abspath(__file__)), "libjls_salvage.so")
-    for path in (beside, *(os.path.join(prefix, "lib", _SONAME) for prefix in prefixes)):
+    for path in (beside, *(os.path.join(prefix, "lib", _SONAME) for prefix in prefixes())):
         if os.path.exists(path):
             return path
     return _SONAME
@@ -115,13 +119,18 @@ def library() -> ctypes.CDLL:
     return found
 
 
+def refuse_name(data: Bytes) -> None:
+    """Refuses the name of a file where its bytes are wanted."""
+    if isinstance(data, (str, os.PathLike)):
+        raise TypeError("bytes are wanted, and this is the name of a file: read_file takes one")
+
+
 class Buffer:
     """Bytes of a caller's, which aren't copied if they stand together: bytes, bytearray, memoryview, mmap, arrays. `address` and `size` are
     for a call, and hold as long as this does."""
 
     def __init__(self, data: Bytes) -> None:
-        if isinstance(data, (str, os.PathLike)):
-            raise TypeError("bytes are wanted, and this is the name of a file: read_file takes one")
+        refuse_name(data)
         self.address, self.size, self._held = _held(data)
 
 

@@ -131,6 +131,10 @@ class MissingLibrary(Error, OSError):
     """libjls_salvage.so is not there, can't be loaded, or is of another version. The variable JLS_SALVAGE_LIBRARY can name it."""
 
 
+class MissingProgram(Error, OSError):
+    """A program is not there, can't be run, or is of another version. JLS_SPLICE can name jls-splice, and JLS_DICOM jls-dicom."""
+
+
 class OldProcessor(Error, RuntimeError):
     """The processor is of x86-64 below level x86-64-v2, for which the library is built."""
 
@@ -186,6 +190,10 @@ class ShapesDiffer(Error, ValueError):
 
     def __reduce__(self) -> Any:
         return type(self), ()
+
+
+class NotMendable(Error, ValueError):
+    """Copies can't be mended together: the message says why. It counts copies from 0."""
 
 
 class NotWritable(Error, ValueError):
