@@ -6,7 +6,7 @@ import hashlib
 import random
 import struct
 
-from dicom_files import CLASS, UID, File, changed, element
+from dicom_files import CLASS, UID, File, changed, element, frame
 from dicom_rules import put_before
 from jls_tools.dicom_finished import faults_of
 from jls_tools.programs import Programs
@@ -235,6 +235,21 @@ def checks_of_most(bench, made):
     yield case(bench, "the same in two of three", [prefix, changed(prefix, (first + 70, bytes(8))), true], 0, true)
 
 
+def checks_of_most_frames(bench, made):
+    """What copies have in frames doesn't count in the header, and frames that are equal are at their places."""
+    true, third = made.bytes, made.items[2]
+    begin = third - 60
+    noise = changed(true, (begin, random.Random(11).randbytes(120)))
+    inner = changed(true, (begin + 20, bytes(9)))
+    for copies in ([noise, inner, true], [inner, noise, changed(true, (third + 30, b"\5\6\7"))]):
+        yield case(bench, "noise over an item's header, and damage of a frame beside it in another copy", copies, 0, true)
+    both = [changed(true, (begin + 10, bytes(9))), inner, changed(true, (made.name_at, bytes(60)))]
+    yield case(bench, "damage of a frame of two copies, and zeros in the header of a third", both, 0, true)
+    even = File([made.frames[0]] * 8, 12, 24, 20)
+    frames = [even.bytes, changed(even.bytes, (even.items[6] + 70, bytes(8))), changed(even.bytes, (even.items[3] - 30, bytes(120)))]
+    yield case(bench, "equal frames, and zeros over the header of an item of one of three", frames, 0, even.bytes)
+
+
 # No copy has the true bytes --------------------------------------------------------------------------
 
 
@@ -255,12 +270,36 @@ def checks_of_nothing_true(bench, made, neighbour):
         yield case(bench, "the same, and --header", order, 0, neighbour.bytes, "left out", ["--header", f"COPY{number}"])
 
 
+# Copies of which nothing says whose they are -----------------------------------------------------------
+
+
+def checks_of_strangers(bench, made):
+    """A longer file of another picture, whose UIDs are lost, is left out beside copies of the instance. Else it is used."""
+    true, rng = made.bytes, random.Random(8)
+    other = changed(true, (made.items[1] + 70, bytes(8)))
+    for width, height in ((24, 20), (40, 30)):
+        frames = [frame(rng, 12, width, height, bench.folder) for _ in range(6)]
+        strange = changed(File(frames, 12, width, height, uid=NEIGHBOUR).bytes, (0, bytes(512)))
+        for copies in ([damaged(made), strange, other], [strange, other, damaged(made)]):
+            yield case(bench, f"another picture of {width} columns, its first sector gone", copies, 0, true, "no frame of it fits")
+    lost = changed(true, (0, bytes(512)))
+    yield case(bench, "a copy whose first sector is gone", [lost, damaged(made)], 0, true)
+    moved = true[512:]
+    yield case(bench, "a copy whose first sector is cut away", [moved, damaged(made)], 0, true)
+    last = changed(lost, (made.items[0], bytes(made.items[-1] - made.items[0])))
+    both = [damaged(made, 3), damaged(made, 1)[: made.items[-1] + 70], last]
+    yield case(bench, "a copy of which the last frame alone is there", both, 0, true)
+
+
 # Other transfer syntaxes ---------------------------------------------------------------------------
+
+
+ITEMS = b"\xe0\x7f\x10\x00OB\0\0\xff\xff\xff\xff"
 
 
 def plain_of(made, syntax):
     """The file with Pixel Data that is not compressed."""
-    at = made.bytes.index(b"\xe0\x7f\x10\x00OB\0\0\xff\xff\xff\xff")
+    at = made.bytes.index(ITEMS)
     samples = random.Random(9).randbytes(2 * 24 * 20 * len(made.frames))
     head = made.bytes[:at].replace(element(0x20010, "UI", "1.2.840.10008.1.2.4.80"), element(0x20010, "UI", syntax))
     size = struct.unpack("<I", head[140:144])[0] + len(syntax) + len(syntax) % 2 - 22
@@ -278,6 +317,55 @@ def checks_of_syntaxes(bench, made):
     yield case(bench, "two copies that are not compressed", [plain, plain], 3, b"", "no JPEG-LS lossless")
     at = true.index(b"1.2.840.10008.1.2.4.80") + 20
     yield case(bench, "a bit that says JPEG 2000", [changed(true, (at, b"9")), damaged(made)], 0, true, "the frames are JPEG-LS")
+
+
+def checks_of_lost_syntaxes(bench, made):
+    """A copy whose transfer syntax does not read is left out where its Pixel Data says that it is none of JPEG-LS."""
+    true, plain = made.bytes, plain_of(made, EXPLICIT)
+    other = changed(true, (made.items[1] + 70, bytes(8)))
+    at = plain.index(ITEMS[:8])
+    size = struct.unpack("<I", plain[at + 8 : at + 12])[0]
+    implicit = plain[:at] + ITEMS[:4] + struct.pack("<I", size) + plain[at + 12 :]
+    big = plain[:at] + b"\x7f\xe0\0\x10OW\0\0" + struct.pack(">I", size) + plain[at + 12 :]
+    padded = plain + element(0xFFFCFFFC, "OB", bytes(30))
+    rle = struct.pack("<16I", 2, 64, 90, *[0] * 13) + bytes(60)
+    jpeg = b"\xff\xd8\xff\xc3\0\x0b\x0c" + struct.pack(">HHB", 20, 24, 1) + b"\1\x11\0\xff\xda\0\x08\1\1\0\1\0\0" + bytes(60)
+    boxes = {"JPEG": jpeg, "JPEG 2000": b"\xff\x4f\xff\x51" + bytes(60), "RLE": rle}
+    kinds = [("not compressed", data) for data in (plain, implicit, big, padded)]
+    kinds += [(name, File([stream] * 4, 12, 24, 20).bytes) for name, stream in boxes.items()]
+    for name, data in kinds:
+        lost = changed(data, (128, bytes(120)))
+        for copies in ([lost, damaged(made), other], [damaged(made), other, lost]):
+            yield case(bench, f"zeros over the meta information of a copy: {name}", copies, 0, true, f"its Pixel Data is {name}")
+    begin, end = true.index(made.frames[0]), true.index(END, made.items[-1])
+    both = [changed(true, (begin, bytes(end - begin))), changed(true, (150, bytes(60)))]
+    yield case(bench, "zeros over all frames of a copy: its header counts", both, 0, true)
+
+
+# Leads ---------------------------------------------------------------------------------------------
+
+
+def checks_of_leads(bench, made, neighbour):
+    """Bytes before the preamble are cut where another copy begins without them, wherever else the two are damaged."""
+    true, noise = made.bytes, random.Random(6).randbytes(512)
+    for name, lead in {
+        "128 zeros": bytes(128),
+        "four zeros": bytes(4),
+        "noise": noise,
+        "the beginning of another file": neighbour.bytes[:256],
+    }.items():
+        for copies in ([lead + damaged(made), changed(true, (made.items[1] + 70, bytes(8)))], [true, lead + damaged(made)]):
+            yield case(bench, f"before the preamble: {name}", copies, 0, true, f"{len(lead)} bytes before the preamble are no part")
+    for at in (140, 200):
+        copies = [noise + changed(true, (at, bytes(40))), damaged(made)]
+        yield case(bench, f"noise before the preamble, and zeros at {at}", copies, 0, true, "they were cut from")
+    copies = [true, damaged(made), changed(true, (0, noise[:300]))]
+    yield case(bench, "noise over a beginning: nothing is cut", copies, 0, true)
+    listed = f"{bench.folder}/lead.bad"
+    with open(listed, "w") as file:
+        file.write(f"{512 + made.name_at} 1\n")
+    copies = [noise + changed(true, (made.name_at, b"E")), damaged(made)]
+    yield case(bench, "a list of bad places of a copy with a lead", copies, 0, true, "they were cut from", ["--bad", f"1:{listed}"])
 
 
 def checks_of_read_anew(made):
@@ -302,4 +390,5 @@ def checks_of_read_anew(made):
 
 
 TRUTH = [checks_of_chimeras, checks_of_finished, checks_of_cuts, checks_of_tails, checks_of_most, checks_of_syntaxes]
-TRUTH += [checks_of_read_anew, checks_of_nothing_true]
+TRUTH += [checks_of_read_anew, checks_of_nothing_true, checks_of_lost_syntaxes, checks_of_leads, checks_of_strangers]
+TRUTH += [checks_of_most_frames]

@@ -88,12 +88,22 @@ def ends_before(copies: Sequence[Copy], end: int) -> Optional[int]:
 
 
 def stands_twice(header: Header, data: bytes) -> Optional[int]:
-    """Where a sector begins in which copies differ and that the file has elsewhere too, as if a disk had written it to a wrong place."""
+    """Where a sector begins in which copies differ and that the file has elsewhere too, as if a disk had written it to a wrong place.
+
+    Where most of it is of frames, and two copies have it, the frames show that it is at its place.
+    """
     for border in sorted({begin // SECTOR * SECTOR for parts in header.parts.values() for begin, _ in parts}):
         sector = data[border : border + SECTOR]
-        if len(sector) >= LEAST_REST and not period_of(sector) and any(at != border for at in places_of(sector, data)):
+        is_twice = len(sector) >= LEAST_REST and not period_of(sector) and any(at != border for at in places_of(sector, data))
+        if is_twice and not are_frames(header, border, sector):
             return border
     return None
+
+
+def are_frames(header: Header, border: int, sector: bytes) -> bool:
+    """Whether most of a sector is of frames, and two copies have it."""
+    beside = sum(last - first for first, last in header.outside(border, border + len(sector)))
+    return beside * 2 < len(sector) and sum(copy.has_only(border, border + SECTOR) == sector for copy in header.copies) > 1
 
 
 def places_of(sector: bytes, data: bytes) -> Iterator[int]:

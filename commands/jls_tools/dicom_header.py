@@ -46,6 +46,7 @@ BITS = [[allocated, stored, stored - 1] for allocated in (8, 16) for stored in r
 MOST_TOGETHER = 4096
 PREAMBLE, PREFIX = 128, b"DICM"
 BY_MOST = "most copies have it"
+IN_FRAMES = "what is left differs in frames alone"
 IS_PREFIX = "each DICOM file has it there"
 ZEROS, IS_PADDING, NO_MEANING = "others are zeros", "padding is zeros", "the preamble has no meaning"
 GUESSES = (ZEROS, IS_PADDING, NO_MEANING)
@@ -163,6 +164,7 @@ class Header:
         self.keep_values(PADDING, lambda value: not value.strip(b"\0"), IS_PADDING)
         Decider(self).decide()
         self.by_most()
+        self.by_frames_alone()
         self.by_preamble()
 
     def by_prefix(self) -> None:
@@ -310,22 +312,40 @@ class Header:
                 zeros = {way for way in self.left[number] if not run.ways[way].strip(b"\0")}
                 self.keep(number, zeros or {self.left[number][0]}, NO_MEANING)
 
+    def alike(self, number: int, way: int) -> list[int]:
+        """The ways of a run that have the same bytes outside of frames as one: only these are the header's."""
+        run, parts = self.runs.runs[number], self.parts[number]
+        if parts == [(run.begin, run.end)]:
+            return [way]
+        return [other for other in range(len(run.ways)) if all(run.part(other, *part) == run.part(way, *part) for part in parts)]
+
+    def holders_of(self, number: int, way: int) -> set[int]:
+        """The copies that have what a way has outside of frames."""
+        return {copy for other in self.alike(number, way) for copy in self.runs.runs[number].holders[other]}
+
     def holders(self, number: int) -> set[int]:
-        return set(self.runs.runs[number].holders[self.left[number][0]])
+        return self.holders_of(number, self.left[number][0])
 
     def by_most(self) -> None:
         """Three copies or more: what most of them have, unless these lost the sector together."""
         for number in self.open_runs():
-            holders = self.runs.runs[number].holders
-            present = sum(len(each) for each in holders)
+            present = sum(len(each) for each in self.runs.runs[number].holders)
+            holders = {way: self.holders_of(number, way) for way in self.left[number]}
             most = next((way for way in self.left[number] if present >= 3 and len(holders[way]) * 2 > present), None)
             if most is None:
                 continue
             count, is_filled = self.decided_against(number, holders[most]), self.is_filled(number, holders[most])
             if count >= DECIDED and is_filled:
-                self.keep(number, set(self.left[number]) - {most}, IS_SECTOR)
+                self.keep(number, set(self.left[number]) - set(self.alike(number, most)), IS_SECTOR)
             elif count == 0 and not is_filled:
                 self.keep(number, {most}, BY_MOST)
+
+    def by_frames_alone(self) -> None:
+        """Leaves one of the ways of a run that are equal outside of frames."""
+        for number in self.open_runs():
+            first = self.left[number][0]
+            if set(self.left[number]) <= set(self.alike(number, first)):
+                self.keep(number, {first}, IN_FRAMES)
 
     def decided_against(self, number: int, alike: Collection[int]) -> int:
         """How many places in the sector of a run were decided against copies that are alike in it."""

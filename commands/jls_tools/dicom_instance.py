@@ -2,17 +2,20 @@
 from __future__ import annotations
 
 import itertools
+import re
 from collections import Counter
 from collections.abc import Iterator, Mapping, Sequence
 from dataclasses import dataclass
 from typing import Optional
 
+from jls_tools.codings import KINDS, PIECE, PIECES
 from jls_tools.dicom_align import Copy, differing
 from jls_tools.dicom_file import UNDEFINED, instance_of, walk
 from jls_tools.dicom_media import BEFORE_BORDER, SECTOR
 from jls_tools.dicom_runs import Runs
 from jls_tools.dicom_structure import Walk
 from jls_tools.dicom_tags import FIRST, INSTANCE, PIXEL_DATA
+from jls_tools.dicom_versions import pixels_of
 
 BLOCK = 128
 STRETCH, SHORT, STEP = 256, 64, 16
@@ -21,7 +24,9 @@ ITEM_BYTES, END_BYTES = b"\xfe\xff\x00\xe0", b"\xfe\xff\xdd\xe0\0\0\0\0"
 LARGEST_BEGINNING = 1 << 16  # bytes of a foreign beginning whose end is sought at borders of sectors
 MOST_PLACES = 8
 HEAD = 12  # bytes of an element's header, at most
+MARKER = re.compile(rb"\xff[\x80-\xff]")  # stands in headers, and in no scan (T.87, A.1)
 SHARED = 4  # one block in so many of their second half is equal, at its place, in two files of which one was overwritten
+STRANGE = "its UIDs don't agree or don't read, and no frame of it fits a copy of the instance"
 
 
 class TwoInstances(Exception):
@@ -60,6 +65,18 @@ def share_blocks(one: bytes, other: bytes) -> bool:
             counted += 1
             equal += block == other[at : at + BLOCK]
     return counted >= 2 and equal * SHARED >= counted
+
+
+def shares_pieces(data: bytes, other: bytes, begin: int) -> bool:
+    """Whether a piece of the scans of a file, which begin after a place, stands in another file too. True where no piece says much.
+
+    Headers of frames are alike in many files, and so are even frames.
+    """
+    pieces = ((at, data[at : at + PIECE]) for at in range(begin, len(data) - PIECE + 1, PIECE))
+    places = [at for at, piece in pieces if len(set(piece)) >= KINDS and not MARKER.search(piece)]
+    if not places or any(data[at : at + PIECE] == other[at : at + PIECE] for at in places):
+        return True
+    return any(data[at : at + PIECE] in other for at in places[:: max(1, len(places) // PIECES)])
 
 
 def equal_from(one: bytes, other: bytes) -> Optional[int]:
@@ -212,6 +229,7 @@ class Instances:
 
     `rests` are copies whose beginning a foreign file has overwritten: where that ends, and the copy from which that was seen. `doubts` are
     copies whose header can be the foreign one, with the reason: two UIDs stand against each other, and no third copy has one of both.
+    `strange` are those of which nothing says that they are of the instance.
     """
 
     def __init__(self, texts: Sequence[bytes], is_same: bool) -> None:
@@ -223,11 +241,13 @@ class Instances:
         self.uid: Optional[str] = None
         self.certain: list[int] = list(range(len(texts)))
         self.uncertain: list[int] = []
+        self.strange: list[int] = []
         if is_same:
             return
         self.uid = self.choose()
         self.certain = [at for at, each in enumerate(self.identities) if at not in self.left_out and each.is_of(self.uid)]
         self.uncertain = [at for at, each in enumerate(self.identities) if each.uid is None and at not in self.certain]
+        self.leave_out_strange()
 
     def choose(self) -> Optional[str]:
         """The UID of the instance, if any copy has one; copies of others are left out where that is clear."""
@@ -246,6 +266,15 @@ class Instances:
                 self.left_out[at] = f"it is of another instance, {each.uid}"
         self.doubt(most)
         return most
+
+    def leave_out_strange(self) -> None:
+        """Leaves out copies whose UIDs say nothing, and that have nothing in common with the Pixel Data of copies of the instance."""
+        begins = {at: place for at in self.certain if (place := pixels_of(self.texts[at])[0]) is not None}
+        for at in list(self.uncertain) if begins else ():
+            if not any(shares_pieces(self.texts[one], self.texts[at], begin) for one, begin in begins.items()):
+                self.uncertain.remove(at)
+                self.strange.append(at)
+                self.left_out[at] = STRANGE
 
     def leave_out_half(self) -> None:
         """Two copies, of which a foreign file has overwritten the end of one and the beginning of the other."""

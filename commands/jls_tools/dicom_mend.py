@@ -16,9 +16,10 @@ from jls_tools.dicom_bad import Range
 from jls_tools.dicom_doubtful import change_at, ends_before, hole_in_text, lost_in_each, lost_in_most, stands_twice
 from jls_tools.dicom_finished import faults_of
 from jls_tools.dicom_frames import DELIMITER, FramePlace, Shape, by_search, paired_by_bytes
-from jls_tools.dicom_instance import Instances, TwoInstances
+from jls_tools.dicom_instance import STRANGE, Instances, TwoInstances
 from jls_tools.dicom_kinds import NoKind, other_kinds
 from jls_tools.dicom_layout import contradiction, forbidden, has_shape, is_through, laid_out, shape_said
+from jls_tools.dicom_leads import leads
 from jls_tools.dicom_lost import Lost, equal_in_most, most_of
 from jls_tools.dicom_outputs import put_frames_folder, take_away, why_kept
 from jls_tools.dicom_placed import alone, in_no_copy
@@ -128,6 +129,7 @@ class Mending:
 
     def look_at_kinds(self) -> None:
         """Leaves out copies of another transfer syntax, undoes transfers as text, cuts tails. Refuses what has no DICOM file of JPEG-LS."""
+        self.cut_leads()
         try:
             others = other_kinds(self.paths, self.texts)
         except NoKind as fault:
@@ -143,6 +145,14 @@ class Mending:
         self.seen = [dicom_bad.seen(text) for text in texts]
         self.tails = without_tails(self.in_one_coding(texts))
         self.texts = self.tails.texts
+
+    def cut_leads(self) -> None:
+        """Cuts what stands before the preamble of a copy, where another one shows that it is no part of the file."""
+        for at, size in leads(self.texts).items():
+            bad = dicom_bad.clipped(self.bad[at], size, len(self.texts[at]))
+            self.bad[at] = [(begin - size, end - size) for begin, end in bad]
+            self.texts[at] = self.texts[at][size:]
+            self.result.notes.append(f"{size} bytes before the preamble are no part of the file: they were cut from {self.paths[at]}")
 
     def in_one_coding(self, texts: list[bytes]) -> list[bytes]:
         """The copies, those of other codings with the Pixel Data of one that stands."""
@@ -178,15 +188,14 @@ class Mending:
     def mend_all(self, instances: Instances) -> None:
         """Mends with all that may be copies; then again without those that turn out to be none."""
         chosen = sorted([*instances.certain, *instances.uncertain, *instances.rests])
-        self.is_alone = len(self.paths) == 1
+        self.is_alone = len(self.paths) == 1 or bool(instances.strange) and len(chosen) == 1
         while True:
             self.take(chosen)
             strangers = self.strangers(instances, chosen)
             if not strangers:
                 break
             for at in strangers:
-                why = "its UIDs don't agree or don't read, and no frame of it fits a copy of the instance"
-                self.result.left_out.append((self.paths[at], why))
+                self.result.left_out.append((self.paths[at], STRANGE))
             chosen = [at for at in chosen if at not in strangers]
             self.is_alone = len(chosen) == 1
         self.finish()
