@@ -4,12 +4,14 @@ from __future__ import annotations
 import array
 import math
 import random
+import struct
 from collections.abc import Sequence
 from typing import Optional
 
-from charls_coder import Charls, Picture
+from charls_coder import Charls, Picture, scan_bytes, segment
 
 SECTOR = 512
+INTERVALS = ((0, 8), (0, 16), (0, 32), (8, 16), (5, 32), (16, 30))
 KINDS = ("thresholds", "RESET", "interleave", "precision", "three copies")
 DAMAGES = ("zeros", "lost", "inserted", "noise", "flip", "cut")
 
@@ -54,6 +56,33 @@ def codings(chance: random.Random, charls: Charls, kind: str) -> tuple[Picture, 
         files = [charls.write(picture) for picture in (plain, *others)]
     chance.shuffle(files)
     return plain, files
+
+
+def with_intervals(charls: Charls, picture: Picture, rows: int) -> bytes:
+    """The file of a picture of one component with restart intervals of so many rows, or none. CharLS writes each as a picture."""
+    whole = charls.write(picture)
+    if rows == 0:
+        return whole
+    header = whole[: -2 - len(scan_bytes(whole))]
+    scan_header = header.index(b"\xff\xda\x00\x08")
+    data = bytearray()
+    for number, row in enumerate(range(0, picture.rows, rows)):
+        count = min(rows, picture.rows - row)
+        samples = picture.samples[row * picture.width : (row + count) * picture.width]
+        if number:
+            data += bytes([0xFF, 0xD0 + (number - 1) % 8])
+        data += scan_bytes(charls.write(picture._replace(rows=count, samples=samples)))
+    return header[:scan_header] + segment(0xDD, struct.pack(">H", rows)) + header[scan_header:] + bytes(data) + b"\xff\xd9"
+
+
+def in_intervals(chance: random.Random, charls: Charls) -> tuple[Picture, list[bytes]]:
+    """A picture, and its file with two restart intervals, or with one and none. Their order is free."""
+    bits = chance.choice([8, 8, 12, 16])
+    width, rows, samples = some_samples(chance, bits, 1)
+    picture = Picture((bits, 0, 0, 0, 0, 0), width, rows, 1, samples)
+    files = [with_intervals(charls, picture, count) for count in chance.choice(INTERVALS)]
+    chance.shuffle(files)
+    return picture, files
 
 
 def damaged(
