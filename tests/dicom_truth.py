@@ -289,6 +289,10 @@ def checks_of_strangers(bench, made):
     last = changed(lost, (made.items[0], bytes(made.items[-1] - made.items[0])))
     both = [damaged(made, 3), damaged(made, 1)[: made.items[-1] + 70], last]
     yield case(bench, "a copy of which the last frame alone is there", both, 0, true)
+    halves = [changed(true, (0, bytes(1024))), changed(true, (1024, bytes(len(true) - 1024)))]
+    for copies in (halves, halves[::-1]):
+        yield case(bench, "a copy without its beginning, and one without the rest", copies, 0, true)
+    yield case(bench, "the same, and another one without the rest", [*halves, changed(halves[1], (700, bytes(12)))], 0, true)
 
 
 # Other transfer syntaxes ---------------------------------------------------------------------------
@@ -361,6 +365,12 @@ def checks_of_leads(bench, made, neighbour):
         yield case(bench, f"noise before the preamble, and zeros at {at}", copies, 0, true, "they were cut from")
     copies = [true, damaged(made), changed(true, (0, noise[:300]))]
     yield case(bench, "noise over a beginning: nothing is cut", copies, 0, true)
+    head, rest = slice_of(neighbour, NEIGHBOUR, "b"), slice_of(made, UID, "a")
+    both = [head[:4096] + rest[4096:], rest[:4096] + random.Random(7).randbytes(700) + head[: len(rest) - 4796]]
+    for copies in (both, both[::-1]):
+        got, out, printed, faults, _ = bench.mend(copies)
+        is_cut = "no part of the file" in printed + faults
+        yield f"another file's beginning twice: nothing is cut ({got}, {printed[-300:]}, {faults})", (out, is_cut) == (None, False)
     listed = f"{bench.folder}/lead.bad"
     with open(listed, "w") as file:
         file.write(f"{512 + made.name_at} 1\n")

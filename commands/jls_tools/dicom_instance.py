@@ -229,7 +229,6 @@ class Instances:
 
     `rests` are copies whose beginning a foreign file has overwritten: where that ends, and the copy from which that was seen. `doubts` are
     copies whose header can be the foreign one, with the reason: two UIDs stand against each other, and no third copy has one of both.
-    `strange` are those of which nothing says that they are of the instance.
     """
 
     def __init__(self, texts: Sequence[bytes], is_same: bool) -> None:
@@ -241,7 +240,6 @@ class Instances:
         self.uid: Optional[str] = None
         self.certain: list[int] = list(range(len(texts)))
         self.uncertain: list[int] = []
-        self.strange: list[int] = []
         if is_same:
             return
         self.uid = self.choose()
@@ -268,12 +266,16 @@ class Instances:
         return most
 
     def leave_out_strange(self) -> None:
-        """Leaves out copies whose UIDs say nothing, and that have nothing in common with the Pixel Data of copies of the instance."""
+        """Leaves out copies whose UIDs say nothing, and that have neither the length nor a piece of the scans of copies of the instance.
+
+        One copy of the instance alone can lack all that the other one has.
+        """
         begins = {at: place for at in self.certain if (place := pixels_of(self.texts[at])[0]) is not None}
-        for at in list(self.uncertain) if begins else ():
-            if not any(shares_pieces(self.texts[one], self.texts[at], begin) for one, begin in begins.items()):
+        sizes = {len(self.texts[at]) for at in self.certain}
+        for at in list(self.uncertain) if len(begins) > 1 else ():
+            is_like = any(shares_pieces(self.texts[one], self.texts[at], begin) for one, begin in begins.items())
+            if not is_like and len(self.texts[at]) not in sizes:
                 self.uncertain.remove(at)
-                self.strange.append(at)
                 self.left_out[at] = STRANGE
 
     def leave_out_half(self) -> None:

@@ -188,7 +188,7 @@ class Mending:
     def mend_all(self, instances: Instances) -> None:
         """Mends with all that may be copies; then again without those that turn out to be none."""
         chosen = sorted([*instances.certain, *instances.uncertain, *instances.rests])
-        self.is_alone = len(self.paths) == 1 or bool(instances.strange) and len(chosen) == 1
+        self.is_alone = len(self.paths) == 1
         while True:
             self.take(chosen)
             strangers = self.strangers(instances, chosen)
