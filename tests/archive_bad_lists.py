@@ -12,7 +12,7 @@ import dicom_files
 from archive_bad_sectors import SIDE, stream_of
 from archive_cases import ARCHIVE, PROGRAMS, get, put
 from archive_decisions import rows_of
-from jls_tools import archive_lists
+from jls_tools.archive import lists
 
 Check = Tuple[str, bool]
 MAP = b"# Mapfile. Created by GNU ddrescue version 1.26\n0x%08X ? 1\n0x00000000 0x%08X +\n0x%08X 0x%08X -\n0x%08X 0x%08X +\n"
@@ -93,10 +93,10 @@ def checks_of_maps(work: str) -> Iterator[Check]:
     logical, physical, _ = extents[0]
     for begin, word in ((0, ""), (1 << 20, f"@{1 << 20}")):
         put(f"{work}/disk.map", map_of(begin + physical + 1024, 512))
-        source = archive_lists.source_of(f"{work}/disk.map{word}")
+        source = lists.source_of(f"{work}/disk.map{word}")
         found = source.places("file", path)
         yield f"map of a disk, {begin}: {found}", found == [(logical + 1024, logical + 1536)]
-    yield "map of a disk: another place of it", archive_lists.source_of(f"{work}/disk.map").places("file", path) == []
+    yield "map of a disk: another place of it", lists.source_of(f"{work}/disk.map").places("file", path) == []
 
 
 CHECKS = (checks_of_lists, checks_of_maps)

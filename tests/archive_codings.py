@@ -10,8 +10,9 @@ import dicom_recoded
 from archive_cases import get, put
 from archive_decisions import called, rows_of
 from coded_pictures import OTHER, USUAL, coded, some_lines
-from jls_tools import archive_bad, view_splice
+from jls_tools.archive import bad_cells
 from jls_tools.programs import Report
+from jls_tools.view import splice
 
 Check = tuple[str, bool]
 WIDTH, HEIGHT, BITS = 32, 24, 8
@@ -41,12 +42,12 @@ def checks_of_lines_of_codings(work: str) -> Iterator[Check]:
     wanted = {1: [(1024, 512, 510), (4000, 0, 7)], 2: [(7000, 13, 0)]}
     yield f"where copies differ: {report.differs}", report.differs == wanted
     yield "the others as ever", (report.width, report.settled, report.promise) == (303, 303, "lines")
-    found = view_splice.edited(report.differs[1])
+    found = splice.edited(report.differs[1])
     yield f"places in the mended file: {found}", found == [(1024, 1534), (3998, 4005)]
-    many = view_splice.edited([(at * 10, 1, 1) for at in range(100)])
-    bad = archive_bad.of_edits({1: [(0, 10, 0)], 2: [(630, 5, 9), (20, 0, 4)]}, [640, 640])
+    many = splice.edited([(at * 10, 1, 1) for at in range(100)])
+    bad = bad_cells.of_edits({1: [(0, 10, 0)], 2: [(630, 5, 9), (20, 0, 4)]}, [640, 640])
     yield f"where bytes are bad: {bad}", bad == "9" + "0" + "1" + "0" * 60 + "5"
-    yield "not more than are drawn", len(many) == view_splice.MOST and (many[0][0], many[-1][1]) == (0, 991)
+    yield "not more than are drawn", len(many) == splice.MOST and (many[0][0], many[-1][1]) == (0, 991)
 
 
 def damaged(stream: bytes, part: float) -> bytes:
@@ -82,7 +83,7 @@ def checks_of_drawn_codings(streams: list[bytes]) -> Iterator[Check]:
     with tempfile.TemporaryDirectory() as folder:
         for name, part, stream in zip("ab", (0.3, 0.7), streams):
             put(os.path.join(folder, name), damaged(stream, part))
-        panels = list(view_splice.Splice(["a", "b"], folder).panels())
+        panels = list(splice.Splice(["a", "b"], folder).panels())
     lost = [sorted(set(range(HEIGHT)) - {line for _, line in panel.readings}) for panel in panels]
     yield f"the lines of each copy that are damaged: {lost}", [bool(lines) for lines in lost] == [True, True, False]
     yield "few, and others in each", max(map(len, lost)) < 5 and lost[0][-1] < lost[1][0]

@@ -14,7 +14,8 @@ from archive_cases import ARCHIVE, PROGRAM, PROGRAMS, SPLICE, get, put
 
 sys.path.insert(0, os.path.join(archive_cases.TOP, "commands"))
 
-from jls_tools import archive_plain, dicom_info
+from jls_tools.archive import plain_walk
+from jls_tools.dicom import info
 from jls_tools.library import SONAME
 from jls_tools.programs import Programs
 
@@ -107,11 +108,11 @@ def checks_of_syntaxes(work: str) -> Iterator[Check]:
             put(f"{work}/{tree}/{name}", data)
     called([f"{work}/out", f"{work}/a", f"{work}/b"])
     for name, row in rows_of(f"{work}/out.report").items():
-        one: Any = dicom_info.OneFile
-        refusal: Any = dicom_info.refusal_of
+        one: Any = info.OneFile
+        refusal: Any = info.refusal_of
         wanted = refusal("it", one(f"{work}/a/{name}"))
         yield f"syntaxes: {name} {row['result']}, {row['note'][:60]}", row["note"] == wanted
-    read = [bool(archive_plain.other_syntax(data)) for data in files.values()]
+    read = [bool(plain_walk.other_syntax(data)) for data in files.values()]
     yield f"syntaxes: those that read are walked plainly {read}", read == [True, True, True, False, False, False, False]
 
 

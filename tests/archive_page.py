@@ -14,10 +14,10 @@ from archive_cases import TOP, get, put
 
 sys.path.insert(0, os.path.join(TOP, "commands"))
 
-from jls_tools.archive_places import Places
-from jls_tools.archive_rows import Row
-from jls_tools.archive_totals import Totals
-from jls_tools.report_page import MOST_DRAWN, MOST_LOST, MOST_MENDED, Page
+from jls_tools.archive.page import MOST_DRAWN, MOST_LOST, MOST_MENDED, Page
+from jls_tools.archive.places import Places
+from jls_tools.archive.rows import Row
+from jls_tools.archive.totals import Totals
 
 Check = Tuple[str, bool]
 BROWSERS = ("chromium", "chromium-browser", "google-chrome")

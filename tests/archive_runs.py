@@ -18,13 +18,13 @@ from archive_cases import ARCHIVE, PROGRAMS, TOP, get, put
 
 sys.path.insert(0, os.path.join(TOP, "commands"))
 
-from jls_tools import archive_report
-from jls_tools.archive_ledger import Ledger
-from jls_tools.archive_main import Trees
-from jls_tools.archive_places import MOST_ALONE, Places
-from jls_tools.archive_progress import Progress
-from jls_tools.archive_rows import FIELDS, TITLES, Row, Store
-from jls_tools.archive_trees import kind_of
+from jls_tools.archive import report as report_of_run
+from jls_tools.archive.ledger import Ledger
+from jls_tools.archive.main import Trees
+from jls_tools.archive.places import MOST_ALONE, Places
+from jls_tools.archive.progress import Progress
+from jls_tools.archive.rows import FIELDS, TITLES, Row, Store
+from jls_tools.archive.trees import kind_of
 
 Check = Tuple[str, bool]
 PATIENCE = 60  # seconds after which what a check waits for doesn't come
@@ -260,7 +260,7 @@ def checks_of_table(work: str) -> Iterator[Check]:
         file.write(b'[1, "spoilt", {"kind": "jls", "result"\n[1, "plain\n[[[\n\xff\xfe\n')
     ledger.append([Row("gone", result="copied")])
     ledger.remove("gone")
-    totals = archive_report.write(places, ledger)
+    totals = report_of_run.write(places, ledger)
     every = sorted([*whole, *lost, *mended, Row("spoilt", result="before")], key=lambda row: os.fsencode(row.path))
     with open(f"{work}/wanted", "w", newline="", encoding="utf-8", errors="surrogateescape") as text:
         writer = csv.writer(text, lineterminator="\n")

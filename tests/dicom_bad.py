@@ -8,9 +8,10 @@ import sys
 from dicom_files import CLASS, HERE, PROGRAMS, SYNTAX, File, called, changed, element, frame, get, with_value
 
 sys.path.append(os.path.join(HERE, "commands"))
-from jls_tools import dicom_bad as dicom_bad_places  # noqa: E402
-from jls_tools import dicom_doubtful, partial_picture  # noqa: E402
-from jls_tools.dicom_align import Copy  # noqa: E402
+from jls_tools import partial_picture  # noqa: E402
+from jls_tools.dicom.axis import bad_places  # noqa: E402
+from jls_tools.dicom.axis.align import Copy  # noqa: E402
+from jls_tools.dicom.evidence import doubtful  # noqa: E402
 
 SIDE, SECTOR, INTERVAL = 80, 512, 8
 PLACE = b"\n# position 0x00000800 sector 0x00000004 status - "
@@ -113,7 +114,7 @@ def checks_of_seen(rng):
         "bytes again and again": (noise + b"\xff\x7f" * 256, []),
     }
     for name, (data, wanted) in cases.items():
-        yield f"{name}: {wanted} ({dicom_bad_places.seen(data)})", dicom_bad_places.seen(data) == wanted
+        yield f"{name}: {wanted} ({bad_places.seen(data)})", bad_places.seen(data) == wanted
 
 
 def checks_of_bad_intervals(bench, folder, rng):
@@ -374,7 +375,7 @@ def checks_of_moved(bench, made, rng):
         ("two that are cut", [cut, cut, []], [], None),
         ("three of five, by lists", [inner, inner, inner, [], []], inner, None),
     ):
-        found = dicom_doubtful.lost_in_most([Copy("", data, own, b"", bad if own else []) for own in absent])
+        found = doubtful.lost_in_most([Copy("", data, own, b"", bad if own else []) for own in absent])
         yield f"{name}: {wanted} ({found})", found == wanted
 
 

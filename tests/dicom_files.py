@@ -17,7 +17,7 @@ COMMAND = os.path.join(HERE, "commands", "jls-dicom")
 os.environ.update({"JLS_SALVAGE": objects.program("jls-salvage"), "JLS_SPLICE": objects.program("jls-splice")})
 PROGRAMS = os.environ
 sys.path.append(os.path.join(HERE, "commands"))
-from jls_tools import dicom_command  # noqa: E402
+from jls_tools.dicom import command  # noqa: E402
 
 CLASS, UID, SYNTAX = "1.2.840.10008.5.1.4.1.1.7", "1.2.3.4.5.6.7", "1.2.840.10008.1.2.4.80"
 LONG = ("OB", "SQ", "OV")
@@ -121,7 +121,7 @@ def called(*words):
     printed, faults = io.StringIO(), io.StringIO()
     with contextlib.redirect_stdout(printed), contextlib.redirect_stderr(faults):
         try:
-            status = dicom_command.run(dicom_command.parser().parse_args(words))
+            status = command.run(command.parser().parse_args(words))
         except SystemExit as ended:
             status = ended.code
         except Exception:

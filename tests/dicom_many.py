@@ -7,7 +7,7 @@ import time
 from typing import Any, Iterator, List, Tuple
 
 from dicom_files import File, changed, frame
-from jls_tools import dicom_mend
+from jls_tools.dicom import mend
 from jls_tools.programs import Outcome, Programs
 
 Check = Tuple[str, bool]
@@ -48,7 +48,7 @@ def checks_of_many_frames(folder: str, rng: Any) -> Iterator[Check]:
         with open(names[-1], "wb") as file:
             file.write(changed(many.bytes, (place, bytes(12))))
     programs, begun = Counting(), time.process_time()
-    result = dicom_mend.mend(names, f"{folder}/many.dcm", None, programs)
+    result = mend.mend(names, f"{folder}/many.dcm", None, programs)
     seconds = time.process_time() - begun
     with open(f"{folder}/many.dcm", "rb") as file:
         is_same = file.read() == many.bytes

@@ -11,7 +11,7 @@ from typing import Any
 import dicom_files
 from coded_pictures import OTHER, USUAL, Coding, coded, segment, some_lines
 from dicom_files import UID
-from jls_tools import codings
+from jls_tools.frames import codings
 
 make_file: Any = dicom_files.File  # of a module without types
 changed: Any = dicom_files.changed

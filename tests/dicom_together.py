@@ -8,9 +8,9 @@ from typing import Any
 
 from dicom_files import File, changed, element, with_value
 from dicom_rules import csa_header
-from jls_tools import dicom_alone, dicom_doubtful
-from jls_tools.dicom_align import Copy
-from jls_tools.dicom_frames import DELIMITER
+from jls_tools.dicom.axis.align import Copy
+from jls_tools.dicom.evidence import alone, doubtful
+from jls_tools.dicom.walk.frames import DELIMITER
 
 Check = tuple[str, bool]
 SECTOR = 512
@@ -88,7 +88,7 @@ def checks_of_other_ends() -> Iterator[Check]:
         ("it goes on", [[(500, 900)], []], end, None),
         ("none lacks anything", [[], []], end, None),
     ):
-        found = dicom_doubtful.ends_before([Copy("", data, own) for own in absent], until)
+        found = doubtful.ends_before([Copy("", data, own) for own in absent], until)
         yield f"{name}: {wanted} ({found})", found == wanted
 
 
@@ -135,7 +135,7 @@ def checks_of_lost_beside() -> Iterator[Check]:
         ("as far as it is of the sector", [(400, 520, {0, 1})], False),
         ("what was taken of it", [(520, 560, {0, 2})], False),
     ):
-        found = dicom_alone.is_in_lost_sector(header_with(runs), 600, 606)
+        found = alone.is_in_lost_sector(header_with(runs), 600, 606)
         yield f"{name}: {wanted} ({found})", found == wanted
 
 

@@ -8,7 +8,7 @@ import struct
 
 from dicom_files import CLASS, UID, File, changed, element, frame
 from dicom_rules import put_before
-from jls_tools.dicom_finished import faults_of
+from jls_tools.dicom.write.finished import faults_of
 from jls_tools.programs import Programs
 
 NEIGHBOUR = UID[:-1] + "8"

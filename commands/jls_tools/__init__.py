@@ -1,4 +1,6 @@
-"""What the commands jls-archive, jls-dicom and jls-view share. They call jls-salvage and jls-splice; they are tested, not proved.
+"""The commands jls-archive, jls-dicom and jls-view. They call jls-salvage and jls-splice; they are tested, not proved.
+
+A package has a subject: `archive`, `dicom`, `view`, and `frames`, which the first two mend. What stands beside them is for all.
 
 An older Python than they need is refused here, before any module that it can't read. So this file is written as Python 2 has it too.
 """

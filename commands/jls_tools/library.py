@@ -9,7 +9,7 @@ import os
 import platform
 from typing import List, NamedTuple, Optional
 
-from .dicom_frames import MARKER
+from jls_tools.dicom.walk.frames import MARKER
 
 SONAME = "libjls_salvage.so.2"
 DONE, END_EOI = 0, 0  # of enum jls_answer and enum jls_end

@@ -8,7 +8,7 @@ import subprocess
 import sys
 from typing import Any, Sequence
 
-from . import library
+from jls_tools import library
 
 PICTURE = re.compile(r"picture (\d+)x(\d+), (\d+) bits, components (\d+(?:,\d+)*)$")
 FAULT = re.compile(r"^end fault (\d+)|no picture, fault (\d+)", re.M)

@@ -1,0 +1,366 @@
+"""Copies on one axis: each byte of the file has one offset, whatever a copy lost before it.
+
+A byte that a copy has not (it is cut, or lost bytes) is taken from another copy that has it; `absent` says where that was done. So all
+copies have one length then, and where they differ each has a byte of its own.
+"""
+from __future__ import annotations
+
+import re
+from collections.abc import Collection, Iterable, Iterator, Sequence
+from dataclasses import dataclass, field, replace
+from typing import Optional
+
+from jls_tools.dicom.axis.media import MOST_LOST
+from jls_tools.dicom.axis.sectors import is_noise
+
+ANCHOR = 32  # so many bytes that are equal, and not all alike, show how two copies lie to each other
+ANCHOR_KINDS = 8
+STEPS = (0, 16, 48, 128, 256, 512, 768, 1024, 2048, 4096, 6144, 8192, 16384, 32768, 65536)
+BLOCK = 1 << 16
+WINDOW = 256
+LEAST_GAIN = 8  # so many bytes of a window differ, at least, where bytes before it are lost
+MOST_LOOKS = 256  # so often it is looked whether bytes are lost where most of what comes is equal
+SHARE_APART = 64  # fewer than one in so many bytes differ where copies of one length were damaged in place
+SLIDE = 4096  # so far a loss can be moved
+MOST_SLID = 16  # losses of a copy
+LONG_WAY = 16  # a loss that can be moved so far is not clear
+PRINTABLE = re.compile(rb"[\x20-\x7e]+\Z")
+LEAST_FEWER = 2  # so many bytes fewer differ, at least, where a loss is moved: one can be a flipped bit
+SHIFTED = 64  # so many bytes more are equal, at least, where copies of one length are taken to have lost bytes at different places
+
+
+@dataclass
+class Copy:
+    """A copy on the axis. `absent` are the ranges of the axis that it has not; `foreign` is what was written over its beginning.
+
+    `bad` are ranges that a list names as bad, and `seen` those that look so: of the copy itself, and on the axis once they are `placed`.
+    `recoded` are those of `absent` that the copy has in another coding: there it lost nothing.
+    """
+
+    path: str
+    data: bytes
+    absent: list[tuple[int, int]] = field(default_factory=list)
+    foreign: bytes = b""
+    bad: Sequence[tuple[int, int]] = ()
+    seen: Sequence[tuple[int, int]] = ()
+    recoded: Sequence[tuple[int, int]] = ()
+
+    @property
+    def lost(self) -> list[tuple[int, int]]:
+        """What it has in no coding."""
+        found = list(self.absent)
+        for begin, end in self.recoded:
+            parts = (part for first, last in found for part in ((first, min(last, begin)), (max(first, end), last)))
+            found = [part for part in parts if part[0] < part[1]]
+        return found
+
+    def lacks(self, begin: int, end: int) -> bool:
+        return any(first < end and begin < last for first, last in self.absent)
+
+    def has_only(self, begin: int, end: int) -> bytes:
+        """The bytes of a range that it has itself."""
+        parts, at = [], begin
+        for first, last in self.absent:
+            if first < end and at < last:
+                parts.append(self.data[at : max(at, min(first, end))])
+                at = max(at, min(last, end))
+        return b"".join(parts) + self.data[at:end]
+
+
+def equal_length(one: bytes, other: bytes, at: int, beside: int) -> int:
+    """How many bytes are equal from here on."""
+    begin, most = at, min(len(one) - at, len(other) - beside)
+    done, size = 0, 64
+    while done < most:
+        size = min(size, most - done)
+        left, right = one[begin + done : begin + done + size], other[beside + done : beside + done + size]
+        if left != right:
+            if size == 1:
+                return done
+            size = max(1, size // 2) if size > 64 else 1 if size <= 2 else size // 2
+            continue
+        done += size
+        size = min(BLOCK, size * 2)
+    return done
+
+
+def same_way_on(one: bytes, other: bytes, at: int, beside: int) -> Optional[int]:
+    """How far the next run of bytes that are equal at these offsets is, if most of what comes is equal; else nothing."""
+    window = min(256, len(one) - at, len(other) - beside)
+    left, right = one[at : at + window], other[beside : beside + window]
+    equal = sum(a == b for a, b in zip(left, right))
+    if equal * 2 < window or window < 16:
+        return None
+    for step in range(1, window):
+        if left[step : step + 4] == right[step : step + 4]:
+            return step
+    return None
+
+
+def anchor_at(data: bytes, at: int) -> Optional[bytes]:
+    anchor = data[at : at + ANCHOR]
+    return anchor if len(anchor) == ANCHOR and len(set(anchor)) >= ANCHOR_KINDS else None
+
+
+def meet_again(one: bytes, other: bytes, at: int, beside: int) -> Optional[tuple[int, int]]:
+    """The next offsets (in both) from which they are equal again, with bytes lost between or not; nothing if there are none.
+
+    Of several the nearest is taken: what is lost may stand a second time further on.
+    """
+    best, least = None, 0
+    for step in STEPS:
+        if best is not None and step >= least:
+            break
+        for meet in meetings(one, other, at, beside, step):
+            skipped = meet[0] - at + meet[1] - beside
+            if best is None or skipped < least:
+                best, least = meet, skipped
+    return best
+
+
+def meetings(one: bytes, other: bytes, at: int, beside: int, step: int) -> Iterator[tuple[int, int]]:
+    """Where what stands so far on in one of both stands in the other one."""
+    near, far = anchor_at(one, at + step), anchor_at(other, beside + step)
+    if near is not None and near == far:
+        yield back(one, other, at, beside, at + step, beside + step)
+        return
+    found = other.find(near, beside, beside + step + MOST_LOST) if near is not None else -1
+    if found >= 0:
+        yield back(one, other, at, beside, at + step, found)
+    found = one.find(far, at, at + step + MOST_LOST) if far is not None else -1
+    if found >= 0:
+        yield back(one, other, at, beside, found, beside + step)
+
+
+def lost_here(one: bytes, other: bytes, at: int, beside: int) -> Optional[tuple[int, int]]:
+    """Where both go on after bytes that one of them lost: equal for long, and far less so at equal offsets; else nothing."""
+    window = min(WINDOW, len(one) - at, len(other) - beside)
+    apart = sum(a != b for a, b in zip(one[at : at + window], other[beside : beside + window]))
+    meet = meet_again(one, other, at, beside) if apart >= LEAST_GAIN else None
+    if meet is None or meet[0] - at == meet[1] - beside or min(meet[0] - at, meet[1] - beside) > 0:
+        return None
+    left, right = one[meet[0] : meet[0] + SHIFTED], other[meet[1] : meet[1] + SHIFTED]
+    return meet if len(left) == len(right) == SHIFTED and left == right else None
+
+
+def back(one: bytes, other: bytes, at: int, beside: int, meet: int, meets: int) -> tuple[int, int]:
+    """The first of the equal bytes before a place where both are equal."""
+    while meet > at and meets > beside and one[meet - 1] == other[meets - 1]:
+        meet, meets = meet - 1, meets - 1
+    return meet, meets
+
+
+def pieces(one: bytes, other: bytes, is_free: bool = False) -> Iterator[tuple[int, int]]:
+    """(bytes of one, bytes of the other) in turn: as many of both, or none of one.
+
+    Where as many bytes follow in both, they are taken by offset, unless the way is free.
+    """
+    at = beside = looks = 0
+    while at < len(one) and beside < len(other):
+        count = equal_length(one, other, at, beside)
+        if count == 0 and (is_free or len(one) - at != len(other) - beside):
+            step = same_way_on(one, other, at, beside)
+            looks += step is not None
+            meet = lost_here(one, other, at, beside) if step is not None and looks < MOST_LOOKS else None
+            if step is None or meet is not None:
+                meet = meet or meet_again(one, other, at, beside)
+                if meet is not None:
+                    both = min(meet[0] - at, meet[1] - beside)
+                    yield both, both
+                    yield meet[0] - at - both, meet[1] - beside - both
+                    at, beside = meet
+                    continue
+                step = min(len(one) - at, len(other) - beside)
+            count = step
+        elif count == 0:
+            count = len(one) - at
+        yield count, count
+        at, beside = at + count, beside + count
+    yield len(one) - at, 0
+    yield 0, len(other) - beside
+
+
+def insert_gaps(copy: Copy, gaps: Collection[tuple[int, int, int]], source: bytes) -> Copy:
+    """Puts bytes into a copy that it has not: `gaps` are (its offset, count, offset in the source)."""
+    parts, absent, at, shift = [], [], 0, 0
+    for offset, count, place in gaps:
+        parts += [copy.data[at:offset], source[place : place + count]]
+        absent.append((offset + shift, offset + shift + count))
+        shift, at = shift + count, offset
+    parts.append(copy.data[at:])
+    absent += moved_by(copy.absent, gaps)
+    return replace(copy, data=b"".join(parts), absent=merged(absent), recoded=moved_by(copy.recoded, gaps))
+
+
+def moved_by(ranges: Iterable[tuple[int, int]], gaps: Collection[tuple[int, int, int]]) -> list[tuple[int, int]]:
+    """Where ranges stand when gaps are put in. One with a gap inside gets longer."""
+    found = []
+    for begin, end in ranges:
+        before = sum(count for offset, count, _ in gaps if offset <= begin)
+        inside = sum(count for offset, count, _ in gaps if begin < offset < end)
+        found.append((begin + before, end + before + inside))
+    return found
+
+
+def merged(ranges: Iterable[tuple[int, int]]) -> list[tuple[int, int]]:
+    found: list[tuple[int, int]] = []
+    for begin, end in sorted(ranges):
+        if found and found[-1][1] >= begin:
+            found[-1] = (found[-1][0], max(found[-1][1], end))
+        else:
+            found.append((begin, end))
+    return found
+
+
+def gaps_of(one: bytes, other: bytes, is_free: bool) -> tuple[list[tuple[int, int, int]], list[tuple[int, int, int]]]:
+    """What each of two lacks of the other: for each a list as insert_gaps takes it."""
+    at = beside = 0
+    in_one, in_other = [], []
+    for count, counts in pieces(one, other, is_free):
+        if count > counts:
+            in_other.append((beside, count, at))
+        elif counts > count:
+            in_one.append((at, counts, beside))
+        at, beside = at + count, beside + counts
+    return in_one, in_other
+
+
+def size_of(ranges: Iterable[tuple[int, int]]) -> int:
+    return sum(end - begin for begin, end in ranges)
+
+
+def aligned(one: bytes, other: bytes, are_shifted: bool) -> tuple[list[tuple[int, int, int]], list[tuple[int, int, int]]]:
+    """(gaps in one, gaps in the other). Those of one length are taken by offset, unless they have far more in common when shifted."""
+    if len(one) != len(other):
+        return gaps_of(one, other, False)
+    apart = size_of(differing([one, other]))
+    if apart < SHIFTED or not are_shifted and apart * SHARE_APART < len(one):
+        return [], []
+    gaps = gaps_of(one, other, True)
+    left, right = (insert_gaps(Copy("", text), gap, source) for text, gap, source in ((one, gaps[0], other), (other, gaps[1], one)))
+    absent, left_apart = size_of(left.absent) + size_of(right.absent), size_of(differing([left.data, right.data]))
+    if are_shifted and len(gaps[0]) == len(gaps[1]) == 1:
+        return gaps if len(left.data) - absent - left_apart - (len(one) - apart) >= SHIFTED else ([], [])
+    return gaps if (left_apart + absent) * 2 < apart else ([], [])
+
+
+def on_one_axis(copies: Sequence[Copy], are_shifted: bool = False) -> list[Copy]:
+    """All copies on one axis, which the longest copy begins. `are_shifted`: two of one length may have lost bytes at different places."""
+    order = sorted(range(len(copies)), key=lambda index: -len(copies[index].data))
+    placed = {order[0]: copies[order[0]]}
+    for index in order[1:]:
+        base = placed[order[0]]
+        in_base, in_copy = aligned(base.data, copies[index].data, are_shifted)
+        before = base.data
+        if in_base:
+            source = copies[index].data
+            placed = {key: insert_gaps(copy, in_base, source) for key, copy in placed.items()}
+        placed[index] = insert_gaps(copies[index], in_copy, before)
+    return slid([placed[index] for index in range(len(copies))])
+
+
+def slid(copies: Sequence[Copy]) -> list[Copy]:
+    """The copies with each loss where they differ least: where bytes repeat, it can have been found too early, too late, or in parts."""
+    found = list(copies)
+    for number, copy in enumerate(copies):
+        if len(copy.absent) > MOST_SLID:
+            continue
+        for gaps in near_each_other(copy.lost) + [[gap] for gap in copy.lost]:
+            others = found[:number] + found[number + 1 :]
+            changed = (in_one_place(found[number], other, gaps) for other in others if set(gaps) <= set(found[number].absent))
+            found[number] = next((each for each in changed if each), found[number])
+    return found
+
+
+def near_each_other(gaps: Iterable[tuple[int, int]]) -> list[list[tuple[int, int]]]:
+    """Lists of two losses and more, each near the one before."""
+    found: list[list[tuple[int, int]]] = []
+    for gap in gaps:
+        if found and gap[0] - found[-1][-1][1] < SLIDE:
+            found[-1].append(gap)
+        else:
+            found.append([gap])
+    return [near for near in found if len(near) > 1]
+
+
+def in_one_place(copy: Copy, other: Copy, gaps: Sequence[tuple[int, int]]) -> Optional[Copy]:
+    """A copy with these losses in one place near them, filled from another copy, if far fewer bytes differ so; else nothing."""
+    begin, end = gaps[0][0], gaps[-1][1]
+    if begin == 0 or end == len(copy.data):
+        return None
+    borders = [place for each in (copy, other) for pair in each.absent if pair not in gaps for place in pair]
+    first = max([begin - SLIDE, 0] + [place for place in borders if place <= begin])
+    last = min([end + SLIDE, len(copy.data)] + [place for place in borders if place >= end])
+    if other.lacks(first, last) or any(begin < place < end for place in borders):
+        return None
+    own, whole = copy.has_only(first, last), other.data[first:last]
+    count, at = fewest(own, whole)
+    if count + LEAST_FEWER > sum(one != two for one, two in zip(copy.data[first:last], whole)):
+        return None
+    gap = (first + at, first + at + len(whole) - len(own))
+    data = copy.data[:first] + own[:at] + other.data[slice(*gap)] + own[at:] + copy.data[last:]
+    return replace(copy, data=data, absent=merged([pair for pair in copy.absent if pair not in gaps] + [gap]))
+
+
+def fewest(own: bytes, whole: bytes) -> tuple[int, int]:
+    """(how many bytes differ, where) if what some bytes lack of others stands in the one place where fewest differ."""
+    lost = len(whole) - len(own)
+    best = count = sum(one != two for one, two in zip(own, whole[lost:]))
+    place = 0
+    for at, byte in enumerate(own):
+        count += (byte != whole[at]) - (byte != whole[at + lost])
+        if count < best:
+            best, place = count, at + 1
+    return best, place
+
+
+def may_stand_elsewhere(copy: Copy, other: Copy, gap: tuple[int, int]) -> bool:
+    """Whether a loss can stand farther away where a few bytes more differ, which damage of the other copy can have made."""
+    begin, end = gap
+    if begin == 0 or end == len(copy.data):
+        return False
+    first, last = max(0, begin - SLIDE), min(len(copy.data), end + SLIDE)
+    sides = (
+        (copy.data[first:begin][::-1], other.data[first + end - begin : end][::-1]),
+        (copy.data[end:last], other.data[begin : last - end + begin]),
+    )
+    return any(may_be_damage(own, beside, end - begin) for own, beside in sides)
+
+
+def may_be_damage(own: bytes, other: bytes, size: int) -> bool:
+    """Whether of two texts nothing differs for long but one bit, noise, or a few bytes that are no printable text."""
+    apart = [at for at, (one, two) in enumerate(zip(own, other)) if one != two]
+    if not apart:
+        return False
+    near = [at for at in apart if at < apart[0] + size]
+    until = apart[len(near)] if len(near) < len(apart) else min(len(own), len(other))
+    if until - near[-1] <= LONG_WAY:
+        return False
+    patch = other[near[0] : near[-1] + 1]
+    if len(patch) >= LONG_WAY:
+        return is_noise(patch)
+    is_bit = len(near) == 1 and bin(own[near[0]] ^ other[near[0]]).count("1") == 1
+    return is_bit or not PRINTABLE.match(patch)
+
+
+NOT_ZERO = re.compile(rb"[^\0]+")
+
+
+def differing(texts: Sequence[bytes], begin: int = 0, end: Optional[int] = None) -> list[tuple[int, int]]:
+    """The ranges, of one byte or more, in which texts of one length differ. Each byte in them differs."""
+    end = len(texts[0]) if end is None else end
+    found: list[tuple[int, int]] = []
+    for at in range(begin, end, BLOCK):
+        blocks = [text[at : min(end, at + BLOCK)] for text in texts]
+        if all(block == blocks[0] for block in blocks[1:]):
+            continue
+        base = int.from_bytes(blocks[0], "big")
+        mask = 0
+        for block in blocks[1:]:
+            mask |= base ^ int.from_bytes(block, "big")
+        for run in NOT_ZERO.finditer(mask.to_bytes(len(blocks[0]), "big")):
+            if found and found[-1][1] == at + run.start():
+                found[-1] = (found[-1][0], at + run.end())
+            else:
+                found.append((at + run.start(), at + run.end()))
+    return found

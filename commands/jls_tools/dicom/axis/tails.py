@@ -1,0 +1,93 @@
+"""Bytes after the last element of a copy: the rest of a sector, of a block of a tape, or of an older file.
+
+A tail is cut where a copy that reads whole lacks it, where most copies lack it, or where another copy ends just where the elements do. One
+that all copies have stays. Another one is undecided: then a SHA-256 alone can say which file is true.
+"""
+from __future__ import annotations
+
+from collections import Counter
+from dataclasses import dataclass, field
+from typing import Optional
+
+from jls_tools.dicom.read.elements import UNDEFINED, walk
+from jls_tools.dicom.walk.frames import DELIMITER
+from jls_tools.dicom.write.finished import Reading
+
+BESIDE = 64  # so many bytes before the end of a whole copy are equal in one that goes on behind it
+
+
+@dataclass
+class Tails:
+    """The copies without what stands behind their last elements. `ways` are the tails that the file can have, the one taken first."""
+
+    texts: list[bytes]
+    cut: list[int] = field(default_factory=list)  # the copies of which a tail was cut
+    ways: list[bytes] = field(default_factory=lambda: [b""])
+    is_decided: bool = True
+
+
+def end_of(text: bytes) -> Optional[int]:
+    """Where the last element of a file ends, if it reads so far."""
+    reading = Reading(text)
+    return reading.end if reading.is_whole and text[128:132] == b"DICM" else None
+
+
+def without_tails(texts: list[bytes]) -> Tails:
+    """Cuts the tails that can be told."""
+    ends = [end_of(text) for text in texts]
+    likely = [end if end is not None else end_behind(text) for text, end in zip(texts, ends)]
+    borders = [border_of(texts, ends, at, likely[at]) for at in range(len(texts))]
+    found = Tails([text if border is None else text[:border] for text, border in zip(texts, borders)])
+    found.cut = [at for at, border in enumerate(borders) if border is not None]
+    if found.cut:
+        found.ways += dict.fromkeys(texts[at][border:] for at, border in enumerate(borders) if border is not None)
+        return found
+    end = next((end for text, end in zip(texts, ends) if end is not None and end < len(text)), None)
+    if end is None or any(other not in (None, end) for other in ends):
+        return found
+    tails = list(dict.fromkeys(text[end:] for text in texts if len(text) > end))
+    if len(tails) == 1:
+        found.is_decided = len(texts) == 1 or sum(len(text) > end for text in texts) > 1
+    elif any(own is None and len(text) > end for own, text in zip(ends, texts)) or are_of_one_element(tails):
+        return found
+    else:
+        found.is_decided = False
+    found.texts = [text[:end] for text in texts]
+    found.ways = [*tails, b""] if found.is_decided else [b"", *tails]
+    return found
+
+
+def are_of_one_element(tails: list[bytes]) -> bool:
+    """Whether tails have most bytes in common: they can be an element whose header was damaged in each copy."""
+    sizes = set(map(len, tails))
+    apart = sum(len(set(values)) > 1 for values in zip(*tails))
+    return len(sizes) == 1 and apart * 2 < max(sizes)
+
+
+def end_behind(text: bytes) -> Optional[int]:
+    """Where the elements end that follow the last delimiter of a sequence, as those behind Pixel Data do."""
+    at = text.rfind(DELIMITER)
+    elements = list(walk(text, at + len(DELIMITER))) if at >= 0 else []
+    if elements and elements[-1].length != UNDEFINED:
+        return elements[-1].end
+    return at + len(DELIMITER) if at >= 0 and not elements else None
+
+
+def border_of(texts: list[bytes], ends: list[Optional[int]], at: int, own: Optional[int]) -> Optional[int]:
+    """Where the tail of a copy begins that others say is none of the file; nothing if they don't. `own` is where its elements may end."""
+    text = texts[at]
+    sizes = Counter(len(other) for number, other in enumerate(texts) if number != at)
+    for number, (other, end) in enumerate(zip(texts, ends)):
+        size = len(other)
+        if number == at or size >= len(text) or own == len(text):
+            continue
+        is_end = own == size or ends[at] is None and ends_alike(text, other) or text[:size] == other
+        if is_end and (end == size or own == size or sizes[size] * 2 > len(texts)):
+            return size
+    return None
+
+
+def ends_alike(text: bytes, other: bytes) -> bool:
+    """Whether a copy goes on behind the end of another one, which ends with the same bytes or where zeros begin."""
+    size = len(other)
+    return text[max(0, size - BESIDE) : size] == other[-BESIDE:] or not text[size:].strip(b"\0")

@@ -1,0 +1,1 @@
+"""What speaks for a value, or against it, where copies differ."""

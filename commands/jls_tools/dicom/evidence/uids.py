@@ -1,0 +1,29 @@
+"""Which of two UIDs that should be equal a file has: what denies one that two elements of a copy agree on."""
+from __future__ import annotations
+
+from collections.abc import Callable, Sequence
+
+from jls_tools.dicom.axis.align import Copy
+from jls_tools.dicom.read.elements import Element, text_of
+from jls_tools.dicom.read.values import is_uid
+
+
+def are_denied(copies: Sequence[Copy], uids: set[str], elements: Sequence[Element], is_lost: Callable[[int, Element], bool]) -> bool:
+    """Whether each can be the file's: of three elements of copies that read, one or more have another UID, and by no flipped bit.
+
+    `is_lost` says of a copy and an element that a part of it there was decided against this copy.
+    """
+    agreeing = denying = 0
+    for number, copy in enumerate(copies):
+        own = [each for each in elements if not copy.lacks(each.value, each.end)]
+        agreeing += sum(text_of(each.bytes_of(copy.data)) in uids for each in own)
+        values = [each.bytes_of(copy.data) for each in own if not is_lost(number, each)]
+        others = [text_of(value) for value in values if is_uid(value) and text_of(value) not in uids]
+        denying += sum(not any(is_flip(other, uid) for uid in uids) for other in others)
+    return denying * 2 >= agreeing
+
+
+def is_flip(one: str, other: str) -> bool:
+    """Whether one bit alone makes a text of another one."""
+    apart = [ord(left) ^ ord(right) for left, right in zip(one, other) if left != right]
+    return len(one) == len(other) and len(apart) == 1 and apart[0] & apart[0] - 1 == 0

@@ -1,0 +1,173 @@
+"""What one DICOM file is, and its frames: `info` and `frames` of jls-dicom."""
+from __future__ import annotations
+
+import os
+import shutil
+import tempfile
+from collections.abc import Callable, Iterator, Sequence
+from typing import Optional
+
+from jls_tools.dicom.axis import bad_places
+from jls_tools.dicom.axis.align import Copy
+from jls_tools.dicom.copies.instance import identity_of
+from jls_tools.dicom.mend import read
+from jls_tools.dicom.read.elements import JPEG_LS, NEAR_LOSSLESS, SYNTAXES, syntax_name, syntax_of
+from jls_tools.dicom.read.tags import COLUMNS, FRAMES, PIXEL_DATA, ROWS, SAMPLES, STORED
+from jls_tools.dicom.result import FAILED, NOT_SUPPORTED, NOT_WHOLE, REFUSED, WHOLE, FrameResult, MendOptions
+from jls_tools.dicom.walk.frames import by_search, other_coding, shape_of
+from jls_tools.dicom.walk.layout import Layout
+from jls_tools.frames.mending import FrameMender, Mended
+from jls_tools.programs import Programs
+
+NO_LINE = "damaged: no line decodes; jls-splice needs a second copy"
+INTERLEAVES: dict[Optional[int], str] = {0: "a scan for each component", 1: "interleaved by line", 2: "interleaved by sample"}
+
+
+class OneFile:
+    """A file: its layout, its frames as (offset, stream), and how they were found."""
+
+    def __init__(self, path: str) -> None:
+        self.data = read(path)
+        self.syntax = syntax_of(self.data)
+        self.is_dicom = self.data[128:132] == b"DICM"
+        copy = Copy(path, self.data)
+        self.layout = Layout([copy])
+        self.how = "by items"
+        self.seen = bad_places.seen(self.data)
+        if self.layout.places:
+            self.parts = [place.fragments for place in self.layout.places]
+            self.frames = [(place.begin, unpadded(place.stream(self.data))) for place in self.layout.places]
+            if not self.layout.is_exact:
+                self.how = "by items, some of which don't read" if self.layout.breaks else "by items, until the file ends"
+        else:
+            self.how = "by search"
+            self.parts = [[part] for part in by_search(self.data)]
+            self.frames = [(begin, unpadded(self.data[begin:end])) for ((begin, end),) in self.parts]
+
+    def mended(self, mender: FrameMender, number: int) -> Mended:
+        """A frame as far as it reads, up to sectors that look bad."""
+        stream, parts = self.frames[number][1], self.parts[number]
+        note = bad_places.note_of([pair for part in parts for pair in bad_places.clipped(self.seen, *part)])
+        return mender.mend_beside(mender.mend(number, [stream]), [stream], bad_places.within(self.seen, parts), note)
+
+    def value(self, tag: int) -> Optional[bytes]:
+        for element in self.layout.structure.elements:
+            if element.tag == tag:
+                return element.bytes_of(self.data)
+        return None
+
+    def number(self, tag: int) -> Optional[int]:
+        value = self.value(tag)
+        return int.from_bytes(value, "little") if value is not None and len(value) == 2 else None
+
+
+def unpadded(stream: bytes) -> bytes:
+    return stream[:-1] if stream.endswith(b"\xff\xd9\0") else stream
+
+
+def refusal_of(path: str, file: OneFile) -> Optional[str]:
+    """Why a file is not for these tools, or nothing."""
+    if file.data[:3] == b"\xff\xd8\xff" and other_coding(file.data):
+        return f"{path}: {NOT_SUPPORTED}: {other_coding(file.data)}"
+    if not file.is_dicom and not file.layout.has_header and not file.frames:
+        return f"{path}: it is no DICOM file"
+    if file.syntax not in (None, JPEG_LS) and file.syntax in SYNTAXES:
+        return f"{path}: no JPEG-LS lossless: {syntax_name(file.syntax)}"
+    if not file.frames:
+        has_pixels = any(element.tag == PIXEL_DATA for element in file.layout.structure.elements)
+        why = "Pixel Data has no frame" if has_pixels else "it has no Pixel Data that reads"
+        return f"{path}: {why}"
+    return None
+
+
+def data_set_lines(file: OneFile) -> Iterator[str]:
+    meta, data = identity_of(file.data).in_meta, identity_of(file.data).in_data
+    yield "DICOM file" if file.is_dicom else "no DICOM file by its first bytes"
+    yield syntax_name(file.syntax) if file.syntax else "the transfer syntax does not read"
+    same = ", equal in both places" if meta and meta == data else f", and {data or 'none that reads'} in the data set"
+    yield f"instance {meta or 'none that reads'}{same}"
+    count = file.value(FRAMES)
+    said = count.decode("latin-1").strip(" \0") if count is not None else "1"
+    yield f"header: {file.number(COLUMNS)}x{file.number(ROWS)}, {file.number(STORED)} bits, samples {file.number(SAMPLES)}, frames {said}"
+
+
+def header_lines(file: OneFile) -> Iterator[str]:
+    if file.data[:3] == b"\xff\xd8\xff":
+        yield "a bare JPEG file, and no DICOM file"
+    else:
+        yield from data_set_lines(file)
+    for begin, end in file.layout.breaks:
+        yield f"broken from {begin}; the next that reads is at {end}"
+    if file.layout.structure.is_cut:
+        yield "the file ends before its last element does"
+    yield f"frames {len(file.frames)}, found {file.how}"
+
+
+def coding_lines(stream: bytes) -> Iterator[str]:
+    shape = shape_of(stream)
+    if shape and shape.near is not None:
+        how = "near-lossless" if shape.near else "lossless"
+        yield f"coding: JPEG-LS {how}, {INTERLEAVES.get(shape.interleave, 'interleaved in no known way')}"
+    elif other_coding(stream):
+        yield f"coding: {other_coding(stream)}"
+
+
+def info(path: str, programs: Programs, progress: Optional[Callable[[int, int], object]] = None) -> tuple[list[str], Optional[str], int]:
+    """(lines, why it is refused or nothing, status)."""
+    file = OneFile(path)
+    refusal = refusal_of(path, file)
+    if refusal:
+        lines = list(header_lines(file)) if file.is_dicom and file.layout.structure.is_found else []
+        return lines, refusal, REFUSED
+    lines = [*header_lines(file), *coding_lines(file.frames[0][1])]
+    results = []
+    folder = tempfile.mkdtemp(prefix="jls-dicom-")
+    try:
+        mender = FrameMender(programs, folder, MendOptions())
+        for number, (offset, stream) in enumerate(file.frames):
+            result = file.mended(mender, number).result
+            lines.append(f"{result.line()}, {len(stream)} bytes at {offset}")
+            results.append(result)
+            if progress:
+                progress(number + 1, len(file.frames))
+    finally:
+        shutil.rmtree(folder, ignore_errors=True)
+    return [*lines, *verdict_lines(results)], None, status_of(results)
+
+
+def verdict_lines(results: Sequence[FrameResult]) -> Iterator[str]:
+    """What a file is as a whole, where none of its lines decodes: of a kind that isn't read, or damaged."""
+    names = sorted({result.note for result in results if result.kind == NOT_SUPPORTED})
+    if names:
+        yield f"{NOT_SUPPORTED}: {', '.join(names)}"
+    elif not any(result.settled or result.disputed for result in results):
+        yield NO_LINE
+
+
+def status_of(results: Sequence[FrameResult]) -> int:
+    if any(result.kind == NOT_SUPPORTED for result in results):
+        return REFUSED
+    return WHOLE if all(result.kind == "whole" for result in results) else NOT_WHOLE
+
+
+def frames(path: str, folder: str) -> tuple[list[str], Optional[str], int]:
+    """Takes the frames out: (lines, why it is refused or nothing, status)."""
+    if os.path.lexists(folder):
+        return [], f"{folder}: it is there already", FAILED
+    file = OneFile(path)
+    refusal = refusal_of(path, file)
+    if refusal and not (file.syntax == NEAR_LOSSLESS and file.frames):
+        return [], refusal, REFUSED
+    lines = []
+    parent = os.path.dirname(os.path.abspath(folder))
+    part = tempfile.mkdtemp(prefix=".jls-dicom-", dir=parent)
+    try:
+        for number, (offset, stream) in enumerate(file.frames):
+            name = f"frame-{number:04}.jls"
+            with open(os.path.join(part, name), "wb") as out:
+                out.write(stream)
+            lines.append(f"{os.path.join(folder, name)} {offset} {len(stream)} {file.how}")
+        os.rename(part, folder)
+    finally:
+        shutil.rmtree(part, ignore_errors=True)
+    return lines, None, WHOLE

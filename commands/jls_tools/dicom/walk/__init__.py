@@ -1,0 +1,1 @@
+"""The way of elements, items and frames through copies that differ."""

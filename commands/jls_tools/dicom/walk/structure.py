@@ -1,0 +1,426 @@
+"""The way of elements and items through copies that differ: a walk of all ways at once, of which those remain that go on to the end.
+
+Where copies differ in the header of an element or item, each way that a copy has is gone. A way is dead where no element or item can
+begin. Of the ways that reach the end those count that are least strange: tags in order, lengths that are even, VRs as PS3.6 has them,
+values that their VRs allow. `Structure` says what the ways that are left have in common, and `ways` where they part.
+"""
+from __future__ import annotations
+
+import bisect
+import heapq
+import itertools
+import math
+import re
+from collections.abc import Iterable, Iterator, Mapping
+from typing import Any, Optional, Union
+
+from jls_tools.dicom.axis.runs import Runs
+from jls_tools.dicom.read.elements import UNDEFINED, Element, header_of
+from jls_tools.dicom.read.tags import FIRST, ITEM, ITEM_END, PIXEL_DATA, SEQUENCE_END
+from jls_tools.dicom.read.values import TEXTS, allows, is_written, strangeness
+
+MOST_COMBINATIONS = 64
+MOST_NODES = 100000  # a state and its steps take some kilobytes
+MOST_LOOKS = 100000  # so many ways through a header or value are looked at, at most; others take some thousands
+MOST_JUMPS = 40
+MOST_JUMPERS = 12
+FORBIDDEN, ZEROED, UNORDERED, ODD, CUT, JUMP = 3, 2, 8, 4, 4, 1000
+# what stands on the stack: the data set, a sequence, an item; s and i are those with an implicit VR; P is Pixel Data
+DATA_SET, SEQUENCE, OBJECT, PIXELS = "D", "S", "I", "P"
+ITEM_OR_END = re.compile(rb"\xfe\xff(?:\x00\xe0|\xdd\xe0\0\0\0\0)")
+SHORT = rb"AE|AS|AT|CS|DA|DS|DT|FD|FL|IS|LO|LT|PN|SH|SL|SS|ST|TM|UI|UL|US"
+ELEMENT = re.compile(rb"[\x00-\xff]{4}(?:" + SHORT + rb"|(?:OB|OW|SQ|UN|UT)\0\0)", re.S)
+PIXELS_BEGIN = re.compile(rb"\xe0\x7f\x10\x00O[BW]\x00\x00\xff\xff\xff\xff")
+
+State = Any  # (place, stack, last tag, ways of the run that goes on), or what stands for the end of a file that is cut: hashable
+Stack = tuple[tuple[str, Optional[int], int], ...]  # (kind, end, the tag before)
+Chosen = Mapping[int, int]  # {run: way}
+
+
+class Step:
+    """From one state to the next: its cost, the ways that it takes, and the element or item that it passes (None: a jump)."""
+
+    __slots__ = ("before", "after", "cost", "chosen", "element", "kind", "depth")
+
+    def __init__(
+        self, before: State, after: State, cost: int, chosen: Chosen, element: Optional[Element], kind: str, depth: int = 0
+    ) -> None:
+        self.before = before
+        self.after = after
+        self.cost = cost
+        self.chosen = chosen
+        self.element = element
+        self.kind = kind  # leaf, open, item, end, fragment, jump, cut
+        self.depth = depth
+
+
+class Walk:
+    """States are (place, stack, last tag, ways of the run that goes on). A stack is ((kind, end, the tag before), ..)."""
+
+    def __init__(self, runs: Runs, total: int) -> None:
+        self.runs = runs
+        self.total = total
+        self.steps: dict[State, list[Step]] = {}  # the steps from a state
+        self.goals: set[State] = set()
+        self.cuts: list[Step] = []
+        self.jumps = 0
+        self.looks = 0
+
+    # Where copies differ ---------------------------------------------------------
+
+    def choices(self, begin: int, end: int, chosen: Chosen) -> Iterator[tuple[bytes, Chosen, int]]:
+        """Each way through a range: (its bytes, {run: way} of all that was chosen, the cost of what is new)."""
+        end = min(end, self.total)
+        touched = self.runs.touching(begin, end)
+        if len(touched) == 0:
+            yield self.runs.data[begin:end], chosen, 0
+            return
+        free = [number for number in touched if number not in chosen]
+        for ways in itertools.product(*(self.runs.ways_of(number) for number in free)):
+            self.looks += 1
+            both = {**chosen, **dict(zip(free, ways))}
+            cost = sum(ZEROED for number, way in zip(free, ways) if self.runs.runs[number].zeros[way])
+            yield self.runs.bytes_with(begin, end, both), both, cost
+
+    def is_small(self, begin: int, end: int, chosen: Chosen) -> bool:
+        sizes = [len(self.runs.ways_of(number)) for number in self.runs.touching(begin, end) if number not in chosen]
+        return len(sizes) <= 12 and math.prod(sizes) <= MOST_COMBINATIONS
+
+    def going_on(self, place: int, chosen: Chosen) -> tuple[tuple[int, int], ...]:
+        """The ways of runs that go across a place."""
+        return tuple(sorted((number, way) for number, way in chosen.items() if self.runs.runs[number].end > place))
+
+    # States ------------------------------------------------------------------------
+
+    def settle(self, place: int, stack: Stack, last: int, chosen: Chosen) -> State:
+        """The state at a place, after what ends there."""
+        while len(stack) > 1 and stack[-1][1] == place:
+            last = stack[-1][2]
+            stack = stack[:-1]
+        return place, stack, last, self.going_on(place, chosen)
+
+    def explore(self) -> State:
+        """Goes all ways. Where all are dead before the end, it jumps to what can begin after them."""
+        start = (FIRST, ((DATA_SET, self.total, 0),), 0, ())
+        seen: set[State] = {start}
+        dead: list[State] = []
+        self.go_on([start], seen, dead)
+        while not self.goals and dead and self.jumps < MOST_JUMPS and self.looks < MOST_LOOKS:
+            self.jumps += 1
+            furthest: int = max(state[0] for state in dead)
+            if self.cuts and max(step.before[0] for step in self.cuts) >= furthest:
+                break
+            begins: list[State] = []
+            for state in sorted(dead, key=lambda state: -int(state[0]))[:MOST_JUMPERS]:
+                self.steps[state] = list(self.jumps_from(state))
+                begins += [step.after for step in self.steps[state] if step.after not in seen]
+            dead.clear()
+            seen.update(begins)
+            self.go_on(begins, seen, dead)
+        return start
+
+    def go_on(self, begins: Iterable[State], seen: set[State], dead: list[State]) -> None:
+        """Goes all ways from these states; `dead` gets those from which none goes on."""
+        count = itertools.count()
+        heap = [(state[0], next(count), state) for state in dict.fromkeys(begins)]
+        heapq.heapify(heap)
+        while heap and len(self.steps) < MOST_NODES and self.looks < MOST_LOOKS:
+            _, _, state = heapq.heappop(heap)
+            if state[0] == self.total and len(state[1]) == 1:
+                self.goals.add(state)
+                continue
+            self.steps[state] = list(self.steps_from(state))
+            if not self.steps[state]:
+                dead.append(state)
+            for step in self.steps[state]:
+                if step.after not in seen:
+                    seen.add(step.after)
+                    heapq.heappush(heap, (step.after[0], next(count), step.after))
+
+    def steps_from(self, state: State) -> Iterator[Step]:
+        place, stack, last, carried = state
+        for head, chosen, cost in self.choices(place, place + 8, dict(carried)):
+            if len(head) < 8:
+                self.cut(state, cost, chosen, None)
+                continue
+            yield from self.steps_after(state, head, chosen, cost)
+
+    def cut(self, state: State, cost: int, chosen: Chosen, element: Optional[Element]) -> None:
+        """The file ends inside this header or value."""
+        self.cuts.append(Step(state, None, cost + CUT, chosen, element, "cut", len(state[1]) - 1))
+
+    def steps_after(self, state: State, head: bytes, chosen: Chosen, cost: int) -> Iterator[Step]:
+        kind = state[1][-1][0]
+        tag = int.from_bytes(head[:2], "little") << 16 | int.from_bytes(head[2:4], "little")
+        length = int.from_bytes(head[4:8], "little")
+        if tag >> 16 == 0xFFFE:
+            yield from self.item_steps(state, tag, length, chosen, cost)
+        elif kind in "DI":
+            yield from self.element_steps(state, head, chosen, cost)
+        elif kind == "i":
+            element = Element(tag, b"UN", state[0], state[0] + 8, length)
+            yield from self.passing(state, element, chosen, cost)
+
+    def item_steps(self, state: State, tag: int, length: int, chosen: Chosen, cost: int) -> Iterator[Step]:
+        place, stack, last, _ = state
+        kind, end, before = stack[-1]
+        element = Element(tag, b"", place, place + 8, length)
+        depth = len(stack) - 1
+        if tag == ITEM and kind in "Ss":
+            inner = "I" if kind == "S" else "i"
+            until = None if length == UNDEFINED else place + 8 + length
+            if until is not None and until > (end if end is not None else self.total):
+                return
+            after = self.settle(place + 8, stack + ((inner, until, 0),), 0, chosen)
+            yield Step(state, after, cost, chosen, element, "item", depth)
+        elif tag == ITEM and kind == PIXELS and length != UNDEFINED:
+            if element.end > self.total:
+                self.cut(state, cost, chosen, element)
+                return
+            after = self.settle(element.end, stack, last, chosen)
+            yield Step(state, after, cost + ODD * (length % 2), chosen, element, "fragment", depth)
+        elif end is None and length == 0 and (tag == SEQUENCE_END and kind in "SsP" or tag == ITEM_END and kind in "Ii"):
+            after = self.settle(place + 8, stack[:-1], before, chosen)
+            yield Step(state, after, cost, chosen, element, "end", depth)
+
+    def element_steps(self, state: State, head: bytes, chosen: Chosen, cost: int) -> Iterator[Step]:
+        place = state[0]
+        if header_of(head + b"\0" * 4, place) is None:
+            return
+        if head[4:6] in (b"OB", b"OD", b"OF", b"OL", b"OV", b"OW", b"SQ", b"SV", b"UC", b"UN", b"UR", b"UT", b"UV"):
+            for rest, both, more in self.choices(place + 8, place + 12, chosen):
+                element = header_of(head + rest, place)
+                if len(rest) < 4:
+                    self.cut(state, cost, chosen, None)
+                elif element is not None:
+                    yield from self.passing(state, element, both, cost + more)
+        else:
+            element = header_of(head, place)
+            if element is not None:
+                yield from self.passing(state, element, chosen, cost)
+
+    def passing(self, state: State, element: Element, chosen: Chosen, cost: int) -> Iterator[Step]:
+        """The steps along an element whose header is read."""
+        place, stack, last, _ = state
+        kind, end, _ = stack[-1]
+        cost += UNORDERED * (element.tag <= last) + (strangeness(element.tag, element.vr) if kind != "i" else 0)
+        depth = len(stack) - 1
+        if element.length == UNDEFINED:
+            inner = self.opens(element, kind, depth)
+            if inner:
+                after = self.settle(element.value, stack + ((inner, None, element.tag),), 0, chosen)
+                yield Step(state, after, cost, chosen, element, "open", depth)
+            return
+        cost += ODD * (element.length % 2)
+        if element.end > (end if end is not None else self.total):
+            if all(frame[1] in (None, self.total) for frame in stack):
+                self.cut(state, cost, chosen, element)
+            return
+        if element.vr == b"SQ":
+            after = self.settle(element.value, stack + ((SEQUENCE, element.end, element.tag),), 0, chosen)
+            yield Step(state, after, cost, chosen, element, "open", depth)
+            return
+        yield from self.values(state, element, chosen, cost)
+
+    def opens(self, element: Element, kind: str, depth: int) -> Optional[str]:
+        if kind == "i":
+            return "s"
+        if element.vr == b"SQ":
+            return SEQUENCE
+        if element.vr == b"UN":
+            return "s"
+        return PIXELS if depth == 0 and element.tag == PIXEL_DATA and element.vr in (b"OB", b"OW") else None
+
+    def values(self, state: State, element: Element, chosen: Chosen, cost: int) -> Iterator[Step]:
+        _, stack, _, _ = state
+        depth = len(stack) - 1
+        if not self.runs.touching(element.value, element.end) or not self.is_small(element.value, element.end, chosen):
+            after = self.settle(element.end, stack, element.tag, chosen)
+            yield Step(state, after, cost, chosen, element, "leaf", depth)
+            return
+        choices = list(self.choices(element.value, element.end, chosen))
+        vr, found = element.vr, []
+        for value, both, more in choices:
+            found.append((is_filled(vr, value) or is_written(vr, value), both, self.cost_of(vr, value, more)))
+        least = min((more for is_odd, _, more in found if not is_odd), default=0)
+        for is_odd, both, more in found:
+            after = self.settle(element.end, stack, element.tag, both)
+            yield Step(state, after, cost + (least if is_odd else more), both, element, "leaf", depth)
+
+    def cost_of(self, vr: bytes, value: bytes, zeroed: int) -> int:
+        """What a value costs. Zeros can be true in all values that are no texts."""
+        return (zeroed if vr in TEXTS else 0) + FORBIDDEN * (not allows(vr, value))
+
+    # Where no way goes on ------------------------------------------------------------
+
+    def jumps_from(self, state: State) -> Iterator[Step]:
+        """Steps to the next places where something can begin."""
+        place, stack, last, _ = state
+        inner = stack[-1][0] == PIXELS
+        form, until = (ITEM_OR_END, 2) if inner else (ELEMENT, 3)
+        found = sorted({next_place for text in self.texts for next_place in self.likely(text, form, place + 1, inner, until)})
+        for next_place in found[:until]:
+            after = (next_place, stack if inner else stack[:1], last, ())
+            yield Step(state, after, JUMP + min(JUMP - 1, (next_place - place) // 256), {}, None, "jump", len(stack) - 1)
+
+    def likely(self, text: bytes, form: re.Pattern[bytes], begin: int, inner: bool, until: int) -> Iterator[int]:
+        """Places where an item, or three elements after each other, can begin."""
+        count = 0
+        for found in form.finditer(text, begin):
+            place = found.start()
+            if inner or PIXELS_BEGIN.match(text, place) or follows(text, place, 3):
+                yield place
+                count += 1
+                if count == until:
+                    return
+
+    def forget(self) -> None:
+        """Lets the states go, which take far more room than the file."""
+        self.steps, self.goals, self.cuts = {}, set(), []
+
+    def solve(self, texts: Iterable[bytes]) -> Structure:
+        """The Structure, from the bytes of each copy."""
+        self.texts = set(texts)
+        start = self.explore()
+        return Structure(self, start)
+
+
+def is_filled(vr: bytes, value: bytes) -> bool:
+    """Whether zeros follow a text that its VR allows, to the end of the value, as some writers fill it: it costs what others do."""
+    text = value.rstrip(b"\0")
+    return vr in TEXTS and len(value) - len(text) > 1 and allows(vr, text + b"\0" * (len(text) % 2))
+
+
+def follows(text: bytes, place: int, count: int) -> bool:
+    """Whether so many elements follow each other here, with ascending tags of one group or the next."""
+    last = 0
+    for _ in range(count):
+        element = header_of(text[place : place + 12], place)
+        if element is None or element.tag <= last or element.tag >> 16 > 0x7FE0 or strangeness(element.tag, element.vr) > 2:
+            return False
+        if element.length == UNDEFINED:
+            return element.vr == b"SQ"
+        last, place = element.tag, element.end
+    return True
+
+
+class Structure:
+    """What the best ways come to. `ways` is {run: the ways that best ways have}; `steps` are those of one of the best."""
+
+    def __init__(self, walk: Walk, start: State) -> None:
+        self.walk = walk
+        self.is_cut = False
+        ends: dict[State, int] = {state: 0 for state in walk.goals}
+        if not ends and walk.cuts:
+            ends = self.furthest_cuts()
+        self.costs = self.costs_to(ends)
+        self.cost = self.costs.get(start)
+        self.is_found = self.cost is not None
+        self.ways: dict[int, set[int]] = {}
+        self.items: set[tuple[int, int]] = set()  # where items of Pixel Data begin and end, on any of the best ways
+        self.values: set[tuple[int, int]] = set()  # where values begin and end, on any of the best ways
+        self.steps = self.best_steps(start) if self.is_found else []
+        if self.is_found:
+            self.collect(start)
+        self.item_begins, self.item_ends = (sorted(item[at] for item in self.items) for at in (0, 1))
+        self.costs = {}
+        walk.forget()
+
+    def furthest_cuts(self) -> dict[State, int]:
+        """Where no way reaches the end: the ways that get furthest before they are cut."""
+        walk = self.walk
+        self.is_cut = True
+        furthest = max(step.before[0] for step in walk.cuts)
+        ends: dict[State, int] = {}
+        for step in walk.cuts:
+            if step.before[0] == furthest:
+                end = ("cut", step.element.start if step.element else furthest, step.element.length if step.element else 0)
+                step.after = end
+                walk.steps.setdefault(step.before, []).append(step)
+                ends[end] = 0
+        return ends
+
+    def costs_to(self, ends: dict[State, int]) -> dict[State, int]:
+        """{state: the least cost from it to an end}."""
+        costs = dict(ends)
+        for state in sorted(self.walk.steps, key=lambda state: (-state[0], len(state[1]))):
+            best = min((step.cost + costs[step.after] for step in self.walk.steps[state] if step.after in costs), default=None)
+            if best is not None:
+                costs[state] = best
+        return costs
+
+    def best(self, state: State) -> list[Step]:
+        """The steps from a state that the best ways take."""
+        steps = self.walk.steps.get(state, ())
+        return [step for step in steps if step.after in self.costs and step.cost + self.costs[step.after] == self.costs[state]]
+
+    def best_steps(self, start: State) -> list[Step]:
+        found: list[Step] = []
+        state = start
+        while steps := self.best(state):
+            found.append(steps[0])
+            state = steps[0].after
+        return found
+
+    def collect(self, start: State) -> None:
+        waiting, seen = [start], {start}
+        while waiting:
+            for step in self.best(waiting.pop()):
+                for number, way in step.chosen.items():
+                    self.ways.setdefault(number, set()).add(way)
+                if step.kind == "fragment" and step.element:
+                    self.items.add((step.element.start, step.element.end))
+                if step.kind == "leaf" and step.element:
+                    self.values.add((step.element.value, step.element.end))
+                if step.after not in seen:
+                    seen.add(step.after)
+                    waiting.append(step.after)
+
+    # What stands where -----------------------------------------------------------------
+
+    @property
+    def jumps(self) -> list[tuple[int, int]]:
+        """Places from which no way goes on: (from, to)."""
+        return [(step.before[0], step.after[0]) for step in self.steps if step.kind == "jump"]
+
+    @property
+    def elements(self) -> list[Element]:
+        """The elements of the top level, in order."""
+        return [step.element for step in self.steps if step.depth == 0 and step.kind in ("leaf", "open") and step.element]
+
+    @property
+    def pixel_data(self) -> Optional[Element]:
+        return next((element for element in self.elements if element.tag == PIXEL_DATA), None)
+
+    @property
+    def is_cut_outside(self) -> bool:
+        """Whether the file ends in an element or its header that is no part of Pixel Data."""
+        return self.is_cut and bool(self.steps) and self.steps[-1].before[1][-1][0] != PIXELS
+
+    def has_rival(self, begin: int, end: int) -> bool:
+        """Whether another of the best ways has other items where this item stands."""
+        beside = bisect.bisect_left(self.item_begins, end) - bisect.bisect_right(self.item_ends, begin)
+        return beside > ((begin, end) in self.items)
+
+    def is_open(self, element: Element) -> bool:
+        """Whether another of the best ways has other values where this value stands: it can be empty or shorter in the true file."""
+        own = element.value, element.end
+        return any(begin < own[1] and own[0] < end and (begin, end) != own for begin, end in self.values)
+
+    def items_of_pixels(self) -> list[Union[Element, tuple[int, int]]]:
+        """The items of Pixel Data, as Elements, the offset table first; jumps as pairs."""
+        found: list[Union[Element, tuple[int, int]]] = []
+        for step in self.steps:
+            is_inner = step.before[1][-1][0] == PIXELS
+            if is_inner and step.kind in ("fragment", "cut") and step.element and step.element.tag == ITEM:
+                found.append(step.element)
+            elif is_inner and step.kind == "jump":
+                found.append((step.before[0], step.after[0]))
+        return found
+
+    def end_of_pixels(self) -> int:
+        """Where what follows Pixel Data begins."""
+        for step in self.steps:
+            if step.before[1][-1][0] == PIXELS and step.kind == "end" and step.element:
+                return step.element.value
+        return self.walk.total

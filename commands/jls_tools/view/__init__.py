@@ -1,0 +1,1 @@
+"""jls-view: draws pictures with their losses."""
