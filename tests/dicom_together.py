@@ -10,7 +10,7 @@ from dicom_files import File, changed, element, with_value
 from dicom_rules import csa_header
 from jls_tools.dicom.axis.align import Copy
 from jls_tools.dicom.evidence import alone, doubtful
-from jls_tools.dicom.walk.frames import DELIMITER
+from jls_tools.dicom.read.elements import DELIMITER
 
 Check = tuple[str, bool]
 SECTOR = 512

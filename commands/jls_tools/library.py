@@ -9,11 +9,10 @@ import os
 import platform
 from typing import List, NamedTuple, Optional
 
-from jls_tools.dicom.walk.frames import MARKER
+from jls_tools.frames.codestream import EOI, MARKER
 
 SONAME = "libjls_salvage.so.2"
 DONE, END_EOI = 0, 0  # of enum jls_answer and enum jls_end
-EOI = b"\xff\xd9"
 LARGEST = 1 << 26  # bytes of a copy: of a larger one the program says it, which a signal ends at once
 
 

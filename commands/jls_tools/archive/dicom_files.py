@@ -13,13 +13,13 @@ from jls_tools.dicom import command, info
 from jls_tools.dicom.mend import mend as mend_dicom
 from jls_tools.dicom.read.elements import syntax_name
 from jls_tools.dicom.result import FAILED, WHOLE, FrameResult, MendOptions, MendResult
+from jls_tools.dicom.write.outputs import FRAMES
 from jls_tools.file_names import printable
 from jls_tools.frames import mending
 from jls_tools.frames.mending import Mended
 from jls_tools.frames.unsupported import NOT_SUPPORTED
 from jls_tools.programs import ProgramFailed
 
-FRAMES = ".frames"
 MOST_CHECKED = 16  # frames of a file whose bad bytes are looked for
 
 

@@ -11,7 +11,7 @@ from jls_tools.archive.desk import Copy, Desk
 from jls_tools.archive.rows import Row
 from jls_tools.archive.trees import Item
 from jls_tools.dicom.axis import bad_lists
-from jls_tools.dicom.read.elements import begins_as_dicom
+from jls_tools.dicom.read.elements import begins_as_dicom, has_prefix
 from jls_tools.file_names import printable
 from jls_tools.programs import ProgramFailed
 
@@ -49,7 +49,7 @@ def begins(copies: Sequence[Copy], text: bytes) -> bool:
 
 
 def is_dicom(copy: Copy) -> bool:
-    return copy.data[128:132] == b"DICM" if copy.data is not None else begins_as_dicom(copy.path)
+    return has_prefix(copy.data) if copy.data is not None else begins_as_dicom(copy.path)
 
 
 def kind_of(path: str, copies: Sequence[Copy]) -> str:

@@ -8,14 +8,24 @@ from __future__ import annotations
 import struct
 from typing import List, NamedTuple, Optional
 
-from jls_tools.dicom.read.elements import JPEG_LS, SYNTAXES, UNDEFINED, Element, header_of, skip_undefined, text_of
-from jls_tools.dicom.read.tags import FRAMES, ITEM, ITEM_END, PIXEL_DATA, SEQUENCE_END, SYNTAX
+from jls_tools.dicom.read.elements import (
+    BIG_ENDIAN,
+    DEFLATED,
+    IMPLICIT,
+    JPEG_LS,
+    SYNTAXES,
+    UNDEFINED,
+    Element,
+    has_prefix,
+    header_of,
+    skip_undefined,
+    text_of,
+)
+from jls_tools.dicom.read.tags import FIRST, FRAMES, ITEM, ITEM_END, PIXEL_DATA, SEQUENCE_END, SYNTAX
 from jls_tools.dicom.read.values import is_uid
+from jls_tools.frames.codestream import EOI
 
-PREAMBLE, MAGIC = 128, b"DICM"
-EOI = b"\xff\xd9"
-IMPLICIT = "1.2.840.10008.1.2"
-NOT_WALKED = ("1.2.840.10008.1.2.1.99", "1.2.840.10008.1.2.2")  # deflated, big endian
+NOT_WALKED = (DEFLATED, BIG_ENDIAN)
 
 
 class Plain(NamedTuple):
@@ -27,7 +37,7 @@ class Plain(NamedTuple):
 def elements_of(data: bytes) -> Optional[List[Element]]:
     """The elements of the top level, where they fill the file in order. Pixel Data in items has the length that they have."""
     found: List[Element] = []
-    at, last, total = PREAMBLE + len(MAGIC), 0, len(data)
+    at, last, total = FIRST, 0, len(data)
     while at < total:
         element = header_of(data[at : at + 12], at)
         if element is None or element.tag <= last:
@@ -74,9 +84,9 @@ def unpadded(frame: bytes) -> bytes:
 
 def other_syntax(data: bytes) -> Optional[str]:
     """The transfer syntax of a file that has another one than JPEG-LS lossless, if each element reads in it to the last byte."""
-    if data[PREAMBLE : PREAMBLE + 4] != MAGIC:
+    if not has_prefix(data):
         return None
-    at, syntax = PREAMBLE + len(MAGIC), b""
+    at, syntax = FIRST, b""
     while data[at : at + 2] == b"\2\0":
         element = header_of(data[at : at + 12], at)
         if element is None or element.length == UNDEFINED or element.end > len(data):
@@ -125,7 +135,7 @@ def behind_implicit(data: bytes, at: int) -> Optional[int]:
 
 def read(data: bytes) -> Optional[Plain]:
     """The frames of a file, if it is a plain one of JPEG-LS lossless frames."""
-    if data[PREAMBLE : PREAMBLE + 4] != MAGIC:
+    if not has_prefix(data):
         return None
     elements = {element.tag: element for element in elements_of(data) or ()}
     pixels, syntax, count = (elements.get(tag) for tag in (PIXEL_DATA, SYNTAX, FRAMES))

@@ -4,12 +4,12 @@ from __future__ import annotations
 import argparse
 import io
 import os
+import re
 import signal
 import sys
 from collections.abc import Iterator, Sequence
 from typing import Optional
 
-from jls_tools.dicom.evidence.header import printed_value
 from jls_tools.dicom.info import frames, info
 from jls_tools.dicom.mend import mend
 from jls_tools.dicom.read.patient_names import can_have_name
@@ -18,9 +18,9 @@ from jls_tools.dicom.write.build import USER_MASK
 from jls_tools.dicom.write.outputs import put_log
 from jls_tools.file_names import printable
 from jls_tools.programs import ProgramFailed, Programs
+from jls_tools.signals import SIGNALS
 
 LONG_VALUES = (1024, 512)  # bytes of a value in OUT.log, as a text and in hex
-SIGNALS = (signal.SIGINT, signal.SIGTERM, signal.SIGHUP)
 DESCRIPTION = """jls-dicom mends DICOM files whose frames are JPEG-LS lossless, from damaged copies of them.
 It calls jls-salvage and jls-splice, and is tested, not proved."""
 STATUSES = """exit status:
@@ -118,6 +118,16 @@ class Progress:
         if self.is_open:
             print("\r\x1b[K", end="", file=sys.stderr, flush=True)
             self.is_open = False
+
+
+def printed_value(value: bytes, letters: int = 24, numbers: int = 16) -> str:
+    """Bytes for a line: as text if they are some, else in hex, the first so many of them."""
+    if not value:
+        return "nothing"
+    short = value[:letters]
+    if re.fullmatch(rb"[\x20-\x5b\x5d-\x7e]+", short):
+        return f"'{short.decode('ascii')}{'..' if len(value) > letters else ''}'"
+    return f"{value[:numbers].hex(' ')}{' ..' if len(value) > numbers else ''}"
 
 
 def place_line(place: Place, has_names: bool = True, sizes: Sequence[int] = ()) -> str:

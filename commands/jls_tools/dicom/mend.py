@@ -23,16 +23,19 @@ from jls_tools.dicom.copies.kinds import NoKind, other_kinds
 from jls_tools.dicom.copies.versions import versions_of
 from jls_tools.dicom.evidence.alone import Stranger
 from jls_tools.dicom.evidence.doubtful import change_at, ends_before, hole_in_text, lost_in_each, lost_in_most, stands_twice
+from jls_tools.dicom.read.elements import DELIMITER
 from jls_tools.dicom.result import FAILED, NOT_SUPPORTED, NOT_WHOLE, REFUSED, WHOLE, FrameResult, MendOptions, MendResult, Place
-from jls_tools.dicom.walk.frames import DELIMITER, FramePlace, Shape, by_search, paired_by_bytes
+from jls_tools.dicom.walk.frames import FramePlace, by_search, paired_by_bytes
 from jls_tools.dicom.walk.layout import contradiction, forbidden, has_shape, is_through, laid_out, shape_said
 from jls_tools.dicom.walk.lost import Lost, equal_in_most, most_of
 from jls_tools.dicom.write import gaps
 from jls_tools.dicom.write.build import packed, put_frames, store, top_level
 from jls_tools.dicom.write.by_sum import BySum
 from jls_tools.dicom.write.finished import faults_of
-from jls_tools.dicom.write.outputs import put_frames_folder, take_away, why_kept
-from jls_tools.frames.mending import FrameMender, Mended, is_connected, is_spliced, shapes_of
+from jls_tools.dicom.write.outputs import FRAMES, put_frames_folder, take_away, why_kept
+from jls_tools.frames.codestream import Shape
+from jls_tools.frames.likeness import is_connected, is_spliced
+from jls_tools.frames.mending import FrameMender, Mended, shapes_of
 from jls_tools.frames.mending_codings import CodingsMender
 from jls_tools.programs import Programs
 
@@ -87,7 +90,7 @@ class Mending:
         self.options = options
         self.programs = programs
         self.result = result
-        self.place_of_frames = f"{out}.frames"
+        self.place_of_frames = f"{out}{FRAMES}"
 
     def run(self) -> None:
         kept = why_kept(self.out)

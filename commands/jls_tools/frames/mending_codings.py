@@ -11,7 +11,8 @@ from contextlib import contextmanager
 from jls_tools import partial_picture
 from jls_tools.dicom.result import FrameResult
 from jls_tools.frames.codings import Coding, coding_of
-from jls_tools.frames.mending import GAVE_LINES, FrameMender, Mended, without_zeros
+from jls_tools.frames.likeness import without_zeros
+from jls_tools.frames.mending import GAVE_LINES, FrameMender, Mended
 from jls_tools.frames.unsupported import NOT_SUPPORTED
 
 OTHER_LINES = "a copy in another coding has other lines"

@@ -4,7 +4,7 @@ from __future__ import annotations
 from typing import Optional
 
 from jls_tools.dicom.result import NOT_SUPPORTED
-from jls_tools.dicom.walk.frames import other_coding, shape_of
+from jls_tools.frames.codestream import other_coding, shape_of
 
 __all__ = ["NOT_SUPPORTED", "unsupported"]
 BY_SAMPLE = 2

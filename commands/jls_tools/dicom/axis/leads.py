@@ -7,10 +7,9 @@ from __future__ import annotations
 from collections.abc import Sequence
 
 from jls_tools.dicom.axis.media import MOST_LOST
-from jls_tools.dicom.read.tags import FIRST
+from jls_tools.dicom.read.elements import has_prefix
+from jls_tools.dicom.read.tags import FIRST, PREAMBLE, PREFIX
 
-BEGIN = b"DICM"
-PREAMBLE = FIRST - len(BEGIN)
 BEHIND, EQUAL = 512, 0.75  # of so many bytes behind DICM such a share is equal in both copies
 BLOCK = 64
 
@@ -19,15 +18,11 @@ def leads(texts: Sequence[bytes]) -> dict[int, int]:
     """{a copy that has bytes before its preamble: how many}."""
     found = {}
     for at, text in enumerate(texts):
-        models = [other for number, other in enumerate(texts) if number != at and begins(other)]
+        models = [other for number, other in enumerate(texts) if number != at and has_prefix(other)]
         sizes = [] if any(is_alike(text, 0, model) for model in models) else [lead_of(text, model) for model in models]
         if any(sizes):
             found[at] = next(filter(None, sizes))
     return found
-
-
-def begins(text: bytes) -> bool:
-    return text[PREAMBLE:FIRST] == BEGIN
 
 
 def is_alike(text: bytes, at: int, model: bytes) -> bool:
@@ -44,10 +39,10 @@ def is_mostly(text: bytes, begin: int, model: bytes) -> bool:
 
 def lead_of(text: bytes, model: bytes) -> int:
     """How many bytes stand before the first place where a copy begins as another one does; 0 if it does so nowhere."""
-    at = text.find(BEGIN, FIRST, FIRST + MOST_LOST)
+    at = text.find(PREFIX, FIRST, FIRST + MOST_LOST)
     while at >= 0:
         size = at - PREAMBLE
         if is_alike(text, size, model) and is_mostly(text, size, model):
             return size
-        at = text.find(BEGIN, at + 1, FIRST + MOST_LOST)
+        at = text.find(PREFIX, at + 1, FIRST + MOST_LOST)
     return 0

@@ -9,9 +9,8 @@ from collections import Counter
 from dataclasses import dataclass, field
 from typing import Optional
 
-from jls_tools.dicom.read.elements import UNDEFINED, walk
-from jls_tools.dicom.walk.frames import DELIMITER
-from jls_tools.dicom.write.finished import Reading
+from jls_tools.dicom.read.elements import DELIMITER, UNDEFINED, has_prefix, walk
+from jls_tools.dicom.read.reading import Reading
 
 BESIDE = 64  # so many bytes before the end of a whole copy are equal in one that goes on behind it
 
@@ -29,7 +28,7 @@ class Tails:
 def end_of(text: bytes) -> Optional[int]:
     """Where the last element of a file ends, if it reads so far."""
     reading = Reading(text)
-    return reading.end if reading.is_whole and text[128:132] == b"DICM" else None
+    return reading.end if reading.is_whole and has_prefix(text) else None
 
 
 def without_tails(texts: list[bytes]) -> Tails:

@@ -12,9 +12,10 @@ from jls_tools.dicom.axis.align import Copy, differing
 from jls_tools.dicom.axis.media import BEFORE_BORDER, SECTOR
 from jls_tools.dicom.axis.runs import Runs
 from jls_tools.dicom.copies.versions import pixels_of
-from jls_tools.dicom.read.elements import UNDEFINED, instance_of, walk
+from jls_tools.dicom.read.elements import HEAD, UNDEFINED, instance_of, walk
 from jls_tools.dicom.read.tags import FIRST, INSTANCE, PIXEL_DATA
-from jls_tools.dicom.walk.structure import Walk
+from jls_tools.dicom.walk.structure import Structure
+from jls_tools.dicom.walk.ways import Walk
 from jls_tools.frames.codings import KINDS, PIECE, PIECES
 
 BLOCK = 128
@@ -23,7 +24,6 @@ DENSE = 8  # one byte in so many differs where another file's beginning was writ
 ITEM_BYTES, END_BYTES = b"\xfe\xff\x00\xe0", b"\xfe\xff\xdd\xe0\0\0\0\0"
 LARGEST_BEGINNING = 1 << 16  # bytes of a foreign beginning whose end is sought at borders of sectors
 MOST_PLACES = 8
-HEAD = 12  # bytes of an element's header, at most
 MARKER = re.compile(rb"\xff[\x80-\xff]")  # stands in headers, and in no scan (T.87, A.1)
 SHARED = 4  # one block in so many of their second half is equal, at its place, in two files of which one was overwritten
 STRANGE = "its UIDs don't agree or don't read, and no frame of it fits a copy of the instance"
@@ -102,7 +102,7 @@ def border_of(data: bytes, other: bytes, place: int) -> int:
 
 def breaks_at(data: bytes, place: int, is_before: bool = False) -> bool:
     """Whether the elements of a file break off at a place: in the element or item that stands there; or before it too, if that counts."""
-    structure = Walk(Runs([Copy("", data)], 0, []), len(data)).solve([data])
+    structure = Structure(Walk(Runs([Copy("", data)], 0, []), [data]))
     begin = 0
     for step in structure.steps:
         if step.kind in ("jump", "cut"):

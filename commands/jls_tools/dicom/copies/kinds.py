@@ -7,8 +7,8 @@ from __future__ import annotations
 import re
 from typing import Optional
 
-from jls_tools.dicom.read.elements import JPEG_LS, syntax_name, syntax_of
-from jls_tools.dicom.walk.frames import BEGIN, ITEM_TAG, shape_of
+from jls_tools.dicom.read.elements import ITEM_TAG, JPEG_LS, has_prefix, syntax_name, syntax_of
+from jls_tools.frames.codestream import BEGIN, shape_of
 from jls_tools.frames.codings import segments
 
 NEAR_BEGIN = 1 << 10  # bytes at the beginning of a codestream in which its first frame header stands
@@ -30,7 +30,7 @@ class NoKind(Exception):
 
 
 def is_dicom(text: bytes) -> bool:
-    return text[128:132] == b"DICM" or b"\xe0\x7f\x10\x00O" in text
+    return has_prefix(text) or b"\xe0\x7f\x10\x00O" in text
 
 
 def other_kinds(paths: list[str], texts: list[bytes]) -> dict[int, str]:

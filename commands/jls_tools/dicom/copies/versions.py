@@ -6,19 +6,18 @@ caller names; else none is, and a table by tag says where they differ.
 """
 from __future__ import annotations
 
-import re
 from collections.abc import Sequence
 from dataclasses import dataclass, field
 from typing import Optional
 
 from jls_tools.dicom.axis.align import ANCHOR, equal_length
 from jls_tools.dicom.evidence.most import header_end
-from jls_tools.dicom.read.elements import UNDEFINED, tag_name
+from jls_tools.dicom.read.elements import PIXELS_BEGIN, UNDEFINED, has_prefix, tag_name
+from jls_tools.dicom.read.reading import Reading
 from jls_tools.dicom.read.tags import FIRST, PIXEL_DATA
 from jls_tools.dicom.result import VersionTable
-from jls_tools.dicom.write.finished import Reading, of_meta, of_uids
+from jls_tools.dicom.write.finished import of_meta, of_uids
 
-PIXELS_BEGIN = re.compile(rb"\xe0\x7f\x10\x00O[BW]\x00\x00\xff\xff\xff\xff")
 DELIMITER_BYTES = 8
 MOST_LOSSES = 4
 
@@ -120,7 +119,7 @@ def versions_of(texts: Sequence[bytes], copies: Sequence[int], named: Optional[i
 
 def head_of(text: bytes) -> Optional[bytes]:
     """All before Pixel Data, if the elements read so far, none looks damaged, and no rule of PS3.10 on them is broken."""
-    end = header_end(text, [(0, len(text))]) if text[128:132] == b"DICM" else None
+    end = header_end(text, [(0, len(text))]) if has_prefix(text) else None
     if end is None:
         return None
     reading = Reading(text[:end])

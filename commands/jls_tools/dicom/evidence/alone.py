@@ -15,6 +15,7 @@ from jls_tools.dicom.axis.align import Copy, may_stand_elsewhere, merged
 from jls_tools.dicom.axis.media import SECTOR
 from jls_tools.dicom.axis.sectors import BESIDE, has_noise_within, is_noise, is_plain
 from jls_tools.dicom.evidence.csa import is_chain
+from jls_tools.dicom.evidence.most import LOST_TEXT
 from jls_tools.dicom.read.elements import Element, tag_name, text_of
 from jls_tools.dicom.read.tags import (
     CHARACTER_SET,
@@ -34,7 +35,7 @@ from jls_tools.dicom.read.tags import (
 )
 from jls_tools.dicom.read.values import DIGITS_AND_DOTS, FREE_TEXTS, TEXTS, allows, is_doubtful, is_of_standard, strangeness
 from jls_tools.dicom.result import Place
-from jls_tools.dicom.walk.structure import Step
+from jls_tools.dicom.walk.ways import Step
 
 if TYPE_CHECKING:
     from jls_tools.dicom.evidence.header import Header
@@ -47,7 +48,6 @@ ONE_ALONE = "one copy alone has it"
 CLEAR = 32  # so many bytes beside a loss are equal in all copies, where its place is clear
 KINDS = 8  # of so many different bytes, at least, the end of a copy that is cut shows where it stands
 WRONG_VR = 4  # the strangeness of a known element with another VR
-ZEROS = bytes(8)
 ZERO_BEFORE, LONG_BEGIN = re.compile(rb"\.0\d"), 16
 ALIKE = 0.9  # such a share of bytes is of the values that stand behind a border, where a value goes on
 LOST = 16  # so many bytes of a copy that were not taken, at least, show that it lost the sector in which they stand
@@ -169,7 +169,7 @@ def denies(text: bytes, own: bytes, element: Element) -> bool:
     shared = sum(one == two != 0 for one, two in zip(own, other))
     if other[:head] != own[:head] and shared * 2 < len(own) - own.count(0):
         return False
-    return not (element.vr in TEXTS and (ZEROS in other[head:] or not allows(element.vr, other[head:])))
+    return not (element.vr in TEXTS and (LOST_TEXT in other[head:] or not allows(element.vr, other[head:])))
 
 
 def is_against_rules(header: Header, element: Element, value: bytes) -> bool:
@@ -218,7 +218,7 @@ class Doubts:
             return True
         if step.depth == 0 and is_against_rules(self.header, element, value):
             return True
-        if step.kind == "leaf" and (element.vr in TEXTS and ZEROS in value or has_noise_within(self.data, element.value, element.end)):
+        if step.kind == "leaf" and (element.vr in TEXTS and LOST_TEXT in value or has_noise_within(self.data, element.value, element.end)):
             return True
         if any(first < end and element.start < behind for first, behind in [*self.unclear, *self.lost]):
             return True

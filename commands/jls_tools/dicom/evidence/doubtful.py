@@ -19,8 +19,8 @@ from jls_tools.dicom.axis.align import Copy
 from jls_tools.dicom.axis.bad_places import Range, in_both, outside, period_of
 from jls_tools.dicom.axis.media import SECTOR
 from jls_tools.dicom.axis.placed import in_no_copy
+from jls_tools.dicom.read.elements import DELIMITER
 from jls_tools.dicom.result import Place
-from jls_tools.dicom.walk.frames import DELIMITER
 
 if TYPE_CHECKING:
     from jls_tools.dicom.evidence.header import Header

@@ -12,11 +12,12 @@ from typing import Optional
 from jls_tools.dicom.axis.align import Copy
 from jls_tools.dicom.axis.bad_places import clipped, in_all, in_both
 from jls_tools.dicom.read.elements import Element
+from jls_tools.dicom.read.reading import Reading
 from jls_tools.dicom.read.tags import FIRST, PIXEL_DATA
 from jls_tools.dicom.read.values import TEXTS, is_doubtful
-from jls_tools.dicom.write.finished import Reading
 
 LOST_TEXT = bytes(8)  # in a text they are damage
+BY_MOST = "most copies have it"
 
 
 @dataclass(frozen=True)

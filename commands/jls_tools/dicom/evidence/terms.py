@@ -7,8 +7,14 @@ Retired terms are known too, and no element whose terms are free has any.
 from __future__ import annotations
 
 import re
+from typing import TYPE_CHECKING
 
 from jls_tools.dicom.read.elements import text_of
+from jls_tools.dicom.read.tags import PHOTOMETRIC, VERSION_NAME
+from jls_tools.dicom.read.values import TEXTS
+
+if TYPE_CHECKING:
+    from jls_tools.dicom.evidence.header import Header
 
 # Tag, and the terms that each of its values can be
 TERMS = """
@@ -52,9 +58,7 @@ MITRA OBJECT DOCUMENT 1.0|MERGE TECHNOLOGIES, INC.|HOLOGIC, INC.|LORAD Selenia|C
 PAPYRUS 3.0|CTP|BRIT Systems, Inc.|Mayo/IBM Archive Project
 """.strip().replace("\n", "|").split("|"))
 VERSION = re.compile(r"(?:OFFIS_DCMTK_\d{3}|GDCM \d\.\d\.\d+|PYDICOM \d\.\d\.\d+|DCM4CHE-\d\.\d+(?:\.\d+)?|dcm4che-\d\.\d+\.\d+)\Z")
-VERSION_NAME = 0x00020013
 KNOWN = "it is a known term, and others are none"
-PHOTOMETRIC = 0x00280004  # of which the list is complete
 LEAST_WORD = 5
 PRINTABLE = re.compile(rb"[\x20-\x7e]*\Z")
 
@@ -95,7 +99,18 @@ def is_made_of(tag: int, known: bytes, other: bytes) -> bool:
         return True
     for word, text in zip(known.split(b"\\"), other.split(b"\\")):
         apart = [two for one, two in zip(word, text) if one != two]
-        is_number = any(0x30 <= byte <= 0x39 for byte in apart) and tag != PHOTOMETRIC
+        is_number = any(0x30 <= byte <= 0x39 for byte in apart) and tag != PHOTOMETRIC  # its list is complete
         if apart and (len(apart) > 1 or is_number or len(word.strip(b" \0")) < LEAST_WORD):
             return False
     return known.count(b"\\") == other.count(b"\\")
+
+
+def by_terms(header: Header) -> None:
+    """Leaves the readings that are known terms, if there are any."""
+    for element in header.leaves:
+        if has_terms(element.tag) and element.vr in TEXTS and header.open_runs(element.value, element.end):
+            readings = header.readings(element.value, element.end)
+            known = [reading for reading in readings if is_term(element.tag, reading[0])]
+            others = [value for value, _ in readings if not is_term(element.tag, value)]
+            if known and all(any(is_made_of(element.tag, value, other) for value, _ in known) for other in others):
+                header.keep_readings(known, KNOWN)

@@ -6,21 +6,25 @@ import struct
 from collections.abc import Iterator
 from typing import Optional, Union
 
-from jls_tools.dicom.read.tags import INSTANCE, INSTANCE_IN_META, ITEM, ITEM_END, PIXEL_DATA, SEQUENCE_END, SYNTAX
+from jls_tools.dicom.read.tags import FIRST, INSTANCE, INSTANCE_IN_META, ITEM, ITEM_END, PIXEL_DATA, PREAMBLE, PREFIX, SEQUENCE_END, SYNTAX
 from jls_tools.dicom.read.values import is_uid
 
 JPEG_LS = "1.2.840.10008.1.2.4.80"
 NEAR_LOSSLESS = "1.2.840.10008.1.2.4.81"
+IMPLICIT, DEFLATED, BIG_ENDIAN = "1.2.840.10008.1.2", "1.2.840.10008.1.2.1.99", "1.2.840.10008.1.2.2"  # not compressed
 UNDEFINED = 0xFFFFFFFF
+HEAD = 12  # bytes of an element's header, at most; that of Pixel Data has so many
+ITEM_TAG, DELIMITER = b"\xfe\xff\x00\xe0", b"\xfe\xff\xdd\xe0\0\0\0\0"  # of an item, and what ends Pixel Data
+PIXELS_BEGIN = re.compile(rb"\xe0\x7f\x10\x00O[BW]\x00\x00\xff\xff\xff\xff")  # the header of Pixel Data with items
 # VRs with a length of four bytes after two reserved ones, and those with a length of two (PS3.5, 7.1.2)
 LONG_VRS = frozenset(b"OB OD OF OL OV OW SQ SV UC UN UR UT UV".split())
 SHORT_VRS = frozenset(b"AE AS AT CS DA DS DT FD FL IS LO LT PN SH SL SS ST TM UI UL US".split())
 # {transfer syntax: (its name, what reads it)}
 SYNTAXES = {
-    "1.2.840.10008.1.2": ("Implicit VR Little Endian, not compressed", "any DICOM program"),
+    IMPLICIT: ("Implicit VR Little Endian, not compressed", "any DICOM program"),
     "1.2.840.10008.1.2.1": ("Explicit VR Little Endian, not compressed", "any DICOM program"),
-    "1.2.840.10008.1.2.1.99": ("Deflated Explicit VR Little Endian, not compressed", "dcmconv of DCMTK"),
-    "1.2.840.10008.1.2.2": ("Explicit VR Big Endian, not compressed", "dcmconv of DCMTK"),
+    DEFLATED: ("Deflated Explicit VR Little Endian, not compressed", "dcmconv of DCMTK"),
+    BIG_ENDIAN: ("Explicit VR Big Endian, not compressed", "dcmconv of DCMTK"),
     "1.2.840.10008.1.2.4.50": ("JPEG baseline, lossy", "dcmdjpeg of DCMTK"),
     "1.2.840.10008.1.2.4.51": ("JPEG extended, lossy", "dcmdjpeg of DCMTK"),
     "1.2.840.10008.1.2.4.57": ("lossless JPEG, which is another coding than JPEG-LS", "dcmdjpeg of DCMTK"),
@@ -39,10 +43,14 @@ SYNTAXES = {
 UIDS_WITHIN = 1 << 16  # the two SOP Instance UIDs stand near the beginning
 
 
+def has_prefix(data: bytes) -> bool:
+    return data[PREAMBLE:FIRST] == PREFIX
+
+
 def begins_as_dicom(path: Union[str, bytes]) -> bool:
     """Whether a file begins as a DICOM file does: 128 bytes and DICM (PS3.10, 7.1). An OSError says why it can't be read."""
     with open(path, "rb") as file:
-        return file.read(132)[128:] == b"DICM"
+        return has_prefix(file.read(FIRST))
 
 
 def syntax_name(uid: str) -> str:
@@ -112,7 +120,7 @@ def skip_undefined(data: bytes, at: int) -> Optional[int]:
     return None
 
 
-def walk(data: bytes, at: int = 132) -> Iterator[Element]:
+def walk(data: bytes, at: int = FIRST) -> Iterator[Element]:
     """The elements of the top level of one file up to Pixel Data or where they break off. Nothing is judged but their form."""
     while True:
         element = header_of(data[at : at + 12], at)

@@ -8,15 +8,17 @@ from jls_tools.dicom.axis.align import SHIFTED, Copy, differing, on_one_axis, si
 from jls_tools.dicom.axis.placed import placed
 from jls_tools.dicom.axis.runs import FINEST, Runs
 from jls_tools.dicom.evidence.alone import is_against_rules
-from jls_tools.dicom.evidence.header import BY_MOST, Header
-from jls_tools.dicom.evidence.most import agreed
+from jls_tools.dicom.evidence.header import Header
+from jls_tools.dicom.evidence.most import BY_MOST, agreed
 from jls_tools.dicom.evidence.tables import Table
 from jls_tools.dicom.read.elements import JPEG_LS, Element, tag_name
 from jls_tools.dicom.read.tags import ALLOCATED, COLUMNS, EXTENDED_LENGTHS, EXTENDED_TABLE, FRAMES, ROWS, SAMPLES, STORED, SYNTAX, TWINS
 from jls_tools.dicom.read.values import DIGITS_AND_DOTS, NOT_IN_TEXT, TEXTS, is_doubtful, is_written
-from jls_tools.dicom.walk.frames import Fragments, FramePlace, Shape, shape_of
-from jls_tools.dicom.walk.structure import Structure, Walk
+from jls_tools.dicom.walk.frames import Fragments, FramePlace
+from jls_tools.dicom.walk.structure import Structure
+from jls_tools.dicom.walk.ways import Walk
 from jls_tools.dicom.write.build import expected_tables
+from jls_tools.frames.codestream import Shape, shape_of
 
 OVERWRITTEN = 8  # so many bytes of one value in a text, at least, can be written over it
 FAR_MORE = 8  # one in so many places still differs, at most, where copies that read in place are taken to have lost bytes
@@ -42,7 +44,7 @@ class Layout:
             if fineness == 2 and apart > FINEST:
                 break
             runs = Runs(self.copies, fineness, self.ranges, self.agreed)
-            structure = Walk(runs, len(self.copies[0].data)).solve([copy.data for copy in self.copies])
+            structure = Structure(Walk(runs, [copy.data for copy in self.copies]))
             if best is None or structure.is_found and (not best[1].is_found or rank(structure) < rank(best[1])):
                 best = runs, structure
             if fineness == 0 and rank(structure) == (False, False, False, 0) or fineness == 1 and is_through(best[1]):

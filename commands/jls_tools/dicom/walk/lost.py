@@ -13,8 +13,9 @@ from typing import TYPE_CHECKING, Optional
 from jls_tools.dicom.axis.align import Copy, differing
 from jls_tools.dicom.axis.media import SECTORS
 from jls_tools.dicom.walk.frames import FramePlace
-from jls_tools.dicom.walk.structure import PIXELS, Step, Structure
-from jls_tools.frames.mending import shares_little
+from jls_tools.dicom.walk.structure import Structure
+from jls_tools.dicom.walk.ways import PIXELS, Step
+from jls_tools.frames.likeness import shares_little
 
 if TYPE_CHECKING:
     from jls_tools.dicom.walk.layout import Layout

@@ -9,7 +9,7 @@ from typing import Optional
 
 from jls_tools.dicom.axis.align import Copy
 from jls_tools.dicom.read.elements import UNDEFINED, tag_bytes
-from jls_tools.dicom.read.tags import EXTENDED_LENGTHS, EXTENDED_TABLE, ITEM, PIXEL_DATA, SEQUENCE_END
+from jls_tools.dicom.read.tags import EXTENDED_LENGTHS, EXTENDED_TABLE, ITEM, PIXEL_DATA, PREAMBLE, PREFIX, SEQUENCE_END
 from jls_tools.dicom.walk.frames import FramePlace
 from jls_tools.dicom.walk.structure import Structure
 
@@ -83,7 +83,7 @@ def packed(data: bytes, structure: Structure, streams: Sequence[bytes], elements
     """The file with these streams as its frames. `elements` stand for those before Pixel Data, where they were changed."""
     elements = top_level(data, structure) if elements is None else elements
     head = b"".join(value for tag, value in elements if tag not in (EXTENDED_TABLE, EXTENDED_LENGTHS))
-    preamble, pixels = bytes(data[:128]) + b"DICM", structure.pixel_data
+    preamble, pixels = bytes(data[:PREAMBLE]) + PREFIX, structure.pixel_data
     assert pixels is not None
     return preamble + head + pixel_data(streams, pixels.vr) + bytes(data[structure.end_of_pixels() :])
 

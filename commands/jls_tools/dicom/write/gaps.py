@@ -11,7 +11,7 @@ from typing import Union
 from jls_tools import partial_picture
 from jls_tools.dicom.read.elements import UNDEFINED, tag_bytes
 from jls_tools.dicom.read.tags import CLASS, GROUP_LENGTH, INSTANCE, INSTANCE_IN_META, ITEM
-from jls_tools.dicom.walk.frames import Shape
+from jls_tools.frames.codestream import Shape
 
 IMAGE_TYPE, DESCRIPTION, SOURCES = 0x00080008, 0x00082111, 0x00082112
 OF_CLASS, OF_INSTANCE = 0x00081150, 0x00081155

@@ -10,6 +10,7 @@ import os
 import re
 from typing import Optional
 
+FRAMES = ".frames"  # of the name of the folder, behind that of OUT
 LIST = "made-by-jls-dicom.sha256"
 LINE = re.compile(r"([0-9a-f]{64})  (frame-\d{4,}\.jlsp?)\n")
 LOG_BEGINS = "jls-dicom mend: what was decided\n"
@@ -17,7 +18,7 @@ LOG_BEGINS = "jls-dicom mend: what was decided\n"
 
 def why_kept(out: str) -> Optional[str]:
     """What stands in the way of a run that writes OUT; or nothing."""
-    frames, log = f"{out}.frames", f"{out}.log"
+    frames, log = f"{out}{FRAMES}", f"{out}.log"
     if os.path.lexists(out):
         return f"{out}: it is there already"
     if os.path.lexists(frames) and not is_own_folder(frames):
@@ -66,7 +67,7 @@ def put_frames_folder(made: str, place: str, folder: str) -> None:
 def take_away(place: str, folder: str) -> None:
     """Moves the frames of an earlier run to the temporary files."""
     if os.path.lexists(place) and is_own_folder(place):
-        os.rename(place, os.path.join(folder, "earlier.frames"))
+        os.rename(place, os.path.join(folder, f"earlier{FRAMES}"))
 
 
 def put_log(out: str, lines: list[str], mask: int) -> None:

@@ -1,0 +1,68 @@
+"""What PS3.10 says of a file's beginning, its preamble, DICM and meta information, where copies differ in it."""
+from __future__ import annotations
+
+import struct
+from functools import partial
+from typing import TYPE_CHECKING
+
+from jls_tools.dicom.evidence.alone import ONLY_VERSION
+from jls_tools.dicom.evidence.uids import are_denied
+from jls_tools.dicom.read.elements import JPEG_LS, Element, tag_name, text_of
+from jls_tools.dicom.read.tags import GROUP_LENGTH, PREAMBLE, PREFIX, SYNTAX, TWINS, VERSION
+from jls_tools.dicom.read.values import allows
+
+if TYPE_CHECKING:
+    from jls_tools.dicom.evidence.header import Header
+
+IS_PREFIX = "each DICOM file has it there"
+NO_MEANING = "the preamble has no meaning"
+
+
+def by_prefix(header: Header) -> None:
+    """Leaves DICM behind the preamble, where any copy has it (PS3.10, 7.1)."""
+    for number in header.open_runs(PREAMBLE, PREAMBLE + len(PREFIX)):
+        run = header.runs.runs[number]
+        wanted = PREFIX[max(0, run.begin - PREAMBLE) : run.end - PREAMBLE]
+        ways = {way for way in header.left[number] if run.part(way, PREAMBLE, PREAMBLE + len(PREFIX)) == wanted}
+        header.keep(number, ways, IS_PREFIX)
+
+
+def by_meta(header: Header) -> None:
+    """Leaves what each file of JPEG-LS frames has in its meta information, and UIDs that are equal in both places."""
+    meta = [element for element in header.structure.elements if element.tag >> 16 == 2]
+    if meta and GROUP_LENGTH in header.elements:
+        size = struct.pack("<I", meta[-1].end - header.elements[GROUP_LENGTH].end)
+        header.keep_values(GROUP_LENGTH, lambda value: value == size, "so long is the meta information")
+    header.keep_values(VERSION, lambda value: value == ONLY_VERSION, "no other version is there")
+    header.keep_values(SYNTAX, lambda value: text_of(value) == JPEG_LS, "the frames are JPEG-LS")
+    for first, second in TWINS:
+        by_twins(header, first, second)
+
+
+def by_twins(header: Header, first: int, second: int) -> None:
+    """Leaves the readings of two elements that are equal, as the standard has them."""
+    one, two = header.elements.get(first), header.elements.get(second)
+    if one is None or two is None:
+        return
+    ones = [reading for reading in header.readings(one.value, one.end) if allows(b"UI", reading[0])]
+    twos = [reading for reading in header.readings(two.value, two.end) if allows(b"UI", reading[0])]
+    both = {text_of(value) for value, _ in ones} & {text_of(value) for value, _ in twos}
+    if both and not are_denied(header.copies, both, (one, two), partial(is_against, header)):
+        why = f"{tag_name(first)} and {tag_name(second)} are equal so"
+        header.keep_readings([reading for reading in ones if text_of(reading[0]) in both], why)
+        header.keep_readings([reading for reading in twos if text_of(reading[0]) in both], why)
+
+
+def is_against(header: Header, copy: int, element: Element) -> bool:
+    """Whether a part of an element was decided against a copy."""
+    numbers = header.runs.touching(element.start, element.end)
+    return any(len(header.left.get(number, ())) == 1 and copy not in header.holders(number) for number in numbers)
+
+
+def by_preamble(header: Header) -> None:
+    """Zeros in the preamble, or else what the first copy has. It has no meaning (PS3.10, 7.1)."""
+    for number in header.open_runs(0, PREAMBLE):
+        run = header.runs.runs[number]
+        if run.end <= PREAMBLE:
+            zeros = {way for way in header.left[number] if not run.ways[way].strip(b"\0")}
+            header.keep(number, zeros or {header.left[number][0]}, NO_MEANING)
