@@ -9,8 +9,8 @@ from typing import Optional
 
 from jls_tools.dicom.axis import bad_places
 from jls_tools.dicom.axis.align import Copy
+from jls_tools.dicom.copies.given import read
 from jls_tools.dicom.copies.instance import identity_of
-from jls_tools.dicom.mend import read
 from jls_tools.dicom.read.elements import JPEG_LS, NEAR_LOSSLESS, SYNTAXES, has_prefix, syntax_name, syntax_of
 from jls_tools.dicom.read.tags import COLUMNS, FRAMES, PIXEL_DATA, ROWS, SAMPLES, STORED
 from jls_tools.dicom.result import FAILED, NOT_SUPPORTED, NOT_WHOLE, REFUSED, WHOLE, FrameResult, MendOptions

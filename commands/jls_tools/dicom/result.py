@@ -110,3 +110,15 @@ class MendResult:
     @property
     def undecided(self) -> list[Place]:
         return [place for place in self.places if not place.is_decided]
+
+
+class Refused(Exception):
+    """Why nothing is written, and the status."""
+
+    def __init__(self, text: str, status: int = REFUSED) -> None:
+        super().__init__(text)
+        self.status = status
+
+
+class Unsupported(Refused):
+    """These programs don't read the frames. Nothing says that they are damaged."""

@@ -1,0 +1,160 @@
+"""Chosen copies on one axis, and each of their frames mended."""
+from __future__ import annotations
+
+from collections.abc import Sequence
+from typing import Optional
+
+from jls_tools.dicom.axis.align import merged
+from jls_tools.dicom.axis.bad_places import Range, clipped, in_all, note_of, within
+from jls_tools.dicom.axis.placed import in_no_copy
+from jls_tools.dicom.copies.given import Given
+from jls_tools.dicom.evidence.alone import Stranger
+from jls_tools.dicom.read.elements import DELIMITER
+from jls_tools.dicom.result import NOT_SUPPORTED, FrameResult, Unsupported
+from jls_tools.dicom.walk.frames import FramePlace, by_search, paired_by_bytes
+from jls_tools.dicom.walk.layout import is_through, laid_out
+from jls_tools.dicom.walk.lost import Lost, equal_in_most, most_of
+from jls_tools.frames.likeness import is_connected, is_spliced
+from jls_tools.frames.mending import FrameMender, Mended
+from jls_tools.frames.mending_codings import CodingsMender
+
+
+class MendedFrames:
+    """What the frames of chosen copies came to. `is_alone` says that no other copy confirms the header."""
+
+    def __init__(self, given: Given, mender: FrameMender, chosen: Sequence[int], is_alone: bool) -> None:
+        """Lays these copies on one axis, finds their way and their frames, and mends each frame."""
+        self.given = given
+        self.mender = mender
+        self.chosen = chosen
+        self.is_alone = is_alone
+        self.copies, self.layout = laid_out([given.copy_at(at) for at in chosen])
+        named = enumerate(zip(given.paths, given.texts))
+        self.strange = [Stranger(path, text, at in given.instances.uncertain) for at, (path, text) in named if at not in chosen]
+        self.own = [self.own_streams(place, [copy.data for copy in self.copies]) for place in self.layout.places]
+        filled = self.own
+        self.kept: dict[int, list[bytes]] = {}
+        self.origins: dict[bytes, tuple[int, Range]] = {}  # of streams that are found by search: the copy, and where they stand in it
+        if self.layout.has_header and is_through(self.layout.structure):
+            lost = Lost(self.copies, self.layout)
+            texts = lost.filled()
+            filled = [self.own_streams(place, texts) for place in self.layout.places]
+            self.kept = {place.number: lost.of_this_file(place, filled[place.number]) for place in self.layout.places}
+        self.streams = [list(dict.fromkeys(own.values())) for own in filled]
+        if not self.layout.places:
+            self.streams = paired_by_bytes([self.searched(at) for at in chosen])
+            self.own = [dict(enumerate(streams)) for streams in self.streams]
+        self.bad_in_all, self.seen_in_all = in_no_copy(self.copies), in_no_copy(self.copies, True)
+        self.take_others()
+        self.mended: list[Mended] = []
+        for number, streams in enumerate(self.streams):
+            begin = self.layout.places[number].begin if self.layout.places else 0
+            self.mended.append(self.beside_bad(self.mended_frame(number, streams, begin), streams))
+            if given.options.progress:
+                given.options.progress(number + 1, len(self.streams))
+        self.refuse_unsupported()
+
+    def strangers(self) -> list[int]:
+        """Of copies whose UIDs don't say what they are: those of which no frame equals, or is spliced with, one of a certain copy."""
+        instances, chosen = self.given.instances, self.chosen
+        certain = [chosen.index(at) for at in instances.certain if at in chosen]
+        if not certain:
+            return []
+        found = []
+        for at in instances.uncertain:
+            if at in chosen and not any(self.fits(chosen.index(at), frame, certain) for frame in range(len(self.streams))):
+                found.append(at)
+        return found
+
+    def fits(self, copy: int, frame: int, certain: Sequence[int]) -> bool:
+        own, mended = self.own[frame].get(copy), self.mended[frame]
+        others = [self.own[frame][other] for other in certain if other in self.own[frame]]
+        if own is None:
+            return False
+        spliced = mended.stream if mended.is_whole else None
+        return any(is_connected(own, other) or spliced is not None and is_spliced(spliced, own, other) for other in others)
+
+    def take_others(self) -> None:
+        """Frames of copies in other codings, by number, if as many are there as in the coding that stands."""
+        self.others: dict[int, list[bytes]] = {}
+        self.paired: dict[int, bool] = {}
+        for at in (at for at in self.chosen if at in self.given.codings.others):
+            ways = (streams for streams in self.given.codings.others[at] if len(streams) == len(self.layout.places))
+            streams = next(ways, None)
+            self.paired[at] = streams is not None
+            for number, stream in enumerate(streams or []):
+                self.others.setdefault(number, []).append(stream)
+
+    def mended_frame(self, number: int, streams: list[bytes], begin: int) -> Mended:
+        """A Mended: of all streams, or if it isn't whole of those that are of this file, if these are fewer and it is whole then."""
+        place = self.layout.places[number] if self.layout.places else None
+        if place and place.is_exact and any(self.layout.structure.has_rival(first - 8, last) for first, last in place.fragments):
+            return Mended(FrameResult(number, "disputed", note="other items are as likely here"))
+        mended = self.mended_of_one_coding(number, streams, begin)
+        others = self.others.get(number)
+        return CodingsMender(self.mender).mend(mended, self.kept.get(number, streams), others) if others else mended
+
+    def mended_of_one_coding(self, number: int, streams: list[bytes], begin: int) -> Mended:
+        mended = self.mended_by_most(number, begin) or self.mender.mend(number, streams, begin)
+        kept = self.kept.get(number, streams)
+        if mended.is_whole or not 0 < len(kept) < len(streams):
+            return mended
+        other = self.mender.mend(number, kept, begin)
+        return other if other.is_whole else mended
+
+    def searched(self, at: int) -> list[bytes]:
+        """The streams of a copy that begin as frames do. A foreign beginning has frames of its own."""
+        text, start = self.given.texts[at], self.given.instances.rests.get(at, (0, 0))[0]
+        found = []
+        for begin, end in by_search(text[start:]):
+            found.append(text[start + begin : start + end])
+            self.origins[found[-1]] = (at, (start + begin, start + end))
+        return found
+
+    def beside_bad(self, mended: Mended, streams: list[bytes]) -> Mended:
+        """A frame as it is mended, or what there is of it beside bytes that are bad in all copies."""
+        number = mended.result.number
+        if not self.layout.places:
+            known = [self.origins[stream] for stream in streams]
+            lists = [[within(self.given.bad[at], [part]), within(self.given.seen[at], [part])] for at, part in known]
+            bad = in_all([merged([*listed, *seen]) for listed, seen in lists])
+            places = [(begin + known[0][1][0], end) for begin, end in bad]
+            is_sure = bool(in_all([listed for listed, _ in lists]))
+        else:
+            parts = self.layout.places[number].fragments
+            bad = within(self.seen_in_all, parts)
+            places = [pair for part in parts for pair in clipped(self.seen_in_all, *part)]
+            is_sure = bool(within(self.bad_in_all, parts)) and number not in self.others
+        return self.mender.mend_beside(mended, self.kept.get(number) or streams, bad, note_of(places), is_sure)
+
+    def mended_by_most(self, number: int, begin: int) -> Optional[Mended]:
+        """A Mended of three copies or more: what most of them have, if it is whole; or nothing."""
+        place = self.layout.places[number] if self.layout.places else None
+        if place is None or any(copy.lacks(place.begin, place.end) for copy in self.copies if not copy.recoded):
+            return None
+        own = self.own[number]
+        stream = equal_in_most(own, self.copies) or most_of(list(own.values()))
+        mended = self.mender.mend(number, [stream], begin) if stream is not None else None
+        return mended if mended and mended.is_whole else None
+
+    def own_streams(self, place: FramePlace, texts: Sequence[bytes]) -> dict[int, bytes]:
+        """{copy: its stream of a frame}, of copies that have some of it. `texts` are the bytes of the copies."""
+        found = {}
+        for number, copy in enumerate(self.copies):
+            if any(copy.has_only(begin, end).strip(b"\0") for begin, end in place.fragments):
+                found[number] = place.stream(texts[number])
+        if not place.is_exact:  # an item that seems to go on beyond the file has what ends Pixel Data too
+            found = {number: stream.removesuffix(DELIMITER) for number, stream in found.items()}
+        if any(stream.endswith(b"\xff\xd9\0") for stream in found.values()):
+            found = {number: stream[:-1] if len(stream) == place.size else stream for number, stream in found.items()}
+        return found
+
+    def refuse_unsupported(self) -> None:
+        """Refuses a file of which no line came back, and whose frames have a coding that isn't read."""
+        results = [frame.result for frame in self.mended]
+        names = sorted({result.note for result in results if result.kind == NOT_SUPPORTED})
+        if names and not any(result.settled or result.disputed for result in results):
+            raise Unsupported(f"{self.copies[0].path}: {NOT_SUPPORTED}: {', '.join(names)}; dcmdjpls of DCMTK can read it")
+
+    def fragments(self) -> list[Range]:
+        return [fragment for place in self.layout.places for fragment in place.fragments]
