@@ -11,11 +11,11 @@ from jls_tools.dicom.axis import bad_places
 from jls_tools.dicom.axis.align import Copy
 from jls_tools.dicom.copies.given import read
 from jls_tools.dicom.copies.instance import identity_of
+from jls_tools.dicom.layout import Layout
 from jls_tools.dicom.read.elements import JPEG_LS, NEAR_LOSSLESS, SYNTAXES, has_prefix, syntax_name, syntax_of
 from jls_tools.dicom.read.tags import COLUMNS, FRAMES, PIXEL_DATA, ROWS, SAMPLES, STORED
 from jls_tools.dicom.result import FAILED, NOT_SUPPORTED, NOT_WHOLE, REFUSED, WHOLE, FrameResult, MendOptions
 from jls_tools.dicom.walk.frames import by_search
-from jls_tools.dicom.walk.layout import Layout
 from jls_tools.frames.codestream import other_coding, shape_of
 from jls_tools.frames.mending import FrameMender, Mended
 from jls_tools.programs import Programs

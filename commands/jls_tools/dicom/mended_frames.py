@@ -9,10 +9,10 @@ from jls_tools.dicom.axis.bad_places import Range, clipped, in_all, note_of, wit
 from jls_tools.dicom.axis.placed import in_no_copy
 from jls_tools.dicom.copies.given import Given
 from jls_tools.dicom.evidence.alone import Stranger
+from jls_tools.dicom.layout import is_through, laid_out
 from jls_tools.dicom.read.elements import DELIMITER
 from jls_tools.dicom.result import NOT_SUPPORTED, FrameResult, Unsupported
 from jls_tools.dicom.walk.frames import FramePlace, by_search, paired_by_bytes
-from jls_tools.dicom.walk.layout import is_through, laid_out
 from jls_tools.dicom.walk.lost import Lost, equal_in_most, most_of
 from jls_tools.frames.likeness import is_connected, is_spliced
 from jls_tools.frames.mending import FrameMender, Mended

@@ -17,11 +17,11 @@ from jls_tools.dicom.axis.bad_places import Range, clipped
 from jls_tools.dicom.axis.tails import end_behind
 from jls_tools.dicom.copies.instance import identity_of
 from jls_tools.dicom.copies.versions import pixels_of
+from jls_tools.dicom.layout import Layout
 from jls_tools.dicom.read.elements import DELIMITER, HEAD
 from jls_tools.dicom.read.reading import Reading
 from jls_tools.dicom.read.tags import EXTENDED_LENGTHS, EXTENDED_TABLE
 from jls_tools.dicom.walk.frames import by_search
-from jls_tools.dicom.walk.layout import Layout
 from jls_tools.dicom.write.build import even, item
 from jls_tools.frames.codestream import BEGIN, EOI
 from jls_tools.frames.codings import HEADERS, Coding, coding_of, have_one_coding

@@ -18,7 +18,7 @@ from jls_tools.dicom.walk.ways import PIXELS, Step
 from jls_tools.frames.likeness import shares_little
 
 if TYPE_CHECKING:
-    from jls_tools.dicom.walk.layout import Layout
+    from jls_tools.dicom.layout import Layout
 
 SHARE = 0.9  # of the bytes of a lost sector so many differ, at least
 

@@ -12,7 +12,7 @@ from jls_tools.dicom.write.build import Choice, find_sum, in_fragments, padding,
 from jls_tools.frames.mending import Mended
 
 if TYPE_CHECKING:
-    from jls_tools.dicom.walk.layout import Layout
+    from jls_tools.dicom.layout import Layout
 
 MATCHED = "the SHA-256 matched"
 

@@ -5,11 +5,11 @@ from typing import Optional
 
 from jls_tools.dicom.axis.bad_places import outside
 from jls_tools.dicom.copies.given import Given
+from jls_tools.dicom.evidence.denials import contradiction, forbidden
 from jls_tools.dicom.evidence.doubtful import change_at, ends_before, hole_in_text, lost_in_each, lost_in_most, stands_twice
 from jls_tools.dicom.evidence.header import Header
 from jls_tools.dicom.mended_frames import MendedFrames
 from jls_tools.dicom.result import NOT_SUPPORTED
-from jls_tools.dicom.walk.layout import contradiction, forbidden
 from jls_tools.dicom.write.finished import faults_of
 from jls_tools.frames.codestream import Shape
 

@@ -8,9 +8,9 @@ from typing import Optional
 
 from jls_tools.dicom.axis.placed import alone
 from jls_tools.dicom.copies.given import Given
+from jls_tools.dicom.evidence.denials import has_shape, shape_said
 from jls_tools.dicom.mended_frames import MendedFrames
 from jls_tools.dicom.result import NOT_WHOLE, WHOLE, Refused
-from jls_tools.dicom.walk.layout import has_shape, shape_said
 from jls_tools.dicom.write.build import packed, put_frames, store
 from jls_tools.dicom.write.by_sum import BySum
 from jls_tools.dicom.write.filled import filled_file
