@@ -23,7 +23,7 @@ from jls_tools.dicom.read.elements import (
 )
 from jls_tools.dicom.read.tags import FIRST, FRAMES, ITEM, ITEM_END, PIXEL_DATA, SEQUENCE_END, SYNTAX
 from jls_tools.dicom.read.values import is_uid
-from jls_tools.frames.codestream import EOI
+from jls_tools.frames.codestream import unpadded
 
 NOT_WALKED = (DEFLATED, BIG_ENDIAN)
 
@@ -76,10 +76,6 @@ def fragments_of(data: bytes, at: int, end: int) -> List[bytes]:
         found.append(data[at + 8 : at + 8 + length])
         at += 8 + length
     return found[1:]
-
-
-def unpadded(frame: bytes) -> bytes:
-    return frame[:-1] if frame.endswith(EOI + b"\0") else frame
 
 
 def other_syntax(data: bytes) -> Optional[str]:

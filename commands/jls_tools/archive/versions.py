@@ -4,9 +4,10 @@ from __future__ import annotations
 from typing import Dict, Iterable, Sequence, Set, Tuple
 
 from jls_tools.dicom.read.elements import UNDEFINED, text_of, walk
+from jls_tools.dicom.read.tags import CHARACTER_SET
 from jls_tools.dicom.read.values import TEXTS, allows
 
-CHARACTERS, DATE, DESCRIPTION = 0x00080005, 0x00080020, 0x00081030
+DATE, DESCRIPTION = 0x00080020, 0x00081030
 NAME, NUMBER, STUDY = 0x00100010, 0x00100020, 0x0020000D
 MOST = 200  # letters that are told
 
@@ -40,7 +41,7 @@ def whose(texts: Iterable[bytes]) -> Tuple[str, str]:
     patient, study = "", ""
     for data in texts:
         values = {tag: value for tag, (_, value) in values_of(data).items()}
-        told = {tag: read(values.get(tag, b""), values.get(CHARACTERS, b"")) for tag in (NAME, NUMBER, DATE, DESCRIPTION, STUDY)}
+        told = {tag: read(values.get(tag, b""), values.get(CHARACTER_SET, b"")) for tag in (NAME, NUMBER, DATE, DESCRIPTION, STUDY)}
         patient = patient or ", ".join(filter(None, (told[NAME], told[NUMBER])))
         study = study or " ".join(filter(None, (told[DATE], told[DESCRIPTION], told[STUDY])))
     return patient, study

@@ -16,7 +16,7 @@ from jls_tools.dicom.read.elements import JPEG_LS, NEAR_LOSSLESS, SYNTAXES, has_
 from jls_tools.dicom.read.tags import COLUMNS, FRAMES, PIXEL_DATA, ROWS, SAMPLES, STORED
 from jls_tools.dicom.result import FAILED, NOT_SUPPORTED, NOT_WHOLE, REFUSED, WHOLE, FrameResult, MendOptions
 from jls_tools.dicom.walk.frames import by_search
-from jls_tools.frames.codestream import other_coding, shape_of
+from jls_tools.frames.codestream import other_coding, shape_of, unpadded
 from jls_tools.frames.mending import FrameMender, Mended
 from jls_tools.programs import Programs
 
@@ -60,10 +60,6 @@ class OneFile:
     def number(self, tag: int) -> Optional[int]:
         value = self.value(tag)
         return int.from_bytes(value, "little") if value is not None and len(value) == 2 else None
-
-
-def unpadded(stream: bytes) -> bytes:
-    return stream[:-1] if stream.endswith(b"\xff\xd9\0") else stream
 
 
 def refusal_of(path: str, file: OneFile) -> Optional[str]:

@@ -14,6 +14,7 @@ from jls_tools.dicom.read.elements import DELIMITER
 from jls_tools.dicom.result import NOT_SUPPORTED, FrameResult, Unsupported
 from jls_tools.dicom.walk.frames import FramePlace, by_search, paired_by_bytes
 from jls_tools.dicom.walk.lost import Lost, equal_in_most, most_of
+from jls_tools.frames.codestream import EOI_AND_PADDING
 from jls_tools.frames.likeness import is_connected, is_spliced
 from jls_tools.frames.mending import FrameMender, Mended
 from jls_tools.frames.mending_codings import CodingsMender
@@ -145,7 +146,7 @@ class MendedFrames:
                 found[number] = place.stream(texts[number])
         if not place.is_exact:  # an item that seems to go on beyond the file has what ends Pixel Data too
             found = {number: stream.removesuffix(DELIMITER) for number, stream in found.items()}
-        if any(stream.endswith(b"\xff\xd9\0") for stream in found.values()):
+        if any(stream.endswith(EOI_AND_PADDING) for stream in found.values()):
             found = {number: stream[:-1] if len(stream) == place.size else stream for number, stream in found.items()}
         return found
 

@@ -9,6 +9,7 @@ from typing import Optional
 # SOI, and then SOF55, LSE, APPn, COM, DRI or fill
 BEGIN = re.compile(rb"\xff\xd8(?=\xff[\xf7\xf8\xe0-\xef\xfe\xdd\xff])")
 USUAL_RESET = 64
+HEADERS = 1 << 10  # bytes at the beginning of a codestream in which its headers stand
 
 
 @dataclass
@@ -45,6 +46,7 @@ def shape_of(stream: bytes) -> Optional[Shape]:
 
 MARKER = re.compile(rb"\xff+([\x80-\xfe])", re.S)
 EOI, RESTARTS = b"\xff\xd9", range(0xD0, 0xD8)
+EOI_AND_PADDING = EOI + b"\0"
 
 
 def codestream_end(stream: bytes) -> Optional[int]:
@@ -56,6 +58,11 @@ def codestream_end(stream: bytes) -> Optional[int]:
             return at
         at += 0 if code in RESTARTS else int.from_bytes(stream[at : at + 2], "big")
     return None
+
+
+def unpadded(stream: bytes) -> bytes:
+    """A codestream without the byte behind EOI that makes its length even."""
+    return stream[:-1] if stream.endswith(EOI_AND_PADDING) else stream
 
 
 def usual_thresholds(maxval: int) -> tuple[int, int, int]:

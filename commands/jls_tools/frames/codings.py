@@ -5,9 +5,8 @@ import struct
 from collections.abc import Iterator
 from typing import NamedTuple, Optional
 
-from jls_tools.frames.codestream import USUAL_RESET, usual_thresholds
+from jls_tools.frames.codestream import HEADERS, USUAL_RESET, usual_thresholds
 
-HEADERS = 1 << 10  # bytes at the beginning of a codestream in which its headers stand
 PIECE, KINDS, PIECES = 16, 8, 64  # bytes of a piece, different bytes of it at least, and how many are sought in another codestream
 SAME = 0.66  # such a share of pieces stands in a codestream of the same coding, after the first difference. With other restarts half do
 

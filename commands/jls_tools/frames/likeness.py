@@ -4,9 +4,10 @@ from __future__ import annotations
 import re
 from collections.abc import Iterator
 
+from jls_tools.frames.codestream import HEADERS
+
 # A frame is known by what stands after its headers
-HEADERS, LEAST_SHARED, LEAST_SPLICED = 64, 128, 16
-MOST_HEADERS = 1024
+FEWEST_HEADERS, LEAST_SHARED, LEAST_SPLICED = 64, 128, 16
 SOI = b"\xff\xd8\xff"  # and the first byte of the next marker
 SAME_RUN, SAME_KINDS, REST_KINDS = re.compile(rb"\0{8,}"), 6, 24
 ZERO_RUN = re.compile(rb"\0{8,}")
@@ -40,7 +41,7 @@ def shares_little(stream: bytes, other: bytes) -> bool:
 
 def equal_stretches(one: bytes, other: bytes) -> Iterator[tuple[int, bytes]]:
     """(begin, bytes) of what two streams have in common behind their headers, eight bytes or more each."""
-    begin, end = max(behind_headers(one) or HEADERS, behind_headers(other)), min(len(one), len(other))
+    begin, end = max(behind_headers(one) or FEWEST_HEADERS, behind_headers(other)), min(len(one), len(other))
     apart = int.from_bytes(one[begin:end], "big") ^ int.from_bytes(other[begin:end], "big")
     for run in SAME_RUN.finditer(apart.to_bytes(max(0, end - begin), "big")):
         yield begin + run.start(), one[begin + run.start() : begin + run.end()]
@@ -61,7 +62,7 @@ def shares_rest(one: bytes, other: bytes) -> bool:
 
 def behind_headers(stream: bytes) -> int:
     """Where the first scan begins; 0 if no header of one stands near the beginning."""
-    at = stream.find(b"\xff\xda", 0, MOST_HEADERS)
+    at = stream.find(b"\xff\xda", 0, HEADERS)
     return at + 2 + int.from_bytes(stream[at + 2 : at + 4], "big") if at >= 0 else 0
 
 
@@ -72,7 +73,7 @@ def without_zeros(stream: bytes) -> int:
 
 def is_connected(one: bytes, other: bytes) -> bool:
     """Whether two streams at one place are of one picture: most bytes after their headers are equal, or their ends, and these are many."""
-    left, right = one[HEADERS:], other[HEADERS:]
+    left, right = one[FEWEST_HEADERS:], other[FEWEST_HEADERS:]
     apart = int.from_bytes(left[: len(right)], "big") ^ int.from_bytes(right[: len(left)], "big")
     mask = apart.to_bytes(min(len(left), len(right)), "big")
     equal = sum(without_zeros(left[run.start() : run.end()]) for run in EQUAL_RUN.finditer(mask))

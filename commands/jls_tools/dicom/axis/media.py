@@ -3,5 +3,5 @@ SECTOR = 512  # bytes that a disk or tape loses together
 SECTORS = (4096, SECTOR)
 MOST_LOST = 1 << 20  # no more bytes than that are lost in one place, or are looked at as one
 NEAR_PLACES = 128  # so near have places to be that were lost in one run
-BEFORE_BORDER = 1024  # so far before the end of a foreign beginning a smaller damage can stand
+BEFORE_BORDER = 1024  # so far before the end of a foreign beginning the copy's own bytes can stand, or a smaller damage
 BESIDE_TABLE = 16  # bytes beside an offset table that are lost with it

@@ -23,12 +23,11 @@ from jls_tools.dicom.read.reading import Reading
 from jls_tools.dicom.read.tags import EXTENDED_LENGTHS, EXTENDED_TABLE
 from jls_tools.dicom.walk.frames import by_search
 from jls_tools.dicom.write.build import even, item
-from jls_tools.frames.codestream import BEGIN, EOI
-from jls_tools.frames.codings import HEADERS, Coding, coding_of, have_one_coding
+from jls_tools.frames.codestream import BEGIN, HEADERS, unpadded
+from jls_tools.frames.codings import Coding, coding_of, have_one_coding
 
 MOST_LOOKED_AT = 16  # codestreams of a copy that say in which coding it is
 MOST_COMPARED = 1 << 20  # bytes of a codestream
-EOI_AND_PADDING = EOI + b"\0"
 
 
 def streams_in(text: bytes, begin: int) -> Iterator[bytes]:
@@ -105,8 +104,7 @@ def frames_of(text: bytes, begin: int) -> list[list[bytes]]:
 
 def without_padding(stream: bytes) -> bytes:
     """A codestream without what ends an item, or Pixel Data."""
-    stream = stream.removesuffix(DELIMITER)
-    return stream[:-1] if stream.endswith(EOI_AND_PADDING) else stream
+    return unpadded(stream.removesuffix(DELIMITER))
 
 
 def of_instance(texts: Sequence[bytes]) -> list[int]:

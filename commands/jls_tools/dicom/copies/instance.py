@@ -12,7 +12,7 @@ from jls_tools.dicom.axis.align import Copy, differing
 from jls_tools.dicom.axis.media import BEFORE_BORDER, SECTOR
 from jls_tools.dicom.axis.runs import Runs
 from jls_tools.dicom.copies.versions import pixels_of
-from jls_tools.dicom.read.elements import HEAD, UNDEFINED, instance_of, walk
+from jls_tools.dicom.read.elements import DELIMITER, HEAD, ITEM_TAG, UNDEFINED, instance_of, walk
 from jls_tools.dicom.read.tags import FIRST, INSTANCE, PIXEL_DATA
 from jls_tools.dicom.walk.structure import Structure
 from jls_tools.dicom.walk.ways import Walk
@@ -21,7 +21,6 @@ from jls_tools.frames.codings import KINDS, PIECE, PIECES
 BLOCK = 128
 STRETCH, SHORT, STEP = 256, 64, 16
 DENSE = 8  # one byte in so many differs where another file's beginning was written
-ITEM_BYTES, END_BYTES = b"\xfe\xff\x00\xe0", b"\xfe\xff\xdd\xe0\0\0\0\0"
 LARGEST_BEGINNING = 1 << 16  # bytes of a foreign beginning whose end is sought at borders of sectors
 MOST_PLACES = 8
 MARKER = re.compile(rb"\xff[\x80-\xff]")  # stands in headers, and in no scan (T.87, A.1)
@@ -181,10 +180,10 @@ def items_and_end(data: bytes) -> tuple[list[tuple[int, int]], int]:
         return [], elements[-1].end
     at = elements[-1].value
     found: list[tuple[int, int]] = []
-    while data[at : at + 4] == ITEM_BYTES:
+    while data[at : at + 4] == ITEM_TAG:
         begin, at = at + 8, at + 8 + int.from_bytes(data[at + 4 : at + 8], "little")
         found.append((begin, at))
-    if data[at : at + 8] != END_BYTES:
+    if data[at : at + 8] != DELIMITER:
         return [], at
     rest = list(walk(data, at + 8))
     return found, rest[-1].end if rest else at + 8

@@ -8,10 +8,9 @@ import re
 from typing import Optional
 
 from jls_tools.dicom.read.elements import ITEM_TAG, JPEG_LS, has_prefix, syntax_name, syntax_of
-from jls_tools.frames.codestream import BEGIN, shape_of
+from jls_tools.frames.codestream import BEGIN, HEADERS, shape_of
 from jls_tools.frames.codings import segments
 
-NEAR_BEGIN = 1 << 10  # bytes at the beginning of a codestream in which its first frame header stands
 # Pixel Data with a length, little endian with and without a VR, and big endian; then Pixel Data with items
 WITH_LENGTH = re.compile(rb"\xe0\x7f\x10\0(?:O[BW]\0\0)?(?=(....))|\x7f\xe0\0\x10O[BW]\0\0(?=(....))", re.S)
 WITH_ITEMS = re.compile(rb"\xe0\x7f\x10\0O[BW]\0\0\xff\xff\xff\xff" + re.escape(ITEM_TAG) + rb"(....)", re.S)
@@ -59,7 +58,7 @@ def kind_of_pixels(text: bytes) -> Optional[str]:
     for found in WITH_ITEMS.finditer(text):
         at = found.end() + int.from_bytes(found.group(1), "little")
         if text[at : at + 4] == ITEM_TAG:
-            return kind_of_frame(text[at + 8 : at + 8 + NEAR_BEGIN])
+            return kind_of_frame(text[at + 8 : at + 8 + HEADERS])
     return None
 
 
@@ -89,7 +88,7 @@ def has_lossless_frame(text: bytes) -> bool:
     place = 0
     while found := BEGIN.search(text, place):
         place = found.end()
-        shape = shape_of(text[found.start() : found.start() + NEAR_BEGIN])
+        shape = shape_of(text[found.start() : found.start() + HEADERS])
         if shape is not None and not shape.near:
             return True
     return False

@@ -12,13 +12,12 @@ from typing import Optional
 
 from jls_tools.dicom.axis.align import ANCHOR, equal_length
 from jls_tools.dicom.evidence.most import header_end
-from jls_tools.dicom.read.elements import PIXELS_BEGIN, UNDEFINED, has_prefix, tag_name
+from jls_tools.dicom.read.elements import DELIMITER, PIXELS_BEGIN, UNDEFINED, has_prefix, tag_name
 from jls_tools.dicom.read.reading import Reading
 from jls_tools.dicom.read.tags import FIRST, PIXEL_DATA
 from jls_tools.dicom.result import VersionTable
 from jls_tools.dicom.write.finished import of_meta, of_uids
 
-DELIMITER_BYTES = 8
 MOST_LOSSES = 4
 
 
@@ -149,7 +148,7 @@ def pixels_of(text: bytes) -> tuple[Optional[int], Optional[int]]:
         return (begins[0] if len(begins) == 1 else None), None
     if pixels.length != UNDEFINED:
         return pixels.start, pixels.end
-    return pixels.start, reading.items[-1].end + DELIMITER_BYTES if reading.is_whole and reading.items else None
+    return pixels.start, reading.items[-1].end + len(DELIMITER) if reading.is_whole and reading.items else None
 
 
 def values_of(head: bytes) -> dict[int, bytes]:

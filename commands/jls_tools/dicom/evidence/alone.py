@@ -12,7 +12,7 @@ from dataclasses import dataclass
 from typing import TYPE_CHECKING
 
 from jls_tools.dicom.axis.align import Copy, may_stand_elsewhere, merged
-from jls_tools.dicom.axis.media import SECTOR
+from jls_tools.dicom.axis.media import BEFORE_BORDER, SECTOR
 from jls_tools.dicom.axis.sectors import BESIDE, has_noise_within, is_noise, is_plain
 from jls_tools.dicom.evidence.csa import is_chain
 from jls_tools.dicom.evidence.most import LOST_TEXT
@@ -51,7 +51,6 @@ WRONG_VR = 4  # the strangeness of a known element with another VR
 ZERO_BEFORE, LONG_BEGIN = re.compile(rb"\.0\d"), 16
 ALIKE = 0.9  # such a share of bytes is of the values that stand behind a border, where a value goes on
 LOST = 16  # so many bytes of a copy that were not taken, at least, show that it lost the sector in which they stand
-NEAR = 1024  # so many bytes before the end of a foreign beginning can be of the copy itself
 
 
 @dataclass
@@ -201,7 +200,7 @@ class Doubts:
         self.lost = [pair for pair in held_by_one(header.copies) if is_in_lost_sector(header, *pair)]
         self.borders = [copy.absent[0][1] for copy in header.copies if copy.foreign and not ends_clearly(copy)]
         # (from where on it counts, the bytes)
-        self.texts = [(len(copy.foreign) - NEAR, copy.foreign) for copy in header.copies if copy.foreign]
+        self.texts = [(len(copy.foreign) - BEFORE_BORDER, copy.foreign) for copy in header.copies if copy.foreign]
         self.texts += [(0, stranger.data) for stranger in strangers if stranger.may_be_copy]
         self.data = bytes(header.merged())
         self.is_ascii = CHARACTER_SET not in header.elements or header.text(CHARACTER_SET) in ONLY_ASCII

@@ -24,6 +24,7 @@ from jls_tools.dicom.read.tags import (
     PREAMBLE,
     SIGN,
     SYNTAX,
+    TWINS,
 )
 from jls_tools.dicom.read.values import allows
 from jls_tools.dicom.walk.frames import table_of
@@ -37,7 +38,7 @@ UIDS = (
     (CLASS, "SOP Class UID"),
     (INSTANCE, "SOP Instance UID"),
 )
-TWINS = ((CLASS_IN_META, CLASS, "SOP Class UIDs"), (INSTANCE_IN_META, INSTANCE, "SOP Instance UIDs"))
+NAMES_OF_TWINS = ("SOP Class UIDs", "SOP Instance UIDs")
 # Those that the frames do not say
 OF_PICTURE = ((PHOTOMETRIC, "Photometric Interpretation"), (HIGH, "High Bit"), (SIGN, "Pixel Representation"))
 MOST_PADDING = 1  # bytes between a frame's EOI and the end of its item
@@ -75,7 +76,7 @@ def of_uids(reading: Reading) -> Iterator[Fault]:
     for tag, name in UIDS:
         if not text_of(reading.value(tag) or b""):
             yield Fault(f"{tag_name(tag)}, {name}, is missing", ((FIRST, reading.end),))
-    for first, second, name in TWINS:
+    for (first, second), name in zip(TWINS, NAMES_OF_TWINS):
         one, two = reading.element(first), reading.element(second)
         if one and two and text_of(one.bytes_of(reading.data)) != text_of(two.bytes_of(reading.data)):
             yield Fault(f"the {name} are not equal", ((one.start, one.end), (two.start, two.end)), True)
