@@ -61,7 +61,7 @@ def codestream_end(stream: bytes) -> Optional[int]:
 
 
 def unpadded(stream: bytes) -> bytes:
-    """A codestream without the byte behind EOI that makes its length even."""
+    """A codestream without the byte after EOI that makes its length even."""
     return stream[:-1] if stream.endswith(EOI_AND_PADDING) else stream
 
 

@@ -1,4 +1,4 @@
-"""Whether two streams are of one frame: what they have in common behind their headers."""
+"""Whether two streams are of one frame: what they have in common after their headers."""
 from __future__ import annotations
 
 import re
