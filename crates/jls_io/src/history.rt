@@ -9,7 +9,7 @@ use std::marker::Model;
 
 /// An event that a device notes.
 #[derive(Clone, Copy, Drop)]
-pub(crate) enum Noted<'a> {
+pub enum Noted<'a> {
     /// The input of this name was opened.
     Opened(&'a str),
     /// The input of this name was not opened.

@@ -1,4 +1,4 @@
-//! The counts of a device, kept beside its history.
+//! The counts of a device, kept beside its history. A device of one's own keeps a ledger, and notes each call in it.
 
 ghost use Rattle.std.specs.Prelude.{◌≡◌, ◌+◌, ◌-◌, ◌^◌, min, [], ◌∷◌, ◌++◌, if◌then◌else◌};
 
@@ -7,7 +7,7 @@ use std::marker::Model;
 
 /// What a device keeps of its history as it runs. Clauses see the whole history.
 #[derive(Drop)]
-pub(crate) struct Ledger {
+pub struct Ledger {
     cell: HistoryCell,
     reads: u64,
     read_failures: u64,
@@ -41,7 +41,7 @@ impl Ledger {
     ghost use Rattle.jls_io.specs.Noted.{event_of};
 
     /// The ledger of a device to which nothing has happened yet.
-    pub(crate) fn new() -> Ledger
+    pub fn new() -> Ledger
         ensures { result ≡ [] }
     {
         Ledger {
@@ -56,7 +56,7 @@ impl Ledger {
     }
 
     /// Notes an event.
-    pub(crate) fn note(&mut self, event: Noted<'_>)
+    pub fn note(&mut self, event: Noted<'_>)
         ensures { self.new ≡ self.old ++ event_of event.entry ∷ [] }
     {
         self.cell.note(&event);
@@ -69,42 +69,42 @@ impl Ledger {
     }
 
     /// How many reads there were.
-    pub(crate) fn reads(&self) -> u64
+    pub fn reads(&self) -> u64
         ensures { result ≡ count_of is_read self.now }
     {
         self.reads
     }
 
     /// How many reads failed.
-    pub(crate) fn read_failures(&self) -> u64
+    pub fn read_failures(&self) -> u64
         ensures { result ≡ count_of is_failed_read self.now }
     {
         self.read_failures
     }
 
     /// How many writes failed.
-    pub(crate) fn write_failures(&self) -> u64
+    pub fn write_failures(&self) -> u64
         ensures { result ≡ count_of is_failed_write self.now }
     {
         self.write_failures
     }
 
     /// How many inputs could not be opened, and outputs not created.
-    pub(crate) fn open_failures(&self) -> u64
+    pub fn open_failures(&self) -> u64
         ensures { result ≡ count_of is_failed_opening self.now }
     {
         self.open_failures
     }
 
     /// Whether an input was opened.
-    pub(crate) fn has_input(&self) -> bool
+    pub fn has_input(&self) -> bool
         ensures { result ≡ event.has_input self.now }
     {
         self.has_input
     }
 
     /// Whether an output was created.
-    pub(crate) fn has_output(&self) -> bool
+    pub fn has_output(&self) -> bool
         ensures { result ≡ event.has_output self.now }
     {
         self.has_output

@@ -2,7 +2,7 @@
 //!
 //! - `device`: the traits: sources, sinks and the desk of a program
 //! - `history`: the list of events of a device, for contracts alone. It takes no memory at run time
-//! - `ledger`: the history with the four counts. It notes each event
+//! - `ledger`: the history with the four counts. It notes each event. A device of one's own keeps one
 //! - `counted`: makes a device of any reader or writer, and a desk of whatever opens inputs and creates outputs by name (`Open`)
 //! - `writing`: hands all bytes to a sink
 //! - `laws`: tie what is noted to the bytes of a list in memory
@@ -16,8 +16,8 @@
 //! - One thing is trusted: `counted` calls its stream once for each read and write that it notes. No contract says that.
 //! - No line needs memory. No name in a line can steer a terminal or forge a line.
 //!
-//! Definitions: `Event`, `Writing`, `Remaining`, `Asked`, `Outputs`, `Lines`, `Names`, `FaultLines`. Inside the crate: `Counts` (the
-//! ledger), `Noted` and `EventCode` (how the checker's logic stores a history), `Handing`.
+//! Definitions: `Event`, `Noted`, `Writing`, `Remaining`, `Asked`, `Outputs`, `Lines`, `Names`, `FaultLines`. Inside the crate: `Counts`
+//! (the ledger), `EventCode` (how the checker's logic stores a history), `Handing`.
 //!
 //! Not proved:
 //!
@@ -44,6 +44,8 @@ pub use fault::{
     print_about, print_no_picture, print_not_written, print_out_of_memory, print_plain,
     print_with_number,
 };
+pub use history::Noted;
 pub use laws::{reads_give_the_content, sink_over_list, source_over_bytes, writes_are_held};
+pub use ledger::Ledger;
 pub use line::{LinePart, print_line, print_text};
 pub use writing::write_all;
