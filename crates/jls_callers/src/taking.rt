@@ -50,7 +50,8 @@ pub fn take_next<S: Source>(
     // If memory ran out, the reads gave a whole copy, or the history goes on as if the call had not been made.
     ensures ran_out_early { (known : Knowledge) (copies over : List SourcedCopy) → Collected known station.old copies over
         → IfErr result (λ fault. fault ≡ TakeFault.OutOfMemory → GrewBy
-        (λ reads. Collected known station.new copies over ⊎ ((p : PartialPicture) × (report : CopyReport) × CopyGives source p report reads))
+        (λ reads. Collected known station.new copies over
+        ⊎ ((p : PartialPicture) × (report : CopyReport) × CopyGives source p report reads))
         (S.history device.old) (S.history device.new)) }
 {
     station.take_copy(source, device)

@@ -1,5 +1,5 @@
-//! Where copies of one file whose damaged places touch go over from one to another. Such places give one stretch in which copies differ, and
-//! no copy has all of it. It is right up to some byte in one copy, and from there on in another.
+//! Where copies of one file whose damaged places touch go over from one to another. Such places give one stretch in which copies differ,
+//! and no copy has all of it. It is right up to some byte in one copy, and from there on in another.
 //!
 //! - `feeding`: readers that are fed as long as a file without a fault may begin so
 //! - `going_over`: searches the bytes of a stretch at which it may be gone over, from one copy to another

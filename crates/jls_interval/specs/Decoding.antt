@@ -62,7 +62,8 @@ pub record IsReading (p : CodingParameters) (given : List Bool) (d : IntervalRea
   pub lines_paid : length d.lines ≤ length given
   pub lines_wide : HaveWidth d.reader.width d.lines
   pub line_at_most : length d.reader.line.items ≤ d.reader.width
-  pub state_is : StateIs p d.reader.width d.components d.count given d.lines d.reader.line.items d.reader.coder.cells d.reader.coder.run_indices d.reader.open_event d.state
+  pub state_is : StateIs p d.reader.width d.components d.count given d.lines d.reader.line.items d.reader.coder.cells
+      d.reader.coder.run_indices d.reader.open_event d.state
 
 -- all bits of a chunk were taken
 abbrev pub TakesAllBits : IntervalReader → IntervalReader → List Bool → Type 0

@@ -33,7 +33,8 @@ fn write_with_ends(
     requires start { AreWritten encoder.old.coder.cells.parameters width components (map
         (λ l. l.now) lines.now) 0 (written_by encoder.old) }
     requires none { ends.old.items ≡ [] }
-    ensures code { OnOk result (encoder.new.writer ≡ code encoder.old.coder.cells.parameters width components (map (λ l. l.now) lines.now)) }
+    ensures code { OnOk result (encoder.new.writer ≡ code encoder.old.coder.cells.parameters width components (map
+        (λ l. l.now) lines.now)) }
     ensures ends { OnOk result (LinesEndAt encoder.old.coder.cells.parameters width components (map
         (λ l. l.now) lines.now) ends.new.items) }
 {

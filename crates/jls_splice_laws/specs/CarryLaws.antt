@@ -42,8 +42,8 @@ abbrev pub PromisesHeld : Made → Type 0
 PromisesHeld m = promise_on m ≡ Held
 
 -- What that promise stands on. Files are mended of the copies, each edit is printed, no copy agrees with no other, and the mended files
--- hold all lines. Each of them reads as the picture that is handed out. Then the lines are those of each picture of which each mended file has a
--- true file with its skeleton. So they are those of each picture of which each coding has one file
+-- hold all lines. Each of them reads as the picture that is handed out. Then the lines are those of each picture of which each mended file
+-- has a true file with its skeleton. So they are those of each picture of which each coding has one file
 pub record IsPromisedHeld (copies : List (List ℕ)) (m : Made) : Type 0 where
   pub carried : Carried
   pub carried_is : m.carried ≡ Some carried

@@ -8,8 +8,7 @@ use Rattle.jls_copy.specs.Course.{at_eoi, at_eoi_before_a_frame, at_no_marker, a
 use Rattle.jls_copy.specs.Course.{for_good, with_the_input, in_a_unit}
 use Rattle.jls_copy.specs.Course.{with_soi, with_another_marker, with_no_marker, with_fill_alone}
 use Rattle.jls_copy.specs.CourseLaws.{OneCourse}
-use Rattle.jls_copy.specs.CopyReads.{CopyReads, CopyGivesNone}
-use Rattle.jls_copy.specs.ReadCopy.{ReadCopy}
+use Rattle.jls_copy.specs.CopyReads.{CopyGivesNone}
 use Rattle.jls_copy.specs.declared.end.End.{End}
 use Rattle.jls_copy.specs.declared.end.End.TheVariants.{Eoi}
 use Rattle.jls_copy.specs.declared.reader.CopyFault.TheVariants.{NoPicture}
@@ -41,17 +40,6 @@ framed_course _ _ o (with_soi n bytes units final e are) same =
 framed_course _ _ o (with_another_marker n code bytes p q) same = absurd cc
 framed_course _ _ o (with_no_marker b bytes p) same = absurd cc
 framed_course _ _ o (with_fill_alone n) same = absurd cc
-
--- the answer, by what was read
-pub ends_so : OneCourse → (file : List ℕ) (read : ReadCopy) (answer : Bool) → CopyReads file read
-    → (IsTrue answer ↔ ((offset : ℕ) × (read.ended ≡ Eoi offset))) → (IsTrue answer ↔ EndsAtEoi file)
-ends_so one file read answer r a = (there, back)
-  where
-    there : IsTrue answer → EndsAtEoi file
-    there true_so = let e = a.0 true_so in (r.course, r.is_course, e.0, sym r.ended_is ∙ e.1)
-
-    back : EndsAtEoi file → IsTrue answer
-    back (c, is, o, e) = a.1 (o, r.ended_is ∙ ap (λ (x : Course). x.end) (one file r.course c r.is_course is) ∙ e)
 
 -- and where there is no picture
 pub none_so : OneCourse → (file : List ℕ) (f : MarkerFault) (n : ℕ) → CopyGivesNone file (NoPicture f n) → EndsAtEoi file → ⊥

@@ -15,20 +15,10 @@ or_true true = refl
 or_true false = refl
 
 -- a file that one of some others has
-pub is_copy_left : (others more : List (List ℕ)) (file : List ℕ) → is_copy others file ≡ true → is_copy (others ++ more) file ≡ true
-is_copy_left others more file e =
-    list_any-append (λ (copy : List ℕ). bytes_eq copy file) others more ∙ ap (λ (b : Bool). b || is_copy more file) e
-
 pub is_copy_right : (others more : List (List ℕ)) (file : List ℕ) → is_copy more file ≡ true → is_copy (others ++ more) file ≡ true
 is_copy_right others more file e =
     list_any-append (λ (copy : List ℕ). bytes_eq copy file) others more ∙ ap (λ (b : Bool). is_copy others file || b) e
     ∙ or_true (is_copy others file)
-
--- and one that none has
-pub is_no_copy : (others more : List (List ℕ)) (file : List ℕ) → is_copy others file ≡ false → is_copy more file ≡ false
-    → is_copy (others ++ more) file ≡ false
-is_no_copy others more file e f =
-    list_any-append (λ (copy : List ℕ). bytes_eq copy file) others more ∙ (λ i. e i || f i)
 
 -- a splice that is one of those found
 pub is_made_at : (ps : List Part) (vs : List (Vec ℕ Global)) (file : List ℕ) (i : ℕ) (v : Vec ℕ Global) → i < length vs → v ≡ get_or vs i v

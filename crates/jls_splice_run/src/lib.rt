@@ -19,8 +19,8 @@
 //! - `printing`: the lines on the fault output that this program alone has
 //!
 //! Definitions: `Tasks`, `Copies`, `Making`, `Carrying`, `ReadsAs`, `Completing`, `Single`, `Files`, `Listing`, `Handing`, `Runs`;
-//! `Limits`, `Telling`; `Differences`, `Lines`, `CodingLines`; `FaultLines`. `PrintedLineExamples` of `proofs/` has each line, and all lines
-//! of three runs, worked by hand. What came of a run, why it stopped, its exit status and its fault line are in jls_cli.
+//! `Limits`, `Telling`; `Differences`, `Lines`, `CodingLines`; `FaultLines`. `PrintedLineExamples` of `proofs/` has each line, and all
+//! lines of three runs, worked by hand. What came of a run, why it stopped, its exit status and its fault line are in jls_cli.
 //!
 //! Not proved:
 //!
