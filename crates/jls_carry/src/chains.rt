@@ -228,25 +228,26 @@ impl Coded {
         }
     }
 
-    /// Whether a run has whole lines in it: one of each component.
+    /// Whether a run has whole lines in it: one of each component. The last bits of the last one can stand in the byte behind the run.
     fn has_lines(&self, run: &Run, components: usize) -> bool {
         let begun = count_below(&self.ends, run.begin);
-        let count = self.lines_before(run.end).saturating_sub(begun);
+        let count = count_below(&self.ends, run.end.saturating_add(1)).saturating_sub(begun);
         count > components || (count == components && run.begin == 0)
     }
 
-    /// The runs of the code and a copy that have whole lines in them, in order.
+    /// The runs of the code and a copy that have whole lines in them, in order. The code of known lines ends at `known`.
     fn runs(
         &self,
         alloc: Global,
         bytes: &[u8],
         components: usize,
+        known: usize,
         is_twin: bool,
     ) -> Result<Vec<Run>, AllocError> {
         let shifts = if is_twin {
             vec![in alloc; Shift::NONE]?
         } else {
-            shifts_of(alloc, &self.bytes, bytes)?
+            shifts_of(alloc, &self.bytes, bytes, known)?
         };
         let mut all = Vec::new(alloc);
         for shift in shifts {
@@ -323,7 +324,7 @@ pub(crate) fn compare(
     let begin = code.begin_of(fresh);
     let is_whole = said.readings.len() == piece.interval.line_count();
     let code = Coded::of(code, is_whole, bytes)?;
-    let runs = code.runs(alloc, bytes, components, said.is_twin)?;
+    let runs = code.runs(alloc, bytes, components, begin, said.is_twin)?;
     let confirmed = code.count_confirmed(&runs, begin);
     let tested = refuted.max(said.readings.len());
     let chain = Chain {

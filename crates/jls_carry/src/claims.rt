@@ -111,19 +111,24 @@ fn agrees_at_end(code: &[u8], copy: &[u8]) -> bool {
     }
 }
 
-/// The shifts to be tried behind the code of the known lines of a piece.
+/// The shifts to be tried behind the code of the known lines of a piece. Where the copy surely goes on at one, no other is tried: at a
+/// wrong one it can have more lines, as these are garbage.
 fn shifts_to_try(
     alloc: Global,
     piece: &Piece,
     code: &[u8],
     bytes: &[u8],
 ) -> Result<Vec<Shift>, AllocError> {
-    let mut shifts = Vec::new(alloc);
     if !piece.begins {
-        return shifts_at_end(alloc, code, bytes, usize::MAX);
+        return Ok(shifts_at_end(alloc, code, bytes, usize::MAX)?.shifts);
     }
+    let mut shifts = Vec::new(alloc);
     if !code.is_empty() && !agrees_at_end(code, bytes) {
-        shifts = shifts_at_end(alloc, code, bytes, NEAR)?;
+        let found = shifts_at_end(alloc, code, bytes, NEAR)?;
+        if found.are_sure {
+            return Ok(found.shifts);
+        }
+        shifts = found.shifts;
     }
     if !shifts.contains(&Shift::NONE) {
         shifts.push(Shift::NONE)?;

@@ -23,7 +23,7 @@ struct Closed {
 /// Where the code that a copy says goes on with the bytes of another, of the same coding: behind each stretch in which they agree.
 fn runs_to_mix(alloc: Global, code: &[u8], bytes: &[u8]) -> Result<Vec<Run>, AllocError> {
     let mut runs = Vec::new(alloc);
-    for shift in shifts_of(alloc, code, bytes)? {
+    for shift in shifts_of(alloc, code, bytes, code.len())? {
         add_runs(&mut runs, code, bytes, shift)?;
     }
     Ok(runs)

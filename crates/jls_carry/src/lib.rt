@@ -32,8 +32,7 @@
 //! 4. Lines are taken in order. A chain ends at the first that is not.
 //! 5. Behind a dispute each copy goes on with its own reading, and a later line wants both.
 //! 6. A reading that another copy has, and nobody tested, holds the line back. A sample that a coding can't say refutes it there. A reading
-//!    is refuted too if another copy says otherwise, and its piece goes on for two rows as a copy of another coding says. So it is if the
-//!    copy that confirms it says otherwise in a piece that closes by itself.
+//!    is refuted too if another copy says otherwise, and its piece goes on for two rows as a copy of another coding says.
 //! 7. Where nothing else goes on, lines that a copy reads in one piece between settled ones are taken. Two rows behind them have to be
 //!    settled as it says.
 //! 8. Pieces that close by themselves count only where nothing else goes on, and in copies that agree with another somewhere. No such piece

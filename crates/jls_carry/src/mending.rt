@@ -1,4 +1,5 @@
-//! The mended file of a copy: its own bytes, and the code of known lines in place of what differs from it.
+//! The mended file of a copy: its own bytes, and the code of known lines in place of what differs from it. A piece whose lines are not all
+//! known can end it, since its first lines count only at the end of a file.
 
 use crate::claims::{CopyState, bytes_of, code_of};
 use crate::code::FirstCode;
@@ -24,6 +25,10 @@ struct Mending<'m, 'c> {
     is_stopped: bool,
     /// How many lines are known so far.
     known: usize,
+    /// The piece at whose last known line the file is cut, if it is.
+    cut: Option<usize>,
+    /// Whether it was cut.
+    is_cut: bool,
 }
 
 /// The settled readings of the first lines of an interval, as far as they can be coded there.
@@ -46,6 +51,33 @@ fn settled_readings(
     Ok(readings)
 }
 
+/// Whether a copy reads a piece to its end from this line on. Then its own bytes stand behind the known lines, and the piece reads.
+fn closes_from(copy: &CopyState<'_>, index: usize, piece: &Piece, line: usize) -> bool {
+    copy.claim(piece.interval.place(line))
+        .is_some_and(|claim| claim.closes && claim.piece == index)
+}
+
+/// The piece at whose last known line the mended file is best cut: where more lines stand whole in it than in all pieces that read.
+fn best_cut(
+    alloc: Global,
+    picture: &Picture,
+    copy: &CopyState<'_>,
+) -> Result<Option<usize>, AllocError> {
+    let mut whole = 0usize;
+    let mut cut = None;
+    let mut most = 0usize;
+    for (index, piece) in copy.pieces.iter().enumerate() {
+        let known = settled_readings(alloc, picture, &piece.interval)?.len();
+        if known == piece.interval.line_count() || closes_from(copy, index, piece, known) {
+            whole = whole.saturating_add(piece.interval.line_count());
+        } else if known > 0 && whole.saturating_add(known) > most {
+            cut = Some(index);
+            most = whole.saturating_add(known);
+        }
+    }
+    Ok(if most > whole { cut } else { None })
+}
+
 impl Mending<'_, '_> {
     /// Appends bytes of the copy, up to an offset.
     fn take_to(&mut self, end: usize) -> Result<(), AllocError> {
@@ -65,13 +97,17 @@ impl Mending<'_, '_> {
         Ok(())
     }
 
-    /// Appends the code of the first lines of a piece, and then what its copy has.
+    /// Appends the code of the first lines of a piece, and then what its copy has, unless the file is cut there.
     fn add_begin(
         &mut self,
         index: usize,
         piece: &Piece,
         code: &FirstCode,
     ) -> Result<(), AllocError> {
+        if self.cut == Some(index) {
+            self.is_cut = true;
+            return self.bytes.extend_from_slice(&code.bytes);
+        }
         let own = bytes_of(self.copy.bytes, piece);
         let from = match self.copy.progress.get(index) {
             Some(progress) if !code.bytes.is_empty() => progress.shift.in_copy(code.bytes.len()),
@@ -84,6 +120,9 @@ impl Mending<'_, '_> {
 
     /// Appends a piece. `is_last` says whether it is the last of those that have their bytes in common.
     fn add(&mut self, index: usize, piece: &Piece, is_last: bool) -> Result<(), AllocError> {
+        if self.is_cut {
+            return Ok(());
+        }
         if piece.begins {
             self.take_to(piece.start)?;
             self.region = self.bytes.len();
@@ -119,8 +158,9 @@ impl Mending<'_, '_> {
     }
 }
 
-/// The mended file of a copy. It has the copy's headers, markers and other segments, and the markers between pieces that were lost. EOI is
-/// added behind a file that lacks it, if all lines of the picture are known and stand in it.
+/// The mended file of a copy. It has the copy's headers, markers and other segments, and the markers between pieces that were lost. It is
+/// cut at the last known line of a piece, if more lines stand whole in it then. EOI is added behind a file that lacks it, if all lines of
+/// the picture are known and stand in it.
 pub(crate) fn mended_file<'m>(
     alloc: Global,
     picture: &'m Picture,
@@ -136,13 +176,17 @@ pub(crate) fn mended_file<'m>(
         region: 0,
         is_stopped: false,
         known: 0,
+        cut: best_cut(alloc, picture, copy)?,
+        is_cut: false,
     };
     for (index, piece) in copy.pieces.iter().enumerate() {
         let next = copy.pieces.get(index.saturating_add(1));
         let is_last = next.is_none_or(|next| next.begins);
         mending.add(index, piece, is_last)?;
     }
-    mending.take_to(copy.bytes.len())?;
+    if !mending.is_cut {
+        mending.take_to(copy.bytes.len())?;
+    }
     if !has_eoi && mending.known == picture.len() {
         mending.bytes.push(0xFF)?;
         mending.bytes.push(EOI)?;

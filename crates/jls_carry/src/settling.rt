@@ -260,24 +260,6 @@ impl Settling<'_, '_> {
         Ok(None)
     }
 
-    /// Whether a copy in whose code a reading is confirmed has another one from a piece that closes by itself.
-    fn is_closed_otherwise(&self, place: usize, confirmed: &Confirmed) -> bool {
-        for reached in confirmed.chains.iter() {
-            let Some(chain) = self.chains.get(reached.chain) else {
-                continue;
-            };
-            let Some(taker) = self.copies.get(chain.taker) else {
-                continue;
-            };
-            if let Some(claim) = taker.claim(place) {
-                if claim.closes && claim.reading != confirmed.reading {
-                    return true;
-                }
-            }
-        }
-        false
-    }
-
     /// Whether only copies of one coding have a reading, and each of them is opposed. They can be copies of one damaged file, or of another
     /// picture.
     fn is_opposed(&self, confirmed: &Confirmed) -> bool {
@@ -310,8 +292,7 @@ impl Settling<'_, '_> {
         }
         if self.support(only)? < 2
             && (is_held_back(self.copies, self.tested, place, reading)
-                || is_refuted(picture, self.copies, place, reading)
-                || self.is_closed_otherwise(place, only))
+                || is_refuted(picture, self.copies, place, reading))
         {
             return Ok(None);
         }

@@ -13,6 +13,11 @@ const MOST_PLACES: usize = 300;
 
 const LEAST_STEP: usize = 48;
 
+/// How many places are tried behind the known lines of a code, and how far apart they are.
+const PLACES_BEHIND: usize = 128;
+
+const STEP_BEHIND: usize = 32;
+
 /// How many shifts are found at most, over a whole code and after its end.
 const MOST_SHIFTS: usize = 13;
 
@@ -22,6 +27,9 @@ const MOST_NEAR: usize = 24;
 const LENGTHS: [usize; 6] = [16, 10, 8, 6, 5, 4];
 
 const ENOUGH: usize = 6;
+
+/// Where so many are found, the copy surely goes on there.
+const SURE: usize = 10;
 
 /// How far before and behind the end of a code that is sought.
 pub(crate) const NEAR: usize = 4000;
@@ -116,9 +124,13 @@ impl SoughtTable {
         })
     }
 
-    /// Adds the bytes at a place of the code.
-    fn add(&mut self, code: &[u8], at: usize) -> Result<(), AllocError> {
-        if let Some(slot) = self.slots.get_mut(slot_of(window(code, at))) {
+    /// Adds the bytes at a place of the code, if the copy has others there, and they aren't too much alike.
+    fn add(&mut self, code: &[u8], copy: &[u8], at: usize) -> Result<(), AllocError> {
+        let bytes = window(code, at);
+        if window(copy, at) == bytes || count_different(bytes) < VARIED {
+            return Ok(());
+        }
+        if let Some(slot) = self.slots.get_mut(slot_of(bytes)) {
             let index = self.sought.len();
             self.sought.push(Sought {
                 at,
@@ -157,21 +169,26 @@ impl SoughtTable {
     }
 }
 
-/// The shifts at which a code and a copy seem to agree somewhere: none first, and then those of bytes that stand once in the copy, from the
-/// end of the code on.
-pub(crate) fn shifts_of(alloc: Global, code: &[u8], copy: &[u8]) -> Result<Vec<Shift>, AllocError> {
+/// The shifts at which a code and a copy seem to agree somewhere: none first, and then those of bytes that stand once in the copy. First
+/// come those that are sought behind the known lines, whose code ends at `known`. The others are sought from the end of the code on.
+pub(crate) fn shifts_of(
+    alloc: Global,
+    code: &[u8],
+    copy: &[u8],
+    known: usize,
+) -> Result<Vec<Shift>, AllocError> {
     let mut shifts = vec![in alloc; Shift::NONE]?;
     let mut table = SoughtTable::new(alloc)?;
     let step = LEAST_STEP.max(code.len() / MOST_PLACES);
     let last = code.len().saturating_sub(SOUGHT);
+    for place in 0..PLACES_BEHIND {
+        table.add(code, copy, known.saturating_add(place * STEP_BEHIND))?;
+    }
     for place in 0..MOST_PLACES + 1 {
         let Some(at) = last.checked_sub(place.saturating_mul(step)) else {
             break;
         };
-        let bytes = window(code, at);
-        if window(copy, at) != bytes && count_different(bytes) >= VARIED {
-            table.add(code, at)?;
-        }
+        table.add(code, copy, at)?;
     }
     if table.sought.is_empty() {
         return Ok(shifts);
@@ -191,6 +208,20 @@ pub(crate) fn shifts_of(alloc: Global, code: &[u8], copy: &[u8]) -> Result<Vec<S
         }
     }
     Ok(shifts)
+}
+
+/// The shifts that a copy can have behind the end of a code.
+#[derive(Drop)]
+pub(crate) struct EndShifts {
+    pub(crate) shifts: Vec<Shift>,
+    /// Whether so many and so different bytes stand there that hardly another shift is right.
+    pub(crate) are_sure: bool,
+}
+
+/// Whether hardly as many bytes as at the end of this code stand elsewhere by chance.
+fn is_sure(code: &[u8], length: usize) -> bool {
+    let begin = code.len().saturating_sub(length);
+    length >= SURE && count_different(code.get(begin..).unwrap_or(&[])) >= VARIED
 }
 
 /// Adds the shifts at which the last so many bytes of a code stand in a copy, within this reach of their place.
@@ -232,13 +263,19 @@ pub(crate) fn shifts_at_end(
     code: &[u8],
     copy: &[u8],
     reach: usize,
-) -> Result<Vec<Shift>, AllocError> {
+) -> Result<EndShifts, AllocError> {
     let mut shifts = Vec::new(alloc);
     for length in LENGTHS {
         add_ends(&mut shifts, code, copy, length, reach)?;
         if !shifts.is_empty() && length >= ENOUGH {
-            break;
+            return Ok(EndShifts {
+                shifts,
+                are_sure: is_sure(code, length),
+            });
         }
     }
-    Ok(shifts)
+    Ok(EndShifts {
+        shifts,
+        are_sure: false,
+    })
 }
