@@ -65,18 +65,43 @@ fn edited_copies(
     Ok(edited)
 }
 
-/// What is proposed, and the copies that agree with no other.
+/// Whether a line of some component is not settled, and one behind it is. The lines are row by row, and in a row by component.
+fn has_gap(lines: &[Option<Vec<u16>>], components: usize) -> bool {
+    for component in 0..components {
+        let mut is_open = false;
+        for (place, line) in lines.iter().enumerate() {
+            if place % components == component {
+                if line.is_none() {
+                    is_open = true;
+                } else if is_open {
+                    return true;
+                }
+            }
+        }
+    }
+    false
+}
+
+/// What is proposed, the copies that agree with no other, and whether a line isn't settled before one that is.
 #[derive(Drop)]
 struct Proposed {
     codings: Vec<Vec<EditedCopy>>,
     strangers: Vec<usize>,
+    has_gap: bool,
 }
 
-/// What is proposed of each coding of so many copies. Nothing, where a line that is settled has a sample above the limit.
+/// The copies to be carried: how many they are without the splices behind them, and how many components their picture has.
+#[derive(Clone, Copy)]
+struct CarriedSize {
+    copies: usize,
+    components: usize,
+}
+
+/// What is proposed of each coding of these copies. Nothing, where a line that is settled has a sample above the limit.
 fn proposed_of(
     alloc: Global,
     carried: Carried,
-    count: usize,
+    size: CarriedSize,
     limit: Option<u16>,
 ) -> Result<Proposed, AllocError> {
     let Carried {
@@ -84,6 +109,8 @@ fn proposed_of(
         strangers,
         lines,
     } = carried;
+    let count = size.copies;
+    let has_gap = has_gap(&lines, size.components);
     let mut proposals = Vec::new(alloc);
     if lines.iter().all(|line| is_within(line, limit)) {
         for coding in codings {
@@ -102,6 +129,7 @@ fn proposed_of(
     Ok(Proposed {
         codings: proposals,
         strangers: named,
+        has_gap,
     })
 }
 
@@ -157,12 +185,17 @@ fn carry_with_splices(
     alloc: Global,
     copies: &[&[u8]],
     codings: &[usize],
+    components: usize,
     bounds: SearchBounds,
 ) -> Result<Proposed, AllocError> {
+    let size = CarriedSize {
+        copies: copies.len(),
+        components,
+    };
     let splices = splices_of_codings(alloc, copies, codings, bounds)?;
     if splices.is_empty() {
         let carried = carry(alloc, copies, codings)?;
-        return proposed_of(alloc, carried, copies.len(), bounds.limit);
+        return proposed_of(alloc, carried, size, bounds.limit);
     }
     let numbers = numbers_with(alloc, codings, &splices)?;
     let all = with_splices(alloc, copies, splices)?;
@@ -171,7 +204,7 @@ fn carry_with_splices(
         slices.push(bytes)?;
     }
     let carried = carry(alloc, &slices, &numbers)?;
-    proposed_of(alloc, carried, copies.len(), bounds.limit)
+    proposed_of(alloc, carried, size, bounds.limit)
 }
 
 /// What copies in several codings give each other.
@@ -181,6 +214,8 @@ pub struct Between {
     pub judged: Judged,
     /// The copies that agree with no other, by their indices.
     pub strangers: Vec<usize>,
+    /// Whether a line was left open before one of its component that was settled. No contract speaks of it.
+    pub has_gap: bool,
 }
 
 /// What copies give each other, for a picture of this shape: mended files, one for each coding, with the edits
@@ -207,7 +242,16 @@ pub fn carry_between(
     if !are_several(&numbers) {
         return Ok(None);
     }
-    let Proposed { codings, strangers } = carry_with_splices(alloc, copies, &numbers, bounds)?;
+    let components = shape.ids().len();
+    let Proposed {
+        codings,
+        strangers,
+        has_gap,
+    } = carry_with_splices(alloc, copies, &numbers, components, bounds)?;
     let judged = judge(alloc, shape, copies, codings)?;
-    Ok(Some(Between { judged, strangers }))
+    Ok(Some(Between {
+        judged,
+        strangers,
+        has_gap,
+    }))
 }

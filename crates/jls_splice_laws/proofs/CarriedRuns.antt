@@ -17,7 +17,7 @@ use Rattle.jls_search.specs.Found.{Found}
 use Rattle.jls_carry_laws.specs.TrueFiles.{PictureLines, AreFilesOfBytes, HaveTrueFilesOfTheirSkeletons}
 use Rattle.jls_carry_laws.specs.Laws.{HasPictureLines, JudgedFilesHaveTrueBytes, SettledHeldLinesAreThePicture}
 use Rattle.jls_carried.specs.CodingLines.{are_all_printed}
-use Rattle.jls_splice_run.specs.Carrying.{Carried, IsCarried, joined}
+use Rattle.jls_splice_run.specs.Carrying.{Carried, IsCarried, carried_promise, joined}
 use Rattle.jls_splice_run.specs.Copies.{bytes_read}
 use Rattle.jls_splice_run.specs.Making.{Made, files_taken, promise_with}
 use Rattle.jls_splice_run.specs.Limits.{has_some}
@@ -98,7 +98,7 @@ carried_runs_give_no_other settled_held judged words a desk report faults d prom
     let c : Carried = p.what in
     let found =
     subst (λ (o : Option Carried). IfSome o (λ c. IsCarried copies (files_taken copies m.found) m.given.shape c × (m.cut ≡ None)
-    × (IsTrue c.are_read → EachReadsAs m.picture c.files) × (c.is_alone ≡ false → m.is_settled ≡ false))) p.carried_is d.is_made.is_carried in
+    × (IsTrue c.are_read → EachReadsAs m.picture c.files) × (c.is_alone ≡ false → carried_promise c m.is_settled ≡ Lines))) p.carried_is d.is_made.is_carried in
     let is : IsCarried copies (files_taken copies m.found) m.given.shape c = found.0 in
     let each : EachReadsAs m.picture c.files = found.2 p.are_read in
     let low : AreFilesOfBytes c.files =

@@ -35,6 +35,7 @@ use Rattle.jls_splice_run.specs.Single.{IsOnly, IsSingleAsked}
 use Rattle.jls_splice_run.specs.Making.{IsCutFile, IsCutTaken, IsMade, IsPictureOf, IsPictureOfFiles, Made, cut_file, is_of_picture}
 use Rattle.jls_splice_run.specs.Making.{AreNamedOf, IsSingleOf, files_taken, notes, promise_on, promise_with}
 use Rattle.jls_splice_run.specs.Telling.{IsTold}
+use Rattle.jls_splice_run.specs.declared.found.Promise.{Promise}
 use Rattle.jls_splice_run.specs.declared.found.Promise.TheVariants.{Held, Picture, Lines}
 use Rattle.jls_copy_laws.proofs.Members.{none_in}
 use Rattle.jls_splice_run.specs.Runs.{Performs, came_of, no_names, at_copies, not_made, not_handed, done, texts}
@@ -235,17 +236,17 @@ module _ (a : Asked) (copies taken : List (List ℕ)) (shape : PictureShape) (cu
     (is_settled : Bool) (file : List ℕ) (among : Contains taken file) (faultless : IsFaultless file) where
   abbrev IsSo : Option Carried → Type 0
   IsSo carried =
-      IfSome carried (λ c. IsCarried copies taken shape c × (cut ≡ None) × Reads c × (c.is_alone ≡ false → is_settled ≡ false))
+      IfSome carried (λ c. IsCarried copies taken shape c × (cut ≡ None) × Reads c × (c.is_alone ≡ false → carried_promise c is_settled ≡ Lines))
 
   -- there a single file that is given is one of those taken
   single_of_taken : (carried : Option Carried) → IsSo carried → (given : Option (List ℕ)) (single : List ℕ) → given ≡ Some single
       → IsSingleOf a taken carried is_settled given → IsSingleAsked a.options.file taken given
   single_of_taken None is given single e of = of
   single_of_taken (Some c) is given single e of =
-      let unsettled : is_settled ≡ false = is.3 (not_alone copies taken shape c is.0 file among faultless) in
+      let unpromised : carried_promise c is_settled ≡ Lines = is.3 (not_alone copies taken shape c is.0 file among faultless) in
       let none : given ≡ None =
       subst (λ (o : Option (List ℕ)). IsCompletedIn o given)
-      ((λ i. carried_file a.options.file (carried_promise c (unsettled i)) c.files) ∙ no_file a.options.file c.files) of in
+      (ap (λ (p : Promise). carried_file a.options.file p c.files) unpromised ∙ no_file a.options.file c.files) of in
       let no : None ≡ Some single = sym none ∙ e in absurd cc
 
   -- and so are the files that have numbers
@@ -390,7 +391,8 @@ spliced_runs_take_the_cut words a desk report faults d path is =
     cut_is_lone copies m.found m.cut_ceiling m.lone m.cut path is d.is_made.is_lone d.is_made.is_cut in
     let none : m.carried ≡ None =
     none_with_cut m.carried copies (files_taken copies m.found) m.given.shape m.cut
-    (λ c. IsTrue c.are_read → EachReadsAs m.picture c.files) (λ c. c.is_alone ≡ false → m.is_settled ≡ false) d.is_made.is_carried path is in
+    (λ c. IsTrue c.are_read → EachReadsAs m.picture c.files) (λ c. c.is_alone ≡ false → carried_promise c m.is_settled ≡ Lines)
+    d.is_made.is_carried path is in
     let of_cut : IsPictureOf a.options.source copies (splices_in m.found) (cut_file m.found (Some path)) m.given =
     subst (λ (c : Option (List ℕ)). IsPictureOf a.options.source copies (splices_in m.found) (cut_file m.found c) m.given) is
     d.is_made.is_given in

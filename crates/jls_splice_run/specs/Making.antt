@@ -105,12 +105,11 @@ pub record IsFoundFor (a : Asked) (copies : List (List ℕ)) (ceiling : Option �
   pub of_groups : IfSome f.by_groups (IsGroupSearch a.options.tries (length copies) f.parts)
 
 -- What copies in several codings gave each other, if that was looked for, is so where these files are taken. Then no cut file was taken.
--- The mended files read as the picture if they were found to. If a file taken may be without a fault, a line is not settled: what the copies
--- gave each other speaks against that file
+-- The mended files read as the picture if they were found to. If a file taken may be without a fault, nothing is promised
 abbrev pub IsCarriedFor : List (List ℕ) → Made → Type 0
 IsCarriedFor copies m =
     IfSome m.carried (λ c. IsCarried copies (files_taken copies m.found) m.given.shape c × (m.cut ≡ None)
-    × (IsTrue c.are_read → EachReadsAs m.picture c.files) × (c.is_alone ≡ false → m.is_settled ≡ false))
+    × (IsTrue c.are_read → EachReadsAs m.picture c.files) × (c.is_alone ≡ false → carried_promise c m.is_settled ≡ Lines))
 
 -- the single file, if it is asked for: the one of the files taken that has no fault, or the first mended file. It is completed by EOI
 abbrev pub IsSingleOf : Asked → List (List ℕ) → Option Carried → Bool → Option (List ℕ) → Type 0
@@ -321,7 +320,7 @@ pub record AreTextsOfJudged (a : Asked) (copies taken : List (List ℕ)) (all : 
       → AreTextsOf a copies (carried_made all lone given (carried_of b is_alone is_held are_read) is_settled v) v
   pub single : IsSingleOf a taken (Some (carried_of b is_alone is_held are_read)) is_settled (option_map (λ f. f.items) v.file)
   pub named : AreNamedOf a taken (Some (carried_of b is_alone is_held are_read)) (named_files v.files.items)
-  pub doubted : is_alone ≡ false → is_settled ≡ false
+  pub doubted : is_alone ≡ false → carried_promise (carried_of b is_alone is_held are_read) is_settled ≡ Lines
 
 -- and what was judged is so for these copies, where these files are taken and give that
 pub record IsCarriedMade (a : Asked) (copies taken : List (List ℕ)) (all : FoundInTurn) (given : PartialPicture) (v : MadeValue)

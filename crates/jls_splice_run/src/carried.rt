@@ -16,6 +16,7 @@ ghost use Rattle.jls_splice_run.specs.Carrying as spec;
 ghost use Rattle.jls_splice_run.specs.Files.{is_eoi_added as added};
 ghost use Rattle.jls_splice_run.specs.Listing.{AreCompleted, AreNamedAsked, named_files};
 ghost use Rattle.jls_splice_run.specs.Making.{AreTextsOfJudged, IsCarriedMade, files_held};
+ghost use Rattle.jls_splice_run.specs.declared.found.Promise.TheVariants.{Lines};
 ghost use Rattle.jls_splice_run.specs.ReadsAs.{EachReadsAs};
 ghost use Rattle.jls_splice_run.specs.Tasks.{task_of};
 
@@ -216,8 +217,15 @@ fn are_read_as(
     each_reads_as(alloc, files, picture)
 }
 
+/// Whether what copies gave each other is handed out: each file taken has a fault, or it may speak against one, and nothing is promised.
+fn is_handed_out(is_alone: bool, may_doubt: bool, promise: Promise) -> bool
+    ensures { result ≡ true → is_alone ≡ false → promise ≡ Lines }
+{
+    is_alone || may_doubt && promise == Promise::Lines
+}
+
 /// What is handed out of what copies in several codings gave each other. If a file taken may be without a fault, `None` comes unless
-/// that speaks against it: unless a line is not settled by both.
+/// that speaks against it. Then a line is not settled by both, or was left open before others, and nothing is promised.
 fn texts_of_judged(
     alloc: Global,
     task: &Task<'_, '_>,
@@ -236,7 +244,11 @@ fn texts_of_judged(
     ensures { IfOk result (λ made. IfSome made (AreTextsOfJudged (task_of task.now) (bytes_of files.now.copies.now)
         (files_taken files.now) all.now held.now.station between is_alone)) }
 {
-    let Between { judged, strangers } = between;
+    let Between {
+        judged,
+        strangers,
+        has_gap,
+    } = between;
     let Judged {
         codings,
         files: mended,
@@ -245,11 +257,11 @@ fn texts_of_judged(
     let is_held = picture.is_settled();
     join(&mut picture, held.station.partial())?;
     let is_settled = picture.is_settled();
-    if !is_alone && is_settled {
-        return Ok(None);
-    }
     let are_read = are_read_as(alloc, &mended, &picture, is_held, is_settled)?;
     let promise = carried_promise(&codings, &strangers, is_held, are_read, is_settled);
+    if !is_handed_out(is_alone, has_gap || !is_settled, promise) {
+        return Ok(None);
+    }
     let mended_file = carried_file(alloc, task.options.file, promise, &mended)?;
     let file = completed_in(alloc, mended_file)?;
     let verdicts = held.faultless.as_slice();

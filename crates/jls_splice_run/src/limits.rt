@@ -19,7 +19,8 @@ ghost use Rattle.jls_splice_run.specs.Telling.{IsTold};
 use crate::options::SearchOptions;
 use crate::searching::search_once;
 use crate::shallow::{CutLimit, shallow_limit};
-use jls_diff::{Parts, find_finer_parts, find_parts, one_part};
+use jls_cuts::find_cuts;
+use jls_diff::{Parts, find_cut_parts, find_finer_parts, find_parts, one_part};
 use jls_io::Sink;
 use jls_search::{
     FoundSplices, LevelRules, Searched, are_of_one_coding, are_short,
@@ -238,6 +239,15 @@ fn search_all<E: Sink>(
     find_or_let_go(alloc, parts, options, all, faults)
 }
 
+/// How parts in which copies differ are cut once more.
+#[derive(Clone, Copy)]
+enum Cutting {
+    /// Where the bytes by which copies differ lie apart.
+    Finer,
+    /// Where the true file goes over from one copy to another.
+    WhereCopiesGoOver,
+}
+
 /// Parts of copies, and what the searches over them came to.
 #[derive(Drop)]
 pub(crate) struct SearchedParts<'a> {
@@ -267,26 +277,52 @@ fn search_over<'a, E: Sink>(
     Ok(SearchedParts { parts, all })
 }
 
-/// Finer parts of the copies, if these are of one coding, as far as can be told, and their parts can be cut. Of several codings nothing is
-/// alike, so that all would be cut, and a mix of them is no file.
-fn finer_parts<'a>(
+/// Parts of the copies that are cut where these go over from one to another, if such places are found.
+fn cut_parts<'a>(
     alloc: Global,
     copies: &[&'a [u8]],
     parts: &Parts<'a>,
+    tries: u32,
 ) -> Result<Option<Parts<'a>>, AllocError>
-    ensures { IfOk result (λ finer. IfSome finer (AreParts (bytes_of copies.now))) }
+    ensures { IfOk result (λ cut. IfSome cut (AreParts (bytes_of copies.now))) }
+{
+    let Some(uncut) = find_cut_parts(alloc, copies, parts, &[])? else {
+        return Ok(None);
+    };
+    let cuts = find_cuts(alloc, &uncut, tries)?;
+    if cuts.is_empty() {
+        return Ok(None);
+    }
+    find_cut_parts(alloc, copies, parts, &cuts)
+}
+
+/// Other parts of the copies, if these are of one coding, as far as can be told, and there are some. Of several codings nothing is alike,
+/// so that all would be cut, and a mix of them is no file.
+fn other_parts<'a>(
+    alloc: Global,
+    copies: &[&'a [u8]],
+    parts: &Parts<'a>,
+    cutting: Cutting,
+    tries: u32,
+) -> Result<Option<Parts<'a>>, AllocError>
+    ensures { IfOk result (λ others. IfSome others (AreParts (bytes_of copies.now))) }
 {
     if !are_of_one_coding(alloc, copies, parts)? {
         return Ok(None);
     }
-    find_finer_parts(alloc, copies, parts)
+    match cutting {
+        Cutting::Finer => find_finer_parts(alloc, copies, parts),
+        Cutting::WhereCopiesGoOver => cut_parts(alloc, copies, parts, tries),
+    }
 }
 
-/// Makes all searches over finer parts of the copies, if those before found no file. These count if they find one.
-fn search_finer<'a, E: Sink>(
+/// Makes all searches over other parts of the copies, if those before found no file, and there are such parts. They count if they find a
+/// file.
+fn search_others<'a, E: Sink>(
     alloc: Global,
     copies: &[&'a [u8]],
     before: SearchedParts<'a>,
+    cutting: Cutting,
     options: SearchOptions,
     faults: &mut E,
 ) -> Result<SearchedParts<'a>, AllocError>
@@ -301,10 +337,10 @@ fn search_finer<'a, E: Sink>(
     if !before.all.searched.splices.is_empty() {
         return Ok(before);
     }
-    let Some(finer) = finer_parts(alloc, copies, &before.parts)? else {
+    let Some(others) = other_parts(alloc, copies, &before.parts, cutting, options.tries)? else {
         return Ok(before);
     };
-    let new = search_over(alloc, copies, finer, options, faults)?;
+    let new = search_over(alloc, copies, others, options, faults)?;
     if new.all.searched.splices.is_empty() {
         return Ok(before);
     }
@@ -323,7 +359,8 @@ fn parts_to_search<'a>(alloc: Global, copies: &[&'a [u8]]) -> Result<Parts<'a>, 
     Ok(parts)
 }
 
-/// Finds the parts of copies and makes all searches over them, and over finer ones if these find no file.
+/// Finds the parts of copies and makes all searches over them. If these find no file, they are made over finer ones, and if these find none
+/// either, over those that are cut where the copies go over from one to another.
 fn search_copies<'a, E: Sink>(
     alloc: Global,
     copies: &[&'a [u8]],
@@ -337,8 +374,10 @@ fn search_copies<'a, E: Sink>(
     ensures told { GrewBy (IsTold options.tells) (E.history faults.old) (E.history faults.new) }
 {
     let parts = parts_to_search(alloc, copies)?;
-    let before = search_over(alloc, copies, parts, options, faults)?;
-    search_finer(alloc, copies, before, options, faults)
+    let first = search_over(alloc, copies, parts, options, faults)?;
+    let finer = search_others(alloc, copies, first, Cutting::Finer, options, faults)?;
+    let cutting = Cutting::WhereCopiesGoOver;
+    search_others(alloc, copies, finer, cutting, options, faults)
 }
 
 /// Whether a cut file is sought: where the search that counts found nothing, and the copies are of one coding, as far as can be told.
@@ -382,7 +421,9 @@ fn limit_of_cut(
 /// the last that was not cut off and found a file, and else the first. Where it was cut off or came to nothing, groups are searched. A cut
 /// file is to be sought where it found nothing, unless the copies are of several codings.
 ///
-/// If no search found a file, all are made once more over finer parts. If these find one, the finer parts stand in place of the first.
+/// If no search found a file, all are made once more over finer parts. If none of these finds one either, all are made over parts that are
+/// cut where the copies go over from one to another, as far as such places are found. Parts over which a file is found stand in place of
+/// the first.
 ///
 /// Copies that surely are of several codings are tried as they are, in one part.
 ///

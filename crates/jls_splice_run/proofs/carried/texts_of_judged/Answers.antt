@@ -28,8 +28,6 @@ use Rattle.jls_splice_run.specs.declared.found.SearchReport.{SearchReport}
 use Rattle.jls_splice_run.proofs.CarriedCopies.{are_printed, carried_file_maps}
 use Rattle.jls_splice_run.proofs.MakingLemmas.{lacks_maps, reported_maps}
 use Rattle.jls_splice_run.proofs.carried.texts_of_judged.Goals as goal
-use Rattle.jls_splice_run.proofs.carried.texts_of_judged.Goals.{else-not-is_alone-via-then-not-is_alone+else-is_settled}
-use Rattle.jls_splice_run.proofs.carried.texts_of_judged.Goals.{else-not-is_alone-via-else-not-is_alone}
 
 pub lines_of_carried-requires-clause-numbers : goal.lines_of_carried-requires-clause-numbers
 lines_of_carried-requires-clause-numbers c =
@@ -158,8 +156,5 @@ returns c =
       };
       single = is_single;
       named = (are_mended, c.in_ok-numbered.ensures.taken);
-      doubted = λ no. elim c.else-not-is_alone.branch [
-        | else-not-is_alone-via-then-not-is_alone+else-is_settled w ↦ w.if-is_settled.false
-        | else-not-is_alone-via-else-not-is_alone w ↦ absurd (let e : true ≡ false = sym w.if-not-is_alone.false ∙ no in cc)
-      ];
+      doubted = λ no. sym promise ∙ c.is_handed_out.ensures c.if-not-is_handed_out.false no;
     }

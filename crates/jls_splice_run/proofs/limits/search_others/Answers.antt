@@ -1,11 +1,11 @@
 use Rattle.jls_splice_run.proofs.Told.{tells_none}
-use Rattle.jls_splice_run.proofs.limits.search_finer.Goals as goal
+use Rattle.jls_splice_run.proofs.limits.search_others.Goals as goal
 
 pub returns-then-not-is_empty-clause-told : goal.returns-then-not-is_empty-clause-told
 returns-then-not-is_empty-clause-told g c = tells_none c.args.options.tells (g.E.Device.history c.args.faults.now)
 
-pub returns-in_err-finer-clause-told : goal.returns-in_err-finer-clause-told
-returns-in_err-finer-clause-told g c = tells_none c.args.options.tells (g.E.Device.history c.args.faults.now)
+pub returns-in_err-others-clause-told : goal.returns-in_err-others-clause-told
+returns-in_err-others-clause-told g c = tells_none c.args.options.tells (g.E.Device.history c.args.faults.now)
 
 pub returns-in_default-clause-told : goal.returns-in_default-clause-told
 returns-in_default-clause-told g c = tells_none c.args.options.tells (g.E.Device.history c.args.faults.now)
