@@ -9,6 +9,7 @@
 //! - `sets`, `partial`, `bits`, `interval`, `copies`, `writing`: the tests of single calls
 //! - `files`, `pairs`: files in memory, and damaged copies
 //! - `searching`, `running`, `splicing`: the tests of the searches, and of whole runs of both programs
+//! - `mending`: the test of copies in memory that a call mends
 #![tactic(auto)]
 
 #[cfg(test)]
@@ -23,6 +24,8 @@ mod files;
 mod four;
 #[cfg(test)]
 mod interval;
+#[cfg(test)]
+mod mending;
 #[cfg(test)]
 mod met;
 #[cfg(test)]

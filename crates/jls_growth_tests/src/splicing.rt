@@ -12,7 +12,7 @@ use std::process::Abort;
 
 /// A run over the copies of a pair, and what comes of it.
 #[derive(Clone, Copy)]
-struct Row {
+pub struct Row {
     line: &'static str,
     pair: Which,
     status: u8,
@@ -27,7 +27,7 @@ struct Row {
 }
 
 /// Four lines come back.
-const FOUR_BACK: Row = Row {
+pub const FOUR_BACK: Row = Row {
     line: "jls-splice OUT 1 2",
     pair: Which::Mended,
     status: 0,
@@ -43,7 +43,7 @@ const FOUR_BACK: Row = Row {
 };
 
 /// What OUT holds.
-fn lines_of(alloc: Global, row: &Row) -> Result<Partial, Stopped> {
+pub fn lines_of(alloc: Global, row: &Row) -> Result<Partial, Stopped> {
     let (width, height) = match row.pair {
         Which::Mended => (4, 4),
         Which::HalfLost => (1, 2),

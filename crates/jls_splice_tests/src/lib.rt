@@ -4,6 +4,7 @@
 //! - `searched`, `prefixes`, `group_search`, `stations`: the searches, and stations of the files taken
 //! - `copy_files`, `lines`, `words`: copies that are read, printed lines, the command line
 //! - `memory`, `files`, `damage`, `program`: runs over files in memory
+//! - `mending`: copies in memory that a call mends
 #![tactic(auto)]
 
 #[cfg(test)]
@@ -20,6 +21,8 @@ mod groups;
 mod lines;
 #[cfg(test)]
 mod memory;
+#[cfg(test)]
+mod mending;
 #[cfg(test)]
 mod numbered;
 #[cfg(test)]

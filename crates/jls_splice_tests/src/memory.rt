@@ -39,6 +39,11 @@ impl<'a> MemoryFiles<'a> {
         !self.outputs.is_empty()
     }
 
+    /// How many outputs were created.
+    pub(crate) fn count(&self) -> usize {
+        self.outputs.len()
+    }
+
     /// What the output of this name took, if it was created.
     pub(crate) fn output(&self, name: &str) -> Option<&[u8]> {
         for output in &self.outputs {

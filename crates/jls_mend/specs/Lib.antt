@@ -1,0 +1,4 @@
+-- What the contracts of this crate cite.
+pub mod Asking
+pub mod Running
+pub mod Mending

@@ -1,0 +1,20 @@
+//! Mends several damaged copies in memory, as the program `jls-splice` does with `--file` and `--files`.
+//!
+//! - `mending`: `mend`: from the copies to what the program hands out
+//! - `asking`: what it is asked for
+//! - `naming`: the copies as inputs, whose names are their numbers
+//! - `running`: a run of the program over these inputs
+//!
+//! - `mend` calls the function that the program calls, over a desk in memory. So what is proved of a run of the program holds of it, and
+//!   its contract says what was made of the copies themselves.
+//!
+//! Definitions: `Asking`, `Running`, `Mending`.
+#![tactic(auto)]
+
+mod asking;
+mod mending;
+mod naming;
+mod running;
+
+pub use asking::MendOptions;
+pub use mending::{MendRefusal, Mended, mend};

@@ -1,0 +1,105 @@
+//! From the copies to what the program hands out.
+
+ghost use Rattle.std.specs.Prelude.{◌≡◌, ◌≤◌, ◌++◌, ◌∷◌, [], ℕ, List, IfErr, IfOk, length, map};
+ghost use Rattle.jls_memory.specs.Files.{File};
+ghost use Rattle.jls_memory.specs.Held.{output_files};
+ghost use Rattle.jls_mend.specs.Mending.{IsMendedOf, IsOfRun, IsRefusedOf};
+
+use crate::asking::{MendOptions, OUT, options_for};
+use crate::naming::{are_few, inputs_for, names_of, numbers_of, place_of};
+use crate::running::{Ran, run_over};
+use jls_cli::Cause;
+use jls_memory::{Output, outputs_hold_what_is_handed_out};
+use jls_splice_run::Task;
+use std::alloc::{AllocError, Global};
+
+/// What was mended.
+#[derive(Drop)]
+pub struct Mended {
+    /// Whether the picture is promised. Then the program ends with status 0.
+    pub is_promised: bool,
+    /// Whether each copy was read to its end. Of copies in memory each is that has fewer than 4,294,967,295 bytes.
+    pub is_whole: bool,
+    /// What was handed out: OUT with the partial picture as a text, then FILE with the mended file, if there is one, and then the files
+    /// that have numbers, ALL-1, ALL-2 and so on, if they are asked for.
+    pub outputs: Vec<Output>,
+    /// The lines that the program prints.
+    pub lines: Vec<u8>,
+}
+
+/// Why nothing was mended.
+#[derive(Clone, Copy, Debug, PartialEq, Eq)]
+pub struct MendRefusal {
+    /// Why the program stops. A write or an output fails only for want of memory.
+    pub cause: Cause,
+    /// The number of the copy at which it showed, from 0 on, if it showed at one.
+    pub copy: Option<usize>,
+}
+
+impl From<AllocError> for MendRefusal {
+    ghost use Rattle.std.specs.Prelude.{◌≡◌, None};
+    ghost use Rattle.jls_cli.specs.declared.outcome.Cause.TheVariants.{OutOfMemory};
+
+    ghost from_gives = { λ _ refusal. refusal ≡ record { cause = OutOfMemory; copy = None } };
+
+    fn from(_error: AllocError) -> MendRefusal {
+        MendRefusal {
+            cause: Cause::OutOfMemory,
+            copy: None,
+        }
+    }
+}
+
+/// The bytes of the last output. There are none where there is no output.
+fn last_bytes(alloc: Global, mut outputs: Vec<Output>) -> Vec<u8>
+    ensures { (before : List File) (name bytes : List ℕ)
+        → output_files outputs.items ≡ before ++ record { name = name; bytes = bytes } ∷ [] → result.items ≡ bytes }
+{
+    match outputs.pop() {
+        Some(output) => {
+            let Output { bytes, .. } = output;
+            bytes
+        }
+        None => Vec::new(alloc),
+    }
+}
+
+/// Mends copies of one file, of which there are two or more, as `jls-splice --file FILE OUT 1 2 ..` does, and with `--files ALL` if these
+/// are asked for. The names of the copies are their numbers, from 1 on.
+///
+/// It is the program's own run over inputs in memory.
+pub fn mend(alloc: Global, copies: &[&[u8]], options: &MendOptions) -> Result<Mended, MendRefusal>
+    requires { 2 ≤ length copies.now }
+    ensures mended { IfOk result (IsMendedOf options.now (map (λ copy. copy.now) copies.now)) }
+    ensures ran { IfOk result (IsOfRun options.now (map (λ copy. copy.now) copies.now)) }
+    ensures refused { IfErr result (IsRefusedOf options.now (map (λ copy. copy.now) copies.now)) }
+{
+    outputs_hold_what_is_handed_out();
+    are_few(copies);
+    let numbers = numbers_of(alloc, copies)?;
+    let inputs = inputs_for(alloc, &numbers, copies)?;
+    let names = names_of(alloc, &inputs)?;
+    let task = Task {
+        options: options_for(options),
+        out: OUT,
+        names: &names,
+    };
+    let ran = run_over(alloc, &inputs, &task)?;
+    let Ran {
+        outcome,
+        outputs,
+        printed,
+    } = ran;
+    match outcome {
+        Ok(done) => Ok(Mended {
+            is_promised: done.settled,
+            is_whole: done.whole,
+            outputs,
+            lines: last_bytes(alloc, printed),
+        }),
+        Err(refusal) => Err(MendRefusal {
+            cause: refusal.cause,
+            copy: place_of(&names, refusal.name),
+        }),
+    }
+}
