@@ -1,4 +1,5 @@
 """Checks of what decides between damaged copies: CSA headers, known terms, sectors of frames, offset tables, UIDs, one picture."""
+import hashlib
 import random
 import struct
 
@@ -124,6 +125,8 @@ def checks_of_one_picture(bench):
     for name, change in (("MAXVAL", (at, b"\x7f")), ("T1", (at + 3, b"\x10")), ("RESET", (at + 9, b"\x41"))):
         status, out, printed, _, _ = bench.mend([changed(true, change), true])
         yield f"a bit of {name} in an empty picture: the same file ({status}, {printed})", (status, out == true) == (0, True)
+        status, out, printed, faults, _ = bench.mend([changed(true, change), true], "--sha256", hashlib.sha256(true).hexdigest())
+        yield f"the same with its checksum ({status}, {printed}, {faults})", (status, out == true) == (0, True)
     scan = true.index(b"\xff\xda")
     status, out, printed, faults, _ = bench.mend([changed(true, (scan + 8, b"\2")), changed(true, (scan + 1, b"\xdb"))])
     yield f"a bit that says by sample, in one copy: the same file ({status}, {printed}, {faults})", (status, out == true) == (0, True)

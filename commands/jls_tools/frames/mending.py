@@ -204,14 +204,13 @@ class FrameMender:
         """
         partial, file, prefix = (self.name(number, way + ending) for ending in (".jlsp", ".mended", ".other"))
         words = self.words_for(FEWEST_TRIES) if further else list(self.words)
-        if self.has_files and self.wants_all:
-            words += ["--files", prefix]
-        splice = self.sure(self.programs.splice(partial, names, file, self.folder, words))
+        listing = ["--files", prefix] if self.has_files and self.wants_all else []
+        splice = self.sure(self.programs.splice(partial, names, file, self.folder, words + listing))
+        others = self.others(splice, prefix, streams, names)
         if splice.file_written:
             stream: bytes | None = as_copied(self.get(file), streams, splice)
         else:
             stream = self.usual_of_several(splice, streams, names, prefix, words)
-        others = self.others(splice, prefix, streams, names)
         self.drop([file])
         report = splice.report
         name = self.unsupported_of(streams, names) if stream is None and not report.settled else None
@@ -240,16 +239,21 @@ class FrameMender:
     def usual_of_several(
         self, splice: Splice, streams: Sequence[bytes], names: Sequence[str], prefix: str, words: list[str]
     ) -> bytes | None:
-        """Of several files that have one picture, which is promised: the one whose coding parameters are the usual ones; or nothing."""
+        """Of several files that have one picture, which is promised: the one whose coding parameters are the usual ones; or nothing.
+
+        Of copies in several codings the mended file of the first coding is taken, which jls-splice lists first.
+        """
         report = splice.report
         is_one = (report.promise or "").startswith("picture") and report.settled and not report.missing and not report.disputed
         if not (is_one and self.has_files):
             return None
         partial = f"{prefix}.jlsp"
         listed = self.sure(self.programs.splice(partial, names, None, self.folder, words + ["--files", prefix]))
-        found = [as_copied(stream, streams, listed) for stream in self.files(prefix) if has_usual_parameters(stream)]
+        files = self.files(prefix)
         self.drop([partial])
-        return found[0] if len(found) == 1 else None
+        # others than the first decode, and lines of other codings speak against them
+        some = files[:1] if report.codings else [stream for stream in files if has_usual_parameters(stream)]
+        return as_copied(some[0], streams, listed) if len(some) == 1 else None
 
     def kind_of(self, splice: Splice, report: Report) -> str:
         if splice.status == 0 and splice.promises_picture:

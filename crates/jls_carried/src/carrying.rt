@@ -82,12 +82,12 @@ fn has_gap(lines: &[Option<Vec<u16>>], components: usize) -> bool {
     false
 }
 
-/// What is proposed, the copies that agree with no other, and whether a line isn't settled before one that is.
+/// What is proposed, the copies that agree with no other, and whether something speaks against copies that decode whole.
 #[derive(Drop)]
 struct Proposed {
     codings: Vec<Vec<EditedCopy>>,
     strangers: Vec<usize>,
-    has_gap: bool,
+    is_doubtful: bool,
 }
 
 /// The copies to be carried: how many they are without the splices behind them, and how many components their picture has.
@@ -108,9 +108,10 @@ fn proposed_of(
         codings,
         strangers,
         lines,
+        has_disputed,
     } = carried;
     let count = size.copies;
-    let has_gap = has_gap(&lines, size.components);
+    let is_doubtful = has_disputed || has_gap(&lines, size.components);
     let mut proposals = Vec::new(alloc);
     if lines.iter().all(|line| is_within(line, limit)) {
         for coding in codings {
@@ -129,7 +130,7 @@ fn proposed_of(
     Ok(Proposed {
         codings: proposals,
         strangers: named,
-        has_gap,
+        is_doubtful,
     })
 }
 
@@ -214,8 +215,9 @@ pub struct Between {
     pub judged: Judged,
     /// The copies that agree with no other, by their indices.
     pub strangers: Vec<usize>,
-    /// Whether a line was left open before one of its component that was settled. No contract speaks of it.
-    pub has_gap: bool,
+    /// Whether copies confirm several readings of a line, or none of one before another of its component that is settled. No contract
+    /// speaks of it.
+    pub is_doubtful: bool,
 }
 
 /// What copies give each other, for a picture of this shape: mended files, one for each coding, with the edits
@@ -246,12 +248,12 @@ pub fn carry_between(
     let Proposed {
         codings,
         strangers,
-        has_gap,
+        is_doubtful,
     } = carry_with_splices(alloc, copies, &numbers, components, bounds)?;
     let judged = judge(alloc, shape, copies, codings)?;
     Ok(Some(Between {
         judged,
         strangers,
-        has_gap,
+        is_doubtful,
     }))
 }

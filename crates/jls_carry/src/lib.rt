@@ -144,6 +144,8 @@ pub struct Carried {
     pub strangers: Vec<usize>,
     /// The lines of the picture that are settled, row by row, and in a row by component.
     pub lines: Vec<Option<Vec<u16>>>,
+    /// Whether a line isn't settled because copies confirm several readings of it.
+    pub has_disputed: bool,
 }
 
 /// What copies in different codings bring back of each other: the lines that are settled, and a mended file of each coding. `codings` has a
@@ -170,6 +172,7 @@ pub fn carry(alloc: Global, copies: &[&[u8]], codings: &[usize]) -> Result<Carri
         return Ok(Carried {
             codings: Vec::new(alloc),
             strangers: with_headers(alloc, &ends)?,
+            has_disputed: picture.has_disputed(),
             lines: picture.into_lines()?,
         });
     }
@@ -198,6 +201,7 @@ pub fn carry(alloc: Global, copies: &[&[u8]], codings: &[usize]) -> Result<Carri
     Ok(Carried {
         codings: mended,
         strangers,
+        has_disputed: picture.has_disputed(),
         lines: picture.into_lines()?,
     })
 }

@@ -51,10 +51,27 @@ fn settled_readings(
     Ok(readings)
 }
 
+/// Whether a copy has all lines of a piece from this one on, be it in a dispute.
+fn has_all_from(picture: &Picture, copy: &CopyState<'_>, piece: &Piece, line: usize) -> bool {
+    (line..piece.interval.line_count()).all(|line| {
+        picture
+            .own(piece.interval.place(line), copy.number)
+            .is_some()
+    })
+}
+
 /// Whether a copy reads a piece to its end from this line on. Then its own bytes stand behind the known lines, and the piece reads.
-fn closes_from(copy: &CopyState<'_>, index: usize, piece: &Piece, line: usize) -> bool {
-    copy.claim(piece.interval.place(line))
-        .is_some_and(|claim| claim.closes && claim.piece == index)
+fn closes_from(
+    picture: &Picture,
+    copy: &CopyState<'_>,
+    index: usize,
+    piece: &Piece,
+    line: usize,
+) -> bool {
+    let closes = copy
+        .claim(piece.interval.place(line))
+        .is_some_and(|claim| claim.closes && claim.piece == index);
+    closes || has_all_from(picture, copy, piece, line)
 }
 
 /// The piece at whose last known line the mended file is best cut: where more lines stand whole in it than in all pieces that read.
@@ -68,7 +85,7 @@ fn best_cut(
     let mut most = 0usize;
     for (index, piece) in copy.pieces.iter().enumerate() {
         let known = settled_readings(alloc, picture, &piece.interval)?.len();
-        if known == piece.interval.line_count() || closes_from(copy, index, piece, known) {
+        if known == piece.interval.line_count() || closes_from(picture, copy, index, piece, known) {
             whole = whole.saturating_add(piece.interval.line_count());
         } else if known > 0 && whole.saturating_add(known) > most {
             cut = Some(index);

@@ -125,6 +125,11 @@ impl Picture {
         }
     }
 
+    /// Whether some line is disputed.
+    pub(crate) fn has_disputed(&self) -> bool {
+        (0..self.lines.len()).any(|place| self.is_disputed(place))
+    }
+
     /// Whether nothing is decided of the line at this place: it is neither settled nor disputed.
     pub(crate) fn is_open(&self, place: usize) -> bool {
         match self.lines.get(place) {

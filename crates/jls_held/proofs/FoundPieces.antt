@@ -1,5 +1,6 @@
 -- Pieces of a file that were in hand while it was read.
-use Rattle.std.proofs.Common.{◌≡◌, ◌≢◌, ℕ, ◌+◌, ◌<◌, ◌≤◌, ◌⊎◌, Bool, true, false, cond, Option, Some, None, List, [], ◌∷◌, ◌++◌, ◌-◌, drop, length, refl, sym, ap, ◌∙◌, subst, arith, inl, inr, take}
+use Rattle.std.proofs.Common.{◌≡◌, ◌≢◌, ℕ, ◌+◌, ◌<◌, ◌≤◌, ◌⊎◌, Bool, true, false, cond, Option, Some, None, List, [], ◌∷◌, ◌++◌, ◌-◌, drop}
+use Rattle.std.proofs.Common.{length, refl, sym, ap, ◌∙◌, subst, arith, inl, inr, take}
 use Rattle.std.specs.Prelude.{IfSome}
 use Rattle.std.specs.Option.{option_to_list}
 use Rattle.std.specs.List.{All, AllByRecursion, Contains}

@@ -1,5 +1,6 @@
 -- What a run over copies in memory hands out.
-use Rattle.std.proofs.Common.{◌≡◌, ℕ, ◌<◌, ◌^◌, Bool, true, false, List, [], ◌∷◌, ◌++◌, Option, Some, None, length, map, refl, sym, ap, ◌∙◌, subst}
+use Rattle.std.proofs.Common.{◌≡◌, ℕ, ◌<◌, ◌^◌, Bool, true, false, List, [], ◌∷◌, ◌++◌, Option, Some, None, length, map, refl, sym, ap, ◌∙◌}
+use Rattle.std.proofs.Common.{subst}
 use Rattle.std.proofs.Common.{arith, cond, get_or}
 use Rattle.std.specs.Prelude.{◌↔◌, IsTrue, Ok, Err, codes, unwrap_or}
 use Rattle.std.specs.List.{AllZip}

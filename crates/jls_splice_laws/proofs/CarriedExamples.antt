@@ -14,10 +14,8 @@ use Rattle.jls_marker.specs.Headers.{headers_after}
 use Rattle.jls_partial.specs.Partial.{PartialPicture, nothing_known, readings_at, union, without_sources}
 use Rattle.jls_partial.specs.Reading.{Reading, reading_cmp}
 use Rattle.jls_partial.specs.ReadingOrder.{marks_exact, marks_total, reading_total}
-use Rattle.jls_partial.specs.Status.{status_of, IsSettled}
 use Rattle.jls_partial.specs.Text.{text}
 use Rattle.jls_partial.proofs.Marked.{got_held}
-use Rattle.jls_partial.proofs.Unions.{either}
 use Rattle.jls_io.specs.Event.{Event, opened, gave, created}
 use Rattle.jls_copy.specs.Course.{IsCourse, segment, with_soi, for_good, at_eoi}
 use Rattle.jls_copy.specs.CopyReads.{CopyReads}
@@ -273,6 +271,44 @@ are_held r among =
     let is = only_the_line r ((holds.readings r).0 among) in
     subst (IsHeld files) (sym (same_line r.component r.line r is refl refl)) (line_held r.component r.line is.0 is.1)
 
+-- What the mended file reads as --------------------------------------------------------------------------------------
+
+same : (b : Bool) → (b || b) ≡ b
+same true = refl
+same false = refl
+
+-- the station of the run over the file itself holds what the file gives
+in_file : (r : Reading) → set.contains station.readings r ≡ set.contains file_read.partial.readings r
+in_file r =
+    let b = set.contains file_read.partial.readings r in
+    contains-union reading_total (union (nothing_known shape) file_read.partial).readings file_read.partial.readings r
+    ∙ ap (λ x. x || b) (contains-union reading_total set.empty file_read.partial.readings r)
+    ∙ ap (λ x. (x || b) || b) (contains-empty reading_cmp r) ∙ same b
+
+one_of_file : (component line : ℕ) → component < 1 → line < 2
+    → readings_at file_read.partial component line ≡ line_of pic component line ∷ []
+one_of_file component line c l =
+    one_reading file_read.partial component line (line_of pic component line)
+    (sym (in_file (picture_reading pic component line))
+    ∙ got_held station component line 0 (line_of pic component line) (ap (λ xs. slice_get xs 0) (one_line component line c l)))
+    (λ r held at_component at_line.
+    same_line component line r (only_the_line r ((holds.readings r).0 (in_file r ∙ held))) at_component at_line)
+
+each_reads : EachReadsAs station files
+each_reads = (
+  record {
+    are_bytes = file_bytes;
+    faultless = file_is_faultless;
+    read = file_read;
+    reads = file_reads_so;
+    same_size = record { width_is = refl; height_is = refl; components_are = refl };
+    each_alike = λ component c line l. (line_of pic component line, one_of_file component line c l, one_line component line c l);
+  },
+  tt,
+)
+
+-- What the copies gave each other -----------------------------------------------------------------------------------
+
 abbrev carried : Carried
 carried = record {
   codings = codings;
@@ -301,75 +337,8 @@ is_carried = record {
   marks_are = no_marks;
   are_held = are_held;
   all_held = (λ is. is_the_picture.0, λ is. refl);
+  each_reads = λ are. each_reads;
 }
-
--- The picture ------------------------------------------------------------------------------------------------------
-
--- the copies themselves give no line
-none_given : (r : Reading) → set.contains given.readings r ≡ false
-none_given r =
-    let e : set.contains (set.empty {R = reading_cmp}) r ≡ false = contains-empty reading_cmp r in
-    contains-union reading_total (union (nothing_known shape) read.partial).readings read.partial.readings r
-    ∙ ap (λ b. b || set.contains read.partial.readings r) (contains-union reading_total set.empty read.partial.readings r)
-    ∙ ap (λ b. (b || b) || b) e
-
-in_station : (r : Reading) → set.contains (union station given).readings r ≡ true → set.contains station.readings r ≡ true
-in_station r among =
-    either (set.contains station.readings r ≡ true) (set.contains station.readings r) (set.contains given.readings r) (λ own. own)
-    (λ none. let e : true ≡ false = sym none ∙ none_given r in absurd cc)
-    (sym (contains-union reading_total station.readings given.readings r) ∙ among)
-
-still_held : (r : Reading) → set.contains station.readings r ≡ true → set.contains (union station given).readings r ≡ true
-still_held r own =
-    contains-union reading_total station.readings given.readings r ∙ ap (λ b. b || set.contains given.readings r) own
-
-one_of_both : (component line : ℕ) → component < 1 → line < 2
-    → readings_at (union station given) component line ≡ line_of pic component line ∷ []
-one_of_both component line c l =
-    one_reading (union station given) component line (line_of pic component line)
-    (still_held (picture_reading pic component line)
-    (got_held station component line 0 (line_of pic component line) (ap (λ xs. slice_get xs 0) (one_line component line c l))))
-    (λ r held at_component at_line.
-    same_line component line r (only_the_line r ((holds.readings r).0 (in_station r held))) at_component at_line)
-
-both_settled : IsSettled (union station given)
-both_settled component inside line below = ap status_of (one_of_both component line inside below)
-
--- What the mended file reads as --------------------------------------------------------------------------------------
-
-same : (b : Bool) → (b || b) ≡ b
-same true = refl
-same false = refl
-
--- the station of the run over the file itself holds what the file gives
-in_file : (r : Reading) → set.contains station.readings r ≡ set.contains file_read.partial.readings r
-in_file r =
-    let b = set.contains file_read.partial.readings r in
-    contains-union reading_total (union (nothing_known shape) file_read.partial).readings file_read.partial.readings r
-    ∙ ap (λ x. x || b) (contains-union reading_total set.empty file_read.partial.readings r)
-    ∙ ap (λ x. (x || b) || b) (contains-empty reading_cmp r) ∙ same b
-
-one_of_file : (component line : ℕ) → component < 1 → line < 2
-    → readings_at file_read.partial component line ≡ line_of pic component line ∷ []
-one_of_file component line c l =
-    one_reading file_read.partial component line (line_of pic component line)
-    (sym (in_file (picture_reading pic component line))
-    ∙ got_held station component line 0 (line_of pic component line) (ap (λ xs. slice_get xs 0) (one_line component line c l)))
-    (λ r held at_component at_line.
-    same_line component line r (only_the_line r ((holds.readings r).0 (in_file r ∙ held))) at_component at_line)
-
-each_reads : EachReadsAs (union station given) files
-each_reads = (
-  record {
-    are_bytes = file_bytes;
-    faultless = file_is_faultless;
-    read = file_read;
-    reads = file_reads_so;
-    same_size = record { width_is = refl; height_is = refl; components_are = refl };
-    each_alike = λ component c line l. (line_of pic component line, one_of_file component line c l, one_of_both component line c l);
-  },
-  tt,
-)
 
 -- The run ----------------------------------------------------------------------------------------------------------
 
@@ -382,7 +351,7 @@ what_was_made = record {
   cut = None;
   given = given;
   carried = Some carried;
-  picture = union station given;
+  picture = station;
   is_settled = true;
   single = None;
   files = [];
@@ -395,10 +364,10 @@ is_made = record {
   is_lone = tt;
   is_cut = inl refl;
   is_given = record { shape_is = shape_is; union_is = takes };
-  is_carried = (is_carried, refl, λ are. each_reads, λ no. absurd cc);
+  is_carried = (is_carried, refl);
   picture_is = refl;
-  settled = (λ is. both_settled, λ is. refl);
-  is_single = refl;
+  settled = (λ is. is_the_picture.0, λ is. refl);
+  is_single = (λ t. refl, λ no. absurd cc);
   are_named = (λ t. tt, λ no. absurd cc);
 }
 

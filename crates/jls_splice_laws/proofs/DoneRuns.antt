@@ -1,6 +1,6 @@
 -- Runs that were done.
-use Rattle.std.proofs.Common.{◌≡◌, ℕ, ◌<◌, ◌≤◌, Bool, true, false, List, [], ◌∷◌, ◌++◌, length, Option, Some, None, refl, sym, ap, ◌∙◌, subst}
-use Rattle.std.proofs.Common.{arith, inl, inr}
+use Rattle.std.proofs.Common.{◌≡◌, ℕ, ◌<◌, ◌≤◌, Bool, true, false, List, [], ◌∷◌, ◌++◌, length, map, Option, Some, None, refl, sym, ap, ◌∙◌}
+use Rattle.std.proofs.Common.{subst, arith, inl, inr}
 use Rattle.std.specs.Prelude.{◌↔◌, ◌⊎◌, IsTrue, IfSome, if◌then◌else◌}
 use Rattle.std.specs.List.{Contains}
 use Rattle.std.proofs.lemmas.List.{append-nil}
@@ -22,11 +22,10 @@ use Rattle.jls_splice_laws.specs.WholeFiles.{WholeFilesAreFaultless}
 use Rattle.jls_values.specs.Shape.{PictureShape}
 use Rattle.jls_search.specs.Faultless.{IsFaultless}
 use Rattle.jls_held.specs.MendedFiles.{MendedFile}
-use Rattle.jls_splice_run.specs.Carrying.{Carried, IsCarried, are_sound, carried_file, carried_promise, joined}
-use Rattle.jls_splice_run.specs.ReadsAs.{EachReadsAs}
+use Rattle.jls_splice_run.specs.Carrying.{Carried, IsCarried, are_sound, carried_promise, files_beside, joined}
 use Rattle.jls_cli.specs.SpliceAsking.{Asked, AskFor, Options, asked_with}
 use Rattle.jls_cli.specs.Outcomes.{exit_status, finished}
-use Rattle.jls_splice_run.specs.Completing.{IsCompleted, IsCompletedIn}
+use Rattle.jls_splice_run.specs.Completing.{IsCompleted}
 use Rattle.jls_splice_run.specs.Copies.{AreWhole, bytes_read}
 use Rattle.jls_splice_run.specs.Handing.{HandsAll}
 use Rattle.jls_splice_run.specs.Limits.{has_some}
@@ -226,45 +225,43 @@ not_alone copies taken shape c is file among faultless = by c.is_alone refl
     by true e = absurd (is.alone e file among faultless)
     by false e = e
 
--- no mended file is given without the promise
-no_file : {A : Type 0} (name : Option A) (files : List MendedFile) → carried_file name Lines files ≡ None
-no_file None files = refl
-no_file (Some name) [] = refl
-no_file (Some name) (f ∷ files) = refl
-
-module _ (a : Asked) (copies taken : List (List ℕ)) (shape : PictureShape) (cut : Option (List ℕ)) (Reads : Carried → Type 0)
-    (is_settled : Bool) (file : List ℕ) (among : Contains taken file) (faultless : IsFaultless file) where
+module _ (a : Asked) (copies taken : List (List ℕ)) (shape : PictureShape) (cut : Option (List ℕ)) (file : List ℕ)
+    (among : Contains taken file) (faultless : IsFaultless file) where
   abbrev IsSo : Option Carried → Type 0
-  IsSo carried =
-      IfSome carried (λ c. IsCarried copies taken shape c × (cut ≡ None) × Reads c × (c.is_alone ≡ false → carried_promise c is_settled ≡ Lines))
+  IsSo carried = IfSome carried (λ c. IsCarried copies taken shape c × (cut ≡ None))
 
   -- there a single file that is given is one of those taken
   single_of_taken : (carried : Option Carried) → IsSo carried → (given : Option (List ℕ)) (single : List ℕ) → given ≡ Some single
-      → IsSingleOf a taken carried is_settled given → IsSingleAsked a.options.file taken given
+      → IsSingleOf a taken carried given → IsSingleAsked a.options.file taken given
   single_of_taken None is given single e of = of
   single_of_taken (Some c) is given single e of =
-      let unpromised : carried_promise c is_settled ≡ Lines = is.3 (not_alone copies taken shape c is.0 file among faultless) in
-      let none : given ≡ None =
-      subst (λ (o : Option (List ℕ)). IsCompletedIn o given)
-      (ap (λ (p : Promise). carried_file a.options.file p c.files) unpromised ∙ no_file a.options.file c.files) of in
+      let none : given ≡ None = of.1 (not_alone copies taken shape c is.0 file among faultless) in
       let no : None ≡ Some single = sym none ∙ e in absurd cc
 
-  -- and so are the files that have numbers
+  among_beside : (promise : Promise) (mended : List MendedFile) → Contains (files_beside promise mended taken) file
+  among_beside Held mended = Contains-append_right (map (λ (f : MendedFile). f.bytes) mended) taken file among
+  among_beside (Picture limit) mended = among
+  among_beside Lines mended = among
+
+  -- and files of which it is one have the numbers
   named_of_taken : (carried : Option Carried) → IsSo carried → (named : List NamedFile) → AreNamedOf a taken carried named
-      → AreNamedAsked a.options.files taken named
-  named_of_taken None is named of = of
-  named_of_taken (Some c) is named of = of.1 (not_alone copies taken shape c is.0 file among faultless)
+      → (files : List (List ℕ)) × AreNamedAsked a.options.files files named × Contains files file
+  named_of_taken None is named of = (taken, of, among)
+  named_of_taken (Some c) is named of = (
+    files_beside (carried_promise c) c.files taken,
+    of.1 (not_alone copies taken shape c is.0 file among faultless),
+    among_beside (carried_promise c) c.files,
+  )
 
 -- copies gave each other nothing where a cut file was taken
 none_with_cut : (carried : Option Carried) (copies taken : List (List ℕ)) (shape : PictureShape) (cut : Option (List ℕ))
-    → (Reads Doubts : Carried → Type 0) → IfSome carried (λ c. IsCarried copies taken shape c × (cut ≡ None) × Reads c × Doubts c)
-    → (path : List ℕ) → cut ≡ Some path → carried ≡ None
-none_with_cut None copies taken shape cut Reads Doubts is path e = refl
-none_with_cut (Some c) copies taken shape cut Reads Doubts is path e = let f : None ≡ Some path = sym is.1 ∙ e in absurd cc
+    → IfSome carried (λ c. IsCarried copies taken shape c × (cut ≡ None)) → (path : List ℕ) → cut ≡ Some path → carried ≡ None
+none_with_cut None copies taken shape cut is path e = refl
+none_with_cut (Some c) copies taken shape cut is path e = let f : None ≡ Some path = sym is.1 ∙ e in absurd cc
 
 -- then the picture is what the files taken give
 picture_is_given : (a : Asked) (copies : List (List ℕ)) (m : Made) → IsMade a copies m → m.carried ≡ None → m.picture ≡ m.given
-picture_is_given a copies m is none = is.picture_is ∙ ap (λ (c : Option Carried). joined c m.given) none
+picture_is_given a copies m is none = is.picture_is ∙ ap (λ (c : Option Carried). joined a.options.source c m.given) none
 
 -- what the promise stands on
 promised : (carried : Option Carried) (ceiling limit : Option ℕ) (f : Found) (is_settled : Bool)
@@ -280,15 +277,13 @@ promised None ceiling limit f is_settled e =
     by false false all e = absurd cc
     by false true false e = absurd cc
     by false true true e = (refl, refl, refl, cc)
-promised (Some c) ceiling limit f is_settled e = absurd (by is_settled c.is_held c.are_read (are_sound c.codings c.strangers) e)
+promised (Some c) ceiling limit f is_settled e = absurd (by c.is_held c.are_read (are_sound c.codings c.strangers) e)
   where
-    by : (all held read sound : Bool)
-        → (if all then (if held then (if read then (if sound then Held else Lines) else Lines) else Lines) else Lines) ≡ Picture limit → ⊥
-    by false held read sound e = cc
-    by true false read sound e = cc
-    by true true false sound e = cc
-    by true true true false e = cc
-    by true true true true e = cc
+    by : (held read sound : Bool) → (if held then (if read then (if sound then Held else Lines) else Lines) else Lines) ≡ Picture limit → ⊥
+    by false read sound e = cc
+    by true false sound e = cc
+    by true true false e = cc
+    by true true true e = cc
 
 module _ (are_faultless : WholeFilesAreFaultless) (words : List Text) (a : Asked) (desk report faults : List Event)
     (d : DidMake words a desk report faults) where
@@ -343,8 +338,7 @@ module _ (are_faultless : WholeFilesAreFaultless) (words : List Text) (a : Asked
         → (name single : List ℕ) → a.options.file ≡ Some name → d.made.single ≡ Some single → single ≡ whole
     single_is_it whole completed name single asked found =
         let of_taken : IsSingleAsked a.options.file (files_taken copies f) d.made.single =
-        single_of_taken a copies (files_taken copies f) d.made.given.shape d.made.cut
-        (λ c. IsTrue c.are_read → EachReadsAs d.made.picture c.files) d.made.is_settled file taken (are_faultless pic file is.whole)
+        single_of_taken a copies (files_taken copies f) d.made.given.shape d.made.cut file taken (are_faultless pic file is.whole)
         d.made.carried d.is_made.is_carried d.made.single single found d.is_made.is_single in
         let only : IsOnly (files_taken copies f) single =
         subst (λ (o : Option (List ℕ)). IsSingleAsked (Some name) (files_taken copies f) o) found
@@ -355,12 +349,11 @@ module _ (are_faultless : WholeFilesAreFaultless) (words : List Text) (a : Asked
     it_is_named : (whole : List ℕ) → IsCompleted file whole
         → (prefix : List ℕ) → a.options.files ≡ Some prefix → length d.made.files < 64 → is_named d.made.files whole ≡ true
     it_is_named whole completed prefix asked few =
-        let of_taken : AreNamedAsked a.options.files (files_taken copies f) d.made.files =
-        named_of_taken a copies (files_taken copies f) d.made.given.shape d.made.cut
-        (λ c. IsTrue c.are_read → EachReadsAs d.made.picture c.files) d.made.is_settled file taken (are_faultless pic file is.whole)
+        let of_taken =
+        named_of_taken a copies (files_taken copies f) d.made.given.shape d.made.cut file taken (are_faultless pic file is.whole)
         d.made.carried d.is_made.is_carried d.made.files d.is_made.are_named in
-        is_named_if_few 64 prefix (files_taken copies f) d.made.files
-        (subst (λ (o : Option Text). AreNamedAsked o (files_taken copies f) d.made.files) asked of_taken) few file whole taken
+        is_named_if_few 64 prefix of_taken.0 d.made.files
+        (subst (λ (o : Option Text). AreNamedAsked o of_taken.0 d.made.files) asked of_taken.1) few file whole of_taken.2
         (are_faultless pic file is.whole) completed
 
 pub spliced_runs_give_no_other : WholeFilesAreFaultless → SplicedCopiesGiveNoOther → SplicedRunsGiveNoOther
@@ -390,9 +383,7 @@ spliced_runs_take_the_cut words a desk report faults d path is =
     let cut : IsCutFile m.cut_ceiling m.found path =
     cut_is_lone copies m.found m.cut_ceiling m.lone m.cut path is d.is_made.is_lone d.is_made.is_cut in
     let none : m.carried ≡ None =
-    none_with_cut m.carried copies (files_taken copies m.found) m.given.shape m.cut
-    (λ c. IsTrue c.are_read → EachReadsAs m.picture c.files) (λ c. c.is_alone ≡ false → carried_promise c m.is_settled ≡ Lines)
-    d.is_made.is_carried path is in
+    none_with_cut m.carried copies (files_taken copies m.found) m.given.shape m.cut d.is_made.is_carried path is in
     let of_cut : IsPictureOf a.options.source copies (splices_in m.found) (cut_file m.found (Some path)) m.given =
     subst (λ (c : Option (List ℕ)). IsPictureOf a.options.source copies (splices_in m.found) (cut_file m.found c) m.given) is
     d.is_made.is_given in

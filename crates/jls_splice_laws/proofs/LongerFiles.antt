@@ -9,7 +9,8 @@ use Rattle.jls_marker.specs.declared.fault.MarkerFault.TheVariants as fault
 use Rattle.std.specs.Prelude.{if◌then◌else◌}
 use Rattle.jls_marker.specs.Scan.{Scan}
 use Rattle.jls_copy.specs.ScanData.{ClosedPiece, closed_bytes, fill_bytes, IsPiece}
-use Rattle.jls_copy.specs.Course.{AreUnits, BeginsWithEnd, Course, CopyUnit, Ends, EndsHere, IsCourse, IsUnit, by_input, by_marker, scan, segment}
+use Rattle.jls_copy.specs.Course.{AreUnits, BeginsWithEnd, Course, CopyUnit, Ends, EndsHere, IsCourse, IsUnit, by_input, by_marker, scan}
+use Rattle.jls_copy.specs.Course.{segment}
 use Rattle.jls_copy.specs.Course.{scan_data_bytes, segment_unit_bytes, unit_bytes}
 use Rattle.jls_copy.specs.Course.{at_eoi, at_eoi_before_a_frame, at_no_marker, at_unknown_code, at_short_length, at_refused_segment}
 use Rattle.jls_copy.specs.Course.{for_good, with_the_input, in_a_unit}

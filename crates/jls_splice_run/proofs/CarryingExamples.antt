@@ -3,9 +3,10 @@ use Rattle.std.proofs.Common.{◌≡◌, ℕ, true, false, List, [], ◌∷◌, 
 use Rattle.std.specs.Prelude.{codes, nat_eq, replicate, if◌then◌else◌}
 use Rattle.jls_held.specs.Judging.{EditedCopy}
 use Rattle.jls_held.specs.MendedFiles.{MendedFile}
+use Rattle.jls_partial.specs.Partial.{PartialPicture, union, with_source}
 use Rattle.jls_carried.proofs.CodingLineExamples.{not_all_of_4097, with_edits}
 use Rattle.jls_report.proofs.PrintedNumbers.{d0, d1, d2, d3, d4, d12}
-use Rattle.jls_splice_run.specs.Carrying.{carried_file, carried_files, promise_for}
+use Rattle.jls_splice_run.specs.Carrying.{carried_file, carried_files, handed_by, promise_for}
 use Rattle.jls_splice_run.specs.CodingLines.{carried_noted_text, carried_text}
 use Rattle.jls_splice_run.specs.Lines.{promise_line}
 use Rattle.jls_splice_run.specs.declared.differences.Difference.{Difference}
@@ -41,15 +42,18 @@ report = record {
 }
 
 record CarryingExamples : Type 0 where
-  -- each line is held and settled, the files read as the picture, and no copy is strange
-  promised : promise_for codings [] true true true ≡ Held
-  not_settled : promise_for codings [] true true false ≡ Lines
-  not_held : promise_for codings [] false true true ≡ Lines
-  not_read : promise_for codings [] true false true ≡ Lines
-  strange : promise_for codings (2 ∷ []) true true true ≡ Lines
-  two_strange : promise_for codings (2 ∷ 4 ∷ []) true true true ≡ Lines
+  -- each line is held, the files read so, and no copy is strange
+  promised : promise_for codings [] true true ≡ Held
+  not_held : promise_for codings [] false true ≡ Lines
+  not_read : promise_for codings [] true false ≡ Lines
+  strange : promise_for codings (2 ∷ []) true true ≡ Lines
+  two_strange : promise_for codings (2 ∷ 4 ∷ []) true true ≡ Lines
   -- an edit has no line
-  not_printed : promise_for ((with_edits 2 ∷ []) ∷ (with_edits 3 ∷ with_edits 4097 ∷ []) ∷ []) [] true true true ≡ Lines
+  not_printed : promise_for ((with_edits 2 ∷ []) ∷ (with_edits 3 ∷ with_edits 4097 ∷ []) ∷ []) [] true true ≡ Lines
+  -- a promised picture is what is held, though a file taken says otherwise; else both are handed out
+  held_alone : (held given : PartialPicture) → handed_by Held None held given ≡ held
+  under_a_source : (held given : PartialPicture) → handed_by Held (Some 3) held given ≡ with_source held 3
+  of_both : (held given : PartialPicture) → handed_by Lines (Some 3) held given ≡ union held given
   -- the file of the first coding, under that promise alone, if it is asked for
   first_file : carried_file (Some (codes "out.jls")) Held (one ∷ other ∷ []) ≡ Some (codes "one")
   without_promise : carried_file (Some (codes "out.jls")) Lines (one ∷ other ∷ []) ≡ None
@@ -76,12 +80,14 @@ record CarryingExamples : Type 0 where
 carrying_examples : CarryingExamples
 carrying_examples = record {
   promised = refl;
-  not_settled = refl;
   not_held = refl;
   not_read = refl;
   strange = refl;
   two_strange = refl;
   not_printed = ap (λ b. if (if b then nat_eq 0 0 else false) then Held else Lines) not_all_of_4097;
+  held_alone = λ held given. refl;
+  under_a_source = λ held given. refl;
+  of_both = λ held given. refl;
   first_file = refl;
   without_promise = refl;
   another_promise = refl;

@@ -1,4 +1,5 @@
 -- Lemmas of this crate.
+mod BesideFiles
 mod PrintedLineExamples
 pub mod Eois
 mod NewFiles

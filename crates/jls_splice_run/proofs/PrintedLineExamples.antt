@@ -3,7 +3,8 @@ use Rattle.std.proofs.Common.{◌≡◌, true, false, List, [], ◌∷◌, ◌++
 use Rattle.std.specs.Prelude.{codes}
 use Rattle.jls_diff.specs.Parts.{Part, Same, Differ}
 use Rattle.jls_splice_run.specs.Differences.{differences}
-use Rattle.jls_splice_run.specs.Lines.{before_line, differ_lines, eoi_line, files_line, found_text, groups_line, limit_line, more_line, progress_line}
+use Rattle.jls_splice_run.specs.Lines.{before_line, differ_lines, eoi_line, files_line, found_text, groups_line, limit_line, more_line}
+use Rattle.jls_splice_run.specs.Lines.{progress_line}
 use Rattle.jls_splice_run.specs.Lines.{promise_line, single_line, splices_line, used_up_line}
 use Rattle.jls_splice_run.specs.declared.differences.Difference.{Difference}
 use Rattle.jls_splice_run.specs.declared.found.Promise.TheVariants.{Picture, Lines}

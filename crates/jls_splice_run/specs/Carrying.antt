@@ -1,7 +1,6 @@
 -- What copies in several codings give each other: mended files, and the lines that these hold.
-use Rattle.std.specs.Prelude.{◌≡◌, ◌↔◌, ℕ, ◌+◌, Bool, false, IsTrue, List, [], ◌∷◌, Option, Some, None, length, map, take}
-use Rattle.std.specs.Prelude.{nat_eq}
-use Rattle.std.specs.Prelude.{if◌then◌else◌}
+use Rattle.std.specs.Prelude.{◌≡◌, ◌↔◌, ℕ, ◌+◌, Bool, true, false, IsTrue, List, [], ◌∷◌, ◌++◌, Option, Some, None, length, map}
+use Rattle.std.specs.Prelude.{nat_eq, replicate, take, if◌then◌else◌}
 use Rattle.std.specs.List.{Contains}
 use Rattle.jls_values.specs.OrderedSet as set
 use Rattle.jls_values.specs.Shape.{PictureShape}
@@ -14,13 +13,15 @@ use Rattle.jls_held.specs.HeldPictures.{AreReadingsHeld}
 use Rattle.jls_held.specs.Judging.{AreMendedOf, EditedCopy, codings_of}
 use Rattle.jls_held.specs.Mending.{file_of}
 use Rattle.jls_carried.specs.declared.carrying.Between.{Between}
+use Rattle.jls_station.specs.Given.{marked}
 use Rattle.jls_splice_run.specs.Listing.{NamedFile, numbered}
+use Rattle.jls_splice_run.specs.ReadsAs.{EachReadsAs}
 use Rattle.jls_splice_run.specs.declared.found.Promise.{Promise}
-use Rattle.jls_splice_run.specs.declared.found.Promise.TheVariants.{Held, Lines}
+use Rattle.jls_splice_run.specs.declared.found.Promise.TheVariants.{Held, Lines, Picture}
 
 -- of each coding its copies, with the edits of each, and their mended file; the copies that agree with no other, by their numbers from 0;
 -- the lines that the mended files hold; whether each file taken has a fault; whether the held lines are all lines, each with one reading;
--- and whether each mended file was found to read as what is handed out
+-- and whether each mended file was found to read as the lines that are held
 pub record Carried : Type 0 where
   pub codings : List (List EditedCopy)
   pub files : List MendedFile
@@ -38,26 +39,33 @@ pub record IsCarried (copies taken : List (List ℕ)) (shape : PictureShape) (c 
   pub marks_are : c.held.marks ≡ set.empty
   pub are_held : AreReadingsHeld c.files c.held
   pub all_held : IsTrue c.is_held ↔ IsSettled c.held
-
--- what files give, with the lines that are held
-abbrev pub joined : Option Carried → PartialPicture → PartialPicture
-joined None p = p
-joined (Some c) p = union c.held p
+  pub each_reads : IsTrue c.are_read → EachReadsAs c.held c.files
 
 -- whether each edit has a line, and no copy agrees with no other
 abbrev pub are_sound : List (List EditedCopy) → List ℕ → Bool
 are_sound codings strangers = if are_all_printed codings then nat_eq (length strangers) 0 else false
 
--- The promise, by whether each line is held and settled, and the mended files read so. It is of the picture if all of it is so, each edit
--- has a line, and no copy agrees with no other
-abbrev pub promise_for : List (List EditedCopy) → List ℕ → Bool → Bool → Bool → Promise
-promise_for codings strangers is_held are_read is_settled =
-    if is_settled then (if is_held then (if are_read then (if are_sound codings strangers then Held else Lines) else Lines) else Lines)
-    else Lines
+-- The promise, by whether each line is held, and each mended file reads so. It is of the picture if all of it is so, each edit has a line,
+-- and no copy agrees with no other
+abbrev pub promise_for : List (List EditedCopy) → List ℕ → Bool → Bool → Promise
+promise_for codings strangers is_held are_read =
+    if is_held then (if are_read then (if are_sound codings strangers then Held else Lines) else Lines) else Lines
 
 -- and so of what copies gave each other
-abbrev pub carried_promise : Carried → Bool → Promise
-carried_promise c is_settled = promise_for c.codings c.strangers c.is_held c.are_read is_settled
+abbrev pub carried_promise : Carried → Promise
+carried_promise c = promise_for c.codings c.strangers c.is_held c.are_read
+
+-- What is handed out, by the promise. If it is of the picture, these are the held lines, under the source. A file taken that says otherwise
+-- is then a copy with edits. Else they are the held lines and what the files taken give
+abbrev pub handed_by : Promise → Option ℕ → PartialPicture → PartialPicture → PartialPicture
+handed_by Held source held given = marked source held
+handed_by (Picture limit) source held given = union held given
+handed_by Lines source held given = union held given
+
+-- and so where copies in several codings may have given each other something
+abbrev pub joined : Option ℕ → Option Carried → PartialPicture → PartialPicture
+joined source None p = p
+joined source (Some c) p = handed_by (carried_promise c) source c.held p
 
 -- the mended file of the first coding, if the picture is promised and a name is given for it
 abbrev pub carried_file : {A : Type 0} → Option A → Promise → List MendedFile → Option (List ℕ)
@@ -75,6 +83,13 @@ abbrev pub carried_files : Option (List ℕ) → List MendedFile → List NamedF
 carried_files None files = []
 carried_files (Some prefix) files = numbered_from prefix 1 (take 64 files)
 
+-- The files of which those with numbers are made, where a file taken may be without a fault: those taken. The mended files stand before them
+-- if the picture is promised
+abbrev pub files_beside : Promise → List MendedFile → List (List ℕ) → List (List ℕ)
+files_beside Held mended taken = map (λ f. f.bytes) mended ++ taken
+files_beside (Picture limit) mended taken = taken
+files_beside Lines mended taken = taken
+
 -- As the code has it ------------------------------------------------------------------------------------------------
 
 -- what was judged, whether each file taken has a fault, whether each line is held, and whether the mended files were found to read so
@@ -88,3 +103,9 @@ carried_of b is_alone is_held are_read = record {
   is_held = is_held;
   are_read = are_read;
 }
+
+-- verdicts on the same files: no mended file of a promised picture has a fault
+abbrev pub verdicts_beside : Promise → List MendedFile → List Bool → List Bool
+verdicts_beside Held mended verdicts = replicate (length mended) true ++ verdicts
+verdicts_beside (Picture limit) mended verdicts = verdicts
+verdicts_beside Lines mended verdicts = verdicts

@@ -7,14 +7,14 @@ use Rattle.std.specs.Str.{bytes_eq}
 use Rattle.std.specs.declared.vec.Vec.{Vec}
 use Rattle.std.specs.declared.alloc.Global.{Global}
 use Rattle.jls_marker.specs.declared.fault.MarkerFault.{MarkerFault}
-use Rattle.jls_partial.specs.Partial.{PartialPicture, nothing_known, union}
+use Rattle.jls_partial.specs.Partial.{PartialPicture, nothing_known}
 use Rattle.jls_partial.specs.Status.{IsSettled}
 use Rattle.jls_partial.specs.Text.{text}
 use Rattle.jls_diff.specs.Parts.{Part}
 use Rattle.jls_search.specs.Found.{ByGroups, Found, IsGroupSearch, IsFound, found_of, splices_in}
 use Rattle.jls_report.specs.Report.{report_of}
 use Rattle.jls_report.specs.ReportText.{report_text}
-use Rattle.jls_splice_run.specs.Carrying.{Carried, IsCarried, carried_file, carried_files, carried_of, carried_promise, joined}
+use Rattle.jls_splice_run.specs.Carrying.{Carried, IsCarried, carried_file, carried_files, carried_of, carried_promise, files_beside, joined}
 use Rattle.jls_carried.specs.declared.carrying.Between.{Between}
 use Rattle.jls_splice_run.specs.CodingLines.{carried_noted_text, carried_text}
 use Rattle.jls_splice_run.specs.Differences.{differences, offset_at}
@@ -104,25 +104,26 @@ pub record IsFoundFor (a : Asked) (copies : List (List ℕ)) (ceiling : Option �
   pub is_found : IsFound ceiling copies f
   pub of_groups : IfSome f.by_groups (IsGroupSearch a.options.tries (length copies) f.parts)
 
--- What copies in several codings gave each other, if that was looked for, is so where these files are taken. Then no cut file was taken.
--- The mended files read as the picture if they were found to. If a file taken may be without a fault, nothing is promised
+-- what copies in several codings gave each other, if that was looked for, is so where these files are taken. Then no cut file was taken
 abbrev pub IsCarriedFor : List (List ℕ) → Made → Type 0
 IsCarriedFor copies m =
-    IfSome m.carried (λ c. IsCarried copies (files_taken copies m.found) m.given.shape c × (m.cut ≡ None)
-    × (IsTrue c.are_read → EachReadsAs m.picture c.files) × (c.is_alone ≡ false → carried_promise c m.is_settled ≡ Lines))
+    IfSome m.carried (λ c. IsCarried copies (files_taken copies m.found) m.given.shape c × (m.cut ≡ None))
 
--- the single file, if it is asked for: the one of the files taken that has no fault, or the first mended file. It is completed by EOI
-abbrev pub IsSingleOf : Asked → List (List ℕ) → Option Carried → Bool → Option (List ℕ) → Type 0
-IsSingleOf a taken None is_settled single = IsSingleAsked a.options.file taken single
-IsSingleOf a taken (Some c) is_settled single = IsCompletedIn (carried_file a.options.file (carried_promise c is_settled) c.files) single
+-- The single file, if it is asked for: the one of the files taken that has no fault, or the first mended file where each of them has a
+-- fault. It is completed by EOI
+abbrev pub IsSingleOf : Asked → List (List ℕ) → Option Carried → Option (List ℕ) → Type 0
+IsSingleOf a taken None single = IsSingleAsked a.options.file taken single
+IsSingleOf a taken (Some c) single =
+    (IsTrue c.is_alone → IsCompletedIn (carried_file a.options.file (carried_promise c) c.files) single)
+    × (c.is_alone ≡ false → single ≡ None)
 
--- the files that have numbers, if they are asked for: those taken that have no fault, or the mended files where each of them has one. Each is
--- completed by EOI
+-- The files that have numbers, if they are asked for: the mended files where each file taken has a fault; else those of the files taken that
+-- have none, and before them the mended files of a promised picture. Each is completed by EOI
 abbrev pub AreNamedOf : Asked → List (List ℕ) → Option Carried → List NamedFile → Type 0
 AreNamedOf a taken None named = AreNamedAsked a.options.files taken named
 AreNamedOf a taken (Some c) named =
     (IsTrue c.is_alone → AreCompleted (carried_files a.options.files c.files) named)
-    × (c.is_alone ≡ false → AreNamedAsked a.options.files taken named)
+    × (c.is_alone ≡ false → AreNamedAsked a.options.files (files_beside (carried_promise c) c.files taken) named)
 
 -- all of it is made of these copies
 pub record IsMade (a : Asked) (copies : List (List ℕ)) (m : Made) : Type 0 where
@@ -132,9 +133,9 @@ pub record IsMade (a : Asked) (copies : List (List ℕ)) (m : Made) : Type 0 whe
   pub is_cut : IsCutTaken copies m.found m.lone m.cut
   pub is_given : IsPictureOf a.options.source copies (splices_in m.found) (cut_file m.found m.cut) m.given
   pub is_carried : IsCarriedFor copies m
-  pub picture_is : m.picture ≡ joined m.carried m.given
+  pub picture_is : m.picture ≡ joined a.options.source m.carried m.given
   pub settled : IsTrue m.is_settled ↔ IsSettled m.picture
-  pub is_single : IsSingleOf a (files_taken copies m.found) m.carried m.is_settled m.single
+  pub is_single : IsSingleOf a (files_taken copies m.found) m.carried m.single
   pub are_named : AreNamedOf a (files_taken copies m.found) m.carried m.files
 
 -- ---- what is reported of it
@@ -172,7 +173,7 @@ promise_of ceiling f is_settled =
 -- the promise that holds where copies in several codings may have given each other something
 abbrev pub promise_with : Option Carried → Option ℕ → Found → Bool → Promise
 promise_with None ceiling f is_settled = promise_of ceiling f is_settled
-promise_with (Some c) ceiling f is_settled = carried_promise c is_settled
+promise_with (Some c) ceiling f is_settled = carried_promise c
 
 -- the promise of what was made, which is printed
 abbrev pub promise_on : Made → Promise
@@ -184,14 +185,15 @@ is_of_picture (Picture limit) = true
 is_of_picture Held = true
 is_of_picture Lines = false
 
--- the files of which those that are handed out were made: the mended files, or the files taken if one may have no fault
-abbrev pub files_held : Bool → List MendedFile → List (List ℕ) → List (List ℕ)
-files_held is_alone mended taken = if is_alone then map (λ f. f.bytes) mended else taken
+-- the files of which those that are handed out were made: the mended files, or the files taken if one may have no fault, with the mended
+-- files of a promised picture
+abbrev pub files_held : Bool → Promise → List MendedFile → List (List ℕ) → List (List ℕ)
+files_held is_alone promise mended taken = if is_alone then map (λ f. f.bytes) mended else files_beside promise mended taken
 
 -- and so where copies in several codings may have given each other something
 abbrev pub files_made_of : Option Carried → List (List ℕ) → List (List ℕ)
 files_made_of None taken = taken
-files_made_of (Some c) taken = files_held c.is_alone c.files taken
+files_made_of (Some c) taken = files_held c.is_alone (carried_promise c) c.files taken
 
 -- what is reported of the search
 abbrev pub report_on : Asked → List (List ℕ) → Made → SearchReport
@@ -277,10 +279,10 @@ made_of all lone cut p is_settled v = record {
   files = named_files v.files.items;
 }
 
--- and what was made of copies in several codings: by what was found, the choices of the cut file that was found, what the files taken give,
--- what the copies gave each other, whether each line of both is settled, and what the code holds of it
-abbrev pub carried_made : FoundInTurn → Option (Vec ℕ Global) → PartialPicture → Carried → Bool → MadeValue → Made
-carried_made all lone given c is_settled v = record {
+-- and what was made of copies in several codings under a source: by what was found, the choices of the cut file that was found, what the
+-- files taken give, what the copies gave each other, whether each line that is handed out is settled, and what the code holds of it
+abbrev pub carried_made : Option ℕ → FoundInTurn → Option (Vec ℕ Global) → PartialPicture → Carried → Bool → MadeValue → Made
+carried_made source all lone given c is_settled v = record {
   ceiling = all.splices.ceiling;
   found = found_of all.splices;
   cut_ceiling = all.cut_limit;
@@ -288,7 +290,7 @@ carried_made all lone given c is_settled v = record {
   cut = None;
   given = given;
   carried = Some c;
-  picture = union c.held given;
+  picture = joined source (Some c) given;
   is_settled = is_settled;
   single = option_map (λ f. f.items) v.file;
   files = named_files v.files.items;
@@ -313,14 +315,13 @@ pub record AreTextsOfJudged (a : Asked) (copies taken : List (List ℕ)) (all : 
   pub is_held : Bool
   pub is_settled : Bool
   pub are_read : Bool
-  pub each_read : IsTrue are_read → EachReadsAs (union b.judged.held given) (map file_of b.judged.files.items)
+  pub each_read : IsTrue are_read → EachReadsAs b.judged.held (map file_of b.judged.files.items)
   pub all_held : IsTrue is_held ↔ IsSettled b.judged.held
-  pub settled : IsTrue is_settled ↔ IsSettled (union b.judged.held given)
+  pub settled : IsTrue is_settled ↔ IsSettled (joined a.options.source (Some (carried_of b is_alone is_held are_read)) given)
   pub texts : (lone : Option (Vec ℕ Global))
-      → AreTextsOf a copies (carried_made all lone given (carried_of b is_alone is_held are_read) is_settled v) v
-  pub single : IsSingleOf a taken (Some (carried_of b is_alone is_held are_read)) is_settled (option_map (λ f. f.items) v.file)
+      → AreTextsOf a copies (carried_made a.options.source all lone given (carried_of b is_alone is_held are_read) is_settled v) v
+  pub single : IsSingleOf a taken (Some (carried_of b is_alone is_held are_read)) (option_map (λ f. f.items) v.file)
   pub named : AreNamedOf a taken (Some (carried_of b is_alone is_held are_read)) (named_files v.files.items)
-  pub doubted : is_alone ≡ false → carried_promise (carried_of b is_alone is_held are_read) is_settled ≡ Lines
 
 -- and what was judged is so for these copies, where these files are taken and give that
 pub record IsCarriedMade (a : Asked) (copies taken : List (List ℕ)) (all : FoundInTurn) (given : PartialPicture) (v : MadeValue)

@@ -15,11 +15,13 @@ ghost use Rattle.jls_search.specs.Files.{AreVerdicts, files_taken, splices_found
 ghost use Rattle.jls_splice_run.specs.Carrying as spec;
 ghost use Rattle.jls_splice_run.specs.Files.{is_eoi_added as added};
 ghost use Rattle.jls_splice_run.specs.Listing.{AreCompleted, AreNamedAsked, named_files};
-ghost use Rattle.jls_splice_run.specs.Making.{AreTextsOfJudged, IsCarriedMade, files_held};
-ghost use Rattle.jls_splice_run.specs.declared.found.Promise.TheVariants.{Lines};
+ghost use Rattle.jls_splice_run.specs.Making.{AreTextsOfJudged, IsCarriedMade};
+ghost use Rattle.jls_splice_run.specs.Completing.{IsCompletedIn};
 ghost use Rattle.jls_splice_run.specs.ReadsAs.{EachReadsAs};
 ghost use Rattle.jls_splice_run.specs.Tasks.{task_of};
+ghost use Rattle.jls_station.specs.Given.{marked};
 
+use crate::beside::{mended_slices, put_beside};
 use crate::completing::{completed, completed_in};
 use crate::files::{count_new, is_eoi_added};
 use crate::found::{Promise, SearchReport};
@@ -27,7 +29,7 @@ use crate::limits::FoundInTurn;
 use crate::listing::{MOST_NAMED, NumberedFile, numbered_name};
 use crate::made::{Made, files_asked, files_reported, groups_reported, lacks_file, limit_reported};
 use crate::printed_lines::{lines_of_carried, notes_of_carried};
-use crate::reading_as::each_reads_as;
+use crate::reading_as::{are_one_picture, each_reads_as};
 use crate::task::Task;
 use jls_carried::{Between, SearchBounds, are_all_printed, carry_between};
 use jls_diff::find_parts;
@@ -55,11 +57,10 @@ fn carried_promise(
     strangers: &[usize],
     is_held: bool,
     are_read: bool,
-    is_settled: bool,
 ) -> Promise
-    ensures { result ≡ spec.promise_for (codings_of codings.now) strangers.now is_held are_read is_settled }
+    ensures { result ≡ spec.promise_for (codings_of codings.now) strangers.now is_held are_read }
 {
-    if is_settled && is_held && are_read && are_all_printed(codings) && strangers.is_empty() {
+    if is_held && are_read && are_all_printed(codings) && strangers.is_empty() {
         Promise::Held
     } else {
         Promise::Lines
@@ -87,6 +88,26 @@ fn carried_file(
     }
 }
 
+/// The single file, completed by EOI, if a name is given for it: the mended file of the first coding, if the picture is promised. There is
+/// none if a file taken may have no fault.
+fn single_file(
+    alloc: Global,
+    name: Option<&str>,
+    promise: Promise,
+    mended: &[MendedCopy],
+    is_alone: bool,
+) -> Result<Option<Vec<u8>>, AllocError>
+    ensures mended { is_alone ≡ true → IfOk result (λ file.
+        IsCompletedIn (spec.carried_file name.entry promise (map file_of mended.now)) (option_map (λ f. f.items) file)) }
+    ensures none { is_alone ≡ false → IfOk result (λ file. option_map (λ f. f.items) file ≡ None) }
+{
+    if !is_alone {
+        return Ok(None);
+    }
+    let file = carried_file(alloc, name, promise, mended)?;
+    completed_in(alloc, file)
+}
+
 /// The mended files with their names, completed by EOI, if what these begin with is given.
 fn carried_files(
     alloc: Global,
@@ -108,7 +129,7 @@ fn carried_files(
     Ok(named)
 }
 
-/// The files that have numbers, with their names: the mended files, or those taken that have no fault if one may have none.
+/// The files that have numbers, with their names: the mended files, or those of these files that have no fault if a file taken may have none.
 fn numbered_files(
     alloc: Global,
     prefix: Option<&str>,
@@ -129,17 +150,6 @@ fn numbered_files(
     } else {
         files_asked(alloc, prefix, files, verdicts)
     }
-}
-
-/// The bytes of the mended files.
-fn mended_slices<'m>(alloc: Global, mended: &'m [MendedCopy]) -> Result<Vec<&'m [u8]>, AllocError>
-    ensures { IfOk result (λ slices. bytes_of slices.items ≡ map (λ f. f.bytes) (map file_of mended.now)) }
-{
-    let mut slices: Vec<&[u8]> = Vec::new(alloc);
-    for file in mended {
-        slices.push(&file.bytes)?;
-    }
-    Ok(slices)
 }
 
 /// Whether EOI was added to the single file or to one that has a number: no mended file has its bytes.
@@ -164,7 +174,7 @@ fn is_eoi_added_to_mended(
 }
 
 /// Whether EOI was added to the single file or to one that has a number: none of the files that they were made of has its bytes. These are
-/// the mended files, or the files taken if one may have no fault.
+/// the mended files, or these files if a file taken may have no fault.
 fn is_eoi_added_to_handed(
     alloc: Global,
     files: &Files<'_, '_>,
@@ -174,13 +184,24 @@ fn is_eoi_added_to_handed(
     numbered: &[NumberedFile],
 ) -> Result<bool, AllocError>
     requires { AllByRecursion (IsWhole files.now.parts.now) (lists_of files.now.splices.now) }
-    ensures { IfOk result (λ is. is ≡ added (files_held is_alone (map file_of mended.now) (files_taken files.now))
+    ensures { IfOk result (λ is. is ≡ added
+        (if is_alone then map (λ f. f.bytes) (map file_of mended.now) else files_taken files.now)
         (option_map (λ f. f.items) single.now) (named_files numbered.now)) }
 {
     if is_alone {
         is_eoi_added_to_mended(alloc, files, mended, single, numbered)
     } else {
         is_eoi_added(alloc, files, single, numbered)
+    }
+}
+
+/// Adds the source to each reading, if there is one.
+fn mark(picture: &mut Partial, source: Option<u32>) -> Result<(), AllocError>
+    ensures { OnOk result (picture.new ≡ marked source picture.old) }
+{
+    match source {
+        Some(number) => picture.mark(number),
+        None => Ok(()),
     }
 }
 
@@ -194,6 +215,23 @@ fn join(held: &mut Partial, given: &Partial) -> Result<(), AllocError>
     }
 }
 
+/// What is handed out: the held lines under the source, if the picture is promised. Else it is these and what the files taken give.
+fn handed(
+    held: Partial,
+    given: &Partial,
+    promise: Promise,
+    source: Option<u32>,
+) -> Result<Partial, AllocError>
+    ensures { IfOk result (λ picture. picture ≡ spec.handed_by promise source held given.now) }
+{
+    let mut picture = held;
+    match promise {
+        Promise::Held => mark(&mut picture, source)?,
+        Promise::Picture(_) | Promise::Lines => join(&mut picture, given)?,
+    }
+    Ok(picture)
+}
+
 /// How many copies there are.
 fn count_copies(files: &Files<'_, '_>) -> usize
     ensures { result ≡ length files.now.copies.now }
@@ -201,81 +239,82 @@ fn count_copies(files: &Files<'_, '_>) -> usize
     files.copies.len()
 }
 
-/// Whether each line is held and settled, and the mended files were found to read as the picture.
+/// Whether each line is held, and the mended files were found to read so.
 fn are_read_as(
     alloc: Global,
     files: &[MendedCopy],
-    picture: &Partial,
+    held: &Partial,
     is_held: bool,
-    is_settled: bool,
 ) -> Result<bool, AllocError>
-    ensures { IfOk result (λ are. IsTrue are → EachReadsAs picture.now (map file_of files.now)) }
+    ensures { IfOk result (λ are. IsTrue are → EachReadsAs held.now (map file_of files.now)) }
 {
-    if !is_held || !is_settled {
+    if !is_held {
         return Ok(false);
     }
-    each_reads_as(alloc, files, picture)
-}
-
-/// Whether what copies gave each other is handed out: each file taken has a fault, or it may speak against one, and nothing is promised.
-fn is_handed_out(is_alone: bool, may_doubt: bool, promise: Promise) -> bool
-    ensures { result ≡ true → is_alone ≡ false → promise ≡ Lines }
-{
-    is_alone || may_doubt && promise == Promise::Lines
+    each_reads_as(alloc, files, held)
 }
 
 /// What is handed out of what copies in several codings gave each other. If a file taken may be without a fault, `None` comes unless
-/// that speaks against it. Then a line is not settled by both, or was left open before others, and nothing is promised.
+/// that speaks against it: a promised picture is another one, or a line has several readings, or was left open before one that is settled.
 fn texts_of_judged(
     alloc: Global,
     task: &Task<'_, '_>,
     files: &Files<'_, '_>,
     all: &FoundInTurn<'_>,
-    held: &HeldFiles,
+    taken: &HeldFiles,
     between: Between,
     is_alone: bool,
 ) -> Result<Option<Made>, AllocError>
     requires splices { splices_found files.now ≡ splices_in (found_of all.now.splices) }
     requires each { AllByRecursion (IsWhole files.now.parts.now) (lists_of files.now.splices.now) }
     requires small { length (made 0 all.now.splices.parts) < 2 ^ 64 }
-    requires verdicts { AreVerdicts (files_taken files.now) held.now.faultless.items }
+    requires verdicts { AreVerdicts (files_taken files.now) taken.now.faultless.items }
     requires mended { AreMendedOf (bytes_of files.now.copies.now) (codings_of between.judged.codings.items)
         (map file_of between.judged.files.items) }
     ensures { IfOk result (λ made. IfSome made (AreTextsOfJudged (task_of task.now) (bytes_of files.now.copies.now)
-        (files_taken files.now) all.now held.now.station between is_alone)) }
+        (files_taken files.now) all.now taken.now.station between is_alone)) }
 {
     let Between {
         judged,
         strangers,
-        has_gap,
+        is_doubtful,
     } = between;
     let Judged {
         codings,
         files: mended,
-        held: mut picture,
+        held,
     } = judged;
-    let is_held = picture.is_settled();
-    join(&mut picture, held.station.partial())?;
-    let is_settled = picture.is_settled();
-    let are_read = are_read_as(alloc, &mended, &picture, is_held, is_settled)?;
-    let promise = carried_promise(&codings, &strangers, is_held, are_read, is_settled);
-    if !is_handed_out(is_alone, has_gap || !is_settled, promise) {
+    let given = taken.station.partial();
+    let is_held = held.is_settled();
+    let are_read = are_read_as(alloc, &mended, &held, is_held)?;
+    let promise = carried_promise(&codings, &strangers, is_held, are_read);
+    if !is_alone && promise == Promise::Held && are_one_picture(&held, given) {
         return Ok(None);
     }
-    let mended_file = carried_file(alloc, task.options.file, promise, &mended)?;
-    let file = completed_in(alloc, mended_file)?;
-    let verdicts = held.faultless.as_slice();
+    let picture = handed(held, given, promise, task.options.source)?;
+    let is_settled = picture.is_settled();
+    if !is_alone && promise == Promise::Lines && is_settled && !is_doubtful {
+        return Ok(None);
+    }
+    let file = single_file(alloc, task.options.file, promise, &mended, is_alone)?;
+    let beside = put_beside(alloc, &mended, files.copies, &taken.faultless, promise)?;
+    let handed_of = Files {
+        copies: &beside.copies,
+        parts: files.parts,
+        splices: files.splices,
+        reader: files.reader,
+    };
     let numbered = numbered_files(
         alloc,
         task.options.files,
-        files,
-        verdicts,
+        &handed_of,
+        &beside.verdicts,
         &mended,
         is_alone,
     )?;
     let found = &all.splices;
     let splices = count_new(alloc, files.copies, files.parts, files.splices)?;
-    let is_added = is_eoi_added_to_handed(alloc, files, &mended, is_alone, &file, &numbered)?;
+    let is_added = is_eoi_added_to_handed(alloc, &handed_of, &mended, is_alone, &file, &numbered)?;
     let report = SearchReport {
         splices,
         is_used_up: found.is_used_up,

@@ -5,7 +5,8 @@
 //! - `splicing`: a run that is asked for: copies are read, files made, and all is handed out
 //! - `copies`, `made`, `settling`: the copies that are read; what is made of them; their station
 //! - `carried`, `coding_lines`: what is made of what copies in several codings give each other; its lines
-//! - `reading_as`: whether mended files read as the picture that is handed out
+//! - `beside`: mended files beside files of which one may have no fault
+//! - `reading_as`: whether mended files read as the lines that are held
 //! - `files`, `single`, `listing`: the files that were found, as bytes; the single one without a fault; all of these with their names
 //! - `completing`: files that are completed by EOI
 //! - `printed_lines`, `noting`: the lines that are printed; those on the fault output, where OUT is standard output
@@ -28,8 +29,10 @@
 //!   contract on files, lines, statuses or promises rests on it.
 //! - That a search which is said to be cut off was, and that groups find splices that they pass by (`IsPassedBy` of jls_search).
 //! - That a cut file is as long as it could be.
+//! - When lines that copies in several codings give each other are handed out beside a file without a fault.
 #![tactic(auto)]
 
+mod beside;
 mod carried;
 mod coding_lines;
 mod completing;

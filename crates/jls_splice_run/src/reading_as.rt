@@ -1,4 +1,4 @@
-//! Whether mended files read as the picture that is handed out.
+//! Whether mended files read as the lines that are held.
 
 ghost use Rattle.std.specs.Prelude.{◌≡◌, ℕ, List, ◌<◌, true, length, map, IfOk};
 ghost use Rattle.std.specs.List.{AllByRecursion};
@@ -67,6 +67,15 @@ fn have_same_size(read: &Shape, picture: &Shape) -> bool
         return false;
     }
     read.ids().len() == picture.ids().len()
+}
+
+/// Whether both are one picture: they have one size, and of each line one reading, the same one.
+pub(crate) fn are_one_picture(one: &Partial, other: &Partial) -> bool {
+    let sized = have_same_size(one.shape(), other.shape());
+    if !sized {
+        return false;
+    }
+    have_all_alike(one, other)
 }
 
 /// Whether a file of which this was read has no fault, and gives each line of the picture, and no other.

@@ -23,7 +23,7 @@ struct Row {
     reported: &'static str,
 }
 
-const ROWS: [Row; 15] = [
+const ROWS: [Row; 16] = [
     Row {
         file: "eight",
         copies: "100+8=0 / 400+8=0",
@@ -163,6 +163,16 @@ const ROWS: [Row; 15] = [
         numbered: &["tens", "fives"],
         count: 2,
         reported: "copy 1 agrees with no other",
+    },
+    Row {
+        file: "narrow",
+        copies: "373+1=233 / reset 300+8=0",
+        words: "--files NAME OUT 1 2",
+        prefix: "NAME",
+        status: 0,
+        numbered: &["narrow", "reset"],
+        count: 3,
+        reported: "files 3",
     },
     Row {
         file: "sixteen",

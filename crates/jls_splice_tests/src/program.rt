@@ -96,6 +96,11 @@ copy 1 agrees with no other | copy 2 agrees with no other | promise lines
 an undamaged copy of another coding: narrow: reset / 70+8=0: OUT 1 2: 0 narrow: splices 0
 an undamaged copy of another coding, last: narrow: 70+8=0 / reset: OUT 1 2: 0 narrow: splices 0
 the mended file of two codings: fives: 445+8=0 / tens 355+8=0: --file NAME OUT 1 2: 0 fives: coding 1, copies 1
+a flipped bit in a copy that decodes whole: narrow: 373+1=233 / reset 300+8=0: OUT 1 2: 0 narrow: coding 1, copies 1 | \
+coding 2, copies 2 | copy 1 differs 373 1 1 | copy 2 differs 300 8 8 | splices 0
+one in the copy of the other coding: narrow: reset 327+1=123 / 200+8=0: OUT 1 2: 0 narrow: copy 1 differs 327 1 1 | \
+copy 2 differs 200 8 8
+no single file beside it: reset: narrow 373+1=233 / 300+8=0: --file NAME OUT 1 2: 0 narrow: no single file
 no mended file beside another picture: fives: 445+8=0 / tens 355+8=0 / other 60+8=0: --file NAME OUT 1 2 3: 1 narrow: no single file
 a height that no scan follows: fives: 8+1=3 21+2=0 445+8=85 / 445+8=0 / tens 355+8=0: OUT 1 2 3: 1 other: promise lines
 three copies of two codings: narrow: 70+8=0 / reset 40+8=0 / narrow 200+8=0: OUT 1 2 3: 0 narrow: splices 1

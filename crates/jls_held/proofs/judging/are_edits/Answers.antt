@@ -2,7 +2,8 @@ use Rattle.std.proofs.Common.{subst, arith}
 use Rattle.jls_held.specs.Edits.{AreEdits}
 use Rattle.jls_held.specs.Mending.{edit_of}
 use Rattle.jls_held.proofs.MendedCopies.{within, left_more}
-use Rattle.jls_held.proofs.judging.are_edits.Goals.{then-edit-at-via-then-edit-at, then-edit-at-via-else-edit-at+then-length-edit, then-edit-at-via-else-edit-at+else-length-edit+then-length-edit-2}
+use Rattle.jls_held.proofs.judging.are_edits.Goals.{then-edit-at-via-then-edit-at, then-edit-at-via-else-edit-at+then-length-edit}
+use Rattle.jls_held.proofs.judging.are_edits.Goals.{then-edit-at-via-else-edit-at+else-length-edit+then-length-edit-2}
 use Rattle.jls_held.proofs.judging.are_edits.Goals as goal
 
 pub returns-then-edit-at : goal.returns-then-edit-at

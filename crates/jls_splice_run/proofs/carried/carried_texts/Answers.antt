@@ -45,6 +45,7 @@ returns c =
           are_held = subst (λ (o : Option Between). IfSome o (λ b. AreReadingsHeld (map file_of b.judged.files.items) b.judged.held))
               c.in-Some.is c.in_ok-between.ensures.held;
           all_held = texts.all_held;
+          each_reads = texts.each_read;
         };
       },
     )

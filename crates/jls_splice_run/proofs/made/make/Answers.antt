@@ -198,7 +198,7 @@ returns-in-Ok-Some-clause-made g c =
     let groups = subst (λ (n : ℕ). IfSome f.by_groups (IsGroupSearch c.search_options.result.tries n parts))
     (sym (count_of_slices c.deref.result.now)) e.of_groups in
     let lone_path = option_map (λ (path : Vec ℕ Global). path.items) lone in (
-      carried_made all lone held.station carried texts.is_settled v,
+      carried_made a.options.source all lone held.station carried texts.is_settled v,
       record {
         is_found_for = found_for a all c.search_options.result (bytes_of c.deref.result.now) copies c.search_options.ensures searched e.limit
             e.found groups;
@@ -219,8 +219,6 @@ returns-in-Ok-Some-clause-made g c =
               (subst (λ (cs : List (List ℕ)). IsCarried cs (cs ++ files_of parts (lists_of c.deref-3.result.now)) held.station.shape carried)
               reported made.is_carried),
           refl,
-          texts.each_read,
-          texts.doubted,
         );
         picture_is = refl;
         settled = texts.settled;
@@ -228,6 +226,6 @@ returns-in-Ok-Some-clause-made g c =
         are_named = subst (λ (xs : List (List ℕ)). AreNamedOf a xs (Some carried) (named_files v.files.items))
             (λ i. reported i ++ splices i) texts.named;
       },
-      subst (λ (xs : List (List ℕ)). AreTextsOf a xs (carried_made all lone held.station carried texts.is_settled v) v)
+      subst (λ (xs : List (List ℕ)). AreTextsOf a xs (carried_made a.options.source all lone held.station carried texts.is_settled v) v)
           reported (texts.texts lone),
     )

@@ -8,7 +8,8 @@ pub returns : goal.returns
 returns c =
     λ all file reads bytes.
     let picture = c.args.picture.now in
-    let of_read : c.shape.result.now ≡ c.args.read.now.partial.shape = c.shape.ensures.value ∙ ap (λ (p : PartialPicture). p.shape) c.partial.ensures in
+    let of_read : c.shape.result.now ≡ c.args.read.now.partial.shape =
+    c.shape.ensures.value ∙ ap (λ (p : PartialPicture). p.shape) c.partial.ensures in
     let sized = c.have_same_size-sized.ensures c.if-not-sized.false in
     record {
       are_bytes = bytes;
