@@ -3,14 +3,15 @@
    Each function reads whole buffers of the caller's, and answers a number of `enum jls_answer`. A buffer is a pointer and the number of
    its elements. At 0 elements the pointer may be NULL; otherwise no pointer may be NULL. What a pointer points at is aligned as its type
    wants it. A buffer that a function writes must not overlap another one, a structure, nor what it reads. The library keeps nothing
-   between two calls, so threads may call it at once, on buffers of their own. It takes memory by malloc and gives all back.
+   between two calls, so threads may call it at once, on buffers of their own. It takes memory by malloc and gives all back: what jls_mend
+   gives, by jls_mended_free.
 
    A library that was built by `make library CFLAGS='-O1 -DJLS_CHECKS'` looks at these rules. At a pointer that breaks one it writes a line
    to stderr, which names the function and the argument, and calls abort. Another library trusts its caller.
 
    A structure that begins with `size` can grow in a later version under the same soname. The caller sets `size` to the structure's size, as
-   JLS_INFO, JLS_HEADER and JLS_LAYOUT do. The library writes no more bytes than that, and none that it doesn't know. Of a jls_layout all
-   bytes that the library doesn't know have to be 0.
+   JLS_INFO, JLS_HEADER, JLS_LAYOUT and their like do. The library writes no more bytes than that, and none that it doesn't know. Of a
+   jls_layout and of jls_mend_options all bytes that the library doesn't know have to be 0.
 
    Each function that has an answer can answer JLS_PROCESSOR. One with a structure that begins with `size` can answer JLS_BAD_SIZE too. */
 #ifndef JLS_SALVAGE_H
@@ -45,7 +46,9 @@ enum jls_answer {
     JLS_PROCESSOR = 10,        /* x86-64: the processor is below x86-64-v2, which has SSE4.2 and POPCNT: nothing was written */
     JLS_UNSUPPORTED = 11,      /* the coding ends what can be read: `unsupported` says why. All is written as at JLS_DONE */
     JLS_BAD_SIZE = 12,         /* `size` of a structure is less than that of its first version: nothing was written */
-    JLS_BAD_LAYOUT = 13        /* there is no such jls_layout: nothing was written */
+    JLS_BAD_LAYOUT = 13,       /* there is no such jls_layout: nothing was written */
+    JLS_BAD_COPIES = 14,       /* there are fewer than two copies: nothing was written */
+    JLS_NOT_MENDED = 15        /* copies can't be mended: `cause` of jls_mend_info says why */
 };
 
 /* What a copy has that this library doesn't read. A damaged header can say it too. */
@@ -103,6 +106,19 @@ enum jls_fault {
    such code, or its number is beyond the last interval. */
 enum jls_kind { JLS_BROKEN = 0, JLS_LONG = 1, JLS_BEYOND = 2 };
 
+/* Why copies can't be mended. */
+enum jls_cause {
+    JLS_CAUSE_NONE = 0,
+    JLS_CAUSE_NOT_OPENED = 1,      /* of files alone */
+    JLS_CAUSE_INPUT = 2,           /* of files alone */
+    JLS_CAUSE_PARTIAL_PICTURE = 3, /* a copy begins as a partial picture does */
+    JLS_CAUSE_NO_PICTURE = 4,      /* no copy has a frame: `fault` and `offset` are those of the first */
+    JLS_CAUSE_NOT_READ = 5,        /* no copy has a frame, and the first was not read to its end */
+    JLS_CAUSE_SHAPE_DIFFERS = 6,   /* files without a fault differ in shape */
+    JLS_CAUSE_UNSETTLED = 7,       /* of files alone */
+    JLS_CAUSE_TOO_LARGE = 8        /* of files alone */
+};
+
 /* What a copy says of its picture, how many lines it gives, and how it ended. Of a partial picture the same is told, but no end. */
 typedef struct jls_info {
     uint32_t size;          /* what the caller sets: sizeof(jls_info) */
@@ -150,15 +166,53 @@ typedef struct jls_layout {
                             (lines - 1) * stride + line samples */
 } jls_layout;
 
+/* A copy: its bytes, and how many there are. */
+typedef struct jls_copy {
+    const uint8_t *bytes;
+    size_t size;
+} jls_copy;
+
+/* What jls_mend is asked for. JLS_MEND_OPTIONS asks for what jls-splice does by default. */
+typedef struct jls_mend_options {
+    uint32_t size;       /* what the caller sets: sizeof(jls_mend_options) */
+    uint32_t tries;      /* how many prefixes and files each search tries at most, or 0 for 4096 */
+    uint32_t source;     /* under which the readings are taken, if has_source isn't 0 */
+    uint16_t ceiling;    /* if has_ceiling isn't 0: only files whose samples are at most this are searched for */
+    uint8_t has_source;
+    uint8_t has_ceiling;
+    uint8_t files;       /* whether each file without a fault is asked for, beside the mended one */
+} jls_mend_options;
+
+/* What came of a mending. */
+typedef struct jls_mend_info {
+    uint32_t size;       /* what the caller sets: sizeof(jls_mend_info) */
+    uint32_t files;      /* how many files have numbers: none, if they weren't asked for */
+    uint64_t copy;       /* at JLS_NOT_MENDED: the copy at which it showed, from 0 on, if has_copy is 1 */
+    uint64_t offset;     /* and where its fault is, in bytes */
+    uint8_t has_copy;
+    uint8_t cause;       /* enum jls_cause: 0 at JLS_DONE */
+    uint8_t fault;       /* enum jls_fault */
+    uint8_t is_promised; /* at JLS_DONE: whether the picture is promised, as by status 0 of jls-splice */
+    uint8_t is_whole;    /* whether each copy was read to its end: so is each of less than 4294967295 bytes */
+    uint8_t has_file;    /* whether there is a mended file */
+} jls_mend_info;
+
+/* What came of a mending, with its bytes. */
+typedef struct jls_mended jls_mended;
+
 /* Structures whose size is set, as in `jls_info info = JLS_INFO;`. */
 #ifdef __cplusplus
 #define JLS_INFO {sizeof(jls_info), 0, 0, 0, 0, 0, 0, 0, 0, 0, 0, 0, 0, 0, 0, 0}
 #define JLS_HEADER {sizeof(jls_header), 0, 0, 0, 0, 0, 0, 0, 0, 0, 0, 0, 0}
 #define JLS_LAYOUT {sizeof(jls_layout), 0, 0, 0}
+#define JLS_MEND_OPTIONS {sizeof(jls_mend_options), 0, 0, 0, 0, 0, 0}
+#define JLS_MEND_INFO {sizeof(jls_mend_info), 0, 0, 0, 0, 0, 0, 0, 0, 0}
 #else
 #define JLS_INFO {.size = sizeof(jls_info)}
 #define JLS_HEADER {.size = sizeof(jls_header)}
 #define JLS_LAYOUT {.size = sizeof(jls_layout)}
+#define JLS_MEND_OPTIONS {.size = sizeof(jls_mend_options)}
+#define JLS_MEND_INFO {.size = sizeof(jls_mend_info)}
 #endif
 
 /* A piece of scan data that didn't read as the lines of its interval. */
@@ -248,6 +302,26 @@ uint32_t jls_write(const jls_frame *frame, const uint16_t *samples, size_t count
    Answers what jls_write answers, or JLS_BAD_LAYOUT. At JLS_BAD_FRAME the buffer may be too short for the frame. */
 uint32_t jls_write_as(const jls_frame *frame, const jls_layout *layout, const void *samples, size_t count, uint8_t *file, size_t room,
                       uint64_t *file_size);
+
+/* Mends copies of one file, of which there are two or more, as `jls-splice --file FILE OUT 1 2 ..` does, and with `--files` if these are
+   asked for. At JLS_DONE and JLS_NOT_MENDED *mended is what came of it, which jls_mended_free frees; at any other answer it stays as it was.
+   A search can take minutes: `tries` bounds it. It takes memory for all copies once more.
+   Answers JLS_DONE, JLS_NOT_MENDED, JLS_BAD_COPIES or JLS_OUT_OF_MEMORY. */
+uint32_t jls_mend(const jls_copy *copies, size_t count, const jls_mend_options *options, jls_mended **mended);
+
+/* Tells what came of a mending. Answers JLS_DONE. */
+uint32_t jls_mended_info(const jls_mended *mended, jls_mend_info *info);
+
+/* What was mended: its bytes, until jls_mended_free, and in *size how many there are. NULL and 0 where there is no such thing, and at
+   JLS_NOT_MENDED. The picture is a partial picture, which jls_lines shows. The file is the mended one. A numbered one is one of `files` that
+   have no fault, from 0 on. The lines are what jls-splice prints, as ASCII text without a 0 at its end. */
+const uint8_t *jls_mended_picture(const jls_mended *mended, size_t *size);
+const uint8_t *jls_mended_file(const jls_mended *mended, size_t *size);
+const uint8_t *jls_mended_numbered(const jls_mended *mended, size_t number, size_t *size);
+const uint8_t *jls_mended_lines(const jls_mended *mended, size_t *size);
+
+/* Frees what jls_mend gave. At NULL it does nothing. */
+void jls_mended_free(jls_mended *mended);
 
 #ifdef __cplusplus
 }

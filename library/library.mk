@@ -12,10 +12,10 @@ library: $(LIBRARIES)
 	@rm -f $(BUILD)/libjls_salvage.so
 
 ifeq ($(PACKED),)
-# The proved functions get other names, and those of library/calls.c are called in their place
-FUNCTIONS = jls_check jls_join jls_lines jls_partial jls_read jls_write
+# The proved functions get other names, and those of library/calls.c and mend.c are called in their place
+FUNCTIONS = jls_check jls_join jls_lines jls_mend jls_partial jls_read jls_write
 OBJCOPY ?= $(or $(shell $(CC) -print-prog-name=objcopy 2> /dev/null),objcopy)
-PARTS = memory calls layouts texts
+PARTS = memory calls layouts mend texts
 $(BUILD)/libjls_salvage.o: $(PARTS:%=library/%.c) library/processor.h library/misuse.h include/jls_salvage.h dist/SHA256SUMS $(BUILD)/.how | ready
 	@command -v $(OBJCOPY) > /dev/null || { echo 'make: there is no $(OBJCOPY), which Debian has in binutils' >&2; exit 1; }
 	gzip -dc dist/$(PROCESSOR)/libjls_salvage.o.gz > $(BUILD)/.libjls_salvage.o

@@ -17,6 +17,8 @@ static const char *const ANSWERS[] = {
     [JLS_UNSUPPORTED] = "not supported",
     [JLS_BAD_SIZE] = "the size of a structure is not set",
     [JLS_BAD_LAYOUT] = "no such layout",
+    [JLS_BAD_COPIES] = "fewer than two copies",
+    [JLS_NOT_MENDED] = "the copies can't be mended",
 };
 
 static const char *const FAULTS[] = {

@@ -37,6 +37,8 @@ class Answer(enum.IntEnum):
     UNSUPPORTED = 11
     BAD_SIZE = 12
     BAD_LAYOUT = 13
+    BAD_COPIES = 14
+    NOT_MENDED = 15
 
 
 class _Told(enum.IntEnum):

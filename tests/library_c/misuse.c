@@ -11,11 +11,16 @@
 #include <unistd.h>
 
 static const uint8_t copy[] = {0xFF, 0xD8, 0xFF, 0xF7, 0, 11, 8, 0, 1, 0, 1, 1, 1, 0x11, 0, 0xFF, 0xDA, 0, 8, 1, 1, 0, 0, 0, 0, 0x80, 0xFF, 0xD9};
-static union { uint8_t bytes[256]; uint16_t samples[128]; jls_piece pieces[4]; jls_line lines[4]; jls_info info; jls_header header; uint64_t size; } one, two;
+static union { uint8_t bytes[256]; uint16_t samples[128]; jls_piece pieces[4]; jls_line lines[4]; jls_info info; jls_header header; uint64_t size; jls_copy copies[2]; jls_mended *mended; jls_mend_info told; } one, two;
 static const jls_frame frame = {.width = 1, .height = 1, .precision = 8, .components = 1};
 static const jls_layout bytes = {.size = sizeof bytes, .bytes = 1}, pairs = {.size = sizeof pairs, .bytes = 2};
+static const jls_mend_options options = JLS_MEND_OPTIONS;
+static const jls_copy both[2] = {{copy, sizeof copy}, {copy, sizeof copy}}, lost[2] = {{copy, sizeof copy}, {NULL, 1}};
+static const jls_copy none[2] = {{copy, sizeof copy}, {NULL, 0}};
+static jls_mended *mended;
 static jls_info info;
 static uint64_t size;
+static size_t count;
 
 #define COPY copy, sizeof copy
 #define WRONG(expression, told)                   \
@@ -59,6 +64,16 @@ static const char *told_of(int line, int run) {
     NULLS(jls_write_as(&frame, &bytes, NULL, 1, two.bytes, 9, &size), "jls_write_as", "samples");
     NULLS(jls_write_as(&frame, &bytes, one.bytes, 1, NULL, 9, &size), "jls_write_as", "file");
     NULLS(jls_write_as(&frame, &bytes, one.bytes, 1, two.bytes, 9, NULL), "jls_write_as", "file_size");
+    NULLS(jls_mend(NULL, 2, &options, &mended), "jls_mend", "copies");
+    NULLS(jls_mend(both, 2, NULL, &mended), "jls_mend", "options");
+    NULLS(jls_mend(both, 2, &options, NULL), "jls_mend", "mended");
+    NULLS(jls_mend(lost, 2, &options, &mended), "jls_mend", "copies[at].bytes");
+    NULLS(jls_mended_info(NULL, &two.told), "jls_mended_info", "mended");
+    NULLS(jls_mended_picture(NULL, &count), "jls_mended_picture", "mended");
+    NULLS(jls_mended_file(NULL, &count), "jls_mended_file", "mended");
+    NULLS(jls_mended_numbered(NULL, 0, &count), "jls_mended_numbered", "mended");
+    NULLS(jls_mended_lines(NULL, &count), "jls_mended_lines", "mended");
+    WRONG(jls_mend(one.copies, 2, &options, &one.mended), "libjls_salvage: jls_mend: mended overlaps copies\n");
     WRONG(jls_check(one.bytes, 256, &info, one.pieces, 1), "libjls_salvage: jls_check: pieces overlaps copy\n");
     WRONG(jls_check(one.bytes, 256, &one.info, NULL, 0), "libjls_salvage: jls_check: info overlaps copy\n");
     WRONG(jls_read(COPY, &info, one.samples, 2, one.bytes + 3, 1), "libjls_salvage: jls_read: statuses overlaps samples\n");
@@ -81,6 +96,9 @@ static const char *told_of(int line, int run) {
     WRONG(jls_read_as(COPY, &info, &pairs, one.bytes + 1, 2, one.bytes + 5, 1), "");
     WRONG(jls_check(NULL, 0, &info, NULL, 0), "");
     WRONG(jls_write(&frame, NULL, 0, NULL, 0, &size), "");
+    WRONG(jls_mend(none, 2, &options, &mended), "");
+    WRONG(jls_mend(NULL, 0, &options, &mended), "");
+    WRONG(jls_mended_free(NULL), "");
     default: return NULL;
     }
 }

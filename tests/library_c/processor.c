@@ -9,8 +9,10 @@
 int main(void) {
     static const uint8_t copy[64] = {0xff, 0xd8, 0xff, 0xf7};
     static const jls_layout layout = {.size = sizeof layout, .bytes = 2};
+    static const jls_mend_options options = JLS_MEND_OPTIONS;
+    static const jls_copy copies[2] = {{copy, sizeof copy}, {copy, sizeof copy}};
     static const jls_frame frame = {.width = 2, .height = 2, .precision = 8, .components = 1};
-    static struct { jls_info info; jls_header header; jls_piece pieces[4]; jls_line lines[4]; uint16_t samples[8]; uint8_t bytes[64]; uint64_t size; } out, before;
+    static struct { jls_info info; jls_header header; jls_piece pieces[4]; jls_line lines[4]; uint16_t samples[8]; uint8_t bytes[64]; uint64_t size; jls_mended *mended; jls_mend_info told; } out, before;
     memset(&out, 0x5a, sizeof out);
     before = out;
     const uint32_t answers[] = {
@@ -23,6 +25,8 @@ int main(void) {
         jls_read_header(copy, sizeof copy, &out.header),
         jls_read_as(copy, sizeof copy, &out.info, &layout, out.samples, COUNT(out.samples), out.bytes, COUNT(out.bytes)),
         jls_write_as(&frame, &layout, out.samples, 4, out.bytes, COUNT(out.bytes), &out.size),
+        jls_mend(copies, COUNT(copies), &options, &out.mended),
+        jls_mended_info((const jls_mended *)(const void *)&out, &out.told),
     };
     int status = 0;
     for (size_t at = 0; at < COUNT(answers); at++) {

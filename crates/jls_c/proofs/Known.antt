@@ -37,3 +37,16 @@ of_join (suc (suc (suc (suc (suc (suc (suc n))))))) most not = absurd (omega (ar
 pub of_write : (n : ℕ) → ((n ≡ 0 → ⊥) → n ≡ 3) → Contains (0 ∷ 3 ∷ 7 ∷ 8 ∷ 9 ∷ 1 ∷ []) n
 of_write zero short = (0, omega arith, refl)
 of_write (suc n) short = (1, omega arith, let is : suc n ≡ 3 = short (λ none. absurd (omega (arith, none))) in cc)
+
+-- those of what was mended, and of why nothing was
+pub of_mended : (n : ℕ) → n ≤ 3 → (n ≡ 2 → ⊥) → Contains (0 ∷ 3 ∷ 15 ∷ 1 ∷ []) n
+of_mended zero most not = (0, omega arith, refl)
+of_mended (suc zero) most not = (3, omega arith, refl)
+of_mended (suc (suc zero)) most not = absurd (not refl)
+of_mended (suc (suc (suc zero))) most not = (1, omega arith, refl)
+of_mended (suc (suc (suc (suc n)))) most not = absurd (omega (arith, most))
+
+pub of_refused : (n : ℕ) → Contains (15 ∷ 1 ∷ []) n → Contains (0 ∷ 3 ∷ 15 ∷ 1 ∷ []) n
+of_refused n (zero, below, is) = (2, omega arith, is)
+of_refused n (suc zero, below, is) = (3, omega arith, is)
+of_refused n (suc (suc k), below, is) = absurd (omega (arith, below))

@@ -1,4 +1,5 @@
 pub mod Rows
+mod CallLaws
 pub mod Shown
 pub mod Sizes
 pub mod Reported
@@ -6,4 +7,7 @@ pub mod Fitting
 pub mod Texts
 pub mod Known
 pub mod Planned
+pub mod Mending
 mod AnswerExamples
+mod MendExamples
+mod CallExamples

@@ -1,6 +1,10 @@
 pub mod Answers
+pub mod Causes
+pub mod Copies
+pub mod CallLaws
 pub mod Info
 pub mod Lines
+pub mod Mended
 pub mod PartialAnswers
 pub mod TextFaults
 pub mod Written

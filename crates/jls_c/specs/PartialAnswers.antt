@@ -3,7 +3,7 @@ use Rattle.std.specs.Prelude.{◌≡◌, ℕ, true, false, ◌≤◌, ◌<◌, L
 use Rattle.jls_copy.specs.CopyReads.{CopyReads}
 use Rattle.jls_copy.specs.ReadCopy.{ReadCopy}
 use Rattle.jls_partial.specs.Partial.{PartialPicture, with_source, union, has_same_shape}
-use Rattle.jls_partial.specs.Text.{IsTextOf, text}
+use Rattle.jls_partial.specs.Text.{IsPartial, IsTextOf, text}
 use Rattle.jls_partial.specs.TextReading.{read_text}
 use Rattle.jls_partial.specs.declared.text_fault.TextFault.{TextFault}
 use Rattle.jls_c.specs.Answers.{BeginsWith}
@@ -15,8 +15,9 @@ use Rattle.jls_c.specs.declared.lines.JlsLine.{JlsLine}
 
 -- ---- the text of a partial picture, of which this is reported
 
--- the buffer begins with it, and goes on as it was; how many bytes it has is reported too
+-- the partial picture has a text. The buffer begins with it, and goes on as it was; how many bytes it has is reported too
 pub record IsTextPut (p : PartialPicture) (reported info : JlsInfo) (old new : List ℕ) : Type 0 where
+  pub is_partial : IsPartial p
   pub info_is : info ≡ with_bytes reported (length (text p))
   pub fits : length (text p) ≤ length old
   pub bytes_are : BeginsWith (text p) old new

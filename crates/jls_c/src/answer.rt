@@ -20,3 +20,7 @@ pub const BAD_FRAME: u32 = 7;
 pub const LARGE_SAMPLE: u32 = 8;
 /// A restart interval would have more than 2^28 samples.
 pub const LARGE_INTERVAL: u32 = 9;
+/// The sizes of copies don't add up, there are fewer than two, or a search may try nothing.
+pub const BAD_COPIES: u32 = 14;
+/// Something stops the mending of copies.
+pub const NOT_MENDED: u32 = 15;

@@ -1,36 +1,50 @@
 //! The library for C: what a damaged JPEG-LS file still gives, from the caller's bytes into the caller's buffers.
 //!
-//! - `check`, `read`, `make`, `join`, `lines`, `write`: the exported functions. Each answers a number of `answer`
+//! - `check`, `read`, `make`, `join`, `lines`, `write`, `mend`: the exported functions. Each answers a number of `answer`
 //! - `info`: the structures that they fill
 //! - `statuses`, `samples`: the statuses and the samples of all lines
 //! - `text`: partial pictures as bytes in a buffer
 //! - `frame`, `write`: samples as a JPEG-LS file
+//! - `copies`, `cause`, `outputs`, `mend`: copies that mend each other, what stops them, and what comes of them
+//! - `laws`: what several calls come to, and calls beside runs of `jls-salvage`
 //!
 //! In C a slice is a pointer and a length, and `alloc` is no argument. `include/jls_salvage.h`, `library/symbols.map`,
 //! `python/jls_salvage/_library.py` and `man/jls_salvage.3` repeat these signatures.
 //!
 //! Definitions: `Answers` and `PartialAnswers` have what the functions answer, in the words of `Info`, `Lines` and `TextFaults`. `Written`
-//! has what `jls_write` answers.
+//! has what `jls_write` answers. `Mended` has what `jls_mend` answers, in the words of `Copies` and `Causes`. `CallLaws` has the laws.
 #![tactic(auto)]
 
 mod answer;
+mod cause;
 mod check;
+mod copies;
 mod frame;
 mod info;
 mod join;
+mod laws;
 mod lines;
 mod make;
+mod mend;
+mod outputs;
 mod read;
 mod samples;
 mod statuses;
 mod text;
 mod write;
 
+pub use cause::JlsMendInfo;
 pub use check::jls_check;
+pub use copies::JlsMendOptions;
 pub use frame::JlsFrame;
 pub use info::{JlsInfo, JlsPiece};
 pub use join::jls_join;
+pub use laws::{
+    calls_and_runs_join_alike, calls_and_runs_read_alike, calls_join_in_any_order,
+    calls_read_what_calls_wrote, many_calls_join_alike,
+};
 pub use lines::{JlsLine, jls_lines};
 pub use make::jls_partial;
+pub use mend::jls_mend;
 pub use read::jls_read;
 pub use write::jls_write;

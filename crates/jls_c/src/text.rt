@@ -2,13 +2,23 @@
 
 ghost use Rattle.jls_c.specs.PartialAnswers.{IsTextPut, IsTextLonger, HasNoPartial};
 ghost use Rattle.jls_c.specs.TextFaults as reported;
+ghost use Rattle.jls_partial.specs.Text.{IsPartial, text};
 ghost use Rattle.jls_partial.specs.TextReading.{Fails, read_text};
-ghost use Rattle.std.specs.Prelude.{◌≡◌, ◌≢◌, ◌≤◌, length, List, ℕ};
+ghost use Rattle.std.specs.Prelude.{◌≡◌, ◌≢◌, ◌≤◌, length, IfOk, List, ℕ};
 
 use crate::answer::{DONE, OUT_OF_MEMORY, SHORT_ROOM};
 use crate::info::{JlsInfo, info_of_fault};
 use jls_partial::{Partial, TextFault};
-use std::alloc::Global;
+use std::alloc::{AllocError, Global};
+
+/// The text of a partial picture, which has one.
+fn text_of(alloc: Global, partial: &Partial) -> Result<Vec<u8>, AllocError>
+    ensures text { IfOk result (λ bytes. bytes.items ≡ text partial.now) }
+    ensures is_partial { IsPartial partial.now }
+{
+    let _precision = partial.shape().precision();
+    partial.to_bytes(alloc)
+}
 
 /// Puts the text of a partial picture into a buffer, and tells what is reported of it, with how many bytes the text has.
 pub(crate) fn put_text(
@@ -25,7 +35,7 @@ pub(crate) fn put_text(
     ensures out_of_memory { result ≡ OUT_OF_MEMORY → info.new ≡ info.old }
     ensures kept { result ≢ DONE → out.new ≡ out.old }
 {
-    let Ok(text) = partial.to_bytes(alloc) else {
+    let Ok(text) = text_of(alloc, partial) else {
         return OUT_OF_MEMORY;
     };
     let count = text.len();
@@ -39,7 +49,7 @@ pub(crate) fn put_text(
 }
 
 /// The number of a fault.
-fn fault_number(fault: TextFault) -> u8
+pub(crate) fn fault_number(fault: TextFault) -> u8
     ensures { result ≡ reported.text_fault_number fault }
 {
     match fault {
@@ -56,7 +66,7 @@ fn fault_number(fault: TextFault) -> u8
 }
 
 /// Where a fault is.
-fn fault_offset(fault: TextFault) -> u64
+pub(crate) fn fault_offset(fault: TextFault) -> u64
     ensures { result ≡ reported.text_fault_offset fault }
 {
     match fault {

@@ -1,0 +1,199 @@
+/* Copies that mend each other. jls_mend hands them to the proved function one behind the other, and keeps what that writes. No proof covers
+   this file. */
+#include "../include/jls_salvage.h"
+#include "misuse.h"
+#include "processor.h"
+#include <stdlib.h>
+#include <string.h>
+
+/* What the proved function is asked for: jls_mend_options from `tries` on. */
+typedef struct asked {
+    uint32_t tries, source;
+    uint16_t ceiling;
+    uint8_t has_source, has_ceiling, files;
+} asked;
+
+/* What it tells. */
+typedef struct told {
+    uint64_t bytes, outputs, lines, copy, offset;
+    uint8_t has_copy, cause, fault, has_file, is_promised, is_whole;
+} told;
+
+/* The sizes in the first version, which stay as they are when a structure grows: callers that are older have these. */
+enum { FIRST_OPTIONS = 20, FIRST_INFO = 32 };
+
+_Static_assert(sizeof(jls_mend_options) == FIRST_OPTIONS && sizeof(jls_mend_info) == FIRST_INFO, "the sizes of the first version");
+_Static_assert(sizeof(asked) == sizeof(jls_mend_options) - offsetof(jls_mend_options, tries), "jls_mend_options ends with what is asked");
+
+enum { TRIES = 4096, NUMBERED = 64, SPARE = 1 << 20 };
+
+uint32_t proved_jls_mend(const uint8_t *, size_t, const uint64_t *, size_t, const asked *, told *, uint8_t *, size_t, uint64_t *, size_t);
+
+/* The outputs stand in `bytes` one behind the other: the picture, the mended file if there is one, those with numbers, and the lines.
+   `sizes` has how many bytes each output has. */
+struct jls_mended {
+    told told;
+    uint8_t *bytes;
+    uint64_t *sizes;
+};
+
+/* Copies one behind the other, and how many bytes each has. */
+typedef struct joined {
+    uint8_t *bytes;
+    size_t size;
+    uint64_t *sizes;
+} joined;
+
+/* Whether all that a caller of a later version sets is known here: the rest has to be 0. */
+static bool is_known(const jls_mend_options *options) {
+    for (size_t at = sizeof *options; at < options->size; at++)
+        if (((const uint8_t *)options)[at] != 0) return false;
+    return true;
+}
+
+static void *room_for(size_t count, size_t size) { return count > SIZE_MAX / 2 / size ? NULL : calloc(count != 0 ? count : 1, size); }
+
+static bool join_copies(const jls_copy *copies, size_t count, joined *all) {
+    *all = (joined){NULL, 0, NULL};
+    for (size_t at = 0; at < count; at++) {
+        if (copies[at].size > SIZE_MAX / 2 - all->size) return false;
+        all->size += copies[at].size;
+    }
+    all->bytes = room_for(all->size, 1);
+    all->sizes = room_for(count, sizeof *all->sizes);
+    if (all->bytes == NULL || all->sizes == NULL) return false;
+    uint8_t *to = all->bytes;
+    for (size_t at = 0; at < count; to += copies[at++].size) {
+        all->sizes[at] = copies[at].size;
+        if (copies[at].size != 0) memcpy(to, copies[at].bytes, copies[at].size);
+    }
+    return true;
+}
+
+/* How many bytes the outputs of most mendings have at most. What isn't written of them takes no memory. */
+static size_t likely_room(const jls_copy *copies, size_t count, bool has_files) {
+    uint64_t samples = 0, lines = 0, longest = 0;
+    for (size_t at = 0; at < count; at++) {
+        jls_header header = JLS_HEADER;
+        uint32_t answer = jls_read_header(copies[at].bytes, copies[at].size, &header);
+        if (copies[at].size > longest) longest = copies[at].size;
+        if (answer != JLS_DONE && answer != JLS_UNSUPPORTED) continue;
+        if (header.samples > samples) samples = header.samples;
+        if (header.lines > lines) lines = header.lines;
+    }
+    uint64_t files = has_files ? NUMBERED + 1 : 1;
+    if (longest > SIZE_MAX / 4 / (files + 1)) return SPARE;
+    return (size_t)(SPARE + 6 * samples + 64 * lines + 2 * longest * files);
+}
+
+/* Takes so much room for the outputs. */
+static bool take_room(jls_mended *it, size_t room, size_t count) {
+    free(it->bytes);
+    free(it->sizes);
+    it->bytes = room_for(room, 1);
+    it->sizes = room_for(count, sizeof *it->sizes);
+    return it->bytes != NULL && it->sizes != NULL;
+}
+
+/* Mends copies. What is too short is taken once more, as long as it has to be. */
+static uint32_t mend(const joined *all, size_t count, const asked *asked, size_t room, jls_mended *it) {
+    size_t sizes = NUMBERED + 2;
+    if (!take_room(it, room, sizes) && !take_room(it, room = SPARE, sizes)) return JLS_OUT_OF_MEMORY;
+    uint32_t answer = JLS_SHORT_ROOM;
+    for (;;) {
+        answer = proved_jls_mend(all->bytes, all->size, all->sizes, count, asked, &it->told, it->bytes, room, it->sizes, sizes);
+        if (answer != JLS_SHORT_ROOM) return answer;
+        room = (size_t)it->told.bytes;
+        sizes = (size_t)it->told.outputs;
+        if (!take_room(it, room, sizes)) return JLS_OUT_OF_MEMORY;
+    }
+}
+
+/* Gives back the room that wasn't needed. */
+static void fit(jls_mended *it) {
+    if (it->told.bytes == 0) {
+        free(it->bytes);
+        it->bytes = NULL;
+        return;
+    }
+    uint8_t *bytes = realloc(it->bytes, (size_t)it->told.bytes);
+    if (bytes != NULL) it->bytes = bytes;
+}
+
+uint32_t jls_mend(const jls_copy *copies, size_t count, const jls_mend_options *options, jls_mended **mended) {
+    REFUSE_MISUSE(READ(copies, count), READ(options, 1), WRITTEN(mended, 1));
+    for (size_t at = 0; at < count; at++) REFUSE_MISUSE(READ(copies[at].bytes, copies[at].size), WRITTEN(mended, 1));
+    if (!runs_here()) return JLS_PROCESSOR;
+    if (options->size < FIRST_OPTIONS || !is_known(options)) return JLS_BAD_SIZE;
+    asked asked;
+    memcpy(&asked, &options->tries, sizeof asked);
+    if (asked.tries == 0) asked.tries = TRIES;
+    joined all;
+    jls_mended *it = calloc(1, sizeof *it);
+    uint32_t answer = JLS_OUT_OF_MEMORY;
+    if (join_copies(copies, count, &all) && it != NULL)
+        answer = mend(&all, count, &asked, likely_room(copies, count, asked.files != 0), it);
+    free(all.bytes);
+    free(all.sizes);
+    if (answer != JLS_DONE && answer != JLS_NOT_MENDED) return jls_mended_free(it), answer;
+    fit(it);
+    return *mended = it, answer;
+}
+
+uint32_t jls_mended_info(const jls_mended *mended, jls_mend_info *info) {
+    REFUSE_MISUSE(READ(mended, 1), WRITTEN(info, 1));
+    if (!runs_here()) return JLS_PROCESSOR;
+    if (info->size < FIRST_INFO) return JLS_BAD_SIZE;
+    const told *told = &mended->told;
+    jls_mend_info all;
+    memset(&all, 0, sizeof all); /* what lies behind its fields too */
+    all.size = info->size;
+    if (told->outputs > 1u + told->has_file) all.files = (uint32_t)(told->outputs - 1 - told->has_file);
+    all.copy = told->copy;
+    all.offset = told->offset;
+    all.has_copy = told->has_copy;
+    all.cause = told->cause;
+    all.fault = told->fault;
+    all.is_promised = told->is_promised;
+    all.is_whole = told->is_whole;
+    all.has_file = told->has_file;
+    memcpy(info, &all, info->size < sizeof all ? info->size : sizeof all);
+    return JLS_DONE;
+}
+
+/* The output of this number; NULL where there is none. */
+static const uint8_t *output(const jls_mended *mended, uint64_t number, size_t *size) {
+    const uint8_t *at = mended->bytes;
+    *size = 0;
+    if (number >= mended->told.outputs) return NULL;
+    for (uint64_t before = 0; before < number; before++) at += mended->sizes[before];
+    return *size = (size_t)mended->sizes[number], at;
+}
+
+const uint8_t *jls_mended_picture(const jls_mended *mended, size_t *size) {
+    REFUSE_MISUSE(READ(mended, 1), WRITTEN(size, 1));
+    return output(mended, 0, size);
+}
+
+const uint8_t *jls_mended_file(const jls_mended *mended, size_t *size) {
+    REFUSE_MISUSE(READ(mended, 1), WRITTEN(size, 1));
+    return output(mended, mended->told.has_file ? 1 : UINT64_MAX, size);
+}
+
+const uint8_t *jls_mended_numbered(const jls_mended *mended, size_t number, size_t *size) {
+    REFUSE_MISUSE(READ(mended, 1), WRITTEN(size, 1));
+    return output(mended, number < UINT64_MAX - 2 ? number + 1 + mended->told.has_file : UINT64_MAX, size);
+}
+
+const uint8_t *jls_mended_lines(const jls_mended *mended, size_t *size) {
+    REFUSE_MISUSE(READ(mended, 1), WRITTEN(size, 1));
+    *size = (size_t)mended->told.lines;
+    return *size != 0 ? mended->bytes + (mended->told.bytes - mended->told.lines) : NULL;
+}
+
+void jls_mended_free(jls_mended *mended) {
+    if (mended == NULL) return;
+    free(mended->bytes);
+    free(mended->sizes);
+    free(mended);
+}

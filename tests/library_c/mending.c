@@ -1,0 +1,139 @@
+/* mending TRIES SOURCE CEILING FILES FOLDER COPY..: calls jls_mend on these files, where `-` gives no source and no ceiling, and FILES is 0
+   or 1. What it gives goes into FOLDER under the names that jls-splice would use there: OUT, FILE, ALL-1 and so on; and the lines into LINES.
+   It prints what came of it. Without words it looks at refusals, and at what is never given. It prints each difference. */
+#include <jls_salvage.h>
+#include <stdio.h>
+#include <stdlib.h>
+#include <string.h>
+
+enum { MOST = 16, ROOM = 1 << 20 };
+static int differ;
+
+static void want(const char *what, int holds) {
+    if (!holds) differ++, printf("%s\n", what);
+}
+
+static jls_copy read_file(const char *name) {
+    FILE *file = fopen(name, "rb");
+    if (file == NULL) exit(99);
+    uint8_t *bytes = malloc(ROOM);
+    jls_copy copy = {bytes, fread(bytes, 1, ROOM, file)};
+    fclose(file);
+    return copy;
+}
+
+static void put(const char *folder, const char *name, const uint8_t *bytes, size_t size) {
+    char path[4096];
+    if (bytes == NULL) return;
+    snprintf(path, sizeof path, "%s/%s", folder, name);
+    FILE *file = fopen(path, "wb");
+    if (file == NULL || fwrite(bytes, 1, size, file) != size || fclose(file) != 0) exit(99);
+}
+
+static int mend_files(char **words, int count) {
+    jls_mend_options options = JLS_MEND_OPTIONS;
+    jls_mend_info info = JLS_MEND_INFO;
+    jls_copy copies[MOST];
+    jls_mended *mended = NULL;
+    size_t size = 0;
+    options.tries = (uint32_t)strtoul(words[0], NULL, 10);
+    options.has_source = words[1][0] != '-', options.source = (uint32_t)strtoul(words[1], NULL, 10);
+    options.has_ceiling = words[2][0] != '-', options.ceiling = (uint16_t)strtoul(words[2], NULL, 10);
+    options.files = words[3][0] != '0';
+    int number = count - 5;
+    if (number > MOST) return 99;
+    for (int at = 0; at < number; at++) copies[at] = read_file(words[5 + at]);
+    uint32_t answer = jls_mend(copies, (size_t)number, &options, &mended);
+    for (int at = 0; at < number; at++) free((void *)(uintptr_t)copies[at].bytes);
+    if (answer != JLS_DONE && answer != JLS_NOT_MENDED) return printf("answer %u\n", (unsigned)answer), 0;
+    if (jls_mended_info(mended, &info) != JLS_DONE) return 99;
+    printf("answer %u cause %u fault %u offset %llu copy %lld promised %u whole %u file %u files %u\n", (unsigned)answer, info.cause,
+           info.fault, (unsigned long long)info.offset, info.has_copy ? (long long)info.copy : -1, info.is_promised, info.is_whole,
+           info.has_file, (unsigned)info.files);
+    const uint8_t *bytes = jls_mended_picture(mended, &size);
+    put(words[4], "OUT", bytes, size);
+    bytes = jls_mended_file(mended, &size);
+    if ((bytes != NULL) != info.has_file) return 99;
+    put(words[4], "FILE", bytes, size);
+    for (uint32_t at = 0; at < info.files; at++) {
+        char name[32];
+        snprintf(name, sizeof name, "ALL-%u", (unsigned)at + 1);
+        bytes = jls_mended_numbered(mended, at, &size);
+        if (bytes == NULL) return 99;
+        put(words[4], name, bytes, size);
+    }
+    if (jls_mended_numbered(mended, info.files, &size) != NULL || size != 0) return 99;
+    bytes = jls_mended_lines(mended, &size);
+    put(words[4], "LINES", bytes, size);
+    jls_mended_free(mended);
+    return 0;
+}
+
+/* A file of one sample, and one of two lines, by hand: each sample is 0. */
+static const uint8_t one[] = {0xFF, 0xD8, 0xFF, 0xF7, 0, 11, 8, 0, 1, 0, 1, 1, 1, 0x11, 0, 0xFF, 0xDA, 0, 8, 1, 1, 0, 0, 0, 0, 0x80, 0xFF, 0xD9};
+static const uint8_t two[] = {0xFF, 0xD8, 0xFF, 0xF7, 0, 11, 8, 0, 2, 0, 1, 1, 1, 0x11, 0, 0xFF, 0xDA, 0, 8, 1, 1, 0, 0, 0, 0, 0xC0, 0xFF, 0xD9};
+static const uint8_t text[] = "JLSP 1\n";
+#define ONE {one, sizeof one}
+#define TWO {two, sizeof two}
+
+/* Copies that can't be mended: why, at which copy, and which fault. */
+static void stopped(const char *what, jls_copy first, jls_copy second, int cause, uint64_t copy, int fault, uint64_t offset) {
+    jls_mend_options options = JLS_MEND_OPTIONS;
+    jls_mend_info info = JLS_MEND_INFO;
+    jls_mended *mended = NULL;
+    size_t size = 7;
+    const jls_copy copies[2] = {first, second};
+    want(what, jls_mend(copies, 2, &options, &mended) == JLS_NOT_MENDED && mended != NULL);
+    if (mended == NULL) return;
+    want(what, jls_mended_info(mended, &info) == JLS_DONE);
+    if (info.cause != cause || info.has_copy != 1 || info.copy != copy || info.fault != fault || info.offset != offset)
+        want(what, 0), printf("  cause %u at copy %u, fault %u at %u\n", info.cause, (unsigned)info.copy, info.fault, (unsigned)info.offset);
+    want(what, info.files == 0 && info.has_file == 0 && info.is_promised == 0 && info.is_whole == 0);
+    want(what, jls_mended_picture(mended, &size) == NULL && size == 0);
+    want(what, jls_mended_file(mended, &size) == NULL && jls_mended_numbered(mended, 0, &size) == NULL);
+    want(what, jls_mended_lines(mended, &size) == NULL && size == 0);
+    jls_mended_free(mended);
+}
+
+/* Calls that are refused: they write nothing. */
+static void refused(const char *what, const jls_copy *copies, size_t count, const jls_mend_options *options, uint32_t wanted) {
+    jls_mended *mended = (jls_mended *)&differ;
+    want(what, jls_mend(copies, count, options, &mended) == wanted);
+    want(what, mended == (jls_mended *)&differ);
+}
+
+/* What a caller of a later version says: a structure that is larger. */
+static void sizes(void) {
+    struct { jls_mend_options options; uint8_t more[8]; } later = {{.size = sizeof later}, {0}};
+    struct { jls_mend_info info; uint8_t more[8]; } told;
+    const jls_copy copies[2] = {ONE, ONE};
+    jls_mended *mended = NULL;
+    memset(&told, 0xA5, sizeof told);
+    told.info.size = sizeof told;
+    want("a later caller isn't served", jls_mend(copies, 2, &later.options, &mended) == JLS_DONE && mended != NULL);
+    if (mended == NULL) return;
+    want("a later caller is told nothing", jls_mended_info(mended, &told.info) == JLS_DONE && told.info.is_promised == 1);
+    for (size_t at = 0; at < sizeof told.more; at++) want("more is written than is known", told.more[at] == 0xA5);
+    told.info.size = sizeof told.info - 1;
+    want("a short structure is filled", jls_mended_info(mended, &told.info) == JLS_BAD_SIZE);
+    jls_mended_free(mended);
+    later.more[3] = 1;
+    refused("what isn't known is left out", copies, 2, &later.options, JLS_BAD_SIZE);
+    later.options.size = sizeof later.options - 1;
+    refused("short options are read", copies, 2, &later.options, JLS_BAD_SIZE);
+}
+
+int main(int count, char **words) {
+    if (count > 6) return mend_files(words + 1, count - 1);
+    const jls_mend_options options = JLS_MEND_OPTIONS;
+    const jls_copy copies[2] = {ONE, ONE}, none = {NULL, 0}, is_text = {text, sizeof text - 1};
+    refused("no copy", NULL, 0, &options, JLS_BAD_COPIES);
+    refused("one copy", copies, 1, &options, JLS_BAD_COPIES);
+    stopped("two shapes", copies[0], (jls_copy)TWO, JLS_CAUSE_SHAPE_DIFFERS, 1, JLS_FAULT_NONE, 0);
+    stopped("no picture", (jls_copy){one, 2}, none, JLS_CAUSE_NO_PICTURE, 0, JLS_FAULT_ENDED, 2);
+    stopped("empty copies", none, none, JLS_CAUSE_NO_PICTURE, 0, JLS_FAULT_ENDED, 0);
+    stopped("a partial picture", copies[0], is_text, JLS_CAUSE_PARTIAL_PICTURE, 1, JLS_FAULT_NONE, 0);
+    sizes();
+    jls_mended_free(NULL);
+    return differ;
+}
