@@ -44,7 +44,8 @@ class Mended:
 
     promise, premise  what is promised, and the words on which it rests. Without a promise a wrong line that decodes isn't noticed
     picture, partial  the lines of all that was found, and the same as the bytes of a .jlsp file
-    file              the only file that decodes whole, or of several codings the first mended one, if the picture is promised; or None
+    file              the only file that decodes whole, or of several codings, where none does and the picture is promised, the first mended
+                      one; or None
     files             all that decode whole, at most 64, or of several codings first the mended file of each, which may not decode
     differs           the places where the copies differ; more_differs: how many there are beyond the first 4,096
     splices           how many files were found that are no copies
