@@ -4,9 +4,14 @@ _jls_splice() {
     COMPREPLY=()
     case "$before" in
         --source | --tries | --max) return ;;
+        --bad)
+            mapfile -t COMPREPLY < <(compgen -P "${word%%:*}:" -f -- "${word#*:}")
+            compopt -o filenames 2> /dev/null
+            return
+            ;;
     esac
     if [[ $word == -* && $before != --file && $before != --files ]]; then
-        mapfile -t COMPREPLY < <(compgen -W '--source --tries --max --progress --file --files --help --version' -- "$word")
+        mapfile -t COMPREPLY < <(compgen -W '--source --tries --max --progress --file --files --bad --help --version' -- "$word")
     else
         mapfile -t COMPREPLY < <(compgen -f -- "$word")
         compopt -o filenames 2> /dev/null

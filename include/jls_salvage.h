@@ -45,10 +45,12 @@ enum jls_answer {
     JLS_LARGE_INTERVAL = 9,    /* a restart interval would have more than 2^28 samples: nothing was written */
     JLS_PROCESSOR = 10,        /* x86-64: the processor is below x86-64-v2, which has SSE4.2 and POPCNT: nothing was written */
     JLS_UNSUPPORTED = 11,      /* the coding ends what can be read: `unsupported` says why. All is written as at JLS_DONE */
-    JLS_BAD_SIZE = 12,         /* `size` of a structure is less than that of its first version: nothing was written */
+    JLS_BAD_SIZE = 12,         /* `size` of a structure is less than that of its first version, or that of no jls_mend_options: nothing was
+                                  written */
     JLS_BAD_LAYOUT = 13,       /* there is no such jls_layout: nothing was written */
     JLS_BAD_COPIES = 14,       /* there are fewer than two copies: nothing was written */
-    JLS_NOT_MENDED = 15        /* copies can't be mended: `cause` of jls_mend_info says why */
+    JLS_NOT_MENDED = 15,       /* copies can't be mended: `cause` of jls_mend_info says why */
+    JLS_STOPPED = 16           /* the caller stopped the mending by `stop` of jls_mend_options: nothing was written */
 };
 
 /* What a copy has that this library doesn't read. A damaged header can say it too. */
@@ -116,7 +118,8 @@ enum jls_cause {
     JLS_CAUSE_NOT_READ = 5,        /* no copy has a frame, and the first was not read to its end */
     JLS_CAUSE_SHAPE_DIFFERS = 6,   /* files without a fault differ in shape */
     JLS_CAUSE_UNSETTLED = 7,       /* of files alone */
-    JLS_CAUSE_TOO_LARGE = 8        /* of files alone */
+    JLS_CAUSE_TOO_LARGE = 8,       /* of files alone */
+    JLS_CAUSE_NO_LIST = 9          /* of files alone */
 };
 
 /* What a copy says of its picture, how many lines it gives, and how it ended. Of a partial picture the same is told, but no end. */
@@ -181,6 +184,10 @@ typedef struct jls_mend_options {
     uint8_t has_source;
     uint8_t has_ceiling;
     uint8_t files;       /* whether each file without a fault is asked for, beside the mended one */
+    int (*stop)(void *context); /* if it isn't NULL, it is asked whether to stop: 0 is no. A call asks in its own thread, when it first
+                                   takes memory, and after each 2^20 bytes that it took, which is mostly every few milliseconds. After a
+                                   yes it asks no more. The function has to return, and may call the library */
+    void *context;              /* what it is given */
 } jls_mend_options;
 
 /* What came of a mending. */
@@ -205,7 +212,7 @@ typedef struct jls_mended jls_mended;
 #define JLS_INFO {sizeof(jls_info), 0, 0, 0, 0, 0, 0, 0, 0, 0, 0, 0, 0, 0, 0, 0}
 #define JLS_HEADER {sizeof(jls_header), 0, 0, 0, 0, 0, 0, 0, 0, 0, 0, 0, 0}
 #define JLS_LAYOUT {sizeof(jls_layout), 0, 0, 0}
-#define JLS_MEND_OPTIONS {sizeof(jls_mend_options), 0, 0, 0, 0, 0, 0}
+#define JLS_MEND_OPTIONS {sizeof(jls_mend_options), 0, 0, 0, 0, 0, 0, 0, 0}
 #define JLS_MEND_INFO {sizeof(jls_mend_info), 0, 0, 0, 0, 0, 0, 0, 0, 0}
 #else
 #define JLS_INFO {.size = sizeof(jls_info)}
@@ -305,8 +312,9 @@ uint32_t jls_write_as(const jls_frame *frame, const jls_layout *layout, const vo
 
 /* Mends copies of one file, of which there are two or more, as `jls-splice --file FILE OUT 1 2 ..` does, and with `--files` if these are
    asked for. At JLS_DONE and JLS_NOT_MENDED *mended is what came of it, which jls_mended_free frees; at any other answer it stays as it was.
-   A search can take minutes: `tries` bounds it. It takes memory for all copies once more.
-   Answers JLS_DONE, JLS_NOT_MENDED, JLS_BAD_COPIES or JLS_OUT_OF_MEMORY. */
+   A search can take minutes: `tries` bounds it, and `stop` ends it. It takes memory for all copies once more: there is none if their sizes
+   add up to more than SIZE_MAX / 2.
+   Answers JLS_DONE, JLS_NOT_MENDED, JLS_BAD_COPIES, JLS_STOPPED or JLS_OUT_OF_MEMORY. */
 uint32_t jls_mend(const jls_copy *copies, size_t count, const jls_mend_options *options, jls_mended **mended);
 
 /* Tells what came of a mending. Answers JLS_DONE. */

@@ -16,7 +16,7 @@ ifeq ($(PACKED),)
 FUNCTIONS = jls_check jls_join jls_lines jls_mend jls_partial jls_read jls_write
 OBJCOPY ?= $(or $(shell $(CC) -print-prog-name=objcopy 2> /dev/null),objcopy)
 PARTS = memory calls layouts mend texts
-$(BUILD)/libjls_salvage.o: $(PARTS:%=library/%.c) library/processor.h library/misuse.h include/jls_salvage.h dist/SHA256SUMS $(BUILD)/.how | ready
+$(BUILD)/libjls_salvage.o: $(PARTS:%=library/%.c) library/processor.h library/misuse.h library/stop.h include/jls_salvage.h dist/SHA256SUMS $(BUILD)/.how | ready
 	@command -v $(OBJCOPY) > /dev/null || { echo 'make: there is no $(OBJCOPY), which Debian has in binutils' >&2; exit 1; }
 	gzip -dc dist/$(PROCESSOR)/libjls_salvage.o.gz > $(BUILD)/.libjls_salvage.o
 	$(OBJCOPY) $(foreach name,$(FUNCTIONS),--redefine-sym $(name)=proved_$(name)) $(BUILD)/.libjls_salvage.o

@@ -3,10 +3,11 @@
 #include "../include/jls_salvage.h"
 #include "misuse.h"
 #include "processor.h"
+#include "stop.h"
 #include <stdlib.h>
 #include <string.h>
 
-/* What the proved function is asked for: jls_mend_options from `tries` on. */
+/* What the proved function is asked for: jls_mend_options from `tries` to `files`. */
 typedef struct asked {
     uint32_t tries, source;
     uint16_t ceiling;
@@ -19,13 +20,15 @@ typedef struct told {
     uint8_t has_copy, cause, fault, has_file, is_promised, is_whole;
 } told;
 
-/* The sizes in the first version, which stay as they are when a structure grows: callers that are older have these. */
+/* The sizes in the first version, which stay as they are when a structure grows: callers that are older have these. In that version
+   jls_mend_options ended with `files`, and was aligned as a number of 32 bits is. */
 enum { FIRST_OPTIONS = 20, FIRST_INFO = 32 };
 
-_Static_assert(sizeof(jls_mend_options) == FIRST_OPTIONS && sizeof(jls_mend_info) == FIRST_INFO, "the sizes of the first version");
-_Static_assert(sizeof(asked) == sizeof(jls_mend_options) - offsetof(jls_mend_options, tries), "jls_mend_options ends with what is asked");
+_Static_assert(sizeof(jls_mend_options) == 40 && sizeof(jls_mend_info) == FIRST_INFO, "the sizes of this version");
+_Static_assert(offsetof(jls_mend_options, tries) + sizeof(asked) == FIRST_OPTIONS, "what is asked ended the first version");
+_Static_assert(offsetof(jls_mend_options, stop) >= FIRST_OPTIONS, "what came later stands behind it");
 
-enum { TRIES = 4096, NUMBERED = 64, SPARE = 1 << 20 };
+enum { TRIES = 4096, NUMBERED = 64, SPARE = 1 << 20, SAMPLES_A_BYTE = 64 };
 
 uint32_t proved_jls_mend(const uint8_t *, size_t, const uint64_t *, size_t, const asked *, told *, uint8_t *, size_t, uint64_t *, size_t);
 
@@ -44,24 +47,31 @@ typedef struct joined {
     uint64_t *sizes;
 } joined;
 
-/* Whether all that a caller of a later version sets is known here: the rest has to be 0. */
-static bool is_known(const jls_mend_options *options) {
-    for (size_t at = sizeof *options; at < options->size; at++)
-        if (((const uint8_t *)options)[at] != 0) return false;
+/* Takes options of any version: what an older one doesn't have is 0. Answers whether there are such, and all that a caller of a later
+   version sets is known here: the rest has to be 0. */
+static bool take_options(const void *from, jls_mend_options *options) {
+    const uint8_t *bytes = from;
+    memset(options, 0, sizeof *options);
+    memcpy(&options->size, bytes, sizeof options->size);
+    size_t size = options->size;
+    if (size != FIRST_OPTIONS && size < sizeof *options) return false;
+    for (size_t at = sizeof *options; at < size; at++)
+        if (bytes[at] != 0) return false;
+    memcpy(options, bytes, size < sizeof *options ? size : sizeof *options);
     return true;
 }
 
 static void *room_for(size_t count, size_t size) { return count > SIZE_MAX / 2 / size ? NULL : calloc(count != 0 ? count : 1, size); }
 
 static bool join_copies(const jls_copy *copies, size_t count, joined *all) {
-    *all = (joined){NULL, 0, NULL};
+    *all = (joined){NULL, 0, room_for(count, sizeof *all->sizes)};
+    if (all->sizes == NULL) return false;
     for (size_t at = 0; at < count; at++) {
         if (copies[at].size > SIZE_MAX / 2 - all->size) return false;
         all->size += copies[at].size;
     }
     all->bytes = room_for(all->size, 1);
-    all->sizes = room_for(count, sizeof *all->sizes);
-    if (all->bytes == NULL || all->sizes == NULL) return false;
+    if (all->bytes == NULL) return false;
     uint8_t *to = all->bytes;
     for (size_t at = 0; at < count; to += copies[at++].size) {
         all->sizes[at] = copies[at].size;
@@ -70,7 +80,8 @@ static bool join_copies(const jls_copy *copies, size_t count, joined *all) {
     return true;
 }
 
-/* How many bytes the outputs of most mendings have at most. What isn't written of them takes no memory. */
+/* How many bytes the outputs of most mendings have at most. What isn't written of them takes no memory. A damaged header can claim a large
+   picture: few files have more than SAMPLES_A_BYTE. */
 static size_t likely_room(const jls_copy *copies, size_t count, bool has_files) {
     uint64_t samples = 0, lines = 0, longest = 0;
     for (size_t at = 0; at < count; at++) {
@@ -82,6 +93,7 @@ static size_t likely_room(const jls_copy *copies, size_t count, bool has_files) 
         if (header.lines > lines) lines = header.lines;
     }
     uint64_t files = has_files ? NUMBERED + 1 : 1;
+    if (samples / SAMPLES_A_BYTE > longest) samples = SAMPLES_A_BYTE * longest;
     if (longest > SIZE_MAX / 4 / (files + 1)) return SPARE;
     return (size_t)(SPARE + 6 * samples + 64 * lines + 2 * longest * files);
 }
@@ -120,21 +132,32 @@ static void fit(jls_mended *it) {
     if (bytes != NULL) it->bytes = bytes;
 }
 
-uint32_t jls_mend(const jls_copy *copies, size_t count, const jls_mend_options *options, jls_mended **mended) {
-    REFUSE_MISUSE(READ(copies, count), READ(options, 1), WRITTEN(mended, 1));
-    for (size_t at = 0; at < count; at++) REFUSE_MISUSE(READ(copies[at].bytes, copies[at].size), WRITTEN(mended, 1));
-    if (!runs_here()) return JLS_PROCESSOR;
-    if (options->size < FIRST_OPTIONS || !is_known(options)) return JLS_BAD_SIZE;
-    asked asked;
-    memcpy(&asked, &options->tries, sizeof asked);
-    if (asked.tries == 0) asked.tries = TRIES;
+/* Mends copies that are not joined yet. */
+static uint32_t join_and_mend(const jls_copy *copies, size_t count, const asked *asked, jls_mended *it) {
     joined all;
-    jls_mended *it = calloc(1, sizeof *it);
     uint32_t answer = JLS_OUT_OF_MEMORY;
-    if (join_copies(copies, count, &all) && it != NULL)
-        answer = mend(&all, count, &asked, likely_room(copies, count, asked.files != 0), it);
+    if (join_copies(copies, count, &all)) answer = mend(&all, count, asked, likely_room(copies, count, asked->files != 0), it);
     free(all.bytes);
     free(all.sizes);
+    return answer;
+}
+
+uint32_t jls_mend(const jls_copy *copies, size_t count, const jls_mend_options *options, jls_mended **mended) {
+    REFUSE_MISUSE(READ(copies, count), READ_OPTIONS(options), WRITTEN(mended, 1));
+    for (size_t at = 0; at < count; at++) REFUSE_MISUSE(READ(copies[at].bytes, copies[at].size), WRITTEN(mended, 1));
+    if (!runs_here()) return JLS_PROCESSOR;
+    jls_mend_options all;
+    if (!take_options(options, &all)) return JLS_BAD_SIZE;
+    asked asked;
+    memcpy(&asked, &all.tries, sizeof asked);
+    if (asked.tries == 0) asked.tries = TRIES;
+    jls_mended *it = calloc(1, sizeof *it);
+    if (it == NULL) return JLS_OUT_OF_MEMORY;
+    stopping call = {all.stop, all.context, 0, false};
+    jls_stopping = all.stop != NULL ? &call : NULL;
+    uint32_t answer = join_and_mend(copies, count, &asked, it);
+    jls_stopping = NULL;
+    if (call.is_stopped) answer = JLS_STOPPED;
     if (answer != JLS_DONE && answer != JLS_NOT_MENDED) return jls_mended_free(it), answer;
     fit(it);
     return *mended = it, answer;

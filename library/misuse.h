@@ -45,6 +45,8 @@ static inline void refuse_misuse(const char *function, const buffer *buffers, si
 
 #define READ(at, count) {#at, at, count, sizeof *(at), _Alignof(__typeof__(*(at))), false}
 #define WRITTEN(at, count) {#at, at, count, sizeof *(at), _Alignof(__typeof__(*(at))), true}
+/* Options of jls_mend, of which the first version had 20 bytes, and was aligned as its size is. */
+#define READ_OPTIONS(at) {#at, at, 5, sizeof(uint32_t), _Alignof(uint32_t), false}
 /* Samples at any address, of so many bytes each. */
 #define READ_BYTES(at, count, bytes) {#at, at, count, (bytes) == 2 ? 2 : 1, 1, false}
 #define WRITTEN_BYTES(at, count, bytes) {#at, at, count, (bytes) == 2 ? 2 : 1, 1, true}

@@ -19,6 +19,7 @@ static const char *const ANSWERS[] = {
     [JLS_BAD_LAYOUT] = "no such layout",
     [JLS_BAD_COPIES] = "fewer than two copies",
     [JLS_NOT_MENDED] = "the copies can't be mended",
+    [JLS_STOPPED] = "stopped by the caller",
 };
 
 static const char *const FAULTS[] = {

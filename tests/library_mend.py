@@ -10,6 +10,7 @@ import array
 import os
 import random
 import re
+import signal
 import subprocess
 import sys
 import tempfile
@@ -243,8 +244,8 @@ class StandIns:
         with open(os.path.join(place, "lines"), "wb") as out:
             out.write(jls_salvage.partial(jls_salvage.write([1] * 4, 8, 2, 2), 1))
 
-    def call(self, text: str, version: str = "9.0.0", timeout: float = 60) -> Mended:
-        """What `mend` makes of a script that does this. Before that LINES becomes a command that writes the lines of OUT."""
+    def put(self, text: str, version: str = "9.0.0") -> None:
+        """Puts a script that does this in the program's place. Before that LINES becomes a command that writes the lines of OUT."""
         self.number += 1
         path = os.path.join(self.place, f"program{self.number}")
         text = text.replace("LINES", f"cp '{self.place}/lines' out.jlsp")
@@ -252,6 +253,10 @@ class StandIns:
             file.write(f"#!/bin/sh\n[ \"$1\" != --version ] || exec echo jls-splice {version}\n{text}\n")
         os.chmod(path, 0o755)
         os.environ["JLS_SPLICE"] = path
+
+    def call(self, text: str, version: str = "9.0.0", timeout: float = 60) -> Mended:
+        """What `mend` makes of such a script."""
+        self.put(text, version)
         return jls_salvage.mend(self.copies, timeout=timeout)
 
 
@@ -295,11 +300,64 @@ def ends(programs: StandIns) -> None:
             differ("its variable is named", "JLS_SPLICE can name jls-splice" in str(found), True)
 
 
+INTERRUPTED = """import os, signal, subprocess, time, jls_salvage
+os.mkdir("folder")
+os.environ["TMPDIR"] = os.path.abspath("folder")
+signal.signal(signal.SIGINT, signal.default_int_handler)
+"""
+CALL = 'jls_salvage.mend([b"one", b"other"])\n'
+#: Ctrl-C comes when the program runs, and Popen doesn't know of it yet.
+EARLY = """own = subprocess.Popen._execute_child
+def begin(self, words, *rest, **named):
+    own(self, words, *rest, **named)
+    while "--version" not in words and not os.path.exists("number"):
+        time.sleep(0.01)
+    if "--version" not in words:
+        os.kill(os.getpid(), signal.SIGINT)
+subprocess.Popen._execute_child = begin
+"""
+
+
+def is_running(number: int) -> bool:
+    """Whether a process runs: one that has ended may not be taken away yet."""
+    try:
+        with open(f"/proc/{number}/stat") as file:
+            return file.read().rpartition(")")[2].split()[0] not in "ZX"
+    except FileNotFoundError:
+        return False
+
+
+def interrupted(what: str, programs: StandIns, text: str, times: int, before: str = "") -> None:
+    """Ctrl-C, of which only Python hears, ends a call and its program, and takes the folder away."""
+    words = [sys.executable, "-c", INTERRUPTED + before + CALL]
+    number, folder = (os.path.join(programs.place, name) for name in ("number", "folder"))
+    programs.put(f"echo $$ > '{number}-'; mv '{number}-' '{number}'; {text}")
+    with subprocess.Popen(words, cwd=programs.place, stderr=subprocess.PIPE, text=True) as calling:
+        begun = time.monotonic()
+        while not os.path.exists(number) and calling.poll() is None and time.monotonic() - begun < 60:
+            time.sleep(0.02)
+        begun = time.monotonic()
+        for _ in range(times):
+            calling.send_signal(signal.SIGINT)
+            time.sleep(1)
+        told = calling.communicate(timeout=60)[1]
+    differ(f"{what}: an end at once", time.monotonic() - begun < 9, True)
+    differ(f"{what}: an end by it", (calling.returncode, told.rstrip().rpartition("\n")[2]), (-signal.SIGINT, "KeyboardInterrupt"))
+    with open(number) as file:
+        differ(f"{what}: the program runs", is_running(int(file.read())), False)
+    differ(f"{what}: what is left", os.listdir(folder), [])
+    os.remove(number)
+    os.rmdir(folder)
+
+
 def stand_ins(folder: str) -> None:
     own = dict(os.environ)
     with tempfile.TemporaryDirectory() as place:
         programs = StandIns(place, [content(folder, f"plain-{which}.jls") or b"" for which in ("first", "second")])
         rare_lines(programs)
+        interrupted("Ctrl-C", programs, "exec sleep 60", 1)
+        interrupted("Ctrl-C at the beginning", programs, "exec sleep 60", 0, EARLY)
+        interrupted("Ctrl-C twice", programs, "trap '' TERM; while :; do sleep 0.1; done", 2)
         ends(programs)
     os.environ.clear()
     os.environ.update(own)

@@ -110,6 +110,8 @@ def examples(programs: Sequence[str], folder: str) -> None:
     same("without EOI", programs, [copy[:-2] for copy in pairs["plain-"]])
     same("more files than the first room has", programs, [pairs["plain-"][0][: 60 + at] for at in range(9)])
     flat = jls_salvage.write([0] * 3000000, 8, 3000, 1000)
+    same("a copy of no bytes", programs, [pairs["plain-"][0], b"", pairs["plain-"][1]])
+    same("a copy of no bytes beside one", programs, [b"", pairs["coded-"][0]])
     same("a picture that is larger than its copies", programs, [flat[: len(flat) // 2], flat[: len(flat) // 3]])
     for what, copies in {
         "no picture": [b"\xff\xd8", b"x"],

@@ -1,12 +1,16 @@
 """Calling a program of jls-salvage, where the library doesn't have what it does yet."""
 from __future__ import annotations
 
+import contextlib
 import errno
 import functools
 import os
 import re
 import shutil
+import signal
 import subprocess
+import threading
+from types import FrameType
 from typing import Iterator, NamedTuple, Optional, Sequence, Tuple
 
 from ._library import prefixes
@@ -50,28 +54,58 @@ def _version(path: str, changed: int) -> Tuple[int, ...]:
     return tuple(map(int, told.groups())) if told else ()
 
 
+class _Later:
+    """Puts Ctrl-C off until `end`, so that no program is left which has just begun. Only the main thread hears of it."""
+
+    def __init__(self) -> None:
+        self._came: Optional[Tuple[int, Optional[FrameType]]] = None
+        self._own = signal.getsignal(signal.SIGINT) if threading.current_thread() is threading.main_thread() else None
+        if callable(self._own):
+            signal.signal(signal.SIGINT, self._note)
+
+    def _note(self, number: int, frame: Optional[FrameType]) -> None:
+        self._came = number, frame
+
+    def end(self) -> None:
+        """Does what came meanwhile: it raises KeyboardInterrupt, if nobody changed that."""
+        own, self._own = self._own, None
+        if callable(own):
+            signal.signal(signal.SIGINT, own)
+            if self._came:
+                own(*self._came)
+
+
 def _stop(running: subprocess.Popen[bytes]) -> None:
-    """Asks a program to end, which stops its own programs too; then stops it."""
+    """Asks a program to end, which stops its own programs too, and waits a while for it."""
     running.terminate()
-    try:
+    with contextlib.suppress(subprocess.TimeoutExpired):
         running.communicate(timeout=_SECONDS)
-    except subprocess.TimeoutExpired:
-        running.kill()
 
 
-def _ended(words: Sequence[str], folder: Optional[str], inside: Optional[str], timeout: Optional[float]) -> Ended:
-    """Runs a program, which has its own temporary files in this folder too. It works `inside` one, or where this process does."""
-    name = os.path.basename(words[0])
+def _begun(words: Sequence[str], folder: Optional[str], inside: Optional[str]) -> subprocess.Popen[bytes]:
+    """Begins a program. Raises `MissingProgram`."""
     variables = {**os.environ, "TMPDIR": folder} if folder else None
     nothing, pipe = subprocess.DEVNULL, subprocess.PIPE
     try:
-        running = subprocess.Popen(words, cwd=inside, env=variables, stdin=nothing, stdout=pipe, stderr=pipe)
+        return subprocess.Popen(words, cwd=inside, env=variables, stdin=nothing, stdout=pipe, stderr=pipe)
     except OSError as why:
         if why.errno not in (errno.ENOENT, errno.EACCES, errno.ENOEXEC):
             raise
         raise MissingProgram(f"{words[0]}: {why.strerror}") from None
+
+
+def _ended(words: Sequence[str], folder: Optional[str], inside: Optional[str], timeout: Optional[float]) -> Ended:
+    """Runs a program, which has its own temporary files in this folder too. It works `inside` one, or where this process does. However
+    this ends, the program has ended too."""
+    name, later = os.path.basename(words[0]), _Later()
+    try:
+        running = _begun(words, folder, inside)
+    except BaseException:
+        later.end()
+        raise
     with running:
         try:
+            later.end()
             printed, faults = (text.decode("utf-8", "replace") for text in running.communicate(timeout=timeout))
         except subprocess.TimeoutExpired:
             _stop(running)
@@ -79,6 +113,9 @@ def _ended(words: Sequence[str], folder: Optional[str], inside: Optional[str], t
         except BaseException:
             _stop(running)
             raise
+        finally:
+            running.kill()  # which does nothing to one that has ended
+            running.wait()
     if running.returncode < 0:
         raise Error(f"{name} was stopped by signal {-running.returncode}")
     return Ended(running.returncode, printed, faults)

@@ -39,6 +39,7 @@ class Answer(enum.IntEnum):
     BAD_LAYOUT = 13
     BAD_COPIES = 14
     NOT_MENDED = 15
+    STOPPED = 16
 
 
 class _Told(enum.IntEnum):

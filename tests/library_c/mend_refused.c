@@ -1,6 +1,7 @@
 /* mend_refused COPY COPY..: refuses memory that jls_mend asks for: one request, or all from one on, until the call asks for no more. It has
-   to answer JLS_OUT_OF_MEMORY, and to have written nothing; or it did without, and gives what it gives otherwise. No block may be left. Link
-   it with --wrap for malloc, calloc, realloc and free. It prints each difference. */
+   to answer JLS_OUT_OF_MEMORY, and to have written nothing; or it did without, and gives what it gives otherwise. No block may be left. And
+   where a damaged header claims a large picture, no large block may be asked for. Link it with --wrap for malloc, calloc, realloc and free.
+   It prints each difference. */
 #include <jls_salvage.h>
 #include <stdio.h>
 #include <stdlib.h>
@@ -12,8 +13,10 @@ void *__real_realloc(void *old, size_t size);
 void __real_free(void *block);
 static long left = -1, refusals, blocks;
 static int once, differ;
+static size_t largest; /* what was asked for at once */
 
-static int is_refused(void) {
+static int is_refused(size_t size) {
+    if (size > largest) largest = size;
     if (left < 0) return 0;
     if (left > 0) return left--, 0;
     if (once) left = -1;
@@ -22,11 +25,11 @@ static int is_refused(void) {
 
 static void *counted(void *block) { return blocks += block != NULL, block; }
 
-void *__wrap_malloc(size_t size) { return is_refused() ? NULL : counted(__real_malloc(size)); }
-void *__wrap_calloc(size_t count, size_t size) { return is_refused() ? NULL : counted(__real_calloc(count, size)); }
+void *__wrap_malloc(size_t size) { return is_refused(size) ? NULL : counted(__real_malloc(size)); }
+void *__wrap_calloc(size_t count, size_t size) { return is_refused(count * size) ? NULL : counted(__real_calloc(count, size)); }
 
 void *__wrap_realloc(void *old, size_t size) {
-    if (is_refused()) return NULL;
+    if (is_refused(size)) return NULL;
     return old == NULL ? counted(__real_realloc(old, size)) : __real_realloc(old, size);
 }
 
@@ -78,6 +81,19 @@ static int has_none(long request, const jls_mended *whole) {
     return refusals == 0;
 }
 
+/* The first copy claims 65535 x 65535 samples: height and width stand behind the frame's marker, length and precision. */
+static void claims(void) {
+    jls_mended *mended = NULL;
+    uint8_t *frame = memchr(rooms[0] + 3, 0xF7, copies[0].size - 3);
+    if (frame == NULL || copies[0].size - (size_t)(frame - rooms[0]) < 8) exit(97);
+    memset(frame + 4, 0xFF, 4);
+    largest = 0;
+    uint32_t answer = jls_mend(copies, number, &options, &mended);
+    want("another answer to a claim", answer == JLS_DONE || answer == JLS_NOT_MENDED);
+    want("a large block for a claim", largest < 1 << 24);
+    jls_mended_free(mended);
+}
+
 int main(int count, char **names) {
     long calls = 0;
     jls_mended *whole = NULL;
@@ -92,6 +108,7 @@ int main(int count, char **names) {
     for (once = 0; once < 2; once++) /* with many requests some are left out */
         for (long request = 0; calls++, !has_none(request, whole); request += 1 + request / 16) {}
     jls_mended_free(whole);
+    claims();
     want("few requests were refused", calls > 20);
     return printf("%ld calls, %d differ\n", calls, differ), differ != 0;
 }

@@ -11,18 +11,22 @@
 #include <unistd.h>
 
 static const uint8_t copy[] = {0xFF, 0xD8, 0xFF, 0xF7, 0, 11, 8, 0, 1, 0, 1, 1, 1, 0x11, 0, 0xFF, 0xDA, 0, 8, 1, 1, 0, 0, 0, 0, 0x80, 0xFF, 0xD9};
-static union { uint8_t bytes[256]; uint16_t samples[128]; jls_piece pieces[4]; jls_line lines[4]; jls_info info; jls_header header; uint64_t size; jls_copy copies[2]; jls_mended *mended; jls_mend_info told; } one, two;
+static union { uint8_t bytes[256]; uint16_t samples[128]; jls_piece pieces[4]; jls_line lines[4]; jls_info info; jls_header header; uint64_t size; jls_copy copies[2]; jls_mended *mended; jls_mend_info told; jls_mend_options options; size_t count; } one, two;
 static const jls_frame frame = {.width = 1, .height = 1, .precision = 8, .components = 1};
 static const jls_layout bytes = {.size = sizeof bytes, .bytes = 1}, pairs = {.size = sizeof pairs, .bytes = 2};
 static const jls_mend_options options = JLS_MEND_OPTIONS;
 static const jls_copy both[2] = {{copy, sizeof copy}, {copy, sizeof copy}}, lost[2] = {{copy, sizeof copy}, {NULL, 1}};
-static const jls_copy none[2] = {{copy, sizeof copy}, {NULL, 0}};
+static const jls_copy none[2] = {{copy, sizeof copy}, {NULL, 0}}, endless[2] = {{copy, sizeof copy}, {copy, SIZE_MAX}};
+static const jls_copy written[2] = {{copy, sizeof copy}, {one.bytes, 9}}, parts[2] = {{copy, sizeof copy}, {copy + 1, sizeof copy - 1}};
+static const struct { uint32_t before, size; uint8_t rest[16]; } first_version = {0, 20, {0}};
 static jls_mended *mended;
 static jls_info info;
 static uint64_t size;
 static size_t count;
 
 #define COPY copy, sizeof copy
+#define MENDED ((const jls_mended *)(const void *)&one)
+#define AT(type, at) ((type *)(void *)(one.bytes + (at)))
 #define WRONG(expression, told)                   \
     case __LINE__: return run ? (void)(expression) : (void)0, told
 #define NULLS(expression, function, argument) WRONG(expression, "libjls_salvage: " function ": " argument " is NULL\n")
@@ -73,7 +77,24 @@ static const char *told_of(int line, int run) {
     NULLS(jls_mended_file(NULL, &count), "jls_mended_file", "mended");
     NULLS(jls_mended_numbered(NULL, 0, &count), "jls_mended_numbered", "mended");
     NULLS(jls_mended_lines(NULL, &count), "jls_mended_lines", "mended");
+    NULLS(jls_mended_info(MENDED, NULL), "jls_mended_info", "info");
+    NULLS(jls_mended_picture(MENDED, NULL), "jls_mended_picture", "size");
+    NULLS(jls_mended_file(MENDED, NULL), "jls_mended_file", "size");
+    NULLS(jls_mended_numbered(MENDED, 0, NULL), "jls_mended_numbered", "size");
+    NULLS(jls_mended_lines(MENDED, NULL), "jls_mended_lines", "size");
     WRONG(jls_mend(one.copies, 2, &options, &one.mended), "libjls_salvage: jls_mend: mended overlaps copies\n");
+    WRONG(jls_mend(both, 2, &one.options, &one.mended), "libjls_salvage: jls_mend: mended overlaps options\n");
+    WRONG(jls_mend(written, 2, &options, &one.mended), "libjls_salvage: jls_mend: mended overlaps copies[at].bytes\n");
+    WRONG(jls_mended_info(MENDED, &one.told), "libjls_salvage: jls_mended_info: info overlaps mended\n");
+    WRONG(jls_mended_picture(MENDED, &one.count), "libjls_salvage: jls_mended_picture: size overlaps mended\n");
+    WRONG(jls_mended_file(MENDED, &one.count), "libjls_salvage: jls_mended_file: size overlaps mended\n");
+    WRONG(jls_mended_numbered(MENDED, 0, &one.count), "libjls_salvage: jls_mended_numbered: size overlaps mended\n");
+    WRONG(jls_mended_lines(MENDED, &one.count), "libjls_salvage: jls_mended_lines: size overlaps mended\n");
+    WRONG(jls_mend(AT(jls_copy, 4), 2, &options, &mended), "libjls_salvage: jls_mend: copies is not aligned\n");
+    WRONG(jls_mend(both, 2, AT(jls_mend_options, 2), &mended), "libjls_salvage: jls_mend: options is not aligned\n");
+    WRONG(jls_mend(both, 2, &options, AT(jls_mended *, 4)), "libjls_salvage: jls_mend: mended is not aligned\n");
+    WRONG(jls_mend(both, SIZE_MAX / 8, &options, &mended), "libjls_salvage: jls_mend: copies ends behind all memory\n");
+    WRONG(jls_mend(endless, 2, &options, &mended), "libjls_salvage: jls_mend: copies[at].bytes ends behind all memory\n");
     WRONG(jls_check(one.bytes, 256, &info, one.pieces, 1), "libjls_salvage: jls_check: pieces overlaps copy\n");
     WRONG(jls_check(one.bytes, 256, &one.info, NULL, 0), "libjls_salvage: jls_check: info overlaps copy\n");
     WRONG(jls_read(COPY, &info, one.samples, 2, one.bytes + 3, 1), "libjls_salvage: jls_read: statuses overlaps samples\n");
@@ -97,6 +118,9 @@ static const char *told_of(int line, int run) {
     WRONG(jls_check(NULL, 0, &info, NULL, 0), "");
     WRONG(jls_write(&frame, NULL, 0, NULL, 0, &size), "");
     WRONG(jls_mend(none, 2, &options, &mended), "");
+    WRONG(jls_mend(both, 2, &options, &mended), "");
+    WRONG(jls_mend(parts, 2, &options, &mended), "");
+    WRONG(jls_mend(both, 2, (const jls_mend_options *)(const void *)&first_version.size, &mended), "");
     WRONG(jls_mend(NULL, 0, &options, &mended), "");
     WRONG(jls_mended_free(NULL), "");
     default: return NULL;
@@ -132,5 +156,5 @@ int main(void) {
         cases++;
         if (!is_right(line, wanted)) differ++, printf("line %d doesn't tell: %s\n", line, wanted);
     }
-    return printf("%d cases, %d differ\n", cases, differ), differ != 0 || cases < 50;
+    return printf("%d cases, %d differ\n", cases, differ), differ != 0 || cases < 80;
 }

@@ -5,7 +5,7 @@ use Rattle.jls_partial.specs.declared.text_fault.TextFault.TheVariants as text
 use Rattle.jls_station.specs.declared.input.InputFault.TheVariants as input
 use Rattle.jls_station.specs.declared.input.ReadStop.TheVariants.{Failed}
 use Rattle.jls_cli.specs.declared.outcome.Cause.TheVariants.{NotOpened, Input, PartialPicture, NoPicture, NotRead, ShapeDiffers, Unsettled}
-use Rattle.jls_cli.specs.declared.outcome.Cause.TheVariants.{TooLarge, NotCreated, NotWritten, FileNotCreated, FileNotWritten, OutOfMemory}
+use Rattle.jls_cli.specs.declared.outcome.Cause.TheVariants.{TooLarge, NoList, NotCreated, NotWritten, FileNotCreated, FileNotWritten, OutOfMemory}
 use Rattle.jls_mend.specs.declared.asking.MendOptions.{MendOptions}
 use Rattle.jls_mend.specs.declared.mending.MendRefusal.{MendRefusal}
 use Rattle.jls_c.specs.Causes.{cause_fault, cause_number, cause_offset, mend_answer, stopped_info}
@@ -65,8 +65,8 @@ told = record {
 
 record CauseExamples : Type 0 where
   numbers : map cause_number (NotOpened ∷ Input input.OutOfMemory ∷ PartialPicture ∷ NoPicture NoSoi 3 ∷ NotRead ∷ ShapeDiffers
-      ∷ Unsettled 1 2 true ∷ TooLarge ∷ OutOfMemory ∷ [])
-      ≡ 1 ∷ 2 ∷ 3 ∷ 4 ∷ 5 ∷ 6 ∷ 7 ∷ 8 ∷ 0 ∷ []
+      ∷ Unsettled 1 2 true ∷ TooLarge ∷ NoList 3 ∷ OutOfMemory ∷ [])
+      ≡ 1 ∷ 2 ∷ 3 ∷ 4 ∷ 5 ∷ 6 ∷ 7 ∷ 8 ∷ 9 ∷ 0 ∷ []
   -- JLS_FAULT_NO_SOI at 3, and JLS_FAULT_TEXT_ORDER at 9
   no_picture : cause_fault (NoPicture NoSoi 3) ∷ cause_offset (NoPicture NoSoi 3) ∷ [] ≡ 18 ∷ 3 ∷ []
   order : stopped_info refusal ≡ told

@@ -5,7 +5,7 @@ use Rattle.jls_c.specs.TextFaults.{text_answer, text_fault_number, text_fault_of
 use Rattle.jls_station.specs.declared.input.InputFault.TheVariants as input
 use Rattle.jls_cli.specs.declared.outcome.Cause.{Cause}
 use Rattle.jls_cli.specs.declared.outcome.Cause.TheVariants.{NotOpened, Input, PartialPicture, NoPicture, NotRead, ShapeDiffers, Unsettled, TooLarge}
-use Rattle.jls_cli.specs.declared.outcome.Cause.TheVariants.{NotCreated, NotWritten, FileNotCreated, FileNotWritten, OutOfMemory}
+use Rattle.jls_cli.specs.declared.outcome.Cause.TheVariants.{NoList, NotCreated, NotWritten, FileNotCreated, FileNotWritten, OutOfMemory}
 use Rattle.jls_mend.specs.declared.mending.MendRefusal.{MendRefusal}
 use Rattle.jls_c.specs.declared.cause.JlsMendInfo.{JlsMendInfo}
 
@@ -19,6 +19,7 @@ cause_number NotRead = 5
 cause_number ShapeDiffers = 6
 cause_number (Unsettled id line disputed) = 7
 cause_number TooLarge = 8
+cause_number (NoList line) = 9
 cause_number NotCreated = 0
 cause_number (NotWritten count) = 0
 cause_number (FileNotCreated number) = 0

@@ -42,6 +42,7 @@ fn cause_number(cause: Cause) -> u8
         Cause::ShapeDiffers => 6,
         Cause::Unsettled { .. } => 7,
         Cause::TooLarge => 8,
+        Cause::NoList(_) => 9,
         Cause::NotCreated | Cause::NotWritten(_) => 0,
         Cause::FileNotCreated(_) | Cause::FileNotWritten(_, _) | Cause::OutOfMemory => 0,
     }

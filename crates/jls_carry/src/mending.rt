@@ -2,7 +2,7 @@
 //! known can end it, since its first lines count only at the end of a file.
 
 use crate::claims::{CopyState, bytes_of, code_of};
-use crate::code::FirstCode;
+use crate::code::{FirstCode, read_lines};
 use crate::interval::Interval;
 use crate::picture::Picture;
 use crate::pieces::Piece;
@@ -60,18 +60,47 @@ fn has_all_from(picture: &Picture, copy: &CopyState<'_>, piece: &Piece, line: us
     })
 }
 
-/// Whether a copy reads a piece to its end from this line on. Then its own bytes stand behind the known lines, and the piece reads.
-fn closes_from(
+/// The code of the first lines of a piece, and then what its copy has: from where the code has moved to in it, or else from an offset in
+/// its own bytes.
+fn with_own_bytes(
+    alloc: Global,
+    copy: &CopyState<'_>,
+    index: usize,
+    piece: &Piece,
+    code: &FirstCode,
+    offset: usize,
+) -> Result<Vec<u8>, AllocError> {
+    let from = match copy.progress.get(index) {
+        Some(progress) if !code.bytes.is_empty() => progress.shift.in_copy(code.bytes.len()),
+        _ => Some(offset),
+    };
+    let own = bytes_of(copy.bytes, piece);
+    let rest = from.and_then(|from| own.get(from..)).unwrap_or(&[]);
+    code.followed_by(alloc, rest)
+}
+
+/// Whether a piece reads to its end where its first lines have these readings, and its copy's own bytes stand behind them. A copy can have
+/// a reading of each line behind them, and the piece be faulty all the same: a line can come from another place of it.
+fn closes_behind(
+    alloc: Global,
     picture: &Picture,
     copy: &CopyState<'_>,
     index: usize,
     piece: &Piece,
-    line: usize,
-) -> bool {
+    readings: &[usize],
+) -> Result<bool, AllocError> {
+    let line = readings.len();
     let closes = copy
         .claim(piece.interval.place(line))
         .is_some_and(|claim| claim.closes && claim.piece == index);
-    closes || has_all_from(picture, copy, piece, line)
+    if closes || !has_all_from(picture, copy, piece, line) {
+        return Ok(closes);
+    }
+    let Some(code) = code_of(alloc, picture, &piece.interval, readings)? else {
+        return Ok(true);
+    };
+    let bytes = with_own_bytes(alloc, copy, index, piece, &code, 0)?;
+    Ok(read_lines(alloc, &piece.interval, &bytes)?.closes)
 }
 
 /// The piece at whose last known line the mended file is best cut: where more lines stand whole in it than in all pieces that read.
@@ -84,8 +113,11 @@ fn best_cut(
     let mut cut = None;
     let mut most = 0usize;
     for (index, piece) in copy.pieces.iter().enumerate() {
-        let known = settled_readings(alloc, picture, &piece.interval)?.len();
-        if known == piece.interval.line_count() || closes_from(picture, copy, index, piece, known) {
+        let readings = settled_readings(alloc, picture, &piece.interval)?;
+        let known = readings.len();
+        if known == piece.interval.line_count()
+            || closes_behind(alloc, picture, copy, index, piece, &readings)?
+        {
             whole = whole.saturating_add(piece.interval.line_count());
         } else if known > 0 && whole.saturating_add(known) > most {
             cut = Some(index);
@@ -125,13 +157,8 @@ impl Mending<'_, '_> {
             self.is_cut = true;
             return self.bytes.extend_from_slice(&code.bytes);
         }
-        let own = bytes_of(self.copy.bytes, piece);
-        let from = match self.copy.progress.get(index) {
-            Some(progress) if !code.bytes.is_empty() => progress.shift.in_copy(code.bytes.len()),
-            _ => Some(self.bytes.len().saturating_sub(self.region)),
-        };
-        let rest = from.and_then(|from| own.get(from..)).unwrap_or(&[]);
-        let all = code.followed_by(self.alloc, rest)?;
+        let offset = self.bytes.len().saturating_sub(self.region);
+        let all = with_own_bytes(self.alloc, self.copy, index, piece, code, offset)?;
         self.bytes.extend_from_slice(&all)
     }
 

@@ -67,10 +67,11 @@ Splice = Prints (codes "jls-splice")
 splices : Splice (codes "P") cause.PartialPicture (codes "P: is a partial picture\n")
     × Splice (codes "N") cause.NotRead (codes "N: read failed\n")
     × Splice (codes "N") (cause.NoPicture NoSoi 0) (codes "N: no picture, fault 18 at 0\n")
+    × Splice (codes "L") (cause.NoList 18) (codes "L: is no list of bad places, by line 18\n")
     × Splice (codes "A") (cause.FileNotCreated 3) (codes "A-3: cannot be created\n")
     × Splice (codes "A") (cause.FileNotWritten 18 60) (codes "A-18: write failed after 60 bytes\n")
 unfolding chars encode_utf8
-splices = (refl, refl, rw (d18, d0) refl, rw d3 refl, rw (d18, d60) refl)
+splices = (refl, refl, rw (d18, d0) refl, rw d18 refl, rw d3 refl, rw (d18, d60) refl)
 
 -- want of memory, in whatever was done
 memory : Salvage (codes "OUT") cause.OutOfMemory (codes "out of memory\n")

@@ -4,7 +4,7 @@ use Rattle.std.specs.Prelude.{codes}
 use Rattle.clap.specs.Words.{Text, Kinds, fault_of}
 use Rattle.clap.specs.declared.error.kind.ErrorKind.TheVariants as kind
 use Rattle.clap.proofs.OnLiterals.{clap_on_literals}
-use Rattle.jls_cli.specs.SpliceAsking.{Asked, AskFor, Options}
+use Rattle.jls_cli.specs.SpliceAsking.{Asked, AskFor, AskForNothing, Options}
 use Rattle.jls_cli.specs.SpliceWords.{splice_app}
 
 -- `jls-splice WORDS.. OUT A B`
@@ -13,7 +13,7 @@ with_words words = codes "jls-splice" ∷ (words ++ codes "OUT" ∷ codes "A" �
 
 -- these options, OUT, and the copies A and B
 abbrev two_copies : Options → Asked
-two_copies options = record { options = options; out = codes "OUT"; copies = codes "A" ∷ codes "B" ∷ [] }
+two_copies options = record { options = options; out = codes "OUT"; copies = codes "A" ∷ codes "B" ∷ []; bad = [] }
 
 -- 4096 tries, where there is no option
 abbrev default : Options
@@ -25,7 +25,7 @@ no_option-asked = record { taken = inl refl; asks = refl }
 
 -- `jls-splice - A B C`
 three_copies-asked : AskFor (codes "jls-splice" ∷ codes "-" ∷ codes "A" ∷ codes "B" ∷ codes "C" ∷ [])
-    (record { options = default; out = codes "-"; copies = codes "A" ∷ codes "B" ∷ codes "C" ∷ [] })
+    (record { options = default; out = codes "-"; copies = codes "A" ∷ codes "B" ∷ codes "C" ∷ []; bad = [] })
 unfolding clap_on_literals
 three_copies-asked = record { taken = inl refl; asks = refl }
 
@@ -58,6 +58,31 @@ all_options-asked : AskFor
 unfolding clap_on_literals
 all_options-asked = record { taken = inl refl; asks = refl }
 
+-- `jls-splice --bad 1:L --bad 1:M OUT A`: one copy, with two lists of its bad places
+one_copy_and_lists-asked : AskFor
+    (codes "jls-splice" ∷ codes "--bad" ∷ codes "1:L" ∷ codes "--bad" ∷ codes "1:M" ∷ codes "OUT" ∷ codes "A" ∷ [])
+    (record { options = default; out = codes "OUT"; copies = codes "A" ∷ []; bad = codes "1:L" ∷ codes "1:M" ∷ [] })
+unfolding clap_on_literals
+one_copy_and_lists-asked = record { taken = inl refl; asks = refl }
+
+-- `jls-splice --bad=2:L OUT A --bad 1:M B`: the values are in the order of the words, and may stand among the copies
+lists_among_copies-asked : AskFor
+    (codes "jls-splice" ∷ codes "--bad=2:L" ∷ codes "OUT" ∷ codes "A" ∷ codes "--bad" ∷ codes "1:M" ∷ codes "B" ∷ [])
+    (record (two_copies default) { bad = codes "2:L" ∷ codes "1:M" ∷ [] })
+unfolding clap_on_literals
+lists_among_copies-asked = record { taken = inl refl; asks = refl }
+
+-- `jls-splice --bad x OUT A`: clap takes any value, and what it names is judged later
+any_list-asked : AskFor (codes "jls-splice" ∷ codes "--bad" ∷ codes "x" ∷ codes "OUT" ∷ codes "A" ∷ [])
+    (record { options = default; out = codes "OUT"; copies = codes "A" ∷ []; bad = codes "x" ∷ [] })
+unfolding clap_on_literals
+any_list-asked = record { taken = inl refl; asks = refl }
+
+-- `jls-splice OUT A`: one copy alone, and no list of its bad places
+one_copy-nothing_asked : AskForNothing (codes "jls-splice" ∷ codes "OUT" ∷ codes "A" ∷ [])
+unfolding clap_on_literals
+one_copy-nothing_asked = record { taken = inl refl; asks = refl }
+
 -- clap finds these faults alone
 abbrev finds : List Text → Kinds → Type 0
 finds words kinds = fault_of splice_app words ≡ kinds
@@ -87,10 +112,15 @@ two_ceilings-refused : finds (with_words (codes "--max" ∷ codes "1" ∷ codes 
 unfolding clap_on_literals
 two_ceilings-refused = refl
 
--- `jls-splice OUT A`
-one_copy-refused : finds (codes "jls-splice" ∷ codes "OUT" ∷ codes "A" ∷ []) (kind.MissingRequiredArgument ∷ [])
+-- `jls-splice --bad 1:L OUT`
+no_copy-refused : finds (codes "jls-splice" ∷ codes "--bad" ∷ codes "1:L" ∷ codes "OUT" ∷ []) (kind.MissingRequiredArgument ∷ [])
 unfolding clap_on_literals
-one_copy-refused = refl
+no_copy-refused = refl
+
+-- `jls-splice OUT A --bad`: a value is wanted
+no_list-refused : finds (codes "jls-splice" ∷ codes "OUT" ∷ codes "A" ∷ codes "--bad" ∷ []) (kind.InvalidValue ∷ [])
+unfolding clap_on_literals
+no_list-refused = refl
 
 -- `jls-splice`
 no_word-refused : finds (codes "jls-splice" ∷ []) (kind.MissingRequiredArgument ∷ [])

@@ -26,7 +26,7 @@ module _ (text_fault : TextFault) (marker_fault : MarkerFault) (stop : ReadStop)
       ≡ 3 ∷ 3 ∷ 3 ∷ []
   unfit_inputs = refl
 
-  unfit_copies : map status_of_cause (cause.PartialPicture ∷ cause.NoPicture marker_fault offset ∷ []) ≡ 3 ∷ 3 ∷ []
+  unfit_copies : map status_of_cause (cause.PartialPicture ∷ cause.NoPicture marker_fault offset ∷ cause.NoList line ∷ []) ≡ 3 ∷ 3 ∷ 3 ∷ []
   unfit_copies = refl
 
   failed_inputs : map status_of_cause (cause.NotOpened ∷ cause.Input (fault.Read stop offset) ∷ cause.NotRead ∷ []) ≡ 4 ∷ 4 ∷ 4 ∷ []

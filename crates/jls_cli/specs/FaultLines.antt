@@ -61,6 +61,7 @@ cause_line program name (cause.Input f) = input_fault_line program name f
 cause_line program name cause.PartialPicture = line_about program name (codes ": is a partial picture")
 cause_line program name (cause.NoPicture f offset) = no_picture_line program name (fault_number f) offset
 cause_line program name cause.NotRead = line_about program name (codes ": read failed")
+cause_line program name (cause.NoList line) = line_with_number program name (codes ": is no list of bad places, by line ") line
 cause_line program name cause.ShapeDiffers = line_about program name (codes ": shape differs")
 cause_line program name (cause.Unsettled id line disputed) = unsettled_line program id line disputed
 cause_line program name cause.TooLarge = plain_line program (codes "interval too large, give --ri")

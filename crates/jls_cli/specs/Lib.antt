@@ -8,3 +8,4 @@ pub mod SpliceAsking
 pub mod SpliceWords
 pub mod Words
 pub mod Answers
+pub mod BadValues

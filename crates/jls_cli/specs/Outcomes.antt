@@ -35,6 +35,7 @@ status_of_cause (cause.Input f) = status_of_input f
 status_of_cause cause.PartialPicture = 3
 status_of_cause (cause.NoPicture f offset) = 3
 status_of_cause cause.NotRead = 4
+status_of_cause (cause.NoList line) = 3
 status_of_cause cause.ShapeDiffers = 3
 status_of_cause (cause.Unsettled id line disputed) = 1
 status_of_cause cause.TooLarge = 2

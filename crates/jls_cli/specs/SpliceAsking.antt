@@ -1,5 +1,5 @@
 -- What the words of a command line of `jls-splice` ask for.
-use Rattle.std.specs.Prelude.{◌≡◌, ℕ, Bool, false, List, ◌∷◌, Option, Some, None, map, codes, option_map}
+use Rattle.std.specs.Prelude.{◌≡◌, ℕ, Bool, false, List, [], ◌∷◌, Option, Some, None, map, codes, option_map, unwrap_or}
 use Rattle.std.specs.Str.{bytes_eq}
 use Rattle.clap.specs.Words.{Row, Text, all_of, first_of, matches_of}
 use Rattle.jls_cli.specs.SpliceWords.{splice_app}
@@ -18,11 +18,13 @@ pub record Options : Type 0 where
   pub file : Option Text
   pub files : Option Text
 
--- the output, and the copies in their order
+-- the output, the copies in their order, and the values of `--bad` in theirs: each is to name a copy by its number, and a file that lists
+-- places of it that are bad
 pub record Asked : Type 0 where
   pub options : Options
   pub out : Text
   pub copies : List Text
+  pub bad : List Text
 
 -- ---- by the values of the arguments
 
@@ -57,20 +59,28 @@ abbrev pub options_of : Option Text → Option Text → Option Text → Option T
 options_of source tries ceiling progress file files =
     options_with (is_set progress) file files (source_of source) (tries_of tries) (ceiling_of ceiling)
 
--- OUT, the first COPY, and the others, of which there is one at least
-abbrev pub asked_with : Option Options → Option Text → Option Text → Option (List Text) → Option Asked
-asked_with (Some options) (Some out) (Some first) (Some (second ∷ others)) =
-    Some (record { options = options; out = out; copies = first ∷ second ∷ others })
-asked_with _ _ _ _ = None
+-- what is asked for, if there is a second COPY, or a value of `--bad`
+abbrev pub asked_among : Options → Text → Text → List Text → List Text → Option Asked
+asked_among options out first [] [] = None
+asked_among options out first others bad = Some (record { options = options; out = out; copies = first ∷ others; bad = bad })
+
+-- OUT, the first COPY, the others, and the values of `--bad`
+abbrev pub asked_with : Option Options → Option Text → Option Text → List Text → List Text → Option Asked
+asked_with (Some options) (Some out) (Some first) others bad = asked_among options out first others bad
+asked_with _ _ _ others bad = None
 
 -- ---- by what clap reads
+
+-- the values of an argument in their order, none if it is not given
+abbrev pub values_of : Text → List Row → List Text
+values_of id rows = unwrap_or (all_of id rows) []
 
 -- the arguments have these values
 abbrev pub asked_by : List Row → Option Asked
 asked_by rows =
     asked_with (options_of (first_of (codes "source") rows) (first_of (codes "tries") rows) (first_of (codes "max") rows)
     (first_of (codes "progress") rows) (first_of (codes "file") rows) (first_of (codes "files") rows))
-    (first_of (codes "OUT") rows) (first_of (codes "COPY") rows) (all_of (codes "OTHERS") rows)
+    (first_of (codes "OUT") rows) (first_of (codes "COPY") rows) (values_of (codes "OTHERS") rows) (values_of (codes "bad") rows)
 
 -- what the words ask for, by the values that clap reads in them
 abbrev pub asked_in : List Text → Option Asked
@@ -102,5 +112,6 @@ abbrev pub asked_of : AskedValue → Asked
 asked_of a = record {
   options = options_in a.options;
   out = a.out.now;
-  copies = a.first.now ∷ a.second.now ∷ map (λ f. f.now) a.others.now;
+  copies = a.first.now ∷ map (λ f. f.now) a.others.now;
+  bad = map (λ f. f.now) a.bad.now;
 }

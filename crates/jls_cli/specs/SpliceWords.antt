@@ -25,9 +25,13 @@ file_rule = option_rule (codes "file")
 abbrev pub files_rule : Rule
 files_rule = option_rule (codes "files")
 
--- COPY.., after the first one: one word or more
+-- --bad N:LIST, which need not be there, and may be there again
+abbrev pub bad_rule : Rule
+bad_rule = record (option_rule (codes "bad")) { action = Some Append }
+
+-- COPY.., after the first one: any number of words
 abbrev pub others_rule : Rule
-others_rule = record (word_rule (codes "OTHERS")) { value_names = 1; action = Some Append }
+others_rule = record (new_rule (codes "OTHERS")) { value_names = 1; action = Some Append }
 
 -- the program without its words: it has a version
 abbrev pub bare_app : App
@@ -39,9 +43,9 @@ numbers_app = with_rule (with_rule (with_rule bare_app source_rule) tries_rule) 
 
 -- the program with its options
 abbrev pub options_app : App
-options_app = with_rule (with_rule (with_rule numbers_app progress_rule) file_rule) files_rule
+options_app = with_rule (with_rule (with_rule (with_rule numbers_app progress_rule) file_rule) files_rule) bad_rule
 
--- jls-splice [--source N] [--tries N] [--max N] [--progress] [--file NAME] [--files PREFIX] OUT COPY COPY..
+-- jls-splice [--source N] [--tries N] [--max N] [--progress] [--file NAME] [--files PREFIX] [--bad N:LIST].. OUT COPY [COPY..]
 abbrev pub splice_app : App
 splice_app = with_rule (with_rule (with_rule options_app (word_rule (codes "OUT"))) (word_rule (codes "COPY"))) others_rule
 

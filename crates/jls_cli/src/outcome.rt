@@ -41,8 +41,10 @@ pub enum Cause {
     PartialPicture,
     /// No file that was taken has a picture: the fault of the first copy, and its offset.
     NoPicture(MarkerFault, u64),
-    /// No file that was taken has a picture, and the first copy was not read to its end.
+    /// No file that was taken has a picture, and the first copy was not read to its end. Or a list of bad places was not.
     NotRead,
+    /// It is no list of bad places: this line of it, from 1 on, is the first that isn't understood.
+    NoList(u64),
     /// The input has another shape than the first, or two files without a fault differ in shape.
     ShapeDiffers,
     /// This line of the component with this identifier is the first of the input's picture that isn't settled: it is disputed, or
@@ -73,6 +75,7 @@ impl Cause {
             Cause::TooLarge => 2,
             Cause::Input(InputFault::Text(_) | InputFault::NoPicture(_, _)) => 3,
             Cause::PartialPicture | Cause::NoPicture(_, _) | Cause::ShapeDiffers => 3,
+            Cause::NoList(_) => 3,
             Cause::NotOpened | Cause::NotRead | Cause::NotCreated | Cause::NotWritten(_) => 4,
             Cause::FileNotCreated(_) | Cause::FileNotWritten(_, _) => 4,
             Cause::Input(InputFault::Read(_, _)) => 4,

@@ -180,6 +180,15 @@ fn print_cause<E: Sink>(faults: &mut E, program: &'static str, name: &str, cause
         Cause::PartialPicture => print_about(faults, program, name, ": is a partial picture"),
         Cause::NoPicture(fault, offset) => print_no_frame(faults, program, name, fault, offset),
         Cause::NotRead => print_about(faults, program, name, ": read failed"),
+        Cause::NoList(line) => {
+            print_with_number(
+                faults,
+                program,
+                name,
+                ": is no list of bad places, by line ",
+                line,
+            )
+        }
         Cause::ShapeDiffers => print_about(faults, program, name, ": shape differs"),
         Cause::Unsettled { id, line, disputed } => {
             print_unsettled(faults, program, id, line, disputed)

@@ -280,7 +280,7 @@ fn help_and_usage(rt: HostRuntime) {
         reported("jls-salvage --help", 0, Gives::Nothing),
         reported("jls-salvage join", 2, Gives::Nothing),
         reported("jls-splice --help", 0, Gives::Nothing),
-        reported("jls-splice OUT copy", 2, Gives::Nothing),
+        reported("jls-splice OUT", 2, Gives::Nothing),
     ];
     run_rows(&rt, rt.alloc(), "run with help and usage", &rows);
 }

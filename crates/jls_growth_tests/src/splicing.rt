@@ -74,7 +74,12 @@ fn run_over(rt: &impl Abort, alloc: Global, row: &Row) -> Result<Met, Stopped> {
         report: Some(String::from_str(alloc, row.report)?),
         faults: row.faults,
     };
-    let files: [(&str, &[u8]); 2] = [("1", &pair.first), ("2", &pair.second)];
+    let files: [(&str, &[u8]); 4] = [
+        ("1", &pair.first),
+        ("2", &pair.second),
+        ("place", b"25 1\n"),
+        ("map", b"0x00 ?\n0x00 0x35 +\n0x35 0x01 -\n"),
+    ];
     run_one(rt, alloc, row.line, &files, &wanted)
 }
 
@@ -102,6 +107,20 @@ fn splice_with_options(rt: HostRuntime) {
 }
 
 /// The file comes back under a number.
+#[test]
+fn splice_without_bad_places(rt: HostRuntime) {
+    let row = Row {
+        line: "jls-splice --bad 1:place --bad 2:map OUT 1 2",
+        report: "splices 0\n\
+            promise picture if the true file has what one copy has at each differ, and what all have elsewhere \
+            (copies are without their bad places)\n\
+            picture 4x4, 8 bits, components 1\n\
+            settled 4, missing 0, disputed 0\n",
+        ..FOUR_BACK
+    };
+    run_row(&rt, rt.alloc(), "run of jls-splice --bad", &row);
+}
+
 #[test]
 fn splice_with_numbered_files(rt: HostRuntime) {
     let row = Row {

@@ -1,5 +1,5 @@
 -- How an output is made, and what becomes of it and of the file that had its name.
-use Rattle.std.specs.Prelude.{◌==◌, ◌&&◌, ◌||◌, ℕ, Bool, true, false, if◌then◌else◌, not}
+use Rattle.std.specs.Prelude.{◌==◌, ◌&&◌, ◌||◌, ℕ, Bool, true, false, if◌then◌else◌, not, List, get_or}
 use Rattle.jls_host.specs.declared.choice.Guard.{Guard}
 use Rattle.jls_host.specs.declared.choice.Guard.TheVariants as guard
 use Rattle.jls_host.specs.declared.choice.Kind.{Kind}
@@ -60,3 +60,7 @@ is_magic first second third fourth = (first == 0x4A) && ((second == 0x4C) && ((t
 abbrev pub kind_of : ℕ → ℕ → ℕ → ℕ → Kind
 kind_of first second third fourth =
     if is_jpeg_prefix first second then kind.Jpeg else (if is_magic first second third fourth then kind.Partial else kind.Other)
+
+-- the kind of a regular file of these bytes: a byte that it doesn't have counts as zero
+abbrev pub kind_of_bytes : List ℕ → Kind
+kind_of_bytes bytes = kind_of (get_or bytes 0 0) (get_or bytes 1 0) (get_or bytes 2 0) (get_or bytes 3 0)

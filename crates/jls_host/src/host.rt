@@ -6,6 +6,7 @@ use crate::choice::{Ending, Guard, Kind, Standing, kind_of_file};
 use crate::machine::Machine;
 use crate::name::Name;
 use crate::output::{Output, Unmade, Why};
+use crate::recorded::{Past, Recorded};
 use jls_io::Open;
 use std::fs::{File, Metadata, OpenOptions};
 use std::io::{Read, Write};
@@ -13,7 +14,7 @@ use std::os::fd::AsRawFd;
 use std::os::unix::fs::{MetadataExt, OpenOptionsExt, PermissionsExt};
 use std::path::Path;
 use std::rt::{Stdin, Stdout};
-use std::{fs, io};
+use std::{fs, io, mem};
 
 /// What tells a file from every other one: its device, and its number there.
 #[derive(Clone, Copy, Debug, PartialEq, Eq)]
@@ -53,6 +54,7 @@ pub struct HostFiles<'a> {
     guard: Guard,
     input: Option<Input>,
     inputs: Vec<Identity>,
+    past: Past,
     output: Option<Opened>,
     not_created: Option<Unmade>,
     unkept: Option<Unmade>,
@@ -130,7 +132,11 @@ fn note(inputs: &mut Vec<Identity>, metadata: io::Result<Metadata>) {
 }
 
 /// Ends an output, if it is a file. `Err` has its name, where it could not be kept.
-fn end_of(calls: &mut Calls<'_>, output: Option<Opened>, ending: Ending) -> Result<(), Unmade> {
+fn end_of(
+    calls: &mut Recorded<Calls<'_>>,
+    output: Option<Opened>,
+    ending: Ending,
+) -> Result<(), Unmade> {
     match output {
         Some(Opened::File(output)) => output.end(calls, ending),
         _ => Ok(()),
@@ -242,6 +248,7 @@ impl<'a> HostFiles<'a> {
             guard,
             input: None,
             inputs: Vec::new(rt.alloc()),
+            past: Past::new(),
             output: None,
             not_created: None,
             unkept: None,
@@ -256,11 +263,14 @@ impl<'a> HostFiles<'a> {
     /// Ends the output that was created last. `Err` has its name, where it could not be kept.
     fn end_last(&mut self, ending: Ending) -> Result<(), Unmade> {
         let last = self.output.take();
-        let mut calls = Calls {
+        let calls = Calls {
             rt: self.rt,
             inputs: &self.inputs,
         };
-        end_of(&mut calls, last, ending)
+        let mut calls = Recorded::resumed(calls, mem::replace(&mut self.past, Past::new()));
+        let ended = end_of(&mut calls, last, ending);
+        self.past = calls.into_past();
+        ended
     }
 
     /// Ends the output that was created last, when the run has ended. `Err` has the name of an output that could not be kept: of the one
@@ -274,12 +284,15 @@ impl<'a> HostFiles<'a> {
     }
 
     /// Makes the output of this name.
-    fn make(&self, name: &str) -> Result<Output<File>, Why> {
-        let mut calls = Calls {
+    fn make(&mut self, name: &str) -> Result<Output<File>, Why> {
+        let calls = Calls {
             rt: self.rt,
             inputs: &self.inputs,
         };
-        Output::create(&mut calls, name, self.guard)
+        let mut calls = Recorded::resumed(calls, mem::replace(&mut self.past, Past::new()));
+        let made = Output::create(&mut calls, name, self.guard);
+        self.past = calls.into_past();
+        made
     }
 }
 
@@ -298,7 +311,16 @@ impl Write for HostFiles<'_> {
         match &mut self.output {
             None => Ok(0),
             Some(Opened::Standard(stdout)) => stdout.write(bytes),
-            Some(Opened::File(output)) => output.write(bytes),
+            Some(Opened::File(output)) => {
+                let calls = Calls {
+                    rt: self.rt,
+                    inputs: &self.inputs,
+                };
+                let mut calls = Recorded::resumed(calls, mem::replace(&mut self.past, Past::new()));
+                let written = output.write(&mut calls, bytes);
+                self.past = calls.into_past();
+                written
+            }
         }
     }
 

@@ -37,6 +37,7 @@ all_asked first second =
       };
       out = codes "OUT";
       copies = names;
+      bad = [];
     })) names_are (record { taken = inl refl; asks = refl })
 
 -- `jls-splice --file FILE --tries 4096 OUT 1 2`
@@ -59,4 +60,5 @@ file_asked first second =
       };
       out = codes "OUT";
       copies = names;
+      bad = [];
     })) names_are (record { taken = inl refl; asks = refl })

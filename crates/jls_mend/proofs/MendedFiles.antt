@@ -4,6 +4,7 @@ use Rattle.std.proofs.Common.{subst}
 use Rattle.std.proofs.Common.{arith, cond, get_or}
 use Rattle.std.specs.Prelude.{◌↔◌, IsTrue, Ok, Err, codes, unwrap_or}
 use Rattle.std.specs.List.{AllZip}
+use Rattle.std.proofs.lemmas.List.{append-nil}
 use Rattle.clap.specs.Words.{Text}
 use Rattle.jls_io.specs.Event.{Event, created}
 use Rattle.jls_station.specs.CopyFiles.{AreCopiesRead, CopyBytes}
@@ -16,12 +17,13 @@ use Rattle.jls_memory.specs.Outputs.{outputs_of}
 use Rattle.jls_cli.specs.Outcomes.{Outcome, exit_status, status_of_done}
 use Rattle.jls_cli.specs.SpliceAsking.{Asked}
 use Rattle.jls_cli.specs.declared.outcome.Done.{Done}
+use Rattle.jls_splice_run.specs.BadLists.{AreInputs, AreSearched}
 use Rattle.jls_splice_run.specs.Copies.{AreWhole, bytes_read}
 use Rattle.jls_splice_run.specs.Handing.{HandsAll}
 use Rattle.jls_splice_run.specs.Listing.{IsNumbered, numbered}
 use Rattle.jls_splice_run.specs.Making.{IsMade, Made, is_of_picture, lines, promise_on}
 use Rattle.jls_splice_run.specs.Runs.{Run, Splices, texts, came_of, performed}
-use Rattle.jls_splice_run.specs.Runs.{at_copies, not_made, not_handed, done}
+use Rattle.jls_splice_run.specs.Runs.{at_copies, at_lists, not_made, not_handed, done}
 use Rattle.jls_mend.specs.Asking.{asked_for, inputs_of}
 use Rattle.jls_mend.specs.Mending.{IsMendedOf, IsOfRun, IsReadOf, file_made, numbered_made}
 use Rattle.jls_mend.specs.Running.{IsRun}
@@ -34,6 +36,7 @@ use Rattle.jls_mend.proofs.Numbers.{bytes_in, each_found}
 
 -- ---- a run that is done
 
+-- of what was asked without lists of bad places
 pub record Finished (a : Asked) (d : Done) (desk report : List Event) : Type 0 where
   pub read : List CopyBytes
   pub made : Made
@@ -54,23 +57,39 @@ abbrev whole_in : Outcome → Bool
 whole_in (Ok d) = d.whole
 whole_in (Err r) = false
 
-is_finished : (a : Asked) (d : Done) (outcome : Outcome) (desk report faults : List Event) → outcome ≡ Ok d
+-- then the copies are searched, and no list is read
+record AreAlone (a : Asked) (read searched : List CopyBytes) (events : List Event) : Type 0 where
+  same : searched ≡ read
+  are_read : AreCopiesRead a.copies read events
+
+are_alone : (a : Asked) (read searched : List CopyBytes) (events : List Event) → a.bad ≡ [] → AreInputs a read searched events
+    → AreAlone a read searched events
+are_alone a read searched events none h =
+    let alone : AreSearched [] read searched h.listing =
+    subst (λ (bad : List Text). AreSearched bad read searched h.listing) none h.are_searched in
+    let reading : events ≡ h.reading = h.events_are ∙ (ap (λ (es : List Event). h.reading ++ es) alone.1 ∙ append-nil h.reading) in
+    record { same = alone.0; are_read = subst (λ (es : List Event). AreCopiesRead a.copies read es) (sym reading) h.copies_read }
+
+is_finished : (a : Asked) (d : Done) (outcome : Outcome) (desk report faults : List Event) → a.bad ≡ [] → outcome ≡ Ok d
     → Splices a outcome desk report faults → Finished a d desk report
-is_finished a d _ _ _ _ e (at_copies r desk stops) = absurd cc
-is_finished a d _ _ _ _ e (not_made r copies desk faults read cant tells) = absurd cc
-is_finished a d _ _ _ _ e (not_handed r copies m reading desk report faults noting read made tells noted stops) = absurd cc
-is_finished a d _ _ _ _ e (done copies m whole reading desk report faults noting read made tells noted handed is_read) = record {
-  read = copies;
-  made = m;
-  reading = reading;
-  writing = desk;
-  desk_is = refl;
-  are_read = read;
-  is_made = made;
-  handed = handed;
-  promised = ap settled_in (sym e);
-  whole_is = subst (λ (w : Bool). IsTrue w ↔ AreWhole copies) (ap whole_in e) is_read;
-}
+is_finished a d _ _ _ _ none e (at_copies r desk stops) = absurd cc
+is_finished a d _ _ _ _ none e (at_lists r read reading listing are stops) = absurd cc
+is_finished a d _ _ _ _ none e (not_made r read copies desk faults inputs cant tells) = absurd cc
+is_finished a d _ _ _ _ none e (not_handed r read copies m reading desk report faults noting inputs made tells noted stops) = absurd cc
+is_finished a d _ _ _ _ none e (done read copies m whole reading desk report faults noting inputs made tells noted handed is_read) =
+    let alone = are_alone a read copies reading none inputs in
+    record {
+      read = read;
+      made = m;
+      reading = reading;
+      writing = desk;
+      desk_is = refl;
+      are_read = alone.are_read;
+      is_made = subst (λ (cs : List CopyBytes). IsMade a (bytes_read cs) m) alone.same made;
+      handed = subst (λ (cs : List CopyBytes). HandsAll (texts a cs m) desk report) alone.same handed;
+      promised = ap settled_in (sym e);
+      whole_is = subst (λ (w : Bool). IsTrue w ↔ AreWhole read) (ap whole_in e) is_read;
+    }
 
 -- ---- names that are apart
 
@@ -110,7 +129,7 @@ module _ (hold : OutputsHoldWhatIsHandedOut) (o : MendOptions) (copies : List (L
     asked = asked_for o copies
 
     f : Finished asked d run.desk run.report
-    f = is_finished asked d ran.outcome run.desk run.report run.faults is run.splices
+    f = is_finished asked d ran.outcome run.desk run.report run.faults refl is run.splices
 
     printed_lines : v.lines.items ≡ lines asked (bytes_read f.read) f.made
     printed_lines =
@@ -150,7 +169,7 @@ module _ (hold : OutputsHoldWhatIsHandedOut) (o : MendOptions) (copies : List (L
           (ap exit_status is ∙ (ap (λ (s : Bool). status_of_done s d.whole) (sym settled)
           ∙ ap (λ (w : Bool). status_of_done v.is_promised w) (sym whole)))
           (performed asked (exit_status ran.outcome) run.desk run.report (run.faults ++ run.line) asks (λ e. absurd (file_apart e))
-          (λ n. not_numbered o.files n.0 n.1 n.2)
+          (λ n. not_numbered o.files n.0 n.1 n.2) refl
           (came_of ran.outcome run.desk run.report run.faults run.line run.splices run.told));
       reads = run.reads;
       outputs_are = outputs ∙ run.outputs_are;

@@ -49,9 +49,9 @@ module _ (copies names : List (Bor (List ℕ))) (are : shown names ≡ names_in 
 
   -- so the run is of what the options ask for
   pub is_run_of : (o : MendOptions) (a : Asked) (fs : List File) (ran : Ran) → a.options ≡ (asked_for o []).options
-      → a.out ≡ codes "OUT" → a.copies ≡ texts_of slice → fs ≡ inputs_of (given copies)
+      → a.out ≡ codes "OUT" → a.copies ≡ texts_of slice → a.bad ≡ [] → fs ≡ inputs_of (given copies)
       → IsRun a fs ran → IsRun (asked_for o (given copies)) (inputs_of (given copies)) ran
-  is_run_of o a fs ran options out named inputs run =
+  is_run_of o a fs ran options out named bad inputs run =
       let all : a.copies ≡ names_in (inputs_of (given copies)) = named ∙ (ap texts_of same ∙ are) in
-      let asked : a ≡ asked_for o (given copies) = λ i. record { options = options i; out = out i; copies = all i } in
+      let asked : a ≡ asked_for o (given copies) = λ i. record { options = options i; out = out i; copies = all i; bad = bad i } in
       subst (λ (fs : List File). IsRun (asked_for o (given copies)) fs ran) inputs (subst (λ (a : Asked). IsRun a fs ran) asked run)

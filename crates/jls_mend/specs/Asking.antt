@@ -30,4 +30,5 @@ asked_for o copies = record {
   };
   out = codes "OUT";
   copies = names_in (inputs_of copies);
+  bad = [];
 }

@@ -83,6 +83,7 @@ pub fn mend(alloc: Global, copies: &[&[u8]], options: &MendOptions) -> Result<Me
         options: options_for(options),
         out: OUT,
         names: &names,
+        bad: &[],
     };
     let ran = run_over(alloc, &inputs, &task)?;
     let Ran {

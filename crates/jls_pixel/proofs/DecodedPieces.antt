@@ -1,9 +1,9 @@
 -- From the bits that were read to what is said of a piece.
-use Rattle.std.proofs.Common.{◌≡◌, ℕ, ◌<◌, ◌≤◌, Bool, true, false, List, ◌++◌, length, get_or, refl, sym, ◌∙◌}
+use Rattle.std.proofs.Common.{◌≡◌, ℕ, ◌<◌, ◌≤◌, Bool, true, false, List, ◌++◌, length, refl, sym, ◌∙◌}
 use Rattle.std.specs.Prelude.{Result, Ok, Err, IfOk, IfErr, MatchResult}
+use Rattle.std.specs.List.{AllByRecursion}
 use Rattle.jls_values.specs.Params.{AreCodingParameters}
 use Rattle.jls_bits.specs.Bits.{bits_read, is_whole}
-use Rattle.jls_interval.proofs.Finishing.{all_bytes}
 use Rattle.jls_pixel.specs.Pixels.{PixelShape, AreRows}
 use Rattle.jls_pixel.specs.Code.{pixel_code}
 use Rattle.jls_pixel.specs.Reads.{BeginsWithCode, Reads, IsLong, IsBroken}
@@ -28,11 +28,11 @@ module _ (i : PixelShape) (piece : List ℕ) where
     not_long = λ l. none l.rows l.unread l.begins.are_rows l.begins.data_bits.read;
   }
 
-  module _ (bytes : (k : ℕ) → get_or piece k 0 < 256) (whole : is_whole piece ≡ true) (rows : List (List (List ℕ)))
+  module _ (bytes : AllByRecursion (λ x. x < 256) piece) (whole : is_whole piece ≡ true) (rows : List (List (List ℕ)))
       (are : AreRows i.params i.width i.components i.row_count rows) (unread : List Bool)
       (read : bits_read piece ≡ pixel_code i.params i.width i.components rows ++ unread) where
     begins : BeginsWithCode i piece rows unread
-    begins = record { are_bytes = all_bytes piece bytes; are_rows = are; data_bits = record { whole = whole; read = read } }
+    begins = record { are_bytes = bytes; are_rows = are; data_bits = record { whole = whole; read = read } }
 
     pub piece_reads : length unread ≤ 7 → Reads i piece rows
     piece_reads l = record { unread = unread; begins = begins; at_most_seven = l }

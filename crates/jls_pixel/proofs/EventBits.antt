@@ -1,5 +1,6 @@
 -- Every event that can come next has a bit.
-use Rattle.std.proofs.Common.{◌≡◌, ℕ, ◌-◌, ◌/◌, ◌^◌, ◌<◌, Bool, true, false, ltb, List, [], ◌∷◌, ◌++◌, length, replicate, sym, ap, ◌∙◌, arith}
+use Rattle.std.proofs.Common.{◌≡◌, ℕ, ◌-◌, ◌/◌, ◌^◌, ◌<◌, Bool, true, false, ltb, List, [], ◌∷◌, ◌++◌, length, replicate, sym, ap, ◌∙◌}
+use Rattle.std.proofs.Common.{arith}
 use Rattle.std.proofs.Common.{inl, inr, refl}
 use Rattle.std.proofs.lemmas.Bool.{cases_Bool}
 use Rattle.jls_values.specs.Params.{CodingParameters}
@@ -14,9 +15,9 @@ use Rattle.jls_pixel.specs.Pixels.{rows_above}
 use Rattle.jls_pixel.specs.Events.{Event, regular_pixel, run_to_end, interrupted_run}
 use Rattle.jls_pixel.specs.Cells.{CodedSample, regular, coded_with, coded_samples, run_index_before}
 use Rattle.jls_pixel.specs.Code.{sample_bits, bits_of_samples, event_bits}
-use Rattle.jls_pixel.specs.Growth.{Position, here, IsNext, pixel_steps, start}
+use Rattle.jls_pixel.specs.Growth.{Position, IsNext, pixel_steps, start}
 use Rattle.jls_pixel.proofs.PixelLists.{nears_length}
-use Rattle.jls_pixel.proofs.EventsApart.{run_index_before_small, interrupted_then}
+use Rattle.jls_pixel.proofs.EventsApart.{run_index_before_small}
 use Rattle.jls_pixel.proofs.GrowthEnds.{parted_from}
 
 not_none : (xs : List Bool) (y : Bool) (ys : List Bool) → xs ++ y ∷ ys ≡ [] → ⊥

@@ -14,3 +14,8 @@ pub mod EventSteps
 pub mod RowSteps
 pub mod DecodedPieces
 pub mod EventBits
+pub mod LongestEvents
+pub mod PixelReading
+pub mod PendingSteps
+pub mod NoMore
+pub mod PushedBytes

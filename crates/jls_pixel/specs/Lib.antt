@@ -14,3 +14,8 @@ pub mod EventRead
 pub mod InterruptionRead
 pub mod RowRead
 pub mod PieceFaults
+pub mod PendingBits
+pub mod FinishedRows
+pub mod PixelReading
+pub mod PixelBytes
+pub mod Heads

@@ -32,6 +32,10 @@ pub record IsBroken (i : PixelShape) (piece : List ℕ) : Type 0 where
   pub not_read : (rows : List (List (List ℕ))) → Reads i piece rows → ⊥
   pub not_long : IsLong i piece → ⊥
 
+-- whatever bytes follow these, they read as no rows
+abbrev pub ReadsNoMore : PixelShape → List ℕ → Type 0
+ReadsNoMore i bytes = (more : List ℕ) (rows : List (List (List ℕ))) → Reads i (bytes ++ more) rows → ⊥
+
 -- the bytes that rows are written as: `pad` of their `pixel_code`
 abbrev pub packed_pixels : CodingParameters → ℕ → ℕ → List (List (List ℕ)) → List ℕ
 packed_pixels p width components rows = pad (pixel_code p width components rows)

@@ -1,9 +1,9 @@
 -- Rows that a decoder has read, from the start of its interval.
-use Rattle.std.specs.Prelude.{◌≡◌, ℕ, ◌<◌, Bool, List, [], ◌∷◌, ◌++◌, length}
+use Rattle.std.specs.Prelude.{◌≡◌, ℕ, Bool, List, ◌++◌}
 use Rattle.jls_values.specs.Params.{CodingParameters}
 use Rattle.jls_context.specs.Variables.{Variables}
 use Rattle.jls_interval.specs.Stepwise.{Leads, bits_of_steps}
-use Rattle.jls_pixel.specs.Pixels.{RowsAbove, rows_above, AreRows}
+use Rattle.jls_pixel.specs.Pixels.{AreRows}
 use Rattle.jls_pixel.specs.Events.{Event}
 use Rattle.jls_pixel.specs.Code.{pixel_code}
 use Rattle.jls_pixel.specs.Growth.{grown, pixel_steps, start}
@@ -22,16 +22,3 @@ abbrev pub NoRows : CodingParameters → ℕ → ℕ → ℕ → List Bool → T
 NoRows p width components count given =
     (rows : List (List (List ℕ))) (rest : List Bool) → AreRows p width components count rows
     → given ≡ pixel_code p width components rows ++ rest → ⊥
-
--- a row was read, whatever rows were read before it
-abbrev pub ReadsRow : CodingParameters → ℕ → ℕ → RowsAbove → List (List ℕ) → Variables → Variables → ℕ → ℕ → List Bool → List Bool → Type 0
-ReadsRow p width components up row cells cells' run_index run_index' unread unread' =
-    (count : ℕ) (given : List Bool) (rows : List (List (List ℕ))) → length rows < count → up ≡ rows_above rows
-    → RowBegun p width components count given rows [] cells run_index unread
-    → RowBegun p width components count given (rows ++ row ∷ []) [] cells' run_index' unread'
-
--- no row can be read, whatever rows were read before it
-abbrev pub RefusesRow : CodingParameters → ℕ → ℕ → RowsAbove → Variables → ℕ → List Bool → Type 0
-RefusesRow p width components up cells run_index unread =
-    (count : ℕ) (given : List Bool) (rows : List (List (List ℕ))) → length rows < count → up ≡ rows_above rows
-    → RowBegun p width components count given rows [] cells run_index unread → NoRows p width components count given

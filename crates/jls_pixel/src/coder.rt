@@ -40,6 +40,16 @@ impl Coder {
         }
     }
 
+    /// The same values once more.
+    pub(crate) fn to_owned(&self) -> Coder
+        ensures { result.cells ≡ self.now.cells }
+    {
+        Coder {
+            cells: self.cells.to_owned(),
+            lengths: self.lengths,
+        }
+    }
+
     /// The context and the SIGN of a sample that is coded in regular mode, whatever its gradients: where all are 0, they are context 0
     /// and +1.
     #[tactic(auto, using(crate::proofs::ContextZero::zero_context))]

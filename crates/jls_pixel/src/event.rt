@@ -9,13 +9,13 @@ ghost use Rattle.jls_pixel.specs.EventRead.{ReadsEvent, RefusesEvent};
 ghost use Rattle.jls_pixel.specs.InterruptionRead.{InterruptionRead, NoInterruption};
 
 use crate::coder::Coder;
+use crate::pending_bits::PendingBits;
 use crate::pixel::Pixel;
 use crate::place::Place;
 use crate::read_pixel::read_pixel;
 use crate::run::{Run, read_run};
 use crate::run_index::{lowered, run_order};
 use crate::sample::SampleKind;
-use jls_bits::BitReader;
 use std::alloc::AllocError;
 
 /// Adds the pixels of a run to its row.
@@ -33,7 +33,7 @@ fn push_run(place: &Place<'_>, row: &mut Vec<Pixel>, count: u32) -> Result<(), A
 
 /// Reads a pixel in regular mode, adds it to its row, and gives RUNindex as it was. None where none stands at the start of what is left.
 fn read_regular_pixel(
-    reader: &mut BitReader<'_>,
+    pending: &mut PendingBits,
     coder: &mut Coder,
     run_index: u8,
     place: &Place<'_>,
@@ -45,18 +45,17 @@ fn read_regular_pixel(
     requires column { length row.old.items < place.now.width }
     requires mode { is_run_pixel (pixel_neighbours place.now.width (above_of place.now) row.old.items place.now.components) ≡ false }
     ensures read { IfOk result (λ o. IfSome o (λ next. ReadsEvent coder.old.cells.parameters place.now.width place.now.components
-        (above_of place.now) row.old.items row.new.items coder.old.cells coder.new.cells run_index next reader.old.left reader.new.left)) }
+        (above_of place.now) row.old.items row.new.items coder.old.cells coder.new.cells run_index next pending.old pending.new)) }
     ensures pixels { IfOk result (λ o. IfSome o (λ _.
         AllByRecursion (IsPixel coder.old.cells.parameters place.now.components) row.new.items)) }
     ensures columns { IfOk result (λ o. IfSome o (λ _. (length row.old.items < length row.new.items)
         × (length row.new.items ≤ place.now.width))) }
     ensures refused { IfOk result (λ o. IfNone o (RefusesEvent coder.old.cells.parameters place.now.width place.now.components
-        (above_of place.now) row.old.items coder.old.cells run_index reader.old.left)) }
+        (above_of place.now) row.old.items coder.old.cells run_index pending.old)) }
     ensures run_index { IfOk result (λ o. IfSome o (λ next. next ≤ 31)) }
     ensures parameters { coder.new.cells.parameters ≡ coder.old.cells.parameters }
-    ensures whole { reader.new.whole ≡ reader.old.whole }
 {
-    match read_pixel(reader, coder, SampleKind::Regular, place, row) {
+    match read_pixel(pending, coder, SampleKind::Regular, place, row) {
         None => Ok(None),
         Some(pixel) => {
             row.push(pixel)?;
@@ -77,7 +76,7 @@ fn is_run_value(place: &Place<'_>, row: &[Pixel], pixel: &Pixel) -> bool
 /// Reads the pixel that interrupts a run whose pixels were added to its row, from this RUNindex after its full blocks on. None where no
 /// such pixel stands at the start of what is left, and where it is the run's own value.
 fn read_interruption(
-    reader: &mut BitReader<'_>,
+    pending: &mut PendingBits,
     coder: &mut Coder,
     run_index: u8,
     place: &Place<'_>,
@@ -88,16 +87,15 @@ fn read_interruption(
     requires row { AllByRecursion (IsPixel coder.old.cells.parameters place.now.components) row.old.items }
     requires column { length row.old.items < place.now.width }
     ensures read { IfOk result (λ o. IfSome o (λ next. InterruptionRead coder.old.cells.parameters place.now.width place.now.components
-        (above_of place.now) row.old.items row.new.items coder.old.cells coder.new.cells run_index next reader.old.left reader.new.left)) }
+        (above_of place.now) row.old.items row.new.items coder.old.cells coder.new.cells run_index next pending.old pending.new)) }
     ensures refused { IfOk result (λ o. IfNone o (NoInterruption coder.old.cells.parameters place.now.width place.now.components
-        (above_of place.now) row.old.items coder.old.cells run_index reader.old.left)) }
+        (above_of place.now) row.old.items coder.old.cells run_index pending.old)) }
     ensures parameters { coder.new.cells.parameters ≡ coder.old.cells.parameters }
-    ensures whole { reader.new.whole ≡ reader.old.whole }
 {
     let kind = SampleKind::Interrupting {
         order: run_order(run_index),
     };
-    match read_pixel(reader, coder, kind, place, row) {
+    match read_pixel(pending, coder, kind, place, row) {
         None => Ok(None),
         Some(pixel) => {
             if is_run_value(place, row, &pixel) {
@@ -112,7 +110,7 @@ fn read_interruption(
 /// Reads a run and what ends it, adds its pixels to the row, and gives the new RUNindex. None where no run stands at the start of what is
 /// left.
 fn read_run_pixels(
-    reader: &mut BitReader<'_>,
+    pending: &mut PendingBits,
     coder: &mut Coder,
     run_index: u8,
     place: &Place<'_>,
@@ -124,19 +122,18 @@ fn read_run_pixels(
     requires column { length row.old.items < place.now.width }
     requires mode { is_run_pixel (pixel_neighbours place.now.width (above_of place.now) row.old.items place.now.components) ≡ true }
     ensures read { IfOk result (λ o. IfSome o (λ next. ReadsEvent coder.old.cells.parameters place.now.width place.now.components
-        (above_of place.now) row.old.items row.new.items coder.old.cells coder.new.cells run_index next reader.old.left reader.new.left)) }
+        (above_of place.now) row.old.items row.new.items coder.old.cells coder.new.cells run_index next pending.old pending.new)) }
     ensures pixels { IfOk result (λ o. IfSome o (λ _.
         AllByRecursion (IsPixel coder.old.cells.parameters place.now.components) row.new.items)) }
     ensures columns { IfOk result (λ o. IfSome o (λ _. (length row.old.items < length row.new.items)
         × (length row.new.items ≤ place.now.width))) }
     ensures refused { IfOk result (λ o. IfNone o (RefusesEvent coder.old.cells.parameters place.now.width place.now.components
-        (above_of place.now) row.old.items coder.old.cells run_index reader.old.left)) }
+        (above_of place.now) row.old.items coder.old.cells run_index pending.old)) }
     ensures run_index { IfOk result (λ o. IfSome o (λ next. next ≤ 31)) }
     ensures parameters { coder.new.cells.parameters ≡ coder.old.cells.parameters }
-    ensures whole { reader.new.whole ≡ reader.old.whole }
 {
     let columns = (place.width - row.len()) as u32;
-    match read_run(reader, run_index, columns) {
+    match read_run(pending, run_index, columns) {
         None => Ok(None),
         Some(Run::ToEnd { run_index }) => {
             push_run(place, row, columns)?;
@@ -144,7 +141,7 @@ fn read_run_pixels(
         }
         Some(Run::Interrupted { count, run_index }) => {
             push_run(place, row, count)?;
-            read_interruption(reader, coder, run_index, place, row)
+            read_interruption(pending, coder, run_index, place, row)
         }
     }
 }
@@ -152,7 +149,7 @@ fn read_run_pixels(
 /// Reads the event that stands at the start of what is left, adds its pixels to the row, and gives the new RUNindex. None where none
 /// stands there that can come next.
 pub(crate) fn read_event(
-    reader: &mut BitReader<'_>,
+    pending: &mut PendingBits,
     coder: &mut Coder,
     run_index: u8,
     place: &Place<'_>,
@@ -163,20 +160,19 @@ pub(crate) fn read_event(
     requires row { AllByRecursion (IsPixel coder.old.cells.parameters place.now.components) row.old.items }
     requires column { length row.old.items < place.now.width }
     ensures read { IfOk result (λ o. IfSome o (λ next. ReadsEvent coder.old.cells.parameters place.now.width place.now.components
-        (above_of place.now) row.old.items row.new.items coder.old.cells coder.new.cells run_index next reader.old.left reader.new.left)) }
+        (above_of place.now) row.old.items row.new.items coder.old.cells coder.new.cells run_index next pending.old pending.new)) }
     ensures pixels { IfOk result (λ o. IfSome o (λ _.
         AllByRecursion (IsPixel coder.old.cells.parameters place.now.components) row.new.items)) }
     ensures columns { IfOk result (λ o. IfSome o (λ _. (length row.old.items < length row.new.items)
         × (length row.new.items ≤ place.now.width))) }
     ensures refused { IfOk result (λ o. IfNone o (RefusesEvent coder.old.cells.parameters place.now.width place.now.components
-        (above_of place.now) row.old.items coder.old.cells run_index reader.old.left)) }
+        (above_of place.now) row.old.items coder.old.cells run_index pending.old)) }
     ensures run_index { IfOk result (λ o. IfSome o (λ next. next ≤ 31)) }
     ensures parameters { coder.new.cells.parameters ≡ coder.old.cells.parameters }
-    ensures whole { reader.new.whole ≡ reader.old.whole }
 {
     if place.is_run(row) {
-        read_run_pixels(reader, coder, run_index, place, row)
+        read_run_pixels(pending, coder, run_index, place, row)
     } else {
-        read_regular_pixel(reader, coder, run_index, place, row)
+        read_regular_pixel(pending, coder, run_index, place, row)
     }
 }

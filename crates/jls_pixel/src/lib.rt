@@ -3,16 +3,22 @@
 //!
 //! - `pixel`, `place`: a pixel. A row with the two rows above, and the samples round its next pixel
 //! - `coder`, `code_lengths`: what is carried from sample to sample: the contexts, and the lengths of codes
+//! - `data_bits`, `pending_bits`: the data bits of a byte. The bits that wait to be read, and Golomb codes from them
 //! - `sample`, `run`, `run_index`: read a sample, and the columns of a run. J and the blocks of a run
-//! - `read_pixel`, `event`, `row`: read the samples of a pixel, an event, and a row
-//! - `decode`: `decode_pixels`, which reads a whole piece
+//! - `read_pixel`, `event`: read the samples of a pixel, and an event
+//! - `finished_rows`: the rows that are read. A clone takes handles of them
+//! - `pixel_reader`: the rows so far. It reads an event once 368 bits wait, which is more than any event has. So none is begun that can't
+//!   be ended, and fewer than 500 bits wait between two bytes
+//! - `pixel_decoder`: the public decoder. It gives the data bits of its bytes to the reader
+//! - `decode`: `decode_pixels`: a decoder that is pushed the whole piece
 //! - `laws`: the laws. Codes are apart, and rows grow event by event
 //!
 //! What is the same as in an interval by line is that of `jls_interval` and `jls_context`: neighbours, predictions, errors, cells, the
 //! blocks of a run, Golomb codes. Definitions: `Pixels` (rows, the neighbours of a pixel, its mode), `Events` (pixels in regular mode, and
 //! runs), `Cells` (the state before an event), `Code` (bits), `Reads` (which bytes read, are too long, are broken). For laws and the
-//! decoder: `Growth` (the interval as a code that is read step by step), `Laws`, `PieceFaults`. The other files are needed inside the
-//! crate only.
+//! decoder: `Growth` (the interval as a code that is read step by step), `Laws`, `PieceFaults`. The record `PixelBytes` is what contracts
+//! see of a decoder. `FinishedRows` says which list handles of rows are. `Heads`: the rows that stand whole where bits break off, which no
+//! function answers yet. The other files are needed inside the crate only.
 //!
 //! # What differs from an interval by line
 //!
@@ -26,27 +32,33 @@
 //! 5. What is no code: a pixel that interrupts a run and is the run's own value in every component. Its last sample shows that.
 //!
 //! These are readings that other coders agree on, and not quotations of the standard. Not proved: that a call succeeds where memory is
-//! enough. It is tested.
+//! enough, which is tested, and how many bits wait at most.
 //!
 //! `crates/jls_pixel/proofs/WorkedExamples.antt` computes some intervals from these definitions alone. The bytes are those of other coders.
 #![tactic(auto)]
 
 mod code_lengths;
 mod coder;
+mod data_bits;
 mod decode;
 mod event;
+mod finished_rows;
 mod laws;
+mod pending_bits;
 mod pixel;
+mod pixel_decoder;
+mod pixel_reader;
 mod place;
 mod read_pixel;
-mod row;
 mod run;
 mod run_index;
 mod sample;
 
 pub use decode::{PixelFault, decode_pixels};
+pub use finished_rows::FinishedRows;
 pub use laws::{
     broken_pixel_pieces_begin_with_no_code, growth_ends_in_rows, pixel_codes_are_apart,
     pixel_events_are_apart, pixel_events_have_bits, pixel_pieces_read_once, rows_grow,
 };
 pub use pixel::Pixel;
+pub use pixel_decoder::PixelDecoder;

@@ -48,6 +48,16 @@ impl Pixel {
             Some(sample) => *sample,
         }
     }
+
+    /// The same samples once more. It takes no memory.
+    pub fn to_owned(&self) -> Pixel
+        ensures { result ≡ self.now }
+    {
+        Pixel {
+            samples: ArrayVec::try_from(self.samples.as_slice()).unwrap(),
+        }
+    }
+
     /// Whether both have the same samples.
     pub fn is_same(&self, other: &Pixel) -> bool
         ensures { result ≡ pointwise nat_eq self.now other.now }

@@ -1,12 +1,11 @@
 //! Where a row stands in its interval, and the samples round its next pixel.
 
-ghost use Rattle.std.specs.Prelude.{◌≡◌, ◌^◌, ◌<◌, ◌≤◌, length, get_or, map};
+ghost use Rattle.std.specs.Prelude.{◌≡◌, ◌^◌, ◌<◌, ◌≤◌, length, get_or};
 ghost use Rattle.jls_context.specs.Mode.{is_run_mode};
-ghost use Rattle.jls_pixel.specs.Pixels.{samples_of, row_back, rows_above, component_neighbours, pixel_neighbours, is_run_pixel, run_value};
+ghost use Rattle.jls_pixel.specs.Pixels.{samples_of, component_neighbours, pixel_neighbours, is_run_pixel, run_value};
 
 use crate::pixel::Pixel;
 use jls_context::Neighbours;
-use std::convert::AsSlice;
 
 /// The sample of a component in a column. Where there is none it is 0.
 fn sample_at(row: &[Pixel], x: usize, component: usize) -> u16
@@ -15,19 +14,6 @@ fn sample_at(row: &[Pixel], x: usize, component: usize) -> u16
     match row.get(x) {
         None => 0,
         Some(pixel) => pixel.sample(component),
-    }
-}
-
-/// The row so many places before the end of these rows, or none.
-fn row_back<L: AsSlice<Pixel>>(rows: &[L], back: usize) -> &[Pixel]
-    ensures { result.now ≡ row_back (map L.items rows.now) back }
-{
-    if rows.len() < back {
-        return &[];
-    }
-    match rows.get(rows.len() - back) {
-        None => &[],
-        Some(row) => row.as_slice(),
     }
 }
 
@@ -45,18 +31,23 @@ pub(crate) struct Place<'a> {
 impl<'a> Place<'a> {
     ghost use Rattle.jls_pixel.specs.Place.{above_of};
 
-    /// The place of the row that follows these rows.
-    pub(crate) fn after<L: AsSlice<Pixel>>(rows: &'a [L], width: u16, components: u8) -> Place<'a>
+    /// The place of a row below these two.
+    pub(crate) fn below(
+        row_above: &'a [Pixel],
+        row_two_above: &'a [Pixel],
+        width: u16,
+        components: u8,
+    ) -> Place<'a>
         requires { components ≤ 4 }
         ensures width { result.width ≡ width }
         ensures components { result.components ≡ components }
-        ensures above { above_of result ≡ rows_above (map L.items rows.now) }
+        ensures above { above_of result ≡ record { row_above = row_above.now; row_two_above = row_two_above.now } }
     {
         Place {
             width: usize::from(width),
             components: usize::from(components),
-            row_above: row_back(rows, 1),
-            row_two_above: row_back(rows, 2),
+            row_above,
+            row_two_above,
         }
     }
 

@@ -7,14 +7,14 @@ ghost use Rattle.jls_pixel.specs.Place.{above_of};
 ghost use Rattle.jls_pixel.specs.Reading.{IsKind, ReadsPixel, RefusesPixel};
 
 use crate::coder::Coder;
+use crate::pending_bits::PendingBits;
 use crate::pixel::Pixel;
 use crate::place::Place;
 use crate::sample::{SampleKind, read_sample};
-use jls_bits::BitReader;
 
 /// Reads the samples of the pixel that follows these pixels of the row. None where no such pixel stands at the start of what is left.
 pub(crate) fn read_pixel(
-    reader: &mut BitReader<'_>,
+    pending: &mut PendingBits,
     coder: &mut Coder,
     kind: SampleKind,
     place: &Place<'_>,
@@ -26,17 +26,16 @@ pub(crate) fn read_pixel(
     requires column { length row.now < place.now.width }
     ensures read { IfSome result (λ pixel. ReadsPixel coder.old.cells.parameters kind
         (pixel_neighbours place.now.width (above_of place.now) row.now place.now.components) pixel coder.old.cells coder.new.cells
-        reader.old.left reader.new.left) }
+        pending.old pending.new) }
     ensures pixel { IfSome result (IsPixel coder.old.cells.parameters place.now.components) }
     ensures refused { IfNone result (RefusesPixel coder.old.cells.parameters kind
-        (pixel_neighbours place.now.width (above_of place.now) row.now place.now.components) coder.old.cells reader.old.left) }
+        (pixel_neighbours place.now.width (above_of place.now) row.now place.now.components) coder.old.cells pending.old) }
     ensures parameters { coder.new.cells.parameters ≡ coder.old.cells.parameters }
-    ensures whole { reader.new.whole ≡ reader.old.whole }
 {
     let mut pixel = Pixel::new();
     for component in 0..place.components {
         let near = place.neighbours(row, component);
-        match read_sample(reader, coder, kind, near) {
+        match read_sample(pending, coder, kind, near) {
             None => return None,
             Some(sample) => pixel.push(sample),
         }

@@ -4,7 +4,7 @@ ghost use Rattle.std.specs.Prelude.{◌≡◌, ◌≤◌, IfSome, IfNone};
 ghost use Rattle.jls_pixel.specs.Reading.{IsKind, ReadsSample, RefusesSample};
 
 use crate::coder::{Coder, RegularMode};
-use jls_bits::{BitReader, read_golomb};
+use crate::pending_bits::{PendingBits, read_golomb};
 use jls_context::Neighbours;
 
 /// How a sample is coded: in regular mode, or as one of a pixel that interrupts a run.
@@ -16,18 +16,17 @@ pub(crate) enum SampleKind {
 }
 
 /// Reads a sample in regular mode. None where none stands at the start of what is left.
-fn read_regular(reader: &mut BitReader<'_>, coder: &mut Coder, near: Neighbours) -> Option<u16>
+fn read_regular(pending: &mut PendingBits, coder: &mut Coder, near: Neighbours) -> Option<u16>
     ensures read { IfSome result (λ s. ReadsSample coder.old.cells.parameters SampleKind.Regular near s coder.old.cells coder.new.cells
-        reader.old.left reader.new.left) }
+        pending.old pending.new) }
     ensures sample { IfSome result (λ s. s ≤ coder.old.cells.parameters.maxval) }
-    ensures refused { IfNone result (RefusesSample coder.old.cells.parameters SampleKind.Regular near coder.old.cells reader.old.left) }
+    ensures refused { IfNone result (RefusesSample coder.old.cells.parameters SampleKind.Regular near coder.old.cells pending.old) }
     ensures parameters { coder.new.cells.parameters ≡ coder.old.cells.parameters }
-    ensures whole { reader.new.whole ≡ reader.old.whole }
 {
     let RegularMode { context, negative } = coder.regular_mode(near);
     let lengths = coder.lengths;
     match read_golomb(
-        reader,
+        pending,
         coder.cells.regular_k(context),
         lengths.limit,
         lengths.qbpp,
@@ -50,7 +49,7 @@ fn read_regular(reader: &mut BitReader<'_>, coder: &mut Coder, near: Neighbours)
 /// Reads a sample of a pixel that interrupts a run, after J bits of its count. RItype is 0. None where none stands at the start of what
 /// is left.
 fn read_interrupting(
-    reader: &mut BitReader<'_>,
+    pending: &mut PendingBits,
     coder: &mut Coder,
     near: Neighbours,
     order: u8,
@@ -58,16 +57,15 @@ fn read_interrupting(
     requires order { order ≤ 15 }
     requires above { near.rb ≤ coder.old.cells.parameters.maxval }
     ensures read { IfSome result (λ s. ReadsSample coder.old.cells.parameters (SampleKind.Interrupting order) near s coder.old.cells
-        coder.new.cells reader.old.left reader.new.left) }
+        coder.new.cells pending.old pending.new) }
     ensures sample { IfSome result (λ s. s ≤ coder.old.cells.parameters.maxval) }
     ensures refused { IfNone result (RefusesSample coder.old.cells.parameters (SampleKind.Interrupting order) near coder.old.cells
-        reader.old.left) }
+        pending.old) }
     ensures parameters { coder.new.cells.parameters ≡ coder.old.cells.parameters }
-    ensures whole { reader.new.whole ≡ reader.old.whole }
 {
     let lengths = coder.lengths;
     let limit = lengths.limit - order - 1;
-    match read_golomb(reader, coder.cells.run_k(false), limit, lengths.qbpp) {
+    match read_golomb(pending, coder.cells.run_k(false), limit, lengths.qbpp) {
         None => None,
         Some(mapped) => match coder.cells.run_error(false, mapped) {
             None => None,
@@ -82,7 +80,7 @@ fn read_interrupting(
 
 /// Reads a sample of this kind.
 pub(crate) fn read_sample(
-    reader: &mut BitReader<'_>,
+    pending: &mut PendingBits,
     coder: &mut Coder,
     kind: SampleKind,
     near: Neighbours,
@@ -90,14 +88,13 @@ pub(crate) fn read_sample(
     requires kind { IsKind kind }
     requires above { near.rb ≤ coder.old.cells.parameters.maxval }
     ensures read { IfSome result (λ s. ReadsSample coder.old.cells.parameters kind near s coder.old.cells coder.new.cells
-        reader.old.left reader.new.left) }
+        pending.old pending.new) }
     ensures sample { IfSome result (λ s. s ≤ coder.old.cells.parameters.maxval) }
-    ensures refused { IfNone result (RefusesSample coder.old.cells.parameters kind near coder.old.cells reader.old.left) }
+    ensures refused { IfNone result (RefusesSample coder.old.cells.parameters kind near coder.old.cells pending.old) }
     ensures parameters { coder.new.cells.parameters ≡ coder.old.cells.parameters }
-    ensures whole { reader.new.whole ≡ reader.old.whole }
 {
     match kind {
-        SampleKind::Regular => read_regular(reader, coder, near),
-        SampleKind::Interrupting { order } => read_interrupting(reader, coder, near, order),
+        SampleKind::Regular => read_regular(pending, coder, near),
+        SampleKind::Interrupting { order } => read_interrupting(pending, coder, near, order),
     }
 }

@@ -2,7 +2,7 @@
 
 ghost use Rattle.std.specs.Prelude.{◌≤◌};
 
-use jls_pixel::{Pixel, PixelFault, decode_pixels};
+use jls_pixel::{Pixel, PixelDecoder, PixelFault, decode_pixels};
 use jls_values::Params;
 use std::alloc::Global;
 use std::test::Fail;
@@ -185,13 +185,10 @@ fn decoded(
     )
 }
 
-/// Whether a piece reads as its samples.
-fn is_read(alloc: Global, params: &Params, known: &Known) -> bool {
-    let Ok(rows) = decoded(alloc, params, known, known.piece) else {
-        return false;
-    };
+/// Whether rows are the samples of a known piece.
+fn are_known(rows: &[Vec<Pixel>], known: &Known) -> bool {
     let mut wanted = known.samples.iter();
-    for row in &rows {
+    for row in rows {
         for pixel in row {
             for component in 0..usize::from(known.components) {
                 if wanted.next() != Some(&pixel.sample(component)) {
@@ -201,6 +198,75 @@ fn is_read(alloc: Global, params: &Params, known: &Known) -> bool {
         }
     }
     wanted.next().is_none()
+}
+
+/// Whether a piece reads as its samples.
+fn is_read(alloc: Global, params: &Params, known: &Known) -> bool {
+    match decoded(alloc, params, known, known.piece) {
+        Ok(rows) => are_known(&rows, known),
+        Err(_) => false,
+    }
+}
+
+/// A decoder that was given bytes in slices of at most this length.
+fn sliced(
+    alloc: Global,
+    params: &Params,
+    known: &Known,
+    bytes: &[u8],
+    length: usize,
+) -> Result<PixelDecoder, PixelFault> {
+    if known.width == 0 || known.components > 4 || length == 0 {
+        return Err(PixelFault::OutOfMemory);
+    }
+    let mut decoder = PixelDecoder::new(alloc, params, known.width, known.components, known.rows);
+    for slice in bytes.chunks(length) {
+        if decoder.push_all(slice).is_err() {
+            return Err(PixelFault::OutOfMemory);
+        }
+    }
+    Ok(decoder)
+}
+
+/// Whether what a decoder was given reads as the samples of a known piece.
+fn ends_known(decoder: PixelDecoder, known: &Known) -> bool {
+    let Ok(rows) = decoder.finish() else {
+        return false;
+    };
+    match rows.into_vecs() {
+        Ok(rows) => are_known(&rows, known),
+        Err(_) => false,
+    }
+}
+
+/// Whether a piece in slices of at most this length reads as its samples, also by a clone that was made half-way.
+fn is_read_in_slices(alloc: Global, params: &Params, known: &Known, length: usize) -> bool {
+    let (first, second) = known.piece.split_at(known.piece.len() / 2);
+    let Ok(mut decoder) = sliced(alloc, params, known, first, length) else {
+        return false;
+    };
+    let Ok(mut clone) = decoder.try_clone() else {
+        return false;
+    };
+    for byte in second {
+        if decoder.push(*byte).is_err() {
+            return false;
+        }
+    }
+    if clone.push_all(second).is_err() {
+        return false;
+    }
+    !decoder.reads_no_more() && ends_known(decoder, known) && ends_known(clone, known)
+}
+
+/// Whether a piece reads the same whole and in slices.
+fn is_read_in_any_slices(alloc: Global, params: &Params, known: &Known) -> bool {
+    for length in [1, 2, 7] {
+        if !is_read_in_slices(alloc, params, known, length) {
+            return false;
+        }
+    }
+    true
 }
 
 #[test]
@@ -238,5 +304,42 @@ fn broken_pieces(rt: HostRuntime) -> Result<(), Fail> {
     longer.push(0)?;
     let long = decoded(alloc, &params, &TWO, &longer);
     assert!(rt; matches!(&long, Err(PixelFault::Long)));
+    Ok(())
+}
+
+#[test]
+fn sliced_pieces(rt: HostRuntime) -> Result<(), Fail> {
+    let alloc = rt.alloc();
+    let params = Params::new(8, 0, 0, 0, 0, 0)?;
+    for known in [PIXELS, RUNS, CONTEXT_0, BLOCKS, FOUR, TWO] {
+        assert!(rt; is_read_in_any_slices(alloc, &params, &known));
+    }
+    let deep = Params::new(16, 0, 0, 0, 0, 0)?;
+    assert!(rt; is_read_in_any_slices(alloc, &deep, &DEEP));
+    let resets = Params::new(8, 0, 0, 0, 0, 3)?;
+    assert!(rt; is_read_in_any_slices(alloc, &resets, &RESET_3));
+    Ok(())
+}
+
+#[test]
+fn sliced_faults(rt: HostRuntime) -> Result<(), Fail> {
+    let alloc = rt.alloc();
+    let params = Params::new(8, 0, 0, 0, 0, 0)?;
+    for length in [1, 2, 7] {
+        let mut decoder = sliced(alloc, &params, &BLOCKS, &BLOCKS.piece[..5], length)?;
+        assert!(rt; !decoder.reads_no_more());
+        let clone = decoder.try_clone()?;
+        assert!(rt; matches!(&clone.finish(), Err(PixelFault::Broken)));
+        decoder.push_all(&[0xFF, 0x80])?;
+        assert!(rt; decoder.reads_no_more());
+        assert!(rt; matches!(&decoder.finish(), Err(PixelFault::Broken)));
+        let mut longer = sliced(alloc, &params, &TWO, TWO.piece, length)?;
+        longer.push(0)?;
+        let clone = longer.try_clone()?;
+        assert!(rt; matches!(&clone.finish(), Err(PixelFault::Long)));
+        longer.push_all(&[0; 64])?;
+        assert!(rt; longer.reads_no_more());
+        assert!(rt; matches!(&longer.finish(), Err(PixelFault::Long)));
+    }
     Ok(())
 }

@@ -1,8 +1,8 @@
 //! How outputs are made and ended, over a machine that notes what it is asked.
 
 use jls_host::{
-    Ending, Guard, Kind, Machine, Output, Standing, Way, Why, can_go, ending_of_run, is_precious,
-    is_protected, kind_of_file, name_beside, name_kept, way_to_make,
+    Ending, Guard, Kind, Machine, Output, Recorded, Standing, Way, Why, can_go, ending_of_run,
+    is_precious, is_protected, kind_of_file, name_beside, name_kept, way_to_make,
 };
 use std::alloc::Global;
 use std::io;
@@ -471,14 +471,14 @@ fn asked(
     guard: Guard,
     ending: Ending,
 ) -> Result<(Option<Why>, String), Fail> {
-    let mut machine = Noting {
+    let mut machine = Recorded::new(Noting {
         calls: String::new(alloc),
         manners,
         made: 0,
-    };
+    });
     let why = match Output::create(&mut machine, "OUT", guard) {
         Ok(mut output) => {
-            let _ = output.write(b"text")?;
+            let _ = output.write(&mut machine, b"text")?;
             match output.end(&mut machine, ending) {
                 Ok(()) => None,
                 Err(unmade) => Some(unmade.why),
@@ -486,7 +486,7 @@ fn asked(
         }
         Err(why) => Some(why),
     };
-    let Noting { calls, .. } = machine;
+    let Noting { calls, .. } = machine.into_inner();
     Ok((why, calls))
 }
 

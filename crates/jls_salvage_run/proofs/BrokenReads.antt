@@ -52,6 +52,7 @@ cause_at_most (cause.Input f) = input_at_most f
 cause_at_most cause.PartialPicture = lit≤ tt
 cause_at_most (cause.NoPicture f offset) = lit≤ tt
 cause_at_most cause.NotRead = lit≤ tt
+cause_at_most (cause.NoList line) = lit≤ tt
 cause_at_most cause.ShapeDiffers = lit≤ tt
 cause_at_most (cause.Unsettled id line disputed) = lit≤ tt
 cause_at_most cause.TooLarge = lit≤ tt

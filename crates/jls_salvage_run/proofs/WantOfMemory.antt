@@ -26,6 +26,7 @@ line_of_memory name (cause.Input f) e = line_of_input name f e
 line_of_memory name cause.PartialPicture e = absurd (omega (arith, e))
 line_of_memory name (cause.NoPicture f offset) e = absurd (omega (arith, e))
 line_of_memory name cause.NotRead e = absurd (omega (arith, e))
+line_of_memory name (cause.NoList line) e = absurd (omega (arith, e))
 line_of_memory name cause.ShapeDiffers e = absurd (omega (arith, e))
 line_of_memory name (cause.Unsettled id line disputed) e = absurd (omega (arith, e))
 line_of_memory name cause.TooLarge e = absurd (omega (arith, e))

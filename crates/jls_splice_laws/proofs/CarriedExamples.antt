@@ -50,6 +50,7 @@ use Rattle.jls_splice_run.specs.Handing.{HandsAll, none_handed}
 use Rattle.jls_splice_run.specs.Making.{Made, IsMade, lines}
 use Rattle.jls_splice_run.specs.ReadsAs.{EachReadsAs}
 use Rattle.jls_cli.specs.Outcomes.{finished}
+use Rattle.jls_splice_run.specs.BadLists.{AreInputs}
 use Rattle.jls_splice_run.specs.Runs.{Performs, Run, came_of, done, performed, texts}
 use Rattle.jls_splice_laws.specs.CarryLaws.{AreCodingsOf, PromisesHeld}
 use Rattle.jls_splice_laws.specs.RunLaws.{DidMake}
@@ -331,7 +332,7 @@ no_marks =
 
 is_carried : IsCarried copies copies shape carried
 is_carried = record {
-  alone = λ t. none_faultless;
+  alone = (λ t. none_faultless, λ none. refl);
   are_mended = are_mended;
   shape_is = refl;
   marks_are = no_marks;
@@ -393,6 +394,10 @@ are_read = (
   ),
 )
 
+-- without lists of bad places, the copies are searched
+are_inputs : AreInputs asked copies_given copies_given reading
+are_inputs = record { reading = reading; listing = []; events_are = refl; copies_read = are_read; are_searched = (refl, refl) }
+
 abbrev writing : List Event
 writing = created (codes "o") ∷ one_by_one (text what_was_made.picture)
 
@@ -418,6 +423,7 @@ handed = record {
 did_make : DidMake words asked (reading ++ ((writing ++ []) ++ [])) report ([] ++ [])
 did_make = record {
   asks = asks;
+  copies_read = copies_given;
   copies = copies_given;
   made = what_was_made;
   reading = reading;
@@ -426,7 +432,7 @@ did_make = record {
   noting = [];
   desk_is = refl;
   faults_are = refl;
-  read = are_read;
+  read = are_inputs;
   is_made = is_made;
   told = refl;
   noted = nothing_printed;
@@ -440,14 +446,14 @@ promises_held = refl
 performs_with_0 : Performs asked 0 (reading ++ ((writing ++ []) ++ [])) report (([] ++ []) ++ [])
 performs_with_0 =
     came_of (finished true true) (reading ++ ((writing ++ []) ++ [])) report ([] ++ []) []
-    (done copies_given what_was_made true reading ((writing ++ []) ++ []) report [] [] are_read is_made refl nothing_printed handed
+    (done copies_given copies_given what_was_made true reading ((writing ++ []) ++ []) report [] [] are_inputs is_made refl nothing_printed handed
     (λ is. (refl, (refl, tt)), λ are. refl))
     nothing_printed
 
 runs_with_0 : Run words 0 (reading ++ ((writing ++ []) ++ [])) report (([] ++ []) ++ [])
 runs_with_0 =
     performed asked 0 (reading ++ ((writing ++ []) ++ [])) report (([] ++ []) ++ []) asks (λ is. absurd cc)
-    (λ is. (let e = is.1 in absurd cc)) performs_with_0
+    (λ is. (let e = is.1 in absurd cc)) refl performs_with_0
 
 -- What the promise asks for ----------------------------------------------------------------------------------------
 

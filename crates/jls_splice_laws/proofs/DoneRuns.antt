@@ -5,6 +5,7 @@ use Rattle.std.specs.Prelude.{◌↔◌, ◌⊎◌, IsTrue, IfSome, if◌then◌
 use Rattle.std.specs.List.{Contains}
 use Rattle.std.proofs.lemmas.List.{append-nil}
 use Rattle.std.proofs.lemmas.List.Elements.{Contains-append_right}
+use Rattle.std.proofs.lemmas.List.{length-map}
 use Rattle.clap.specs.Words.{Text}
 use Rattle.jls_io.specs.Event.{Event, bytes_taken, took}
 use Rattle.jls_io.specs.Writing.{AreWrites, Printed}
@@ -26,7 +27,8 @@ use Rattle.jls_splice_run.specs.Carrying.{Carried, IsCarried, are_sound, carried
 use Rattle.jls_cli.specs.SpliceAsking.{Asked, AskFor, Options, asked_with}
 use Rattle.jls_cli.specs.Outcomes.{exit_status, finished}
 use Rattle.jls_splice_run.specs.Completing.{IsCompleted}
-use Rattle.jls_splice_run.specs.Copies.{AreWhole, bytes_read}
+use Rattle.jls_splice_run.specs.BadLists.{AreInputs, AreSearched}
+use Rattle.jls_splice_run.specs.Copies.{AreWhole, bytes_read, stops_read}
 use Rattle.jls_splice_run.specs.Handing.{HandsAll}
 use Rattle.jls_splice_run.specs.Limits.{has_some}
 use Rattle.jls_splice_run.specs.Listing.{AreNamedAsked, NamedFile, is_named}
@@ -37,10 +39,10 @@ use Rattle.jls_splice_run.specs.Telling.{IsTold}
 use Rattle.jls_splice_run.specs.declared.found.Promise.{Promise}
 use Rattle.jls_splice_run.specs.declared.found.Promise.TheVariants.{Held, Picture, Lines}
 use Rattle.jls_copy_laws.proofs.Members.{none_in}
-use Rattle.jls_splice_run.specs.Runs.{Performs, came_of, no_names, at_copies, not_made, not_handed, done, texts}
-use Rattle.jls_splice_run.specs.Runs.{performed, named_twice, numbered_out, misused, helped, help_cut, nothing_begun, nothing_asked}
+use Rattle.jls_splice_run.specs.Runs.{Performs, came_of, no_names, at_copies, at_lists, not_made, not_handed, done, texts}
+use Rattle.jls_splice_run.specs.Runs.{performed, named_twice, numbered_out, no_list, misused, helped, help_cut, nothing_begun, nothing_asked}
 use Rattle.jls_splice_laws.proofs.HandedFiles.{is_named_if_few}
-use Rattle.jls_splice_laws.proofs.StoppedRuns.{copies_above, handing_above, unmade_above}
+use Rattle.jls_splice_laws.proofs.StoppedRuns.{copies_above, handing_above, lists_above, unmade_above}
 use Rattle.jls_splice_laws.specs.CutLaws.{WereCut}
 use Rattle.jls_splice_laws.specs.SplicingLaws.{SplicedCopiesGiveNoOther}
 use Rattle.jls_splice_laws.specs.RunLaws.{DidMake, DidStop, FailedReadsCauseStatus4, IsWholeSplice, SplicedRunsAreDone}
@@ -80,12 +82,13 @@ none_printed events (inl h) = none_written events h.are_writes h.they_took
 none_printed events (inr (count, h)) = let lt = h.not_all in absurd (omega (arith, lt))
 
 module _ (words : List Text) (a : Asked) (asks : AskFor words a) where
-  unfoldable pub was_done : (copies : List CopyBytes) (m : Made) (reading writing report telling noting line : List Event)
-      → AreCopiesRead a.copies copies reading → IsMade a (bytes_read copies) m → IsTold a.options.progress telling
+  unfoldable pub was_done : (read copies : List CopyBytes) (m : Made) (reading writing report telling noting line : List Event)
+      → AreInputs a read copies reading → IsMade a (bytes_read copies) m → IsTold a.options.progress telling
       → Printed (notes a (bytes_read copies) m) noting → HandsAll (texts a copies m) writing report → Printed [] line
       → DidMake words a (reading ++ writing) report ((telling ++ noting) ++ line)
-  was_done copies m reading writing report telling noting line read made told noted handed none = record {
+  was_done read copies m reading writing report telling noting line inputs made told noted handed none = record {
     asks = asks;
+    copies_read = read;
     copies = copies;
     made = m;
     reading = reading;
@@ -94,7 +97,7 @@ module _ (words : List Text) (a : Asked) (asks : AskFor words a) where
     noting = noting;
     desk_is = refl;
     faults_are = ap (λ (es : List Event). (telling ++ noting) ++ es) (none_printed line none) ∙ append-nil (telling ++ noting);
-    read = read;
+    read = inputs;
     is_made = made;
     told = told;
     noted = noted;
@@ -102,48 +105,59 @@ module _ (words : List Text) (a : Asked) (asks : AskFor words a) where
   }
 
   did_make : (status : ℕ) (desk report faults : List Event) → Performs a status desk report faults → status ≤ 1
-      → (did : DidMake words a desk report faults) × AreWhole did.copies × (status ≡ 0 ↔ IsTrue (is_of_picture (promise_on did.made)))
+      → (did : DidMake words a desk report faults) × AreWhole did.copies_read × (status ≡ 0 ↔ IsTrue (is_of_picture (promise_on did.made)))
   unfolding was_done
   did_make _ _ _ _ (came_of _ _ _ _ line (at_copies r desk stops) told) e = absurd (not_done _ (copies_above _ r desk stops) e)
-  did_make _ _ _ _ (came_of _ _ _ _ line (not_made r copies desk faults read cant tells) told) e =
+  did_make _ _ _ _ (came_of _ _ _ _ line (at_lists r read reading listing are stops) told) e =
+      absurd (not_done _ (lists_above a r listing stops) e)
+  did_make _ _ _ _ (came_of _ _ _ _ line (not_made r read copies desk faults inputs cant tells) told) e =
       absurd (not_done _ (unmade_above a copies r cant) e)
-  did_make _ _ _ _ (came_of _ _ _ _ line (not_handed r copies m reading desk report faults noting read made tells noted stops) told) e =
+  did_make _ _ _ _ (came_of _ _ _ _ line (not_handed r read copies m reading desk report faults noting inputs made tells noted stops) told) e =
       absurd (not_done _ (handing_above _ r desk report stops) e)
   did_make _ _ _ _
-      (came_of _ _ _ _ line (done copies m whole reading desk report faults noting read made tells noted handed is_read) none) e = (
-        was_done copies m reading desk report faults noting line read made tells noted handed none,
+      (came_of _ _ _ _ line (done read copies m whole reading desk report faults noting inputs made tells noted handed is_read) none) e = (
+        was_done read copies m reading desk report faults noting line inputs made tells noted handed none,
         is_read.0 (was_whole (is_of_picture (promise_on m)) whole e),
         status_is (is_of_picture (promise_on m)) whole e,
       )
   did_make _ _ _ _ (no_names faults told) e = absurd (omega (arith, e))
 
   did_fail : (status : ℕ) (desk report faults : List Event) → Performs a status desk report faults → status ≡ 4
-      → ((did : DidMake words a desk report faults) × (AreWhole did.copies → ⊥)) ⊎ DidStop a desk report faults
+      → ((did : DidMake words a desk report faults) × (AreWhole did.copies_read → ⊥)) ⊎ DidStop a desk report faults
   unfolding was_done
   did_fail _ _ _ _ (came_of _ _ _ _ line (at_copies r desk stops) told) e =
       inr (record { refusal = r; stopping = []; line = line; faults_are = refl; stopped = at_copies r desk stops; told = told })
-  did_fail _ _ _ _ (came_of _ _ _ _ line (not_made r copies desk faults read cant tells) told) e =
+  did_fail _ _ _ _ (came_of _ _ _ _ line (at_lists r read reading listing are stops) told) e =
+      inr (record {
+        refusal = r;
+        stopping = [];
+        line = line;
+        faults_are = refl;
+        stopped = at_lists r read reading listing are stops;
+        told = told;
+      })
+  did_fail _ _ _ _ (came_of _ _ _ _ line (not_made r read copies desk faults inputs cant tells) told) e =
       inr (record {
         refusal = r;
         stopping = faults;
         line = line;
         faults_are = refl;
-        stopped = not_made r copies desk faults read cant tells;
+        stopped = not_made r read copies desk faults inputs cant tells;
         told = told;
       })
-  did_fail _ _ _ _ (came_of _ _ _ _ line (not_handed r copies m reading desk report faults noting read made tells noted stops) told) e =
+  did_fail _ _ _ _ (came_of _ _ _ _ line (not_handed r read copies m reading desk report faults noting inputs made tells noted stops) told) e =
       inr (record {
         refusal = r;
         stopping = faults ++ noting;
         line = line;
         faults_are = refl;
-        stopped = not_handed r copies m reading desk report faults noting read made tells noted stops;
+        stopped = not_handed r read copies m reading desk report faults noting inputs made tells noted stops;
         told = told;
       })
   did_fail _ _ _ _
-      (came_of _ _ _ _ line (done copies m whole reading desk report faults noting read made tells noted handed is_read) none) e =
+      (came_of _ _ _ _ line (done read copies m whole reading desk report faults noting inputs made tells noted handed is_read) none) e =
       inl (
-        was_done copies m reading desk report faults noting line read made tells noted handed none,
+        was_done read copies m reading desk report faults noting line inputs made tells noted handed none,
         λ are. not_whole (is_of_picture (promise_on m)) whole e (is_read.1 are),
       )
   did_fail _ _ _ _ (no_names faults told) e = absurd (omega (arith, e))
@@ -152,11 +166,12 @@ module _ (words : List Text) (a : Asked) (asks : AskFor words a) where
   one_asked b other = let e : Some b ≡ Some a = sym other.asks ∙ asks.asks in cc
 
 pub spliced_runs_are_done : SplicedRunsAreDone
-spliced_runs_are_done words a _ _ _ _ asks (performed b status desk report faults other not_file not_numbered h) e =
+spliced_runs_are_done words a _ _ _ _ asks (performed b status desk report faults other not_file not_numbered listed h) e =
     did_make words a asks status desk report faults
     (subst (λ (x : Asked). Performs x status desk report faults) (one_asked words a asks b other) h) e
 spliced_runs_are_done words a _ _ _ _ asks (named_twice b faults other is line) e = absurd (omega (arith, e))
 spliced_runs_are_done words a _ _ _ _ asks (numbered_out b faults other not_file is line) e = absurd (omega (arith, e))
+spliced_runs_are_done words a _ _ _ _ asks (no_list b value faults other not_file not_numbered is line) e = absurd (omega (arith, e))
 spliced_runs_are_done words a _ _ _ _ asks (misused k usage faults refused is line) e = absurd (omega (arith, e))
 spliced_runs_are_done words a _ _ _ _ asks (helped k help report refused is wrote) e = absurd (refused.not_taken asks.taken)
 spliced_runs_are_done words a _ _ _ _ asks (help_cut k help count report faults refused is wrote line) e = absurd (omega (arith, e))
@@ -164,11 +179,13 @@ spliced_runs_are_done words a _ _ _ _ asks (nothing_begun faults line) e = absur
 spliced_runs_are_done words a _ _ _ _ asks (nothing_asked faults nothing line) e = absurd (omega (arith, e))
 
 pub failed_reads_cause_status_4 : FailedReadsCauseStatus4
-failed_reads_cause_status_4 words a _ _ _ _ asks (performed b status desk report faults other not_file not_numbered h) e =
+failed_reads_cause_status_4 words a _ _ _ _ asks (performed b status desk report faults other not_file not_numbered listed h) e =
     did_fail words a asks status desk report faults
     (subst (λ (x : Asked). Performs x status desk report faults) (one_asked words a asks b other) h) e
 failed_reads_cause_status_4 words a _ _ _ _ asks (named_twice b faults other is line) e = absurd (omega (arith, e))
 failed_reads_cause_status_4 words a _ _ _ _ asks (numbered_out b faults other not_file is line) e = absurd (omega (arith, e))
+failed_reads_cause_status_4 words a _ _ _ _ asks (no_list b value faults other not_file not_numbered is line) e =
+    absurd (omega (arith, e))
 failed_reads_cause_status_4 words a _ _ _ _ asks (misused k usage faults refused is line) e = absurd (omega (arith, e))
 failed_reads_cause_status_4 words a _ _ _ _ asks (helped k help report refused is wrote) e = absurd (omega (arith, e))
 failed_reads_cause_status_4 words a _ _ _ _ asks (help_cut k help count report faults refused is wrote line) e =
@@ -179,16 +196,18 @@ failed_reads_cause_status_4 words a _ _ _ _ asks (nothing_asked faults nothing l
 -- ---- what was made
 
 -- words ask for some copy
-asked_some : (o : Option Options) (out first : Option Text) (others : Option (List Text)) (a : Asked)
-    → asked_with o out first others ≡ Some a → 0 < length a.copies
-asked_some (Some o) (Some out) (Some first) (Some (second ∷ others)) a e =
-    let same : a ≡ record { options = o; out = out; copies = first ∷ second ∷ others } = cc in
+asked_some : (o : Option Options) (out first : Option Text) (others bad : List Text) (a : Asked)
+    → asked_with o out first others bad ≡ Some a → 0 < length a.copies
+asked_some (Some o) (Some out) (Some first) [] [] a e = absurd cc
+asked_some (Some o) (Some out) (Some first) [] (value ∷ bad) a e =
+    let same : a ≡ record { options = o; out = out; copies = first ∷ []; bad = value ∷ bad } = cc in
     subst (λ (x : Asked). 0 < length x.copies) (sym same) (omega arith)
-asked_some (Some o) (Some out) (Some first) (Some []) a e = absurd cc
-asked_some (Some o) (Some out) (Some first) None a e = absurd cc
-asked_some (Some o) (Some out) None others a e = absurd cc
-asked_some (Some o) None first others a e = absurd cc
-asked_some None out first others a e = absurd cc
+asked_some (Some o) (Some out) (Some first) (second ∷ others) bad a e =
+    let same : a ≡ record { options = o; out = out; copies = first ∷ second ∷ others; bad = bad } = cc in
+    subst (λ (x : Asked). 0 < length x.copies) (sym same) (omega arith)
+asked_some (Some o) (Some out) None others bad a e = absurd cc
+asked_some (Some o) None first others bad a e = absurd cc
+asked_some None out first others bad a e = absurd cc
 
 -- as many copies were read as there are names
 some_copy : (names : List (List ℕ)) (copies : List CopyBytes) (events : List Event) → AreCopiesRead names copies events → 0 < length names
@@ -197,6 +216,24 @@ some_copy [] [] events read some = some
 some_copy [] (copy ∷ copies) events read some = absurd read
 some_copy (name ∷ names) [] events read some = absurd read
 some_copy (name ∷ names) (copy ∷ copies) events read some = omega arith
+
+-- reading of what is searched stopped as that of the copies did
+pub same_stops : (values : List Text) (read searched : List CopyBytes) (listing : List Event) → AreSearched values read searched listing
+    → stops_read searched ≡ stops_read read
+same_stops [] read searched listing h = ap stops_read h.0
+same_stops (value ∷ values) read searched listing h = h.stops_are
+
+-- so they are as many
+some_searched : (a : Asked) (read searched : List CopyBytes) (events : List Event) → AreInputs a read searched events
+    → 0 < length a.copies → 0 < length (bytes_read searched)
+some_searched a read searched events h some =
+    let one = some_copy a.copies read h.reading h.copies_read some in
+    let same = ap length (same_stops a.bad read searched h.listing h.are_searched) in
+    let n = length-map read (λ (c : CopyBytes). c.bytes) in
+    let m = length-map read (λ (c : CopyBytes). c.stop) in
+    let k = length-map searched (λ (c : CopyBytes). c.bytes) in
+    let l = length-map searched (λ (c : CopyBytes). c.stop) in
+    omega (arith, one, same, n, m, k, l)
 
 -- the cut file that was taken is the one that was found
 cut_is_lone : (copies : List (List ℕ)) (f : Found) (ceiling : Option ℕ) (lone cut : Option (List ℕ)) (path : List ℕ) → cut ≡ Some path
@@ -222,7 +259,7 @@ not_alone : (copies taken : List (List ℕ)) (shape : PictureShape) (c : Carried
 not_alone copies taken shape c is file among faultless = by c.is_alone refl
   where
     by : (b : Bool) → c.is_alone ≡ b → c.is_alone ≡ false
-    by true e = absurd (is.alone e file among faultless)
+    by true e = absurd (is.alone.0 e file among faultless)
     by false e = e
 
 module _ (a : Asked) (copies taken : List (List ℕ)) (shape : PictureShape) (cut : Option (List ℕ)) (file : List ℕ)
@@ -291,7 +328,7 @@ module _ (are_faultless : WholeFilesAreFaultless) (words : List Text) (a : Asked
   IsTrueFile pic file = IsWholeSplice d.made.ceiling (bytes_read d.copies) d.made pic file
 
   copy_read : 0 < length (bytes_read d.copies)
-  copy_read = some_copy a.copies d.copies d.reading d.read (asked_some _ _ _ _ a d.asks.asks)
+  copy_read = some_searched a d.copies_read d.copies d.reading d.read (asked_some _ _ _ _ _ a d.asks.asks)
 
   module _ (enough : d.made.found.is_used_up ≡ false) (pic : WholePicture) (file : List ℕ) (is : IsTrueFile pic file) where
     abbrev copies : List (List ℕ)

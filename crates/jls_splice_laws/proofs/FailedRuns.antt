@@ -1,8 +1,8 @@
 -- Runs that end with status 4.
-use Rattle.std.proofs.Common.{◌≡◌, ◌+◌, ℕ, Bool, true, false, List, [], ◌∷◌, ◌++◌, length, Option, Some, None}
+use Rattle.std.proofs.Common.{◌≡◌, ◌+◌, ℕ, zero, suc, Bool, true, false, List, [], ◌∷◌, ◌++◌, length, Option, Some, None}
 use Rattle.std.proofs.Common.{get_or, refl, sym, ap, ◌∙◌, subst, arith, inl, inr, filter}
 use Rattle.std.specs.Prelude.{◌⊎◌, ◌||◌}
-use Rattle.std.specs.List.{AllByRecursion, list_any}
+use Rattle.std.specs.List.{AllByRecursion, list_any, slice_get}
 use Rattle.std.proofs.lemmas.Bool.{or_left, or_right}
 use Rattle.std.proofs.lemmas.List.{length-append}
 use Rattle.std.proofs.lemmas.List.Elements.{filter-append}
@@ -30,17 +30,20 @@ use Rattle.jls_cli.specs.SpliceAsking.{Asked, AskFor}
 use Rattle.jls_cli.specs.declared.outcome.Cause.{Cause}
 use Rattle.jls_cli.specs.declared.outcome.Cause.TheVariants as cause
 use Rattle.jls_cli.specs.declared.outcome.Refusal.{Refusal}
+use Rattle.jls_splice_run.specs.BadLists.{AreInputs, IsListRefused, IsStoppedBy, StopsAtLists, list_names, none_read, not_read, not_taken, no_memory}
+use Rattle.jls_splice_run.specs.BadLists.{not_whole as not_whole_list, not_understood}
 use Rattle.jls_splice_run.specs.Copies.{AreWhole, StopsAtCopies, bytes_read, cause_of, stops_read}
 use Rattle.jls_splice_run.specs.Handing.{StopsInHanding, StopsAtNumber, StopsAtSingleFile, Texts, at_file, at_files, at_output, at_report}
 use Rattle.jls_splice_run.specs.Handing.{number_cut, number_not_there}
 use Rattle.jls_splice_run.specs.Listing.{NamedFile}
 use Rattle.jls_splice_run.specs.Making.{CantMake, IsRefusedFor, is_of_picture, no_picture_cause, promise_on}
-use Rattle.jls_splice_run.specs.Runs.{Performs, came_of, no_names, at_copies, not_made, not_handed, done}
-use Rattle.jls_splice_run.specs.Runs.{performed, named_twice, numbered_out, misused, helped, help_cut, nothing_begun, nothing_asked}
-use Rattle.jls_splice_laws.specs.Failures.{StopsUnopened, StopsUnread, StopsWith4, IsToldLast, DidInPart, RunsEndWith4}
+use Rattle.jls_splice_run.specs.Runs.{Performs, came_of, no_names, at_copies, at_lists, not_made, not_handed, done}
+use Rattle.jls_splice_run.specs.Runs.{performed, named_twice, numbered_out, no_list, misused, helped, help_cut, nothing_begun, nothing_asked}
+use Rattle.jls_splice_laws.specs.Failures.{StopsAtUnopenedList, StopsAtUnreadList, StopsOverReads, StopsUnopened, StopsUnread, StopsWith4}
+use Rattle.jls_splice_laws.specs.Failures.{IsToldLast, DidInPart, RunsEndWith4}
 use Rattle.jls_splice_laws.specs.Failures.{is_failure, HadFailure, NothingElseFailed}
 use Rattle.jls_splice_laws.specs.Failures.{SplicedFailuresCauseStatus4, SplicedBrokenReadsCauseStatus4}
-use Rattle.jls_splice_laws.proofs.DoneRuns.{was_done, not_whole, one_asked}
+use Rattle.jls_splice_laws.proofs.DoneRuns.{was_done, not_whole, one_asked, same_stops}
 
 -- Why it stops ---------------------------------------------------------------------------------------------------
 
@@ -97,21 +100,68 @@ unread names stops copies splices (NoFrame f offset) r is h e = record {
         not_4 r (cause.NoPicture f offset) 3 (h.1 ∙ ap (λ (s : ReadStop). no_picture_cause s f offset) whole) refl e
         (λ x. omega (arith, x))
 
-stops_unread : (a : Asked) (copies : List CopyBytes) (r : Refusal) (desk : List Event) → AreCopiesRead a.copies copies desk
-    → CantMake a copies r → status_of_cause r.cause ≡ 4 → StopsUnread a.copies r desk
-stops_unread a copies r desk read (inl want) e = not_4 r cause.OutOfMemory 5 want.1 refl e (λ x. omega (arith, x))
-stops_unread a copies r desk read (inr (ceiling, f, found, inl want)) e =
+stops_unread : (a : Asked) (read copies : List CopyBytes) (r : Refusal) (desk : List Event) → AreInputs a read copies desk
+    → CantMake a copies r → status_of_cause r.cause ≡ 4 → StopsUnread a r desk
+stops_unread a read copies r desk inputs (inl want) e = not_4 r cause.OutOfMemory 5 want.1 refl e (λ x. omega (arith, x))
+stops_unread a read copies r desk inputs (inr (ceiling, f, found, inl want)) e =
     not_4 r cause.OutOfMemory 5 want.1 refl e (λ x. omega (arith, x))
-stops_unread a copies r desk read (inr (ceiling, f, found, inr (shape, is, refused))) e =
+stops_unread a read copies r desk inputs (inr (ceiling, f, found, inr (shape, is, refused))) e =
     let u = unread a.copies (stops_read copies) (bytes_read copies) _ shape r is refused e in
     record {
       name_is = u.name_is;
       cause_is = u.cause_is;
+      copies_read = read;
       copies = copies;
-      read = read;
-      first_in_part = u.in_part;
+      read = inputs;
+      first_in_part = subst (λ (stops : List ReadStop). get_or stops 0 Whole ≡ Whole → ⊥)
+          (same_stops a.bad read copies inputs.listing inputs.are_searched) u.in_part;
       no_frame = u.no_frame;
     }
+
+-- where all were read to their end, each was
+each_whole : (lists : List CopyBytes) (number : ℕ) (file : CopyBytes) → AreWhole lists → slice_get lists number ≡ Some file
+    → file.stop ≡ Whole
+each_whole [] number file are is = absurd cc
+each_whole (list ∷ lists) zero file are is =
+    let same : list ≡ file = cc in subst (λ (c : CopyBytes). c.stop ≡ Whole) same are.0
+each_whole (list ∷ lists) (suc number) file are is = each_whole lists number file are.1 is
+
+stops_at_list : (a : Asked) (r : Refusal) (read lists : List CopyBytes) (reading listing : List Event)
+    → AreCopiesRead a.copies read reading → AreCopiesRead (list_names a.bad) lists listing
+    → (s : IsStoppedBy (list_names a.bad) lists r)
+    → (c : Cause) → r.cause ≡ c → IsListRefused s.file c → status_of_cause r.cause ≡ 4 → StopsAtUnreadList a r (reading ++ listing)
+stops_at_list a r read lists reading listing are lists_are s _ same (not_whole_list part) e = record {
+  cause_is = same;
+  copies = read;
+  lists = lists;
+  reading = reading;
+  listing = listing;
+  desk_is = refl;
+  read = are;
+  lists_read = lists_are;
+  stopped = s;
+  in_part = λ all. part (each_whole lists s.number s.file all s.file_is);
+}
+stops_at_list a r read lists reading listing are lists_are s _ same (not_understood line whole fault) e =
+    not_4 r (cause.NoList line) 3 same refl e (λ x. omega (arith, x))
+
+stops_in_lists : (a : Asked) (r : Refusal) (read : List CopyBytes) (reading listing : List Event) → AreCopiesRead a.copies read reading
+    → StopsAtLists a r listing → status_of_cause r.cause ≡ 4
+    → StopsAtUnopenedList a r (reading ++ listing) ⊎ StopsAtUnreadList a r (reading ++ listing)
+stops_in_lists a r read reading _ are (none_read want) e = not_4 r cause.OutOfMemory 5 want.1 refl e (λ x. omega (arith, x))
+stops_in_lists a r read reading _ are (not_read listing stops) e =
+    inl (record {
+      copies = read;
+      reading = reading;
+      listing = listing;
+      desk_is = refl;
+      read = are;
+      unopened = stops_unopened (list_names a.bad) r listing stops e;
+    })
+stops_in_lists a r read reading _ are (not_taken lists listing lists_are stopped) e =
+    inr (stops_at_list a r read lists reading listing are lists_are stopped r.cause refl stopped.refused e)
+stops_in_lists a r read reading _ are (no_memory lists listing lists_are want) e =
+    not_4 r cause.OutOfMemory 5 want.1 refl e (λ x. omega (arith, x))
 
 module _ (words : List Text) (a : Asked) (asks : AskFor words a) where
   abbrev EndsWith4 : List Event → List Event → List Event → Type 0
@@ -122,38 +172,46 @@ module _ (words : List Text) (a : Asked) (asks : AskFor words a) where
       → EndsWith4 desk report faults
   unfolding was_done
   ends_with_4 _ _ _ _ (came_of _ _ _ _ line (at_copies r desk stops) told) e =
-      inr (r, ([], line, refl, told), inl (inl (stops_unopened a.copies r desk stops e), refl))
-  ends_with_4 _ _ _ _ (came_of _ _ _ _ line (not_made r copies desk faults read cant tells) told) e =
-      inr (r, (faults, line, refl, told), inl (inr (stops_unread a copies r desk read cant e), refl))
-  ends_with_4 _ _ _ _ (came_of _ _ _ _ line (not_handed r copies m reading desk report faults noting read made tells noted stops) told) e =
+      inr (r, ([], line, refl, told), inl (inl (inl (stops_unopened a.copies r desk stops e)), refl))
+  ends_with_4 _ _ _ _ (came_of _ _ _ _ line (at_lists r read reading listing are stops) told) e =
+      elim (stops_in_lists a r read reading listing are stops e) [
+        | inl s ↦ inr (r, ([], line, refl, told), inl (inl (inr s), refl))
+        | inr s ↦ inr (r, ([], line, refl, told), inl (inr (inl s), refl))
+      ]
+  ends_with_4 _ _ _ _ (came_of _ _ _ _ line (not_made r read copies desk faults inputs cant tells) told) e =
+      inr (r, (faults, line, refl, told), inl (inr (inr (stops_unread a read copies r desk inputs cant e)), refl))
+  ends_with_4 _ _ _ _
+      (came_of _ _ _ _ line (not_handed r read copies m reading desk report faults noting inputs made tells noted stops) told) e =
       inr (
         r,
         (faults ++ noting, line, refl, told),
         inr (record {
+          copies_read = read;
           copies = copies;
           made = m;
           reading = reading;
           handing = desk;
           desk_is = refl;
-          read = read;
+          read = inputs;
           is_made = made;
           stops = stops;
         }),
       )
   ends_with_4 _ _ _ _
-      (came_of _ _ _ _ line (done copies m whole reading desk report faults noting read made tells noted handed is_read) none) e =
+      (came_of _ _ _ _ line (done read copies m whole reading desk report faults noting inputs made tells noted handed is_read) none) e =
       inl (
-        was_done words a asks copies m reading desk report faults noting line read made tells noted handed none,
+        was_done words a asks read copies m reading desk report faults noting line inputs made tells noted handed none,
         λ are. not_whole (is_of_picture (promise_on m)) whole e (is_read.1 are),
       )
   ends_with_4 _ _ _ _ (no_names faults told) e = absurd (omega (arith, e))
 
 pub runs_end_with_4 : RunsEndWith4
-runs_end_with_4 words a _ _ _ _ asks (performed b status desk report faults other not_file not_numbered h) e =
+runs_end_with_4 words a _ _ _ _ asks (performed b status desk report faults other not_file not_numbered listed h) e =
     ends_with_4 words a asks status desk report faults
     (subst (λ (x : Asked). Performs x status desk report faults) (one_asked words a asks b other) h) e
 runs_end_with_4 words a _ _ _ _ asks (named_twice b faults other is line) e = absurd (omega (arith, e))
 runs_end_with_4 words a _ _ _ _ asks (numbered_out b faults other not_file is line) e = absurd (omega (arith, e))
+runs_end_with_4 words a _ _ _ _ asks (no_list b value faults other not_file not_numbered is line) e = absurd (omega (arith, e))
 runs_end_with_4 words a _ _ _ _ asks (misused k usage faults refused is line) e = absurd (omega (arith, e))
 runs_end_with_4 words a _ _ _ _ asks (helped k help report refused is wrote) e = absurd (omega (arith, e))
 runs_end_with_4 words a _ _ _ _ asks (help_cut k help count report faults refused is wrote line) e = absurd (refused.not_taken asks.taken)
@@ -217,6 +275,12 @@ failed_in_part (name ∷ names) (c ∷ copies) events (mine, more, e, is, rest) 
           (failed_right (opened name ∷ []) is.reads (read_in_part IsTextPrefix is.reads c.bytes c.stop is.is_read part)))
     ])
 
+inputs_in_part : (a : Asked) (read searched : List CopyBytes) (events : List Event) → AreInputs a read searched events
+    → (AreWhole read → ⊥) → HadFailure events
+inputs_in_part a read searched events h not =
+    failed_as events (h.reading ++ h.listing) h.events_are
+    (failed_left h.reading h.listing (failed_in_part a.copies read h.reading h.copies_read not))
+
 first_not_whole : (copies : List CopyBytes) → (get_or (stops_read copies) 0 Whole ≡ Whole → ⊥) → AreWhole copies → ⊥
 first_not_whole [] not are = not refl
 first_not_whole (c ∷ copies) not are = not are.0
@@ -257,10 +321,19 @@ unopened_failed names r desk h =
     failed_as desk (h.reading ++ not_opened r.name.now ∷ []) h.desk_is
     (failed_right h.reading (not_opened r.name.now ∷ []) (inl refl))
 
+over_reads_failed : (a : Asked) (r : Refusal) (desk : List Event) → StopsOverReads a r desk → HadFailure desk
+over_reads_failed a r desk (inl h) =
+    failed_as desk (h.reading ++ h.listing) h.desk_is
+    (failed_right h.reading h.listing (failed_in_part (list_names a.bad) h.lists h.listing h.lists_read h.in_part))
+over_reads_failed a r desk (inr h) =
+    inputs_in_part a h.copies_read h.copies desk h.read (first_not_whole h.copies_read h.first_in_part)
+
 stops_failed : (a : Asked) (r : Refusal) (desk report : List Event) → StopsWith4 a r desk report → HadFailure desk ⊎ HadFailure report
-stops_failed a r desk report (inl (inl h, none)) = inl (unopened_failed a.copies r desk h)
-stops_failed a r desk report (inl (inr h, none)) =
-    inl (failed_in_part a.copies h.copies desk h.read (first_not_whole h.copies h.first_in_part))
+stops_failed a r desk report (inl (inl (inl h), none)) = inl (unopened_failed a.copies r desk h)
+stops_failed a r desk report (inl (inl (inr h), none)) =
+    inl (failed_as desk (h.reading ++ h.listing) h.desk_is
+    (failed_right h.reading h.listing (unopened_failed (list_names a.bad) r h.listing h.unopened)))
+stops_failed a r desk report (inl (inr h, none)) = inl (over_reads_failed a r desk h)
 stops_failed a r desk report (inr h) =
     elim (handing_failed _ r h.handing report h.stops) [
       | inl f ↦ inl (failed_as desk (h.reading ++ h.handing) h.desk_is (failed_right h.reading h.handing f))
@@ -271,7 +344,7 @@ pub failures_cause_status_4 : SplicedFailuresCauseStatus4
 failures_cause_status_4 words a status desk report faults asks run e =
     elim (runs_end_with_4 words a status desk report faults asks run e) [
       | inl (did, part) ↦ inl (failed_as desk (did.reading ++ did.writing) did.desk_is
-          (failed_left did.reading did.writing (failed_in_part a.copies did.copies did.reading did.read part)))
+          (failed_left did.reading did.writing (inputs_in_part a did.copies_read did.copies did.reading did.read part)))
       | inr (r, told, stops) ↦ stops_failed a r desk report stops
     ]
 
@@ -319,8 +392,11 @@ not_unopened names r desk h fine =
     (parts_fine h.reading (not_opened r.name.now ∷ []) (subst NothingElseFailed h.desk_is fine)).1 in cc
 
 only_unread : (a : Asked) (r : Refusal) (desk report : List Event) → StopsWith4 a r desk report → NothingElseFailed desk
-    → NothingElseFailed report → StopsUnread a.copies r desk × (report ≡ [])
-only_unread a r desk report (inl (inl h, none)) fine quiet = absurd (not_unopened a.copies r desk h fine)
+    → NothingElseFailed report → StopsOverReads a r desk × (report ≡ [])
+only_unread a r desk report (inl (inl (inl h), none)) fine quiet = absurd (not_unopened a.copies r desk h fine)
+only_unread a r desk report (inl (inl (inr h), none)) fine quiet =
+    absurd (not_unopened (list_names a.bad) r h.listing h.unopened
+    (parts_fine h.reading h.listing (subst NothingElseFailed h.desk_is fine)).1)
 only_unread a r desk report (inl (inr h, none)) fine quiet = (h, none)
 only_unread a r desk report (inr h) fine quiet =
     absurd (not_in_handing _ r h.handing report h.stops

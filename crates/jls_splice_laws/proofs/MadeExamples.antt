@@ -49,6 +49,7 @@ use Rattle.jls_cli.specs.Outcomes.{finished}
 use Rattle.jls_cli.specs.SpliceAsking.{Asked, AskFor}
 use Rattle.jls_splice_run.specs.Handing.{HandsAll, none_handed}
 use Rattle.jls_splice_run.specs.Making.{Made, IsMade, lines}
+use Rattle.jls_splice_run.specs.BadLists.{AreInputs}
 use Rattle.jls_splice_run.specs.Runs.{Performs, Run, came_of, done, performed, texts}
 use Rattle.jls_splice_laws.specs.RunLaws.{DidMake}
 use Rattle.jls_splice_laws.proofs.FaultlessExamples.{file_is_faultless, no_soi, has_fault_there}
@@ -240,6 +241,7 @@ asked = record {
   options = record { source = None; tries = 4096; ceiling = None; progress = false; file = None; files = None };
   out = codes "o";
   copies = codes "a" ∷ codes "b" ∷ [];
+  bad = [];
 }
 
 pub asks : AskFor words asked
@@ -293,6 +295,10 @@ are_read = (
     refl,
   ),
 )
+
+-- without lists of bad places, the copies are searched
+are_inputs : AreInputs asked copies copies reading
+are_inputs = record { reading = reading; listing = []; events_are = refl; copies_read = are_read; are_searched = (refl, refl) }
 
 abbrev what_was_made : Made
 what_was_made = record {
@@ -359,6 +365,7 @@ nothing_printed = inl (record { are_writes = tt; they_took = refl })
 pub did_make : DidMake words asked (reading ++ ((writing ++ []) ++ [])) report ([] ++ [])
 did_make = record {
   asks = asks;
+  copies_read = copies;
   copies = copies;
   made = what_was_made;
   reading = reading;
@@ -367,7 +374,7 @@ did_make = record {
   noting = [];
   desk_is = refl;
   faults_are = refl;
-  read = are_read;
+  read = are_inputs;
   is_made = is_made;
   told = refl;
   noted = nothing_printed;
@@ -378,11 +385,11 @@ did_make = record {
 performs_with_0 : Performs asked 0 (reading ++ ((writing ++ []) ++ [])) report (([] ++ []) ++ [])
 performs_with_0 =
     came_of (finished true true) (reading ++ ((writing ++ []) ++ [])) report ([] ++ []) []
-    (done copies what_was_made true reading ((writing ++ []) ++ []) report [] [] are_read is_made refl nothing_printed handed
+    (done copies copies what_was_made true reading ((writing ++ []) ++ []) report [] [] are_inputs is_made refl nothing_printed handed
     (λ is. (refl, (refl, tt)), λ are. refl))
     nothing_printed
 
 pub runs_with_0 : Run words 0 (reading ++ ((writing ++ []) ++ [])) report (([] ++ []) ++ [])
 runs_with_0 =
     performed asked 0 (reading ++ ((writing ++ []) ++ [])) report (([] ++ []) ++ []) asks (λ is. absurd cc)
-    (λ is. (let e = is.1 in absurd cc)) performs_with_0
+    (λ is. (let e = is.1 in absurd cc)) refl performs_with_0

@@ -16,6 +16,8 @@ use Rattle.jls_cli.specs.SpliceAsking.{Asked}
 use Rattle.jls_cli.specs.declared.outcome.Cause.{Cause}
 use Rattle.jls_cli.specs.declared.outcome.Cause.TheVariants as cause
 use Rattle.jls_cli.specs.declared.outcome.Refusal.{Refusal}
+use Rattle.jls_splice_run.specs.BadLists.{IsListRefused, StopsAtLists, list_names, none_read, not_read, not_taken, no_memory}
+use Rattle.jls_splice_run.specs.BadLists.{not_whole, not_understood}
 use Rattle.jls_splice_run.specs.Copies.{StopsAtCopies, cause_of, stops_read}
 use Rattle.jls_splice_run.specs.Handing.{StopsAtSingleFile, StopsAtNumber, StopsInHanding, Texts, at_file, at_files, at_output, at_report}
 use Rattle.jls_splice_run.specs.Handing.{number_cut, number_not_there}
@@ -48,6 +50,16 @@ refused_above names stops (NoFrame f offset) r h =
 
 memory_above : (a : Asked) (r : Refusal) → IsWantOfMemory a r → 1 < status_of_cause r.cause
 memory_above a r h = above_1 r cause.OutOfMemory h.1 (omega arith)
+
+list_above : (file : CopyBytes) (c : Cause) → IsListRefused file c → 1 < status_of_cause c
+list_above file _ (not_whole part) = omega arith
+list_above file _ (not_understood line whole fault) = omega arith
+
+pub lists_above : (a : Asked) (r : Refusal) (events : List Event) → StopsAtLists a r events → 1 < status_of_cause r.cause
+lists_above a r _ (none_read want) = memory_above a r want
+lists_above a r _ (not_read events stops) = copies_above (list_names a.bad) r events stops
+lists_above a r _ (not_taken lists events are stopped) = list_above stopped.file r.cause stopped.refused
+lists_above a r _ (no_memory lists events are want) = memory_above a r want
 
 pub unmade_above : (a : Asked) (copies : List CopyBytes) (r : Refusal) → CantMake a copies r → 1 < status_of_cause r.cause
 unmade_above a copies r (inl want) = memory_above a r want

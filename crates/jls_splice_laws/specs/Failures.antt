@@ -11,6 +11,7 @@ use Rattle.jls_cli.specs.FaultLines.{fault_line}
 use Rattle.jls_cli.specs.SpliceAsking.{Asked, AskFor}
 use Rattle.jls_cli.specs.declared.outcome.Cause.TheVariants as cause
 use Rattle.jls_cli.specs.declared.outcome.Refusal.{Refusal}
+use Rattle.jls_splice_run.specs.BadLists.{AreInputs, IsStoppedBy, list_names}
 use Rattle.jls_splice_run.specs.Copies.{AreWhole, bytes_read, stops_read}
 use Rattle.jls_splice_run.specs.FaultLines.{program}
 use Rattle.jls_splice_run.specs.Handing.{StopsInHanding}
@@ -31,31 +32,60 @@ pub record StopsUnopened (names : List Text) (r : Refusal) (desk : List Event) :
   pub read : AreCopiesRead before copies reading
   pub desk_is : desk ≡ reading ++ not_opened r.name.now ∷ []
 
--- all copies were read, and the first of them not to its end. In what was read of them no copy has a frame. Nothing else was done
-pub record StopsUnread (names : List Text) (r : Refusal) (desk : List Event) : Type 0 where
-  pub name_is : r.name.now ≡ get_or names 0 []
+-- the copies were read, and then a list of bad places was not opened
+pub record StopsAtUnopenedList (a : Asked) (r : Refusal) (desk : List Event) : Type 0 where
+  pub copies : List CopyBytes
+  pub reading : List Event
+  pub listing : List Event
+  pub desk_is : desk ≡ reading ++ listing
+  pub read : AreCopiesRead a.copies copies reading
+  pub unopened : StopsUnopened (list_names a.bad) r listing
+
+-- the copies were read, and the lists of bad places. The first that isn't taken was not read to its end, and has the name
+pub record StopsAtUnreadList (a : Asked) (r : Refusal) (desk : List Event) : Type 0 where
   pub cause_is : r.cause ≡ cause.NotRead
   pub copies : List CopyBytes
-  pub read : AreCopiesRead names copies desk
-  pub first_in_part : get_or (stops_read copies) 0 Whole ≡ Whole → ⊥
+  pub lists : List CopyBytes
+  pub reading : List Event
+  pub listing : List Event
+  pub desk_is : desk ≡ reading ++ listing
+  pub read : AreCopiesRead a.copies copies reading
+  pub lists_read : AreCopiesRead (list_names a.bad) lists listing
+  pub stopped : IsStoppedBy (list_names a.bad) lists r
+  pub in_part : AreWhole lists → ⊥
+
+-- all was read, and the first of the copies not to its end. In what is searched no copy has a frame. Nothing else was done
+pub record StopsUnread (a : Asked) (r : Refusal) (desk : List Event) : Type 0 where
+  pub name_is : r.name.now ≡ get_or a.copies 0 []
+  pub cause_is : r.cause ≡ cause.NotRead
+  pub copies_read : List CopyBytes
+  pub copies : List CopyBytes
+  pub read : AreInputs a copies_read copies desk
+  pub first_in_part : get_or (stops_read copies_read) 0 Whole ≡ Whole → ⊥
   pub no_frame : AllByRecursion HasNoFrame (bytes_read copies)
 
--- all copies were read, and something was made of them. The report output, OUT, the output of `--file` or one of `--files` can't be created
+-- all was read, and something was made of what is searched. The report output, OUT, the output of `--file` or one of `--files` can't be created
 -- or written, and those before it, in this order, were handed all that is theirs
 pub record StopsAtAnOutput (a : Asked) (r : Refusal) (desk report : List Event) : Type 0 where
+  pub copies_read : List CopyBytes
   pub copies : List CopyBytes
   pub made : Made
   pub reading : List Event
   pub handing : List Event
   pub desk_is : desk ≡ reading ++ handing
-  pub read : AreCopiesRead a.copies copies reading
+  pub read : AreInputs a copies_read copies reading
   pub is_made : IsMade a (bytes_read copies) made
   pub stops : StopsInHanding (texts a copies made) r handing report
+
+-- reads alone stop a run: of a list, or of the first copy where no copy has a frame
+abbrev pub StopsOverReads : Asked → Refusal → List Event → Type 0
+StopsOverReads a r desk = StopsAtUnreadList a r desk ⊎ StopsUnread a r desk
 
 -- a run stops for one of these reasons. Only at an output is anything printed or handed out
 abbrev pub StopsWith4 : Asked → Refusal → List Event → List Event → Type 0
 StopsWith4 a r desk report =
-    ((StopsUnopened a.copies r desk ⊎ StopsUnread a.copies r desk) × (report ≡ [])) ⊎ StopsAtAnOutput a r desk report
+    (((StopsUnopened a.copies r desk ⊎ StopsAtUnopenedList a r desk) ⊎ StopsOverReads a r desk) × (report ≡ []))
+    ⊎ StopsAtAnOutput a r desk report
 
 -- the line of a refusal is the last on the fault output
 abbrev pub IsToldLast : Refusal → List Event → Type 0
@@ -64,7 +94,7 @@ IsToldLast r faults =
 
 -- it was done with all that was read, though some copy was not read to its end
 abbrev pub DidInPart : List Text → Asked → List Event → List Event → List Event → Type 0
-DidInPart words a desk report faults = (did : DidMake words a desk report faults) × (AreWhole did.copies → ⊥)
+DidInPart words a desk report faults = (did : DidMake words a desk report faults) × (AreWhole did.copies_read → ⊥)
 
 -- The words ask for something, and the run ends with status 4. Then it was done with all that was read; or it stopped for one of the
 -- reasons, which is told
@@ -94,11 +124,11 @@ SplicedFailuresCauseStatus4 =
     (words : List Text) (a : Asked) (status : ℕ) (desk report faults : List Event) → AskFor words a
     → Run words status desk report faults → status ≡ 4 → HadFailure desk ⊎ HadFailure report
 
--- Where nothing failed but reads, it was done with all that was read. Or the first copy was not read to its end, no copy has a frame in
--- what was read, and nothing was handed out
+-- Where nothing failed but reads, it was done with all that was read. Or reads stopped it: a list of bad places was not read to its end; or
+-- the first copy was not, and no copy has a frame in what is searched. Then nothing was handed out
 abbrev pub SplicedBrokenReadsCauseStatus4 : Type 0
 SplicedBrokenReadsCauseStatus4 =
     (words : List Text) (a : Asked) (status : ℕ) (desk report faults : List Event) → AskFor words a
     → Run words status desk report faults → status ≡ 4 → NothingElseFailed desk → NothingElseFailed report
     → DidInPart words a desk report faults
-    ⊎ ((r : Refusal) × IsToldLast r faults × StopsUnread a.copies r desk × (report ≡ []))
+    ⊎ ((r : Refusal) × IsToldLast r faults × StopsOverReads a r desk × (report ≡ []))

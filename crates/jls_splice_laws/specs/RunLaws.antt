@@ -8,12 +8,13 @@ use Rattle.jls_write.specs.Picture.{WholePicture, picture_of}
 use Rattle.jls_write.specs.WholePictures.{IsPicture}
 use Rattle.jls_diff.specs.Parts.{IsSplice}
 use Rattle.jls_search.specs.Faultless.{IsWithin}
-use Rattle.jls_station.specs.CopyFiles.{CopyBytes, AreCopiesRead}
+use Rattle.jls_station.specs.CopyFiles.{CopyBytes}
 use Rattle.jls_splice_laws.specs.CutLaws.{WereCut}
 use Rattle.jls_splice_laws.specs.WholeFiles.{IsWholeFile}
 use Rattle.jls_cli.specs.FaultLines.{fault_line}
 use Rattle.jls_cli.specs.SpliceAsking.{Asked, AskFor}
 use Rattle.jls_cli.specs.declared.outcome.Refusal.{Refusal}
+use Rattle.jls_splice_run.specs.BadLists.{AreInputs}
 use Rattle.jls_splice_run.specs.Completing.{IsCompleted}
 use Rattle.jls_splice_run.specs.Copies.{AreWhole, bytes_read}
 use Rattle.jls_splice_run.specs.FaultLines.{program}
@@ -27,10 +28,12 @@ use Rattle.jls_splice_run.specs.Telling.{IsTold}
 
 -- ---- runs
 
--- The words ask for this, and it was done: the copies were read, this was made of them, and all of it was handed out. The fault output has
--- how far the searches were, if that is asked for. Where OUT is standard output, what was found stands there too, up to a write that fails
+-- The words ask for this, and it was done: copies were read, this was made of those that are searched, and all of it was handed out. Without
+-- lists of bad places these are the same. The fault output has how far the searches were, if that is asked for. Where OUT is standard
+-- output, what was found stands there too, up to a write that fails
 pub record DidMake (words : List Text) (a : Asked) (desk report faults : List Event) : Type 0 where
   pub asks : AskFor words a
+  pub copies_read : List CopyBytes
   pub copies : List CopyBytes
   pub made : Made
   pub reading : List Event
@@ -39,7 +42,7 @@ pub record DidMake (words : List Text) (a : Asked) (desk report faults : List Ev
   pub noting : List Event
   pub desk_is : desk ≡ reading ++ writing
   pub faults_are : faults ≡ telling ++ noting
-  pub read : AreCopiesRead a.copies copies reading
+  pub read : AreInputs a copies_read copies reading
   pub is_made : IsMade a (bytes_read copies) made
   pub told : IsTold a.options.progress telling
   pub noted : Printed (notes a (bytes_read copies) made) noting
@@ -60,7 +63,7 @@ abbrev pub SplicedRunsAreDone : Type 0
 SplicedRunsAreDone =
     (words : List Text) (a : Asked) (status : ℕ) (desk report faults : List Event) → AskFor words a
     → Run words status desk report faults → status ≤ 1
-    → (did : DidMake words a desk report faults) × AreWhole did.copies
+    → (did : DidMake words a desk report faults) × AreWhole did.copies_read
     × (status ≡ 0 ↔ IsTrue (is_of_picture (promise_on did.made)))
 
 -- If it ends with status 4, it was done too, and a copy was not read to its end; or something stopped it
@@ -68,7 +71,7 @@ abbrev pub FailedReadsCauseStatus4 : Type 0
 FailedReadsCauseStatus4 =
     (words : List Text) (a : Asked) (status : ℕ) (desk report faults : List Event) → AskFor words a
     → Run words status desk report faults → status ≡ 4
-    → ((did : DidMake words a desk report faults) × (AreWhole did.copies → ⊥)) ⊎ DidStop a desk report faults
+    → ((did : DidMake words a desk report faults) × (AreWhole did.copies_read → ⊥)) ⊎ DidStop a desk report faults
 
 -- ---- what was made
 

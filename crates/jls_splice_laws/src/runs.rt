@@ -16,8 +16,9 @@ pub fn spliced_runs_are_done()
 {}
 
 /// A law: the words of `jls-splice` ask for something, and the run ends with status 4. Then what they ask for was done with all that was
-/// read, though some copy was not read to its end. Or the run stopped, and its last line says why. Either a copy was not opened; or the
-/// first copy was not read to its end, and no copy has a frame in what was read; or an output can't be created or written. This is the
+/// read, though some copy was not read to its end. Or the run stopped, and its last line says why. Either a copy or a list of bad places
+/// was not opened; or a list was not read to its end; or the first copy was not, and no copy has a frame in what is searched; or an output
+/// can't be created or written. This is the
 /// report output, OUT, that of `--file` or one of `--files`, and those before it have all that is theirs. So something failed, or as many
 /// reads were made as one copy can have. Where nothing failed but reads, no output stopped the run, and each copy was opened.
 pub fn spliced_runs_end_with_4()

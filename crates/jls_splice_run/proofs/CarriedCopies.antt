@@ -28,6 +28,24 @@ pub none_is_faultless : (files : List (List ℕ)) (verdicts : List Bool) → Are
     → AllByRecursion (λ v. v ≡ false) verdicts → (file : List ℕ) → Contains files file → IsFaultless file → ⊥
 none_is_faultless files verdicts h none file (k, within, at) f = none_at files verdicts h none k file within at f
 
+-- one is, if some verdict says so
+one_is_faultless : (files : List (List ℕ)) (verdicts : List Bool) → AreVerdicts files verdicts → Contains verdicts true
+    → (file : List ℕ) × Contains files file × IsFaultless file
+one_is_faultless [] [] h (k, within, at) = absurd (omega (arith, within))
+one_is_faultless [] (v ∷ vs) h c = absurd h
+one_is_faultless (x ∷ xs) [] h c = absurd h
+one_is_faultless (x ∷ xs) (v ∷ vs) h (zero, within, at) = (x, (0, omega arith, refl), h.0.0 at)
+one_is_faultless (x ∷ xs) (v ∷ vs) h (suc k, within, at) =
+    let one = one_is_faultless xs vs h.1 (k, omega (arith, within), at) in
+    let place = one.1 in (one.0, (suc place.0, omega (arith, place.1), place.2), one.2)
+
+-- so if none is, it was found that none is
+pub found_none : (files : List (List ℕ)) (verdicts : List Bool) → AreVerdicts files verdicts → (is_none : Bool)
+    → (is_none ≡ false → Contains verdicts true) → ((file : List ℕ) → Contains files file → IsFaultless file → ⊥) → is_none ≡ true
+found_none files verdicts h true some none = refl
+found_none files verdicts h false some none =
+    let one = one_is_faultless files verdicts h (some refl) in absurd (none one.0 one.1 one.2)
+
 -- numbers of few copies can be printed, counted from 1
 printed_each : (copies : List (List ℕ)) (bytes : List ℕ) → length copies < 2 ^ 64 → (coding : List EditedCopy)
     → AllByRecursion (IsEditedTo copies bytes) coding → AllByRecursion HasPrintedNumber coding

@@ -38,6 +38,7 @@ report = record {
   files = Some 2;
   is_eoi_added = false;
   lacks_single_file = false;
+  has_lists = false;
   promise = Held;
 }
 
@@ -65,13 +66,16 @@ record CarryingExamples : Type 0 where
       ≡ record { name = codes "part-1"; bytes = codes "one" } ∷ record { name = codes "part-2"; bytes = codes "other" } ∷ []
   not_asked : carried_files None (one ∷ other ∷ []) ≡ []
   sixty_four : length (carried_files (Some (codes "part")) (replicate 65 one)) ≡ 64
-  its_line : promise_line Held
+  its_line_without_bad : promise_line true Held
+      ≡ codes "promise picture if copies of one coding are of one file of it, true outside of their differs, there as long as printed, "
+      ++ codes "with the marker segments of the mended file (copies are without their bad places)\n"
+  its_line : promise_line false Held
       ≡ codes "promise picture if copies of one coding are of one file of it, true outside of their differs, there as long as printed, "
       ++ codes "with the marker segments of the mended file\n"
   -- of four copies the third agrees with no other, and the fourth is left out
   text : carried_text two 4 codings (2 ∷ []) report
       ≡ codes "differ 2 1\ndiffer 4 0\nsplices 0\nby groups 1\ncoding 1, copies 1\ncoding 2, copies 2\n"
-      ++ codes "copy 3 agrees with no other\ncopy 4 left out\ncopy 2 differs 12 2 1\nfiles 2\n" ++ promise_line Held
+      ++ codes "copy 3 agrees with no other\ncopy 4 left out\ncopy 2 differs 12 2 1\nfiles 2\n" ++ promise_line false Held
   noted : carried_noted_text 4 codings (2 ∷ []) (record report { promise = Lines })
       ≡ codes "jls-splice: splices 0\njls-splice: by groups 1\njls-splice: coding 1, copies 1\njls-splice: coding 2, copies 2\n"
       ++ codes "jls-splice: copy 3 agrees with no other\njls-splice: copy 4 left out\njls-splice: copy 2 differs 12 2 1\n"
@@ -96,6 +100,7 @@ carrying_examples = record {
   both_files = rw (d1, d2) refl;
   not_asked = refl;
   sixty_four = refl;
+  its_line_without_bad = refl;
   its_line = refl;
   text = rw (d0, d1, d2, d3, d4, d12) refl;
   noted = rw (d0, d1, d2, d3, d4, d12) refl;

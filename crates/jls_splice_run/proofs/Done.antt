@@ -1,7 +1,8 @@
 -- What comes of what was asked, put together.
-use Rattle.std.proofs.Common.{◌≡◌, ℕ, Bool, suc, List, [], ◌∷◌, ◌++◌, Err, length, refl, sym, ap, ◌∙◌, subst}
+use Rattle.std.proofs.Common.{◌≡◌, ℕ, Bool, suc, List, [], ◌∷◌, ◌++◌, Err, length, refl, sym, ap, ◌∙◌, subst, arith}
 use Rattle.std.specs.Prelude.{◌↔◌, IsTrue}
-use Rattle.std.proofs.lemmas.List.{append-nil}
+use Rattle.std.proofs.lemmas.List.{append-nil, length-map}
+use Rattle.clap.specs.Words.{Text}
 use Rattle.jls_io.specs.Event.{Event, History, GrewBy, GrewBoth}
 use Rattle.jls_io.specs.Writing.{Printed}
 use Rattle.jls_io.proofs.Growing.{grew_twice}
@@ -9,12 +10,13 @@ use Rattle.jls_station.specs.CopyFiles.{AreCopiesRead, CopyBytes}
 use Rattle.jls_cli.specs.SpliceAsking.{Asked}
 use Rattle.jls_cli.specs.Outcomes.{Outcome, finished}
 use Rattle.jls_cli.specs.declared.outcome.Refusal.{Refusal}
+use Rattle.jls_splice_run.specs.BadLists.{AreInputs, AreSearched, StopsAtLists}
 use Rattle.jls_splice_run.specs.Copies.{AreWhole, bytes_read, StopsAtCopies}
 use Rattle.jls_splice_run.specs.Handing.{HandsAll, StopsInHanding, Texts}
 use Rattle.jls_splice_run.specs.Listing.{prefix_in}
 use Rattle.jls_splice_run.specs.Making.{AreTextsOf, CantMake, HoldsMade, Made, is_of_picture, notes}
 use Rattle.jls_splice_run.specs.Telling.{IsTold}
-use Rattle.jls_splice_run.specs.Runs.{GrewAll, Splices, at_copies, done, not_handed, not_made, texts, texts_held}
+use Rattle.jls_splice_run.specs.Runs.{GrewAll, Splices, at_copies, at_lists, done, not_handed, not_made, texts, texts_held}
 use Rattle.jls_splice_run.specs.declared.found.Promise.{Promise}
 use Rattle.jls_splice_run.specs.declared.made.Made.{Made as MadeValue}
 
@@ -25,6 +27,31 @@ read_count [] [] events h = refl
 read_count [] (c ∷ cs) events h = absurd h
 read_count (n ∷ ns) [] events h = absurd h
 read_count (n ∷ ns) (c ∷ cs) events h = ap suc (read_count ns cs h.1 h.4)
+
+-- the copies were read, and then what is searched was made of them
+pub inputs_of : (a : Asked) (read copies : List CopyBytes) (desk mid after : History) → GrewBy (AreCopiesRead a.copies read) desk mid
+    → GrewBy (AreSearched a.bad read copies) mid after → GrewBy (AreInputs a read copies) desk after
+inputs_of a read copies desk mid after h k = record {
+  events = h.events ++ k.events;
+  grew = grew_twice desk mid after h.events k.events h.grew k.grew;
+  they_are = record {
+    reading = h.events;
+    listing = k.events;
+    events_are = refl;
+    copies_read = h.they_are;
+    are_searched = k.they_are;
+  };
+}
+
+-- what is searched are as many copies
+pub searched_count : (values : List Text) (read copies : List CopyBytes) (events : List Event) → AreSearched values read copies events
+    → length read ≡ length copies
+searched_count [] read copies events h = ap length (sym h.0)
+searched_count (value ∷ values) read copies events h =
+    let same = ap length h.stops_are in
+    let n = length-map read (λ (c : CopyBytes). c.stop) in
+    let m = length-map copies (λ (c : CopyBytes). c.stop) in
+    omega (arith, same, n, m)
 
 -- the texts that the code holds
 texts_are : (a : Asked) (copies : List CopyBytes) (m : Made) (v : MadeValue) → AreTextsOf a (bytes_read copies) m v
@@ -52,7 +79,19 @@ module _ (a : Asked) (desk mid report faults : History) where
     they_are = at_copies r h.events h.they_are;
   }
 
-  module _ (faults' : History) (copies : List CopyBytes) (read : GrewBy (AreCopiesRead a.copies copies) desk mid) where
+  pub stops_at_lists : {after : History} (r : Refusal) (read : List CopyBytes) → GrewBy (AreCopiesRead a.copies read) desk mid
+      → GrewBy (StopsAtLists a r) mid after → GrewAll (Splices a (Err r)) desk after report report faults faults
+  stops_at_lists {after} r read h k = record {
+    desk_events = h.events ++ k.events;
+    report_events = [];
+    fault_events = [];
+    desk_is = grew_twice desk mid after h.events k.events h.grew k.grew;
+    report_is = sym (append-nil report);
+    faults_are = sym (append-nil faults);
+    they_are = at_lists r read h.events k.events h.they_are k.they_are;
+  }
+
+  module _ (faults' : History) (read_copies copies : List CopyBytes) (read : GrewBy (AreInputs a read_copies copies) desk mid) where
     pub stops_unmade : {held : List CopyBytes} (r : Refusal) → held ≡ copies → CantMake a held r
         → GrewBy (IsTold a.options.progress) faults faults' → GrewAll (Splices a (Err r)) desk mid report report faults faults'
     stops_unmade r held_are cant told = record {
@@ -62,7 +101,7 @@ module _ (a : Asked) (desk mid report faults : History) where
       desk_is = read.grew;
       report_is = sym (append-nil report);
       faults_are = told.grew;
-      they_are = not_made r copies read.events told.events read.they_are (subst (λ z. CantMake a z r) held_are cant) told.they_are;
+      they_are = not_made r read_copies copies read.events told.events read.they_are (subst (λ z. CantMake a z r) held_are cant) told.they_are;
     }
 
     module _ (new report' last : History) (v : MadeValue) {held : List CopyBytes} (held_are : held ≡ copies)
@@ -93,15 +132,15 @@ module _ (a : Asked) (desk mid report faults : History) where
           → GrewAll (Splices a (Err r)) desk new report report' faults last
       stops_in_handing r =
           handed (StopsInHanding (texts_held a v) r) (Err r)
-          (λ events reported stops. not_handed r copies made.0 read.events events reported told.events noted.events read.they_are made.1
+          (λ events reported stops. not_handed r read_copies copies made.0 read.events events reported told.events noted.events read.they_are made.1
           told.they_are its_notes
           (subst (λ (t : Texts). StopsInHanding t r events reported) (texts_are a copies made.0 v made.2) stops))
 
-      pub is_done : (whole : Bool) → (IsTrue whole ↔ AreWhole copies) → GrewBoth (HandsAll (texts_held a v)) mid new report report'
+      pub is_done : (whole : Bool) → (IsTrue whole ↔ AreWhole read_copies) → GrewBoth (HandsAll (texts_held a v)) mid new report report'
           → GrewAll (Splices a (finished (is_of_picture v.promise) whole)) desk new report report' faults last
       is_done whole whole_is =
           handed (HandsAll (texts_held a v)) (finished (is_of_picture v.promise) whole)
           (λ events reported all. subst (λ (p : Promise). Splices a (finished (is_of_picture p) whole) (read.events ++ events) reported
           (told.events ++ noted.events)) (sym made.2.promise_is)
-          (done copies made.0 whole read.events events reported told.events noted.events read.they_are made.1 told.they_are its_notes
+          (done read_copies copies made.0 whole read.events events reported told.events noted.events read.they_are made.1 told.they_are its_notes
           (subst (λ (t : Texts). HandsAll t events reported) (texts_are a copies made.0 v made.2) all) whole_is))

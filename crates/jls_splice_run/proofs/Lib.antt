@@ -10,6 +10,8 @@ mod Offsets
 mod KeptLimits
 mod Told
 mod LineBegins
+mod BadListExamples
+mod ListedCopies
 mod FaultLineExamples
 mod Done
 mod Handed

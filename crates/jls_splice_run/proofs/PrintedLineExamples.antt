@@ -1,5 +1,5 @@
 -- Parts of two copies, and what is printed of them, worked out by hand.
-use Rattle.std.proofs.Common.{◌≡◌, true, false, List, [], ◌∷◌, ◌++◌, Some, None, refl}
+use Rattle.std.proofs.Common.{◌≡◌, true, false, List, [], ◌∷◌, ◌++◌, Some, None, map, refl}
 use Rattle.std.specs.Prelude.{codes}
 use Rattle.jls_diff.specs.Parts.{Part, Same, Differ}
 use Rattle.jls_splice_run.specs.Differences.{differences}
@@ -77,16 +77,26 @@ cut_within = rw (d12, d4095) refl
 no_cut : before_line None ≡ []
 no_cut = refl
 
-picture : promise_line (Picture None)
+picture : promise_line false (Picture None)
     ≡ codes "promise picture if the true file has what one copy has at each differ, and what all have elsewhere\n"
 picture = refl
 
-picture_within : promise_line (Picture (Some 4095))
+picture_without_bad : promise_line true (Picture None)
+    ≡ codes "promise picture if the true file has what one copy has at each differ, and what all have elsewhere"
+    ++ codes " (copies are without their bad places)\n"
+picture_without_bad = refl
+
+picture_within : promise_line false (Picture (Some 4095))
     ≡ codes "promise picture if the true file has what one copy has at each differ, and what all have elsewhere"
     ++ codes " and samples are up to 4095\n"
 picture_within = rw d4095 refl
 
-only_lines : promise_line Lines ≡ codes "promise lines\n"
+picture_within_and_without_bad : promise_line true (Picture (Some 4095))
+    ≡ codes "promise picture if the true file has what one copy has at each differ, and what all have elsewhere"
+    ++ codes " (copies are without their bad places) and samples are up to 4095\n"
+picture_within_and_without_bad = rw d4095 refl
+
+only_lines : map (λ has_lists. promise_line has_lists Lines) (false ∷ true ∷ []) ≡ codes "promise lines\n" ∷ codes "promise lines\n" ∷ []
 only_lines = refl
 
 counted_limit : limit_line (Some 4095) ≡ codes "limit 4095\n"
@@ -106,6 +116,7 @@ cut_short = record {
   files = Some 12;
   is_eoi_added = true;
   lacks_single_file = true;
+  has_lists = false;
   promise = Lines;
 }
 
@@ -124,6 +135,7 @@ before_a_place = record {
   files = None;
   is_eoi_added = false;
   lacks_single_file = false;
+  has_lists = false;
   promise = Lines;
 }
 
@@ -141,6 +153,7 @@ complete = record {
   files = None;
   is_eoi_added = false;
   lacks_single_file = false;
+  has_lists = false;
   promise = Picture (Some 4095);
 }
 

@@ -1,5 +1,5 @@
 -- Runs, by what was done.
-use Rattle.std.proofs.Common.{◌≡◌, ℕ, true, false, inl, inr, List, [], ◌++◌, sym, ap, ◌∙◌, subst}
+use Rattle.std.proofs.Common.{◌≡◌, ℕ, true, false, inl, inr, None, List, [], ◌++◌, sym, ap, ◌∙◌, subst}
 use Rattle.std.specs.Prelude.{◌⊎◌}
 use Rattle.std.proofs.lemmas.List.{append-nil}
 use Rattle.clap.specs.Words.{Text}
@@ -14,7 +14,7 @@ use Rattle.jls_cli.specs.Answers.{is_help, is_want_of_memory, Answer, Answered, 
 use Rattle.jls_cli.specs.FaultLines.{fault_line}
 use Rattle.jls_cli.specs.Outcomes.{Outcome, exit_status}
 use Rattle.jls_splice_run.specs.FaultLines.{program}
-use Rattle.jls_splice_run.specs.Runs.{GrewAll, IsFileOut, IsNumberedOut, Performs, Ran, Run, Splices, came_of, performed}
+use Rattle.jls_splice_run.specs.Runs.{GrewAll, IsFileOut, IsNumberedOut, Performs, Ran, Run, Splices, bad_value, came_of, performed}
 use Rattle.jls_splice_run.specs.Runs.{misused, helped, help_cut, nothing_begun}
 
 -- an answer is a run, where the kind is one of those that clap has for the words
@@ -45,17 +45,17 @@ module _ {desk desk' report report' faults faults' : History} where
         (came_of outcome h.desk_events h.report_events h.fault_events line.events h.they_are line.they_are);
   }
 
-  pub ran : (words : List Text) (a : Asked) (status : ℕ) → AskFor words a → (IsFileOut a → ⊥) → (IsNumberedOut a → ⊥)
+  pub ran : (words : List Text) (a : Asked) (status : ℕ) → AskFor words a → (IsFileOut a → ⊥) → (IsNumberedOut a → ⊥) → bad_value a ≡ None
       → GrewAll (Performs a status) desk desk' report report' faults faults'
       → Ran words status desk desk' report report' faults faults'
-  ran words a status asks other no_number h = record {
+  ran words a status asks other no_number listed h = record {
     desk_events = h.desk_events;
     report_events = h.report_events;
     fault_events = h.fault_events;
     desk_is = h.desk_is;
     report_is = h.report_is;
     faults_are = h.faults_are;
-    they_are = performed a status h.desk_events h.report_events h.fault_events asks other no_number h.they_are;
+    they_are = performed a status h.desk_events h.report_events h.fault_events asks other no_number listed h.they_are;
   }
 
 pub ran_refused : {desk report report' faults faults' : History} (words : List Text) (k : ErrorKind) (status : ℕ)

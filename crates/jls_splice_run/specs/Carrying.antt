@@ -33,7 +33,7 @@ pub record Carried : Type 0 where
 
 -- so it is for these copies and a shape, where these files are taken. What is held has no sources
 pub record IsCarried (copies taken : List (List ℕ)) (shape : PictureShape) (c : Carried) : Type 0 where
-  pub alone : IsTrue c.is_alone → (file : List ℕ) → Contains taken file → ¬ IsFaultless file
+  pub alone : IsTrue c.is_alone ↔ ((file : List ℕ) → Contains taken file → ¬ IsFaultless file)
   pub are_mended : AreMendedOf copies c.codings c.files
   pub shape_is : c.held.shape ≡ shape
   pub marks_are : c.held.marks ≡ set.empty
@@ -83,8 +83,8 @@ abbrev pub carried_files : Option (List ℕ) → List MendedFile → List NamedF
 carried_files None files = []
 carried_files (Some prefix) files = numbered_from prefix 1 (take 64 files)
 
--- The files of which those with numbers are made, where a file taken may be without a fault: those taken. The mended files stand before them
--- if the picture is promised
+-- The files of which those with numbers are made, where a file taken may be without a fault: those taken. The mended files stand before
+-- them if the picture is promised
 abbrev pub files_beside : Promise → List MendedFile → List (List ℕ) → List (List ℕ)
 files_beside Held mended taken = map (λ f. f.bytes) mended ++ taken
 files_beside (Picture limit) mended taken = taken

@@ -7,6 +7,7 @@ pub mod FaultLines
 pub mod Carrying
 pub mod CodingLines
 pub mod Completing
+pub mod BadLists
 pub mod Copies
 pub mod Files
 pub mod Handing

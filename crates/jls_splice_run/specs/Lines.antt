@@ -57,17 +57,21 @@ before_line (Some end) = codes "before " ++ decimal end.offset ++ samples_end (c
 abbrev pub picture_words : List ℕ
 picture_words = codes "promise picture if the true file has what one copy has at each differ, and what all have elsewhere"
 
--- the line of a promise that rests on what copies hold
-abbrev pub held_line : List ℕ
-held_line =
+-- a promise that rests on what copies hold, and its premise
+abbrev pub held_words : List ℕ
+held_words =
     codes "promise picture if copies of one coding are of one file of it, true outside of their differs, there as long as printed, "
-    ++ codes "with the marker segments of the mended file\n"
+    ++ codes "with the marker segments of the mended file"
 
--- the line of the promise that holds
-abbrev pub promise_line : Promise → List ℕ
-promise_line (Picture limit) = picture_words ++ samples_end (codes " and samples are up to ") limit
-promise_line Held = held_line
-promise_line Lines = codes "promise lines\n"
+-- where there are lists of bad places, a promise is of copies without these
+abbrev pub lists_words : Bool → List ℕ
+lists_words has_lists = if has_lists then codes " (copies are without their bad places)" else []
+
+-- the line of the promise that holds, where there are lists of bad places or none
+abbrev pub promise_line : Bool → Promise → List ℕ
+promise_line has_lists (Picture limit) = picture_words ++ lists_words has_lists ++ samples_end (codes " and samples are up to ") limit
+promise_line has_lists Held = held_words ++ lists_words has_lists ++ codes "\n"
+promise_line has_lists Lines = codes "promise lines\n"
 
 -- the line of how many files have no fault; no line if they were not asked for
 abbrev pub files_line : Option ℕ → List ℕ
@@ -89,7 +93,8 @@ search_lines r = splices_line r.splices ++ used_up_line r.is_used_up ++ limit_li
 -- the lines of what is made of it, in their order
 abbrev pub outcome_lines : SearchReport → List ℕ
 outcome_lines r =
-    before_line r.before ++ files_line r.files ++ eoi_line r.is_eoi_added ++ single_line r.lacks_single_file ++ promise_line r.promise
+    before_line r.before ++ files_line r.files ++ eoi_line r.is_eoi_added ++ single_line r.lacks_single_file
+    ++ promise_line r.has_lists r.promise
 
 -- all lines of what was found: where copies differ, what the searches came to, and what is made of it
 abbrev pub found_text : List Difference → SearchReport → List ℕ

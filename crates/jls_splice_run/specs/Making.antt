@@ -117,8 +117,8 @@ IsSingleOf a taken (Some c) single =
     (IsTrue c.is_alone → IsCompletedIn (carried_file a.options.file (carried_promise c) c.files) single)
     × (c.is_alone ≡ false → single ≡ None)
 
--- The files that have numbers, if they are asked for: the mended files where each file taken has a fault; else those of the files taken that
--- have none, and before them the mended files of a promised picture. Each is completed by EOI
+-- The files that have numbers, if they are asked for: the mended files where each file taken has a fault; else those of the files taken
+-- that have none, and before them the mended files of a promised picture. Each is completed by EOI
 abbrev pub AreNamedOf : Asked → List (List ℕ) → Option Carried → List NamedFile → Type 0
 AreNamedOf a taken None named = AreNamedAsked a.options.files taken named
 AreNamedOf a taken (Some c) named =
@@ -206,6 +206,7 @@ report_on a copies m = record {
   files = files_reported a.options.files m.files;
   is_eoi_added = is_eoi_added (files_made_of m.carried (files_taken copies m.found)) m.single m.files;
   lacks_single_file = lacks_single a.options.file m.single;
+  has_lists = has_some a.bad;
   promise = promise_on m;
 }
 

@@ -10,4 +10,9 @@ texts_of slices = map (λ s. s.now) slices
 
 -- what the words asked for, as the code holds it
 abbrev pub task_of : Task → Asked
-task_of t = record { options = options_in t.options; out = t.out.now; copies = texts_of t.names.now }
+task_of t = record {
+  options = options_in t.options;
+  out = t.out.now;
+  copies = texts_of t.names.now;
+  bad = texts_of t.bad.now;
+}

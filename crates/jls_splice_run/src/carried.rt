@@ -2,7 +2,7 @@
 
 ghost use Rattle.std.specs.Prelude.{◌≡◌, true, false, ◌<◌, ◌≤◌, ◌^◌, IfOk, IfSome, IsTrue, None, OnOk, length, map, option_map};
 ghost use Rattle.std.specs.Prelude.{if◌then◌else◌};
-ghost use Rattle.std.specs.List.{AllByRecursion};
+ghost use Rattle.std.specs.List.{AllByRecursion, Contains};
 ghost use Rattle.jls_diff.specs.Parts.{made};
 ghost use Rattle.jls_diff.specs.PartsOf.{bytes_of, parts_of};
 ghost use Rattle.jls_held.specs.Judging.{AreMendedOf, coding_of, codings_of};
@@ -30,7 +30,7 @@ use crate::listing::{MOST_NAMED, NumberedFile, numbered_name};
 use crate::made::{Made, files_asked, files_reported, groups_reported, lacks_file, limit_reported};
 use crate::printed_lines::{lines_of_carried, notes_of_carried};
 use crate::reading_as::{are_one_picture, each_reads_as};
-use crate::task::Task;
+use crate::task::{Task, has_lists};
 use jls_carried::{Between, SearchBounds, are_all_printed, carry_between};
 use jls_diff::find_parts;
 use jls_held::{EditedCopy, Judged, MendedCopy};
@@ -41,7 +41,8 @@ use std::alloc::{AllocError, Global};
 
 /// Whether none of the verdicts on files says that a file has no fault.
 fn is_none_faultless(verdicts: &[bool]) -> bool
-    ensures { result ≡ true → AllByRecursion (λ v. v ≡ false) verdicts.now }
+    ensures none { result ≡ true → AllByRecursion (λ v. v ≡ false) verdicts.now }
+    ensures some { result ≡ false → Contains verdicts.now true }
 {
     for verdict in verdicts {
         if *verdict {
@@ -129,7 +130,8 @@ fn carried_files(
     Ok(named)
 }
 
-/// The files that have numbers, with their names: the mended files, or those of these files that have no fault if a file taken may have none.
+/// The files that have numbers, with their names: the mended files, or those of these files that have no fault if a file taken may have
+/// none.
 fn numbered_files(
     alloc: Global,
     prefix: Option<&str>,
@@ -324,6 +326,7 @@ fn texts_of_judged(
         files: files_reported(task.options.files, &numbered),
         is_eoi_added: is_added,
         lacks_single_file: lacks_file(task.options.file, &file),
+        has_lists: has_lists(task),
         promise,
     };
     let count = count_copies(files);

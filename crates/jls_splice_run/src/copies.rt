@@ -68,7 +68,7 @@ pub(crate) fn slices_of<'c>(
 }
 
 /// Whether a copy was read to its end.
-fn is_whole(copy: &CopyFile) -> bool
+pub(crate) fn is_whole(copy: &CopyFile) -> bool
     ensures { IsTrue result ↔ (copy.now.stop ≡ Whole) }
 {
     copy.stop == ReadStop::Whole

@@ -65,6 +65,8 @@ pub struct SearchReport {
     pub is_eoi_added: bool,
     /// Whether a single file was asked for, and there is none.
     pub lacks_single_file: bool,
+    /// Whether there are lists of bad places, so that a promise is of copies without these.
+    pub has_lists: bool,
     /// Which promise holds.
     pub promise: Promise,
 }

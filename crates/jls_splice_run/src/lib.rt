@@ -4,6 +4,7 @@
 //! - `task`: what is asked for, as one value
 //! - `splicing`: a run that is asked for: copies are read, files made, and all is handed out
 //! - `copies`, `made`, `settling`: the copies that are read; what is made of them; their station
+//! - `bad_lists`: the lists of bad places that are read, and what is searched by them in place of the copies
 //! - `carried`, `coding_lines`: what is made of what copies in several codings give each other; its lines
 //! - `beside`: mended files beside files of which one may have no fault
 //! - `reading_as`: whether mended files read as the lines that are held
@@ -19,7 +20,7 @@
 //! - `hosted`: the program as `run_program` of jls_host runs it
 //! - `printing`: the lines on the fault output that this program alone has
 //!
-//! Definitions: `Tasks`, `Copies`, `Making`, `Carrying`, `ReadsAs`, `Completing`, `Single`, `Files`, `Listing`, `Handing`, `Runs`;
+//! Definitions: `Tasks`, `Copies`, `BadLists`, `Making`, `Carrying`, `ReadsAs`, `Completing`, `Single`, `Files`, `Listing`, `Handing`, `Runs`;
 //! `Limits`, `Telling`; `Differences`, `Lines`, `CodingLines`; `FaultLines`. `PrintedLineExamples` of `proofs/` has each line, and all
 //! lines of three runs, worked by hand. What came of a run, why it stopped, its exit status and its fault line are in jls_cli.
 //!
@@ -32,6 +33,7 @@
 //! - When lines that copies in several codings give each other are handed out beside a file without a fault.
 #![tactic(auto)]
 
+mod bad_lists;
 mod beside;
 mod carried;
 mod coding_lines;
@@ -69,7 +71,9 @@ pub use listing::NumberedFile;
 pub use made::Made;
 pub use noting::{put_carried_noted, put_noted};
 pub use options::SearchOptions;
-pub use printing::{PROGRAM, print_named_twice, print_not_understood, print_numbered_out};
+pub use printing::{
+    PROGRAM, print_bad_value, print_named_twice, print_not_understood, print_numbered_out,
+};
 pub use program::run;
 pub use splicing::splice;
 pub use task::Task;

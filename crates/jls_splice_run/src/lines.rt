@@ -3,7 +3,7 @@
 ghost use Rattle.std.specs.Prelude.{◌≡◌, ◌++◌, codes, decimal, OnOk, take};
 ghost use Rattle.std.specs.List.{flat_map};
 ghost use Rattle.jls_splice_run.specs.Lines.{before_line, differ_line, differ_lines, eoi_line, files_line, found_text};
-ghost use Rattle.jls_splice_run.specs.Lines.{groups_end as spec_groups_end, groups_line, held_line, limit_line, more_line};
+ghost use Rattle.jls_splice_run.specs.Lines.{groups_end as spec_groups_end, groups_line, limit_line, lists_words, more_line};
 ghost use Rattle.jls_splice_run.specs.Lines.{outcome_lines, progress_line, promise_line, samples_end};
 ghost use Rattle.jls_splice_run.specs.Lines.{search_lines, single_line, splices_line, used_up_line};
 
@@ -153,34 +153,47 @@ fn put_before(out: &mut Vec<u8>, before: Option<CutEnd>) -> Result<(), AllocErro
     put_samples(out, b", samples up to ", end.limit)
 }
 
+/// Appends that a promise is of copies without bad places, if lists name these.
+fn put_lists(out: &mut Vec<u8>, has_lists: bool) -> Result<(), AllocError>
+    ensures { OnOk result (out.new.items ≡ out.old.items ++ lists_words has_lists) }
+{
+    if has_lists {
+        out.extend_from_slice(b" (copies are without their bad places)")?;
+    }
+    Ok(())
+}
+
 /// Appends that the picture is promised, within the limit of samples if there is one.
-fn put_picture(out: &mut Vec<u8>, limit: Option<u16>) -> Result<(), AllocError>
-    ensures { OnOk result (out.new.items ≡ out.old.items ++ promise_line (Promise.Picture limit)) }
+fn put_picture(out: &mut Vec<u8>, has_lists: bool, limit: Option<u16>) -> Result<(), AllocError>
+    ensures { OnOk result (out.new.items ≡ out.old.items ++ promise_line has_lists (Promise.Picture limit)) }
 {
     out.extend_from_slice(
         b"promise picture if the true file has what one copy has at each differ, and what all have elsewhere",
     )?;
+    put_lists(out, has_lists)?;
     put_samples(out, b" and samples are up to ", limit)
 }
 
 /// Appends that the picture is promised by what copies hold.
-fn put_held(out: &mut Vec<u8>) -> Result<(), AllocError>
-    ensures { OnOk result (out.new.items ≡ out.old.items ++ held_line) }
+fn put_held(out: &mut Vec<u8>, has_lists: bool) -> Result<(), AllocError>
+    ensures { OnOk result (out.new.items ≡ out.old.items ++ promise_line has_lists Promise.Held) }
 {
     out.extend_from_slice(
         b"promise picture if copies of one coding are of one file of it, true outside of their differs, there as long as printed, ",
     )?;
-    out.extend_from_slice(b"with the marker segments of the mended file\n")?;
+    out.extend_from_slice(b"with the marker segments of the mended file")?;
+    put_lists(out, has_lists)?;
+    out.extend_from_slice(b"\n")?;
     Ok(())
 }
 
 /// Appends which promise holds.
-fn put_promise(out: &mut Vec<u8>, promise: Promise) -> Result<(), AllocError>
-    ensures { OnOk result (out.new.items ≡ out.old.items ++ promise_line promise) }
+fn put_promise(out: &mut Vec<u8>, has_lists: bool, promise: Promise) -> Result<(), AllocError>
+    ensures { OnOk result (out.new.items ≡ out.old.items ++ promise_line has_lists promise) }
 {
     match promise {
-        Promise::Picture(limit) => put_picture(out, limit),
-        Promise::Held => put_held(out),
+        Promise::Picture(limit) => put_picture(out, has_lists, limit),
+        Promise::Held => put_held(out, has_lists),
         Promise::Lines => {
             out.extend_from_slice(b"promise lines\n")?;
             Ok(())
@@ -239,7 +252,7 @@ pub(crate) fn put_outcome(out: &mut Vec<u8>, report: &SearchReport) -> Result<()
     put_files(out, report.files)?;
     put_eoi(out, report.is_eoi_added)?;
     put_single(out, report.lacks_single_file)?;
-    put_promise(out, report.promise)
+    put_promise(out, report.has_lists, report.promise)
 }
 
 /// Appends the lines of what was found, in ASCII: where copies differ, in order, and what the search came to. Each ends with a newline. At

@@ -35,7 +35,7 @@ use crate::options::SearchOptions;
 use crate::printed_lines::{lines_of, notes_of};
 use crate::settling::settle;
 use crate::single::single_file;
-use crate::task::{Task, want_of_memory};
+use crate::task::{Task, has_lists, want_of_memory};
 use jls_cli::Refusal;
 use jls_io::Sink;
 use jls_search::{Files, FoundSplices, GroupsReported, HeldFiles, lone_path};
@@ -232,6 +232,7 @@ fn texts_of(
         files: files_reported(task.options.files, &numbered),
         is_eoi_added: is_added,
         lacks_single_file: lacks_file(task.options.file, &file),
+        has_lists: has_lists(task),
         promise,
     };
     let lines = lines_of(alloc, task.out, &found.parts, &report, partial)?;

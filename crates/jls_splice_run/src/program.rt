@@ -5,9 +5,11 @@ ghost use Rattle.std.specs.String.{string_bytes};
 ghost use Rattle.jls_cli.specs.SpliceAsking.{asked_of};
 ghost use Rattle.jls_splice_run.specs.Runs.{GrewAll, Performs, Ran};
 
-use crate::printing::{PROGRAM, print_named_twice, print_not_understood, print_numbered_out};
+use crate::printing::{
+    PROGRAM, print_bad_value, print_named_twice, print_not_understood, print_numbered_out,
+};
 use crate::splicing::splice;
-use crate::task::{Task, is_file_out, is_numbered_out, names_of};
+use crate::task::{Task, bad_value_in, is_file_out, is_numbered_out, names_of};
 use jls_cli::splice::{Asked, asked_splice, matches};
 use jls_cli::{answer, exit_status, print_outcome};
 use jls_io::{Desk, Sink, print_out_of_memory};
@@ -35,6 +37,7 @@ fn perform<D: Desk, W: Sink, E: Sink>(
         options: asked.options,
         out: asked.out,
         names: &names,
+        bad: asked.bad,
     };
     let outcome = splice(alloc, desk, report, faults, &task);
     print_outcome(faults, PROGRAM, &outcome);
@@ -45,10 +48,11 @@ fn perform<D: Desk, W: Sink, E: Sink>(
 ///
 /// - 0: done, and the picture is promised (`promise picture ..`); or help or the version was asked for;
 /// - 1: done, and it is not: lines are missing or disputed, the search that counts was cut off, or only groups gave files;
-/// - 2: the words were not understood, or `--file` names OUT, or OUT is a name that `--files` can give;
-/// - 3: a copy is a partial picture, no file taken has a picture, or files without a fault differ in shape;
-/// - 4: a copy can't be opened or read, an output can't be created, or a write failed. The run may be done then, if a copy was not read
-///   to its end;
+/// - 2: the words were not understood, or `--file` names OUT, or OUT is a name that `--files` can give, or `--bad` names no list of a COPY;
+/// - 3: a copy or list is a partial picture, a list of bad places is none, no file taken has a picture, or files without a fault differ in
+///   shape;
+/// - 4: a copy or list can't be opened or read, an output can't be created, or a write failed. The run may be done then, if a copy was not
+///   read to its end;
 /// - 5: out of memory.
 ///
 /// The texts of help, usage and version are clap's. That there is one, and what it says, is tested and not proved.
@@ -88,5 +92,11 @@ pub fn run<D: Desk, W: Sink, E: Sink>(
         print_numbered_out(faults, asked.out);
         return 2;
     }
-    perform(alloc, &asked, desk, report, faults)
+    match bad_value_in(&asked) {
+        Some(value) => {
+            print_bad_value(faults, value);
+            2
+        }
+        None => perform(alloc, &asked, desk, report, faults),
+    }
 }

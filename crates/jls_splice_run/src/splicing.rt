@@ -6,6 +6,7 @@ ghost use Rattle.jls_splice_run.specs.Runs.{GrewAll, Splices, texts_held};
 ghost use Rattle.jls_splice_run.specs.Tasks.{task_of};
 ghost use Rattle.jls_io.specs.Event.{GrewBoth};
 
+use crate::bad_lists::{files_searched, searched_copies};
 use crate::copies::{are_whole, read_all};
 use crate::handing::{print_lines, print_notes, write_file, write_files};
 use crate::made::{Made, make};
@@ -54,7 +55,8 @@ fn hand_out<'a, D: Desk, W: Sink>(
     }
 }
 
-/// Reads the copies, searches their splices, takes all files that decode, and hands out what comes of it. First come the lines, on the
+/// Reads the copies, and lists of their bad places if these are asked for. Searches their splices, takes all files that decode, and hands
+/// out what comes of it. Copies with bad places are searched as known copies: bytes of other copies stand in these places. First come the lines, on the
 /// report output. Then comes the text of the union of what the files taken give, then the single file, and last the files that have
 /// numbers, if these are asked for. All are made before anything is handed out. While it searches, it tells on the fault output how far it
 /// is, if that is asked for. Where OUT is standard output, the fault output also gets the lines of the search. If no file taken is without
@@ -70,11 +72,15 @@ pub fn splice<'a, D: Desk, W: Sink, E: Sink>(
     ensures { GrewAll (Splices (task_of task.now) result) (D.history desk.old) (D.history desk.new)
         (W.history report.old) (W.history report.new) (E.history faults.old) (E.history faults.new) }
 {
-    let copies = match read_all(alloc, desk, task.names) {
-        Ok(copies) => copies,
+    let read = match read_all(alloc, desk, task.names) {
+        Ok(read) => read,
         Err(refusal) => return Err(refusal),
     };
-    let made = match make(alloc, task, &copies, faults) {
+    let known = match searched_copies(alloc, desk, task, &read) {
+        Ok(known) => known,
+        Err(refusal) => return Err(refusal),
+    };
+    let made = match make(alloc, task, files_searched(&known, &read), faults) {
         Ok(made) => made,
         Err(refusal) => return Err(refusal),
     };
@@ -82,7 +88,7 @@ pub fn splice<'a, D: Desk, W: Sink, E: Sink>(
     match hand_out(desk, report, task, &made) {
         Ok(()) => Ok(Done {
             settled: made.promise.is_of_picture(),
-            whole: are_whole(&copies),
+            whole: are_whole(&read),
         }),
         Err(refusal) => Err(refusal),
     }

@@ -43,6 +43,7 @@ fn one_byte_differs(rt: HostRuntime) -> Result<(), Fail> {
             files: Some(12),
             is_eoi_added: true,
             lacks_single_file: true,
+            has_lists: false,
             promise: Promise::Lines,
         },
     )?;
@@ -85,6 +86,7 @@ fn many_places_differ(rt: HostRuntime) -> Result<(), Fail> {
             files: None,
             is_eoi_added: false,
             lacks_single_file: false,
+            has_lists: false,
             promise: Promise::Lines,
         },
     )?;

@@ -1,4 +1,5 @@
-//! Files in memory: copies, which are numbered from 1 on, and the outputs that were created. No copy is replaced, nor a file that stands.
+//! Files in memory: copies, which are numbered from 1 on, lists of bad places, and the outputs that were created. No copy is replaced, nor
+//! a file that stands.
 
 use jls_io::Open;
 use std::alloc::Global;
@@ -7,6 +8,24 @@ use std::io::{Read, Write};
 
 /// The name of a file that stands.
 const STANDING: &str = "STANDS-2";
+
+/// Lists of bad places, by their names: lines with offsets and lengths, mapfiles of ddrescue, and one that is none.
+const LISTS: &[(&str, &str)] = &[
+    ("none", "# nothing is bad\n"),
+    ("two", "100 8\n0x12C 8 -\n"),
+    (
+        "map",
+        "# Mapfile. Created by GNU ddrescue version 1.27\n\
+        0x000000C8     ?               1\n\
+        0x00000000  0x000000C8  +\n0x000000C8  0x00000008  -\n0x000000D0  0x000001DE  +\n",
+    ),
+    ("place", "300 8\n"),
+    ("byte", "300 1\n"),
+    ("interval", "70 3\n"),
+    ("header", "6 1\n"),
+    ("end", "600 9999\n"),
+    ("words", "100 8\nat 300\n"),
+];
 
 /// An output, by its name.
 #[derive(Drop)]
@@ -66,6 +85,16 @@ fn copy_named<'a>(copies: &'a [Vec<u8>], name: &str) -> Option<&'a [u8]> {
     Some(copy.as_slice())
 }
 
+/// The list of this name.
+fn list_named(name: &str) -> Option<&'static [u8]> {
+    for list in LISTS {
+        if list.0 == name {
+            return Some(list.1.as_bytes());
+        }
+    }
+    None
+}
+
 impl Read for MemoryFiles<'_> {
     fn read(&mut self, into: &mut [u8]) -> io::Result<usize> {
         self.rest.read(into)
@@ -87,7 +116,10 @@ impl Write for MemoryFiles<'_> {
 
 impl Open for &mut MemoryFiles<'_> {
     fn open_input(&mut self, name: &str) -> io::Result<()> {
-        self.rest = copy_named(self.copies, name).ok_or(failed())?;
+        self.rest = match list_named(name) {
+            Some(list) => list,
+            None => copy_named(self.copies, name).ok_or(failed())?,
+        };
         Ok(())
     }
 

@@ -115,6 +115,41 @@ samples are up to 255
 a promise whose premise fails: eight: 114+1=221 / 114+1=221: OUT 1 2: 0 other: \
 promise picture if the true file has what one copy has at each differ, and what all have elsewhere
 no promise: eight: 300+8=0 / 300+8=85: OUT 1 2: 1 other: promise lines
+bad places of both copies: eight: 100+8=0 300+8=0 / 200+8=0: --bad 1:two --bad 2:map OUT 1 2: 0 eight: splices 0
+a promise without bad places: eight: 100+8=0 300+8=0 / 200+8=0: --bad 1:two --bad 2:map OUT 1 2: 0 eight: \
+promise picture if the true file has what one copy has at each differ, and what all have elsewhere (copies are without their bad places)
+bad places of one copy: eight: 100+8=0 300+8=0 / 200+8=85: --bad 1:two OUT 1 2: 0 eight: differ 200 8
+bad places in two lists of one copy: eight: 200+8=0 300+8=0 / 100+8=85: --bad 1:map --bad 1:place OUT 1 2: 0 eight: differ 100 8
+the mended file of bad places: eight: 100+8=0 300+8=0 / 200+8=0: --file NAME --bad 1:two --bad 2:map OUT 1 2: 0 eight: splices 0
+no bad place: eight: 100+8=0 / 400+8=0: --bad 1:none OUT 1 2: 0 eight: splices 1
+a header that is bad in one copy: eight: 6+1=12 / 300+8=85: --bad 1:header OUT 1 2: 0 eight: differ 300 8
+a place that is bad in all: eight: 300+8=0 / 300+8=85: --bad 1:place --bad 2:place OUT 1 2: 1 other: missing 1 0-19 | promise lines
+a byte that is bad in all: eight: 300+1=0 / 300+1=85: --bad 1:byte --bad 2:byte OUT 1 2: 1 other: missing 1 0-19 | promise lines
+bad behind a place in the copies: eight: 100+8=0 / 400+8=0: --bad 1:end OUT 1 2: 0 eight: splices 1
+one copy, and nothing bad: eight: whole: --bad 1:none OUT 1: 0 eight: splices 0
+one copy, and a bad place in its only interval: eight: 300+8=0: --bad 1:place OUT 1: 1 other: missing 1 0-19
+one copy, and a bad place in an interval: restarts: 70+3=0: --bad 1:interval OUT 1: 1 other: missing 1 0-3
+a header that is bad in all: eight: whole / whole: --bad 1:header --bad 2:header OUT 1 2: 3 nothing: jls-splice: 1: no picture, fault 19 at 6
+one copy alone: eight: whole: OUT 1: 2 nothing: jls-splice: one COPY is enough only with --bad N:LIST
+bad places of no copy: eight: whole / whole: --bad 3:place OUT 1 2: 2 nothing: \
+jls-splice: 3:place: --bad wants N:LIST, with the number of a COPY, and a LIST that is no output and not -
+bad places of copy 0: eight: whole / whole: --bad 0:place OUT 1 2: 2 nothing: \
+jls-splice: 0:place: --bad wants N:LIST, with the number of a COPY, and a LIST that is no output and not -
+bad places without a number: eight: whole / whole: --bad 1:none --bad place OUT 1 2: 2 nothing: \
+jls-splice: place: --bad wants N:LIST, with the number of a COPY, and a LIST that is no output and not -
+OUT as a list: eight: whole / whole: --bad 1:OUT OUT 1 2: 2 nothing: \
+jls-splice: 1:OUT: --bad wants N:LIST, with the number of a COPY, and a LIST that is no output and not -
+the mended file as a list: eight: whole / whole: --file NAME --bad 1:NAME OUT 1 2: 2 nothing: \
+jls-splice: 1:NAME: --bad wants N:LIST, with the number of a COPY, and a LIST that is no output and not -
+a numbered file as a list: eight: whole / whole: --files ALL --bad 1:ALL-3 OUT 1 2: 2 nothing: \
+jls-splice: 1:ALL-3: --bad wants N:LIST, with the number of a COPY, and a LIST that is no output and not -
+standard input as a list: eight: whole / whole: --bad 1:- OUT 1 2: 2 nothing: \
+jls-splice: 1:-: --bad wants N:LIST, with the number of a COPY, and a LIST that is no output and not -
+no list of bad places: eight: whole / whole: --bad 1:none --bad 2:words OUT 1 2: 3 nothing: \
+jls-splice: words: is no list of bad places, by line 2
+a copy as a list: eight: whole / whole: --bad 1:2 OUT 1 2: 3 nothing: jls-splice: 2: is no list of bad places, by line 1
+a partial picture as a list: eight: whole / whole / text: --bad 1:3 OUT 1 2: 3 nothing: jls-splice: 3: is a partial picture
+a list that is not there: eight: whole / whole: --bad 1:absent OUT 1 2: 4 nothing: jls-splice: absent: cannot be opened
 no promise of disputed lines: eight: whole / other: OUT 1 2: 1 other: promise lines
 limits in turn: deep: 50+3=85 98+3=85 146+3=85 194+3=85 242+3=85 / \
 74+3=85 122+3=85 170+3=85 218+3=85 266+3=85: --tries 40 OUT 1 2: 0 deep: limit 8191

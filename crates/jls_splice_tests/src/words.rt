@@ -62,11 +62,35 @@ fn words_are_read(rt: HostRuntime) -> Result<(), Fail> {
             options,
             out: "OUT",
             first: "1",
-            second: "2",
-            others: &["3"],
+            others: &["2", "3"],
+            bad: &[],
         };
         assert_eq!(rt; asked, expected, "{line}");
     }
+    Ok(())
+}
+
+#[test]
+fn one_copy_is_read_with_its_bad_places(rt: HostRuntime) -> Result<(), Fail> {
+    let words = words_of(rt.alloc(), "--bad 1:places OUT 1 --bad=1:more")?;
+    let matches = matches(rt.alloc(), &words)?;
+    let asked = asked_splice(&matches).ok_or("nothing asked")?;
+    let expected = Asked {
+        options: PLAIN,
+        out: "OUT",
+        first: "1",
+        others: &[],
+        bad: &["1:places", "1:more"],
+    };
+    assert_eq!(rt; asked, expected);
+    Ok(())
+}
+
+#[test]
+fn one_copy_alone_asks_for_nothing(rt: HostRuntime) -> Result<(), Fail> {
+    let words = words_of(rt.alloc(), "OUT 1")?;
+    let matches = matches(rt.alloc(), &words)?;
+    assert!(rt; asked_splice(&matches).is_none());
     Ok(())
 }
 
@@ -75,7 +99,6 @@ fn words_are_refused(rt: HostRuntime) -> Result<(), Fail> {
     let rows = [
         "",
         "OUT",
-        "OUT 1",
         "--tries 0 OUT 1 2",
         "--tries 4294967296 OUT 1 2",
         "--max 65536 OUT 1 2",
@@ -87,6 +110,7 @@ fn words_are_refused(rt: HostRuntime) -> Result<(), Fail> {
         "--source 4294967296 OUT 1 2",
         "--file OUT 1 2 --file",
         "--files OUT 1 2 --files",
+        "--bad OUT 1 2 --bad",
         "--files A --files B OUT 1 2",
         "--groups OUT 1 2",
     ];

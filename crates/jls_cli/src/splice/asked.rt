@@ -25,14 +25,14 @@ pub struct Options<'a> {
     pub files: Option<&'a str>,
 }
 
-/// The output, and the copies to splice, of which there are two or more.
+/// The output, the copies to splice, and the values of `--bad`. There is a second copy, or a value of `--bad`.
 #[derive(Clone, Copy, Debug, PartialEq, Eq)]
 pub struct Asked<'m, 'a> {
     pub options: Options<'a>,
     pub out: &'a str,
     pub first: &'a str,
-    pub second: &'a str,
     pub others: &'m [&'a str],
+    pub bad: &'m [&'a str],
 }
 
 /// Whether a flag has the value that it gets where it is given.
@@ -86,24 +86,33 @@ fn asked_with<'m, 'a>(
     options: Option<Options<'a>>,
     out: Option<&'a str>,
     copy: Option<&'a str>,
-    others: Option<&'m [&'a str]>,
+    others: &'m [&'a str],
+    bad: &'m [&'a str],
 ) -> Option<Asked<'m, 'a>>
     ensures { option_map asked_of result
         ≡ spec.asked_with (option_map options_in options.entry) (option_map (λ s. s.now) out.entry)
-        (option_map (λ s. s.now) copy.entry) (option_map (λ s. map (λ f. f.now) s.now) others.entry) }
+        (option_map (λ s. s.now) copy.entry) (map (λ f. f.now) others.entry.now) (map (λ f. f.now) bad.entry.now) }
 {
-    let (Some(options), Some(out), Some(first), Some([second, others @ ..])) = (
-        options, out, copy, others,
-    ) else {
+    let (Some(options), Some(out), Some(first)) = (options, out, copy) else {
         return None;
     };
+    if others.is_empty() && bad.is_empty() {
+        return None;
+    }
     Some(Asked {
         options,
         out,
         first,
-        second,
         others,
+        bad,
     })
+}
+
+/// The values of an argument, none if it is not given.
+fn values_of<'m, 'a>(matches: &'m ArgMatches<'a>, id: &str) -> &'m [&'a str]
+    ensures { map (λ f. f.now) result.now ≡ spec.values_of id.now (rows_of (found_of matches.now)) }
+{
+    matches.get_strs(id).unwrap_or_default()
 }
 
 /// What the words ask for. `None` if an option doesn't allow its value.
@@ -120,5 +129,6 @@ pub fn asked_splice<'m, 'a>(matches: &'m ArgMatches<'a>) -> Option<Asked<'m, 'a>
     });
     let out = matches.get_str("OUT");
     let first = matches.get_str("COPY");
-    asked_with(options, out, first, matches.get_strs("OTHERS"))
+    let others = values_of(matches, "OTHERS");
+    asked_with(options, out, first, others, values_of(matches, "bad"))
 }

@@ -4,8 +4,8 @@ ghost use Rattle.std.specs.Prelude.{◌≡◌, ◌⊎◌, false, [], IfOk, IfErr
 ghost use Rattle.std.specs.String.{string_bytes};
 ghost use Rattle.clap.specs.Words.{app_of, fault_of, found_of, kind_of, matches_of, rows_of, rule_of};
 ghost use Rattle.clap.specs.declared.builder.command.Command.TheViews.{out-Command};
-ghost use Rattle.jls_cli.specs.SpliceWords.{AreRefused, bare_app, ceiling_rule, file_rule, files_rule, numbers_app, options_app};
-ghost use Rattle.jls_cli.specs.SpliceWords.{others_rule, progress_rule, splice_app, tries_rule};
+ghost use Rattle.jls_cli.specs.SpliceWords.{AreRefused, bad_rule, bare_app, ceiling_rule, file_rule, files_rule, numbers_app};
+ghost use Rattle.jls_cli.specs.SpliceWords.{options_app, others_rule, progress_rule, splice_app, tries_rule};
 ghost use Rattle.jls_cli.specs.Words.{TakesWords};
 
 use crate::arguments::{number, option, source, word};
@@ -15,13 +15,13 @@ use clap::error::ErrorKind;
 use clap::{Arg, ArgAction, ArgMatches, Command, Error};
 use std::alloc::{AllocError, Global};
 
-/// The copies after the first, one at least.
+/// The copies after the first.
 fn others<'a>(alloc: Global) -> Arg<'a>
     ensures rule { rule_of result ≡ others_rule }
     ensures local { result.global ≡ false }
 {
-    let other = word(alloc, "OTHERS", texts::OTHERS_HELP).value_name("COPY");
-    other.action(ArgAction::Append)
+    let other = Arg::new(alloc, "OTHERS").value_name("COPY");
+    other.action(ArgAction::Append).help(texts::OTHERS_HELP)
 }
 
 /// How much each search tries.
@@ -66,6 +66,15 @@ fn files<'a>(alloc: Global) -> Arg<'a>
     option(alloc, "files", "PREFIX").help(texts::FILES_HELP)
 }
 
+/// The places of a copy whose bytes are bad.
+fn bad<'a>(alloc: Global) -> Arg<'a>
+    ensures rule { rule_of result ≡ bad_rule }
+    ensures local { result.global ≡ false }
+{
+    let lists = option(alloc, "bad", "N:LIST").action(ArgAction::Append);
+    lists.help(texts::BAD_HELP)
+}
+
 /// The command without arguments.
 fn bare<'a>(alloc: Global) -> Command<'a>
     ensures app { app_of result ≡ bare_app }
@@ -93,7 +102,8 @@ fn with_options<'a>(alloc: Global) -> Result<Command<'a>, AllocError>
     let bounded = with_numbers(alloc)?;
     let reported = bounded.arg(progress(alloc))?;
     let named = reported.arg(file(alloc))?;
-    named.arg(files(alloc))
+    let numbered = named.arg(files(alloc))?;
+    numbered.arg(bad(alloc))
 }
 
 /// The command of the program.

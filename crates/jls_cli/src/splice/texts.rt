@@ -4,10 +4,10 @@ pub(crate) const ABOUT: &str =
     "Mends JPEG-LS files: splices damaged copies of one file, and joins what can be decoded.";
 
 pub(crate) const NOTES: &str = "\
-The COPYs are two or more damaged copies of one JPEG-LS file. At each place where they differ, a splice of
-them has what one of them has there. The program takes the COPYs, and each splice that decodes whole. It
-writes all their readings to OUT: a partial picture, as jls-salvage join writes it. The program neither
-guesses nor chooses: if two readings of a line differ, the line is disputed.
+The COPYs are two or more damaged copies of one JPEG-LS file, or one copy if --bad is given. At each place
+where they differ, a splice of them has what one of them has there. The program takes the COPYs, and each
+splice that decodes whole. It writes all their readings to OUT: a partial picture, as jls-salvage join
+writes it. The program neither guesses nor chooses: if two readings of a line differ, it is disputed.
 
 COPYs of one picture in different codings have hardly a byte in common: with other thresholds, restart
 intervals or scans, or with 12 bits in 16. Then lines that one gives mend the others.
@@ -69,9 +69,12 @@ pub(crate) const FILE_HELP: &str =
 pub(crate) const FILES_HELP: &str =
     "What the names PREFIX-1, PREFIX-2, .. begin with: each file that decodes or is mended, at most 64";
 
+pub(crate) const BAD_HELP: &str =
+    "Bytes of COPY N, from 1, that are bad: LIST has lines OFFSET LENGTH, or is a ddrescue map; can be given again";
+
 pub(crate) const OUT_HELP: &str =
     "The partial picture to write, created or replaced after the search; - is standard output";
 
 pub(crate) const COPY_HELP: &str = "The first copy; - is standard input";
 
-pub(crate) const OTHERS_HELP: &str = "The other copies, one or more";
+pub(crate) const OTHERS_HELP: &str = "The other copies, at least one if --bad is not given";

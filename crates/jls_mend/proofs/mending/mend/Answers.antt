@@ -22,7 +22,7 @@ returns-in-Ok-clause-mended c =
     let names = c.in_ok-names.names.items in
     let are = names_are copies inputs c.deref-2.result.now c.in_ok-inputs.ensures c.deref-2.ensures.value names c.in_ok-names.ensures in
     let run = is_run_of copies names are c.deref-3.result.now c.deref-3.ensures.value c.args.options.now _ _ c.in_ok-ran.ran
-    c.options_for.ensures refl refl
+    c.options_for.ensures refl refl refl
     (inputs_are copies inputs c.deref-4.result.now c.in_ok-inputs.ensures c.deref-4.ensures.value) c.in_ok-ran.ensures in
     is_mended c.outputs_hold_what_is_handed_out.ensures c.args.options.now (given copies) c.are_few.ensures c.in_ok-ran.ran run
     c.in-Ok.done c.in-Ok.is _ refl refl refl c.last_bytes.ensures
@@ -34,7 +34,7 @@ returns-in-Ok-clause-ran c =
     let names = c.in_ok-names.names.items in
     let are = names_are copies inputs c.deref-2.result.now c.in_ok-inputs.ensures c.deref-2.ensures.value names c.in_ok-names.ensures in
     let run = is_run_of copies names are c.deref-3.result.now c.deref-3.ensures.value c.args.options.now _ _ c.in_ok-ran.ran
-    c.options_for.ensures refl refl
+    c.options_for.ensures refl refl refl
     (inputs_are copies inputs c.deref-4.result.now c.in_ok-inputs.ensures c.deref-4.ensures.value) c.in_ok-ran.ensures in
     is_of_run c.outputs_hold_what_is_handed_out.ensures c.args.options.now (given copies) c.are_few.ensures c.in_ok-ran.ran run
     c.in-Ok.done c.in-Ok.is _ refl refl refl c.last_bytes.ensures
@@ -46,7 +46,7 @@ returns-clause-refused c =
     let names = c.in_ok-names.names.items in
     let are = names_are copies inputs c.deref-2.result.now c.in_ok-inputs.ensures c.deref-2.ensures.value names c.in_ok-names.ensures in
     let run = is_run_of copies names are c.deref-3.result.now c.deref-3.ensures.value c.args.options.now _ _ c.in_ok-ran.ran
-    c.options_for.ensures refl refl
+    c.options_for.ensures refl refl refl
     (inputs_are copies inputs c.deref-4.result.now c.in_ok-inputs.ensures c.deref-4.ensures.value) c.in_ok-ran.ensures in
     inr (record {
       refusal = c.in-Err.refusal;

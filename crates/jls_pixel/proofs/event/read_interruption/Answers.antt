@@ -12,7 +12,7 @@ pub returns-in-None-clause-refused : goal.returns-in-None-clause-refused
 returns-in-None-clause-refused c =
     let p = c.args.coder.now.cells.parameters in let w = c.args.place.now.width in let n = c.args.place.now.components in
     let up : RowsAbove = above_of c.args.place.now in let row : List (List ℕ) = c.args.row.now.items in
-    let cells = c.args.coder.now.cells in let given = c.args.reader.now.left in let r = c.args.run_index in
+    let cells = c.args.coder.now.cells in let given = c.args.pending.now in let r = c.args.run_index in
     let none : RefusesPixel p (Interrupting (run_order r)) (pixel_neighbours w up row n) cells given =
     subst (λ z. RefusesPixel p (Interrupting (run_order r)) (pixel_neighbours w up z n) cells given) c.deref.ensures.value
     (subst (λ z. RefusesPixel p (Interrupting z) (pixel_neighbours w up c.deref.result.now n) cells given) c.run_order.ensures.value
@@ -23,8 +23,8 @@ pub returns-then-is_run_value-clause-refused : goal.returns-then-is_run_value-cl
 returns-then-is_run_value-clause-refused c =
     let p = c.args.coder.now.cells.parameters in let w = c.args.place.now.width in let n = c.args.place.now.components in
     let up : RowsAbove = above_of c.args.place.now in let row : List (List ℕ) = c.args.row.now.items in
-    let cells = c.args.coder.now.cells in let given = c.args.reader.now.left in let r = c.args.run_index in
-    let cells' = c.read_pixel.new.coder.cells in let left' = c.read_pixel.new.reader.left in let pixel : List ℕ = c.in-Some.pixel in
+    let cells = c.args.coder.now.cells in let given = c.args.pending.now in let r = c.args.run_index in
+    let cells' = c.read_pixel.new.coder.cells in let left' = c.read_pixel.new.pending in let pixel : List ℕ = c.in-Some.pixel in
     let reads : ReadsPixel p (Interrupting (run_order r)) (pixel_neighbours w up row n) pixel cells cells' given left' =
     subst (λ z. ReadsPixel p (Interrupting (run_order r)) (pixel_neighbours w up z n) pixel cells cells' given left') c.deref.ensures.value
     (subst (λ z. ReadsPixel p (Interrupting z) (pixel_neighbours w up c.deref.result.now n) pixel cells cells' given left')

@@ -19,7 +19,7 @@ returns-in-None-clause-refused c = λ earlier t.
     let w0 : ℕ = w - c.len.result in let w0_is : length row + w0 ≡ w = (let a = c.requires.column in let b =
     c.len.ensures in omega arith) in
     no_run_event p c.args.coder.now.in_range w n up c.requires.above row c.requires.row c.args.coder.now.cells c.args.run_index
-    c.requires.run_index earlier t c.args.reader.now.left w0 w0_is c.requires.mode c.in-None.ensures.none
+    c.requires.run_index earlier t c.args.pending.now w0 w0_is c.requires.mode c.in-None.ensures.none
 
 pub returns-in_ok-push_run-in-Some-ToEnd-clause-read : goal.returns-in_ok-push_run-in-Some-ToEnd-clause-read
 returns-in_ok-push_run-in-Some-ToEnd-clause-read c = λ earlier t.
@@ -27,7 +27,7 @@ returns-in_ok-push_run-in-Some-ToEnd-clause-read c = λ earlier t.
     let up : RowsAbove = above_of c.args.place.now in let row : List (List ℕ) = c.args.row.now.items in
     let w0 : ℕ = w - c.len.result in let w0_is : length row + w0 ≡ w = (let a = c.requires.column in let b =
     c.len.ensures in omega arith) in
-    let x = c.in-Some-ToEnd in let given = c.args.reader.now.left in let left = c.read_run.new.reader.left in
+    let x = c.in-Some-ToEnd in let given = c.args.pending.now in let left = c.read_run.new.pending in
     let is : RunIs c.args.run_index w0 given left (ToEnd x.run_index) =
     subst (λ z. RunIs c.args.run_index w0 given left z) x.field-0-is x.ensures.some in
     to_end_event p c.args.coder.now.in_range w n up c.requires.above row c.requires.row c.args.coder.now.cells c.args.run_index
@@ -54,13 +54,13 @@ returns-in_ok-push_run-in-Some-Interrupted-clause-read c =
     let up : RowsAbove = above_of c.args.place.now in let row : List (List ℕ) = c.args.row.now.items in
     let w0 : ℕ = w - c.len.result in let w0_is : length row + w0 ≡ w = (let a = c.requires.column in let b =
     c.len.ensures in omega arith) in
-    let x = c.in-Some-Interrupted in let given = c.args.reader.now.left in let left = c.read_run.new.reader.left in
+    let x = c.in-Some-Interrupted in let given = c.args.pending.now in let left = c.read_run.new.pending in
     let is : RunIs c.args.run_index w0 given left (Interrupted x.count x.run_index) =
     subst (λ z. RunIs c.args.run_index w0 given left z) x.field-0-is x.ensures.some in
     let within : IsRun w0 (Interrupted x.count x.run_index) = subst (IsRun w0) x.field-0-is x.ensures.run in
     let row1 : List (List ℕ) = c.push_run-in-Some-Interrupted.new.row.items in let row2 = c.read_interruption.new.row.items in
     let cells = c.args.coder.now.cells in let cells' = c.read_interruption.new.coder.cells in let left' =
-    c.read_interruption.new.reader.left in
+    c.read_interruption.new.pending in
     if_ok c.read_interruption.result
     (λ (o : Option ℕ). IfSome o (λ next. InterruptionRead p w n up row1 row2 cells cells' x.run_index next left left'))
     (λ (o : Option ℕ). IfSome o (λ next. ReadsEvent p w n up row row2 cells cells' c.args.run_index next given left'))
@@ -74,11 +74,11 @@ pub returns-in_ok-push_run-in-Some-Interrupted-clause-pixels : goal.returns-in_o
 returns-in_ok-push_run-in-Some-Interrupted-clause-pixels c =
     let p = c.args.coder.now.cells.parameters in let w = c.args.place.now.width in let n = c.args.place.now.components in
     let up : RowsAbove = above_of c.args.place.now in let row : List (List ℕ) = c.args.row.now.items in
-    let x = c.in-Some-Interrupted in let left = c.read_run.new.reader.left in
+    let x = c.in-Some-Interrupted in let left = c.read_run.new.pending in
     let row1 : List (List ℕ) = c.push_run-in-Some-Interrupted.new.row.items in let row2 : List (List ℕ) =
     c.read_interruption.new.row.items in
     let cells = c.args.coder.now.cells in let cells' = c.read_interruption.new.coder.cells in let left' =
-    c.read_interruption.new.reader.left in
+    c.read_interruption.new.pending in
     let small : AllByRecursion (IsPixel p n) row1 = subst (AllByRecursion (IsPixel p n)) (sym c.in_ok-push_run-in-Some-Interrupted.ensures)
     (run_pixels_of p w n up c.requires.above row c.requires.row x.count) in
     if_ok c.read_interruption.result
@@ -95,7 +95,7 @@ returns-in_ok-push_run-in-Some-Interrupted-clause-refused c =
     let up : RowsAbove = above_of c.args.place.now in let row : List (List ℕ) = c.args.row.now.items in
     let w0 : ℕ = w - c.len.result in let w0_is : length row + w0 ≡ w = (let a = c.requires.column in let b =
     c.len.ensures in omega arith) in
-    let x = c.in-Some-Interrupted in let given = c.args.reader.now.left in let left = c.read_run.new.reader.left in
+    let x = c.in-Some-Interrupted in let given = c.args.pending.now in let left = c.read_run.new.pending in
     let is : RunIs c.args.run_index w0 given left (Interrupted x.count x.run_index) =
     subst (λ z. RunIs c.args.run_index w0 given left z) x.field-0-is x.ensures.some in
     let within : IsRun w0 (Interrupted x.count x.run_index) = subst (IsRun w0) x.field-0-is x.ensures.run in

@@ -11,9 +11,8 @@ abbrev pub invariant-loop-component : goal.invariant-loop-component
 invariant-loop-component l = record {
   begun : (earlier : List CodedSample) → CellsAfter l.initial.coder.cells.parameters l.initial.coder.cells earlier
       → PixelBegun l.initial.coder.cells.parameters l.kind (component_neighbours l.place.width (above_of l.place) l.row) l.place.components
-      l.initial.reader.left earlier l.pixel l.component l.coder.cells l.reader.left;
+      l.initial.pending earlier l.pixel l.component l.coder.cells l.pending;
   count : length l.pixel ≡ l.component;
   small : AllByRecursion (λ s. s ≤ l.initial.coder.cells.parameters.maxval) l.pixel;
   parameters : l.coder.cells.parameters ≡ l.initial.coder.cells.parameters;
-  whole : l.reader.whole ≡ l.initial.reader.whole;
 }

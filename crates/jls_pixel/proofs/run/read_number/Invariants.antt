@@ -4,7 +4,6 @@ use Rattle.jls_pixel.proofs.run.read_number.Given as goal
 
 abbrev pub invariant-loop-place : goal.invariant-loop-place
 invariant-loop-place l = record {
-  bits_are : l.initial.reader.left ≡ bits l._place l.value ++ l.reader.left;
+  bits_are : l.initial.pending ≡ bits l._place l.value ++ l.pending;
   below : l.value < 2 ^ l._place;
-  whole : l.reader.whole ≡ l.initial.reader.whole;
 }

@@ -11,15 +11,15 @@ use Rattle.jls_pixel.proofs.sample.read_interrupting.Goals as goal
 
 pub returns-in-None-clause-refused : goal.returns-in-None-clause-refused
 returns-in-None-clause-refused c =
-    let coder = c.args.coder.now in let p = coder.cells.parameters in let given = c.args.reader.now.left in let j = c.args.order in
+    let coder = c.args.coder.now in let p = coder.cells.parameters in let given = c.args.pending.now in let j = c.args.order in
     interrupting_refused p coder.in_range coder.cells c.args.near given j c.requires.order
     (along (NoCode given) _ _ _ _ _ _ c.run_k.ensures.value (ap (λ z. z - j - 1) coder.lengths_are.limit_is) coder.lengths_are.qbpp_is
     c.in-None.ensures.none)
 
 pub returns-in-None-run_error-clause-refused : goal.returns-in-None-run_error-clause-refused
 returns-in-None-run_error-clause-refused c =
-    let coder = c.args.coder.now in let p = coder.cells.parameters in let given = c.args.reader.now.left in let j = c.args.order in
-    let m : ℕ = c.in-Some.mapped in let unread = c.read_golomb.new.reader.left in
+    let coder = c.args.coder.now in let p = coder.cells.parameters in let given = c.args.pending.now in let j = c.args.order in
+    let m : ℕ = c.in-Some.mapped in let unread = c.read_golomb.new.pending in
     let r : Code given unread m (run_k false (run_cell_at coder.cells false)) (limit p - j - 1) (qbpp p) =
     along (Code given unread m) _ _ _ _ _ _ c.run_k.ensures.value (ap (λ z. z - j - 1) coder.lengths_are.limit_is)
     coder.lengths_are.qbpp_is c.in-Some.ensures.some in
@@ -28,8 +28,8 @@ returns-in-None-run_error-clause-refused c =
 
 pub returns-in-Some-run_error-clause-read : goal.returns-in-Some-run_error-clause-read
 returns-in-Some-run_error-clause-read c =
-    let coder = c.args.coder.now in let p = coder.cells.parameters in let given = c.args.reader.now.left in let j = c.args.order in
-    let m : ℕ = c.in-Some.mapped in let unread = c.read_golomb.new.reader.left in
+    let coder = c.args.coder.now in let p = coder.cells.parameters in let given = c.args.pending.now in let j = c.args.order in
+    let m : ℕ = c.in-Some.mapped in let unread = c.read_golomb.new.pending in
     let cell : RunCell = run_cell_at coder.cells false in
     let r : Code given unread m (run_k false cell) (limit p - j - 1) (qbpp p) =
     along (Code given unread m) _ _ _ _ _ _ c.run_k.ensures.value (ap (λ z. z - j - 1) coder.lengths_are.limit_is)

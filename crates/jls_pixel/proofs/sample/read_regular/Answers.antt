@@ -14,7 +14,7 @@ use Rattle.jls_pixel.proofs.sample.read_regular.Goals as goal
 
 pub returns-in-None-clause-refused : goal.returns-in-None-clause-refused
 returns-in-None-clause-refused c =
-    let coder = c.args.coder.now in let p = coder.cells.parameters in let given = c.args.reader.now.left in
+    let coder = c.args.coder.now in let p = coder.cells.parameters in let given = c.args.pending.now in
     regular_refused p coder.in_range coder.cells c.args.near given c.regular_mode-context.result.context
     c.regular_mode-context.ensures.context
     (along (NoCode given) _ _ _ _ _ _ c.regular_k.ensures.value coder.lengths_are.limit_is coder.lengths_are.qbpp_is
@@ -22,8 +22,8 @@ returns-in-None-clause-refused c =
 
 pub returns-in-None-regular_error-clause-refused : goal.returns-in-None-regular_error-clause-refused
 returns-in-None-regular_error-clause-refused c =
-    let coder = c.args.coder.now in let p = coder.cells.parameters in let given = c.args.reader.now.left in
-    let q : ℕ = c.regular_mode-context.result.context in let m : ℕ = c.in-Some.mapped in let unread = c.read_golomb.new.reader.left in
+    let coder = c.args.coder.now in let p = coder.cells.parameters in let given = c.args.pending.now in
+    let q : ℕ = c.regular_mode-context.result.context in let m : ℕ = c.in-Some.mapped in let unread = c.read_golomb.new.pending in
     let r : Code given unread m (regular_k (cell_at coder.cells q)) (limit p) (qbpp p) =
     along (Code given unread m) _ _ _ _ _ _ c.regular_k.ensures.value coder.lengths_are.limit_is coder.lengths_are.qbpp_is
     c.in-Some.ensures.some in
@@ -32,8 +32,8 @@ returns-in-None-regular_error-clause-refused c =
 
 pub returns-in-Some-regular_error-clause-read : goal.returns-in-Some-regular_error-clause-read
 returns-in-Some-regular_error-clause-read c =
-    let coder = c.args.coder.now in let p = coder.cells.parameters in let given = c.args.reader.now.left in let near = c.args.near in
-    let q : ℕ = c.regular_mode-context.result.context in let m : ℕ = c.in-Some.mapped in let unread = c.read_golomb.new.reader.left in
+    let coder = c.args.coder.now in let p = coder.cells.parameters in let given = c.args.pending.now in let near = c.args.near in
+    let q : ℕ = c.regular_mode-context.result.context in let m : ℕ = c.in-Some.mapped in let unread = c.read_golomb.new.pending in
     let r : Code given unread m (regular_k (cell_at coder.cells q)) (limit p) (qbpp p) =
     along (Code given unread m) _ _ _ _ _ _ c.regular_k.ensures.value coder.lengths_are.limit_is coder.lengths_are.qbpp_is
     c.in-Some.ensures.some in

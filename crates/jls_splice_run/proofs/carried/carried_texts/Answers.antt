@@ -1,6 +1,6 @@
-use Rattle.std.proofs.Common.{◌≡◌, Bool, false, List, Option, map, ap, sym, ◌∙◌, subst}
+use Rattle.std.proofs.Common.{◌≡◌, Bool, true, false, List, Option, map, ap, sym, ◌∙◌, subst}
 use Rattle.std.specs.Prelude.{IfSome}
-use Rattle.std.specs.List.{AllByRecursion}
+use Rattle.std.specs.List.{AllByRecursion, Contains}
 use Rattle.jls_diff.specs.PartsOf.{bytes_of}
 use Rattle.jls_values.specs.OrderedSet as set
 use Rattle.jls_held.specs.HeldPictures.{AreReadingsHeld}
@@ -12,7 +12,7 @@ use Rattle.jls_search.specs.Files.{files_taken}
 use Rattle.jls_splice_run.specs.Making.{AreTextsOfJudged}
 use Rattle.jls_splice_run.specs.declared.made.Made.{Made as MadeValue}
 use Rattle.jls_splice_run.specs.Tasks.{task_of}
-use Rattle.jls_splice_run.proofs.CarriedCopies.{none_is_faultless, none_there}
+use Rattle.jls_splice_run.proofs.CarriedCopies.{found_none, none_is_faultless, none_there}
 use Rattle.jls_splice_run.proofs.carried.carried_texts.Goals as goal
 
 pub returns : goal.returns
@@ -32,9 +32,13 @@ returns c =
         is_alone = is_alone;
         texts = texts;
         is_carried = record {
-          alone = λ alone. none_is_faultless taken verdicts c.requires.verdicts
-              (subst (λ (vs : List Bool). AllByRecursion (λ v. v ≡ false) vs) c.deref.ensures.value
-              (c.is_none_faultless-is_alone.ensures alone));
+          alone = (
+            λ alone. none_is_faultless taken verdicts c.requires.verdicts
+                (subst (λ (vs : List Bool). AllByRecursion (λ v. v ≡ false) vs) c.deref.ensures.value
+                (c.is_none_faultless-is_alone.ensures.none alone)),
+            found_none taken verdicts c.requires.verdicts is_alone
+                (λ no. subst (λ (vs : List Bool). Contains vs true) c.deref.ensures.value (c.is_none_faultless-is_alone.ensures.some no)),
+          );
           are_mended = subst (λ (o : Option Between). IfSome o (λ b. AreMendedOf copies (codings_of b.judged.codings.items)
               (map file_of b.judged.files.items))) c.in-Some.is c.in_ok-between.ensures.mended;
           shape_is = subst (λ (o : Option Between). IfSome o (λ b. b.judged.held.shape ≡ c.to_owned-shape.result)) c.in-Some.is

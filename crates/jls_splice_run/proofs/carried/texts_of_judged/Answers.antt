@@ -20,6 +20,8 @@ use Rattle.jls_carried.specs.CodingLines.{HavePrintedNumbers}
 use Rattle.jls_partial.specs.Partial.{PartialPicture}
 use Rattle.jls_partial.specs.Status.{IsSettled}
 use Rattle.jls_partial.specs.Text.{text}
+use Rattle.jls_splice_run.specs.Tasks.{texts_of}
+use Rattle.jls_splice_run.specs.Limits.{has_some}
 use Rattle.jls_splice_run.specs.Carrying.{carried_file, carried_files, carried_of, carried_promise, files_beside, handed_by, joined}
 use Rattle.jls_splice_run.specs.Carrying.{promise_for, verdicts_beside}
 use Rattle.jls_splice_run.specs.CodingLines.{carried_noted_text, carried_text}
@@ -155,6 +157,7 @@ returns c =
       files = c.files_reported.result;
       is_eoi_added = c.in_ok-is_added.is_added;
       lacks_single_file = c.lacks_file.result;
+      has_lists = c.has_lists.result;
       promise = c.carried_promise-promise.result;
     } in
     let report : reported ≡ record {
@@ -167,6 +170,7 @@ returns c =
       is_eoi_added = is_eoi_added (files_held is_alone (carried_promise carried) mended (copies ++ splices_in (found_of found))) single
           (named_files numbered);
       lacks_single_file = lacks_single name_asked single;
+      has_lists = has_some (texts_of c.args.task.now.bad.now);
       promise = carried_promise carried;
     } =
     λ i. record {
@@ -178,6 +182,7 @@ returns c =
       files = files i;
       is_eoi_added = added i;
       lacks_single_file = lacks i;
+      has_lists = c.has_lists.ensures i;
       promise = promise i;
     } in
     record {

@@ -8,6 +8,8 @@ use Rattle.jls_search.specs.Files.{AreVerdicts}
 use Rattle.jls_search.specs.Files as given
 use Rattle.jls_search.specs.Search.{lists_of}
 use Rattle.jls_search.specs.Found.{found_of, splices_in}
+use Rattle.jls_splice_run.specs.Tasks.{texts_of}
+use Rattle.jls_splice_run.specs.Limits.{has_some}
 use Rattle.jls_splice_run.specs.Files.{count_new, is_eoi_added}
 use Rattle.jls_partial.specs.Partial.{PartialPicture}
 use Rattle.jls_partial.specs.Status.{IsSettled}
@@ -61,6 +63,7 @@ returns-clause-texts c = (
         files = c.files_reported.result;
         is_eoi_added = c.in_ok-is_added.is_added;
         lacks_single_file = c.lacks_file.result;
+        has_lists = c.has_lists.result;
         promise = c.promise_of-promise.result;
       } in
       let report : reported ≡ record {
@@ -72,6 +75,7 @@ returns-clause-texts c = (
         files = files_reported (option_map (λ (s : Bor (List ℕ)). s.now) options.files) (named_files numbered);
         is_eoi_added = is_eoi_added (copies ++ splices_in (found_of found)) single (named_files numbered);
         lacks_single_file = lacks_single name_asked single;
+        has_lists = has_some (texts_of c.args.task.now.bad.now);
         promise = promise_of found.ceiling (found_of found) c.is_settled-settled.result;
       } =
       λ i. record {
@@ -83,6 +87,7 @@ returns-clause-texts c = (
         files = files i;
         is_eoi_added = added i;
         lacks_single_file = lacks i;
+        has_lists = c.has_lists.ensures i;
         promise = c.promise_of-promise.ensures i;
       } in
       record {

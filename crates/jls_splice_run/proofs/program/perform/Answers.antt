@@ -19,7 +19,8 @@ returns g c =
     let report = g.W.Device.history in
     let faults = g.E.Device.history in
     let asked = c.args.asked.now in
-    let same = ap (λ (copies : List (List ℕ)). record { options = options_in asked.options; out = asked.out.now; copies = copies })
+    let bad = texts_of asked.bad.now in
+    let same = ap (λ (names : List (List ℕ)). record { options = options_in asked.options; out = asked.out.now; copies = names; bad = bad })
     (ap texts_of c.deref.ensures.value ∙ c.in-Ok.ensures) in
     performs (asked_of asked) c.exit_status.result c.splice-outcome.result c.exit_status.ensures
     (subst (λ (a : Asked). GrewAll (Splices a c.splice-outcome.result) (desk c.args.desk.now) (desk c.splice-outcome.new.desk)

@@ -5,8 +5,8 @@ use Rattle.jls_io.specs.FaultLines.{out_of_memory_line}
 use Rattle.jls_io.specs.Writing.{Printed}
 use Rattle.jls_cli.specs.SpliceAsking.{Asked, AskFor, asked_by, asked_of}
 use Rattle.jls_cli.specs.SpliceWords.{splice_app}
-use Rattle.jls_splice_run.specs.FaultLines.{named_twice_line, not_understood_line, numbered_out_line, program}
-use Rattle.jls_splice_run.specs.Runs.{Run, named_twice, nothing_asked, nothing_begun, numbered_out}
+use Rattle.jls_splice_run.specs.FaultLines.{bad_value_line, named_twice_line, not_understood_line, numbered_out_line, program}
+use Rattle.jls_splice_run.specs.Runs.{Run, named_twice, no_list, nothing_asked, nothing_begun, numbered_out}
 use Rattle.jls_splice_run.proofs.Running.{faults_alone, ran, ran_refused}
 use Rattle.jls_splice_run.proofs.program.run.Goals as goal
 
@@ -47,10 +47,21 @@ returns-then-numbered g c =
     (c.in-Ok-is_numbered_out.ensures.0 c.if-numbered.true) line)
     c.print_numbered_out.ensures
 
+pub returns-in-Some-bad_value_in : goal.returns-in-Some-bad_value_in
+returns-in-Some-bad_value_in g c =
+    let asked = asked_of c.in-Some.asked in
+    let value = c.in-Some-bad_value_in.value.now in
+    faults_alone (Run (map string_bytes c.args.words.now) 2) (Printed (bad_value_line value))
+    (λ events line. no_list asked value events (asks c.in-Ok.ensures.no_fault c.in-Ok.ensures.rows c.in-Some.ensures)
+    (λ same. (let yes = c.is_file_out.ensures.1 same in let no = c.if-is_file_out.false in absurd cc))
+    (λ same. (let yes = c.in-Ok-is_numbered_out.ensures.1 same in let no = c.if-numbered.false in absurd cc))
+    (sym c.in-Some-bad_value_in.ensures) line)
+    c.print_bad_value.ensures
+
 pub returns : goal.returns
 returns g c =
     ran (map string_bytes c.args.words.now) (asked_of c.in-Some.asked) c.perform.result
     (asks c.in-Ok.ensures.no_fault c.in-Ok.ensures.rows c.in-Some.ensures)
     (λ same. (let yes = c.is_file_out.ensures.1 same in let no = c.if-is_file_out.false in absurd cc))
     (λ same. (let yes = c.in-Ok-is_numbered_out.ensures.1 same in let no = c.if-numbered.false in absurd cc))
-    c.perform.ensures
+    (sym c.in-None-bad_value_in.ensures) c.perform.ensures

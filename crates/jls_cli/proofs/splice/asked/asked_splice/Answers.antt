@@ -1,6 +1,6 @@
 use Rattle.std.proofs.Common.{◌∙◌, codes}
 use Rattle.clap.specs.Words.{found_of}
-use Rattle.clap.proofs.WalkLemmas.{first_value-rows, raw_values-rows}
+use Rattle.clap.proofs.WalkLemmas.{first_value-rows}
 use Rattle.jls_cli.specs.SpliceAsking as spec
 use Rattle.jls_cli.proofs.splice.asked.asked_splice.Goals as goal
 
@@ -15,6 +15,5 @@ returns c =
     let files = c.get_str-6.ensures ∙ first_value-rows found (codes "files") in
     let out = c.get_str-out.ensures ∙ first_value-rows found (codes "OUT") in
     let copy = c.get_str-first.ensures ∙ first_value-rows found (codes "COPY") in
-    let others = c.get_strs.ensures ∙ raw_values-rows found (codes "OTHERS") in
     let options = c.options_of-options.ensures ∙ (λ i. spec.options_of (source i) (tries i) (ceiling i) (progress i) (file i) (files i)) in
-    c.asked_with.ensures ∙ (λ i. spec.asked_with (options i) (out i) (copy i) (others i))
+    c.asked_with.ensures ∙ (λ i. spec.asked_with (options i) (out i) (copy i) (c.values_of-others.ensures i) (c.values_of.ensures i))

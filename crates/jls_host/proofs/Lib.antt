@@ -1,0 +1,7 @@
+mod CellMade
+mod Runs
+mod Disks
+mod Makes
+mod Takes
+mod Steps
+mod MomentExamples

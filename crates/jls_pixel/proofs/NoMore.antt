@@ -1,0 +1,35 @@
+-- When bytes read as no rows, whatever follows.
+use Rattle.std.proofs.Common.{◌≡◌, ℕ, ◌+◌, ◌<◌, Bool, false, List, ◌++◌, length, sym, ap, ◌∙◌, arith, append_assoc, length-append}
+use Rattle.jls_values.specs.Params.{CodingParameters, AreCodingParameters}
+use Rattle.jls_bits.specs.Bits.{bits_read, bits_read_after, is_whole}
+use Rattle.jls_bits.specs.Appending.{last_after}
+use Rattle.jls_bits.proofs.Appending.{data_append, whole_prefix}
+use Rattle.jls_pixel.specs.Pixels.{pixel_shape}
+use Rattle.jls_pixel.specs.Code.{pixel_code}
+use Rattle.jls_pixel.specs.Reads.{ReadsNoMore}
+use Rattle.jls_pixel.specs.PixelReading.{BeginsNoCode, IsComplete}
+use Rattle.jls_pixel.proofs.CodesApart.{codes_apart}
+
+module _ (p : CodingParameters) (w c n : ℕ) (bytes : List ℕ) where
+  pub unwhole_reads_no_more : is_whole bytes ≡ false → ReadsNoMore (pixel_shape p w c n) bytes
+  unwhole_reads_no_more e more rows r = let t = (whole_prefix 0 bytes more r.begins.data_bits.whole).0 in absurd cc
+
+  pub no_code_reads_no_more : BeginsNoCode p w c n (bits_read bytes) → ReadsNoMore (pixel_shape p w c n) bytes
+  no_code_reads_no_more no_code more rows r =
+      let t = (whole_prefix 0 bytes more r.begins.data_bits.whole).0 in
+      no_code (bits_read_after (last_after 0 bytes) more) rows r.unread r.begins.are_rows
+      (sym (data_append 0 bytes more t) ∙ r.begins.data_bits.read)
+
+  pub over_reads_no_more : AreCodingParameters p → 0 < w → (whole : List (List (List ℕ))) (extra : ℕ)
+      → IsComplete p w c n (bits_read bytes) whole extra → 7 < extra → ReadsNoMore (pixel_shape p w c n) bytes
+  over_reads_no_more ok some whole extra over many more rows r =
+      let t = (whole_prefix 0 bytes more r.begins.data_bits.whole).0 in
+      let following : List Bool = bits_read_after (last_after 0 bytes) more in
+      let e : pixel_code p w c rows ++ r.unread ≡ pixel_code p w c whole ++ (over.unread ++ following) =
+      sym r.begins.data_bits.read ∙ data_append 0 bytes more t ∙ ap (λ z. z ++ following) over.begins
+      ∙ append_assoc (pixel_code p w c whole) over.unread following in
+      let same = (codes_apart p w c n ok some rows whole r.unread (over.unread ++ following) r.begins.are_rows over.are_rows e).1 in
+      let k : length r.unread ≡ length over.unread + length following = ap length same ∙ length-append over.unread following in
+      let few = r.at_most_seven in
+      let counted = over.counted in
+      omega (arith, k, few, counted, many)

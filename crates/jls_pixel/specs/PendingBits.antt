@@ -1,0 +1,13 @@
+-- Bits that wait to be read: the data bits of bytes, one byte after another.
+use Rattle.std.specs.Prelude.{Bool, List}
+use Rattle.std.specs.List.{flat_map}
+use Rattle.jls_bits.specs.Bits.{bits}
+use Rattle.jls_pixel.specs.declared.data_bits.DataBits.{DataBits}
+
+-- the data bits of a byte
+abbrev pub bits_of : DataBits → List Bool
+bits_of d = bits d.count d.value
+
+-- those of bytes, one after another
+abbrev pub bits_of_all : List DataBits → List Bool
+bits_of_all ds = flat_map bits_of ds

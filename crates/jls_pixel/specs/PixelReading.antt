@@ -1,0 +1,95 @@
+-- What a decoder that is given a few bits at a time keeps.
+use Rattle.std.specs.Prelude.{◌≡◌, ℕ, ◌+◌, ◌-◌, ◌*◌, ◌^◌, ◌<◌, ◌≤◌, Bool, true, false, List, ◌++◌, length, min}
+use Rattle.std.specs.List.{AllByRecursion}
+use Rattle.jls_values.specs.Params.{CodingParameters}
+use Rattle.jls_context.specs.Variables.{Variables}
+use Rattle.jls_pixel.specs.Pixels.{AreRows, IsPixel}
+use Rattle.jls_pixel.specs.Code.{pixel_code}
+use Rattle.jls_pixel.specs.RowRead.{RowBegun, NoRows}
+use Rattle.jls_pixel.specs.declared.pixel_reader.State.{State}
+use Rattle.jls_pixel.specs.declared.pixel_reader.State.TheVariants.{Working, Complete, NoCode}
+use Rattle.jls_pixel.specs.declared.pixel_reader.PixelReader.{PixelReader}
+
+-- no event that can come next has more bits: a run has at most 48 before its interrupting pixel, and a sample at most 80
+abbrev pub longest_event : ℕ
+longest_event = 368
+
+-- of the bits given, the first ones are those of whole events, which lead from the start to these finished rows and to this row, which may
+-- be whole; the others wait
+pub record IsBegun (p : CodingParameters) (w c n : ℕ) (given : List Bool) (rows : List (List (List ℕ))) (row : List (List ℕ))
+    (cells : Variables) (run_index : ℕ) (pending : List Bool) : Type 0 where
+  pub begun : RowBegun p w c n given rows row cells run_index pending
+  pub few : length rows < n
+  pub columns : length row ≤ w
+  pub pixels : AllByRecursion (IsPixel p c) row
+  pub run_index_at_most : run_index ≤ 31
+
+-- the same, and the row is not whole
+pub record IsWorking (p : CodingParameters) (w c n : ℕ) (given : List Bool) (rows : List (List (List ℕ))) (row : List (List ℕ))
+    (cells : Variables) (run_index : ℕ) (pending : List Bool) : Type 0 where
+  pub begun : IsBegun p w c n given rows row cells run_index pending
+  pub unfinished : length row < w
+
+-- all rows are there, and so many bits, counted up to 8, came after their code
+pub record IsComplete (p : CodingParameters) (w c n : ℕ) (given : List Bool) (rows : List (List (List ℕ))) (extra : ℕ) : Type 0 where
+  pub unread : List Bool
+  pub are_rows : AreRows p w c n rows
+  pub begins : given ≡ pixel_code p w c rows ++ unread
+  pub counted : extra ≡ min 8 (length unread)
+
+-- no rows' code begins with the bits given, whatever comes
+abbrev pub BeginsNoCode : CodingParameters → ℕ → ℕ → ℕ → List Bool → Type 0
+BeginsNoCode p w c n given = (more : List Bool) → NoRows p w c n (given ++ more)
+
+-- what the bits given have come to
+abbrev pub StateIs : CodingParameters → ℕ → ℕ → ℕ → List Bool → List (List (List ℕ)) → List (List ℕ) → Variables → ℕ → List Bool → State
+    → Type 0
+StateIs p w c n given rows row cells run_index pending Working = IsWorking p w c n given rows row cells run_index pending
+StateIs p w c n given rows row cells run_index pending (Complete extra) = IsComplete p w c n given rows extra
+StateIs p w c n given rows row cells run_index pending NoCode = BeginsNoCode p w c n given
+
+-- the parameters and the shape of the interval
+pub record HasShape (p : CodingParameters) (d : PixelReader) : Type 0 where
+  pub parameters : d.coder.cells.parameters ≡ p
+  pub width_at_least : 0 < d.width
+  pub width_below : d.width < 2 ^ 16
+  pub components_at_most : d.components ≤ 4
+
+-- what the fields of a reader say of the bits given
+pub record IsReading (p : CodingParameters) (given : List Bool) (d : PixelReader) : Type 0 where
+  pub shape : HasShape p d
+  pub state_is : StateIs p d.width d.components d.count given d.rows d.row.items d.coder.cells d.run_index d.pending d.state
+
+-- the same after an event, where its row may be whole
+pub record HasTaken (p : CodingParameters) (given : List Bool) (d : PixelReader) : Type 0 where
+  pub shape : HasShape p d
+  pub begun : IsBegun p d.width d.components d.count given d.rows d.row.items d.coder.cells d.run_index d.pending
+
+-- the bits given are no rows' code with more bits after it, and if an event would have to be whole, none of which these are the first ones
+pub record FindsNone (p : CodingParameters) (given : List Bool) (d : PixelReader) : Type 0 where
+  pub none : NoRows p d.width d.components d.count given
+  pub never : longest_event ≤ length d.pending → BeginsNoCode p d.width d.components d.count given
+
+-- an event was taken, or none stands at the start of the bits that wait
+abbrev pub TakesEvent : PixelReader → PixelReader → Bool → Type 0
+TakesEvent old new true = (p : CodingParameters) (given : List Bool) → IsReading p given old → HasTaken p given new
+TakesEvent old new false = (p : CodingParameters) (given : List Bool) → IsReading p given old → FindsNone p given old
+
+-- the same, where a whole row is among the finished ones
+abbrev pub PushesEvent : PixelReader → PixelReader → Bool → Type 0
+PushesEvent old new true = (p : CodingParameters) (given : List Bool) → IsReading p given old → IsReading p given new
+PushesEvent old new false = (p : CodingParameters) (given : List Bool) → IsReading p given old → FindsNone p given old
+
+-- what was read stays true
+abbrev pub KeepsReading : PixelReader → PixelReader → Type 0
+KeepsReading old new = (p : CodingParameters) (given : List Bool) → IsReading p given old → IsReading p given new
+
+-- the shape of an interval stays
+pub record KeepsShape (old new : PixelReader) : Type 0 where
+  pub width : new.width ≡ old.width
+  pub components : new.components ≡ old.components
+  pub count : new.count ≡ old.count
+
+-- how many pixels are to come
+abbrev pub pixels_left : PixelReader → ℕ
+pixels_left d = (d.count - length d.rows) * d.width + (d.width - length d.row.items)
