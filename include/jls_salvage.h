@@ -48,9 +48,10 @@ enum jls_answer {
     JLS_BAD_SIZE = 12,         /* `size` of a structure is less than that of its first version, or that of no jls_mend_options: nothing was
                                   written */
     JLS_BAD_LAYOUT = 13,       /* there is no such jls_layout: nothing was written */
-    JLS_BAD_COPIES = 14,       /* there are fewer than two copies: nothing was written */
+    JLS_BAD_COPIES = 14,       /* there are fewer than two copies, or with a list of bad places none: nothing was written */
     JLS_NOT_MENDED = 15,       /* copies can't be mended: `cause` of jls_mend_info says why */
-    JLS_STOPPED = 16           /* the caller stopped the mending by `stop` of jls_mend_options: nothing was written */
+    JLS_STOPPED = 16,          /* the caller stopped the mending by `stop` of jls_mend_options: nothing was written */
+    JLS_BAD_LISTS = 17         /* a list of bad places is of no copy: nothing was written */
 };
 
 /* What a copy has that this library doesn't read. A damaged header can say it too. */
@@ -113,13 +114,13 @@ enum jls_cause {
     JLS_CAUSE_NONE = 0,
     JLS_CAUSE_NOT_OPENED = 1,      /* of files alone */
     JLS_CAUSE_INPUT = 2,           /* of files alone */
-    JLS_CAUSE_PARTIAL_PICTURE = 3, /* a copy begins as a partial picture does */
+    JLS_CAUSE_PARTIAL_PICTURE = 3, /* a copy or a list begins as a partial picture does */
     JLS_CAUSE_NO_PICTURE = 4,      /* no copy has a frame: `fault` and `offset` are those of the first */
-    JLS_CAUSE_NOT_READ = 5,        /* no copy has a frame, and the first was not read to its end */
+    JLS_CAUSE_NOT_READ = 5,        /* no copy has a frame, and the first was not read to its end; or a list was not */
     JLS_CAUSE_SHAPE_DIFFERS = 6,   /* files without a fault differ in shape */
     JLS_CAUSE_UNSETTLED = 7,       /* of files alone */
     JLS_CAUSE_TOO_LARGE = 8,       /* of files alone */
-    JLS_CAUSE_NO_LIST = 9          /* of files alone */
+    JLS_CAUSE_NO_LIST = 9          /* a list of bad places is none, by `line` */
 };
 
 /* What a copy says of its picture, how many lines it gives, and how it ended. Of a partial picture the same is told, but no end. */
@@ -175,6 +176,14 @@ typedef struct jls_copy {
     size_t size;
 } jls_copy;
 
+/* A list of bad places of a copy, as --bad of jls-splice takes it: GNU ddrescue's mapfile, or lines OFFSET LENGTH. The bytes of the copy
+   there are taken as bad, and those of other copies stand in their place. */
+typedef struct jls_bad_list {
+    size_t copy;         /* the number of the copy, from 0 on */
+    const uint8_t *list; /* the bytes of the list, */
+    size_t size;         /* and how many there are */
+} jls_bad_list;
+
 /* What jls_mend is asked for. JLS_MEND_OPTIONS asks for what jls-splice does by default. */
 typedef struct jls_mend_options {
     uint32_t size;       /* what the caller sets: sizeof(jls_mend_options) */
@@ -188,6 +197,8 @@ typedef struct jls_mend_options {
                                    takes memory, and after each 2^20 bytes that it took, which is mostly every few milliseconds. After a
                                    yes it asks no more. The function has to return, and may call the library */
     void *context;              /* what it is given */
+    const jls_bad_list *bad;    /* lists of bad places. A copy can have several */
+    size_t bad_count;           /* how many there are. With one, one copy is enough */
 } jls_mend_options;
 
 /* What came of a mending. */
@@ -202,6 +213,9 @@ typedef struct jls_mend_info {
     uint8_t is_promised; /* at JLS_DONE: whether the picture is promised, as by status 0 of jls-splice */
     uint8_t is_whole;    /* whether each copy was read to its end: so is each of less than 4294967295 bytes */
     uint8_t has_file;    /* whether there is a mended file */
+    uint8_t has_list;    /* at JLS_NOT_MENDED: whether it showed at a list of bad places, */
+    uint64_t list;       /* which of them, from 0 on, */
+    uint64_t line;       /* and at JLS_CAUSE_NO_LIST the first line that isn't understood, from 1 on */
 } jls_mend_info;
 
 /* What came of a mending, with its bytes. */
@@ -212,8 +226,8 @@ typedef struct jls_mended jls_mended;
 #define JLS_INFO {sizeof(jls_info), 0, 0, 0, 0, 0, 0, 0, 0, 0, 0, 0, 0, 0, 0, 0}
 #define JLS_HEADER {sizeof(jls_header), 0, 0, 0, 0, 0, 0, 0, 0, 0, 0, 0, 0}
 #define JLS_LAYOUT {sizeof(jls_layout), 0, 0, 0}
-#define JLS_MEND_OPTIONS {sizeof(jls_mend_options), 0, 0, 0, 0, 0, 0, 0, 0}
-#define JLS_MEND_INFO {sizeof(jls_mend_info), 0, 0, 0, 0, 0, 0, 0, 0, 0}
+#define JLS_MEND_OPTIONS {sizeof(jls_mend_options), 0, 0, 0, 0, 0, 0, 0, 0, 0, 0}
+#define JLS_MEND_INFO {sizeof(jls_mend_info), 0, 0, 0, 0, 0, 0, 0, 0, 0, 0, 0, 0}
 #else
 #define JLS_INFO {.size = sizeof(jls_info)}
 #define JLS_HEADER {.size = sizeof(jls_header)}
@@ -311,10 +325,10 @@ uint32_t jls_write_as(const jls_frame *frame, const jls_layout *layout, const vo
                       uint64_t *file_size);
 
 /* Mends copies of one file, of which there are two or more, as `jls-splice --file FILE OUT 1 2 ..` does, and with `--files` if these are
-   asked for. At JLS_DONE and JLS_NOT_MENDED *mended is what came of it, which jls_mended_free frees; at any other answer it stays as it was.
-   A search can take minutes: `tries` bounds it, and `stop` ends it. It takes memory for all copies once more: there is none if their sizes
-   add up to more than SIZE_MAX / 2.
-   Answers JLS_DONE, JLS_NOT_MENDED, JLS_BAD_COPIES, JLS_STOPPED or JLS_OUT_OF_MEMORY. */
+   asked for. Lists of bad places are those of `--bad`: with one, one copy is enough. At JLS_DONE and JLS_NOT_MENDED *mended is what came of it, which jls_mended_free frees; at any other answer it stays as it was.
+   A search can take minutes: `tries` bounds it, and `stop` ends it. It takes memory for all copies and lists once more: there is none if
+   the sizes of either add up to more than SIZE_MAX / 2.
+   Answers JLS_DONE, JLS_NOT_MENDED, JLS_BAD_COPIES, JLS_BAD_LISTS, JLS_STOPPED or JLS_OUT_OF_MEMORY. */
 uint32_t jls_mend(const jls_copy *copies, size_t count, const jls_mend_options *options, jls_mended **mended);
 
 /* Tells what came of a mending. Answers JLS_DONE. */

@@ -1,5 +1,5 @@
-/* Copies that mend each other. jls_mend hands them to the proved function one behind the other, and keeps what that writes. No proof covers
-   this file. */
+/* Copies that mend each other. jls_mend hands them to the proved function one behind the other, and lists of their bad places so too, and
+   keeps what that writes. No proof covers this file. */
 #include "../include/jls_salvage.h"
 #include "misuse.h"
 #include "processor.h"
@@ -17,20 +17,29 @@ typedef struct asked {
 /* What it tells. */
 typedef struct told {
     uint64_t bytes, outputs, lines, copy, offset;
-    uint8_t has_copy, cause, fault, has_file, is_promised, is_whole;
+    uint8_t has_copy, cause, fault, has_file, is_promised, is_whole, has_list;
+    uint64_t list, line;
 } told;
 
-/* The sizes in the first version, which stay as they are when a structure grows: callers that are older have these. In that version
-   jls_mend_options ended with `files`, and was aligned as a number of 32 bits is. */
-enum { FIRST_OPTIONS = 20, FIRST_INFO = 32 };
+/* A list of bad places as it takes it: the number of its copy, and how many bytes it has. */
+typedef struct listed {
+    uint64_t copy, size;
+} listed;
 
-_Static_assert(sizeof(jls_mend_options) == 40 && sizeof(jls_mend_info) == FIRST_INFO, "the sizes of this version");
+/* The sizes in earlier versions, which stay as they are when a structure grows: callers that are older have these. In the first version
+   jls_mend_options ended with `files`, and was aligned as a number of 32 bits is. In the second it ended with `context`. */
+enum { FIRST_OPTIONS = 20, SECOND_OPTIONS = 40, FIRST_INFO = 32 };
+
+_Static_assert(sizeof(jls_mend_options) == 56 && sizeof(jls_mend_info) == 48, "the sizes of this version");
 _Static_assert(offsetof(jls_mend_options, tries) + sizeof(asked) == FIRST_OPTIONS, "what is asked ended the first version");
 _Static_assert(offsetof(jls_mend_options, stop) >= FIRST_OPTIONS, "what came later stands behind it");
+_Static_assert(offsetof(jls_mend_options, bad) == SECOND_OPTIONS, "and what came then behind the second");
+_Static_assert(offsetof(jls_mend_info, list) == FIRST_INFO, "what came later stands behind the first version");
 
 enum { TRIES = 4096, NUMBERED = 64, SPARE = 1 << 20, SAMPLES_A_BYTE = 64 };
 
-uint32_t proved_jls_mend(const uint8_t *, size_t, const uint64_t *, size_t, const asked *, told *, uint8_t *, size_t, uint64_t *, size_t);
+uint32_t proved_jls_mend(const uint8_t *, size_t, const uint64_t *, size_t, const uint8_t *, size_t, const listed *, size_t, const asked *,
+                         told *, uint8_t *, size_t, uint64_t *, size_t);
 
 /* The outputs stand in `bytes` one behind the other: the picture, the mended file if there is one, those with numbers, and the lines.
    `sizes` has how many bytes each output has. */
@@ -47,6 +56,14 @@ typedef struct joined {
     uint64_t *sizes;
 } joined;
 
+/* Lists one behind the other, with the copy and the size of each. */
+typedef struct joined_lists {
+    uint8_t *texts;
+    size_t size;
+    listed *lists;
+    size_t count;
+} joined_lists;
+
 /* Takes options of any version: what an older one doesn't have is 0. Answers whether there are such, and all that a caller of a later
    version sets is known here: the rest has to be 0. */
 static bool take_options(const void *from, jls_mend_options *options) {
@@ -54,7 +71,7 @@ static bool take_options(const void *from, jls_mend_options *options) {
     memset(options, 0, sizeof *options);
     memcpy(&options->size, bytes, sizeof options->size);
     size_t size = options->size;
-    if (size != FIRST_OPTIONS && size < sizeof *options) return false;
+    if (size != FIRST_OPTIONS && size != SECOND_OPTIONS && size < sizeof *options) return false;
     for (size_t at = sizeof *options; at < size; at++)
         if (bytes[at] != 0) return false;
     memcpy(options, bytes, size < sizeof *options ? size : sizeof *options);
@@ -76,6 +93,23 @@ static bool join_copies(const jls_copy *copies, size_t count, joined *all) {
     for (size_t at = 0; at < count; to += copies[at++].size) {
         all->sizes[at] = copies[at].size;
         if (copies[at].size != 0) memcpy(to, copies[at].bytes, copies[at].size);
+    }
+    return true;
+}
+
+static bool join_lists(const jls_bad_list *bad, size_t count, joined_lists *all) {
+    *all = (joined_lists){NULL, 0, room_for(count, sizeof *all->lists), count};
+    if (all->lists == NULL) return false;
+    for (size_t at = 0; at < count; at++) {
+        if (bad[at].size > SIZE_MAX / 2 - all->size) return false;
+        all->size += bad[at].size;
+    }
+    all->texts = room_for(all->size, 1);
+    if (all->texts == NULL) return false;
+    uint8_t *to = all->texts;
+    for (size_t at = 0; at < count; to += bad[at++].size) {
+        all->lists[at] = (listed){bad[at].copy, bad[at].size};
+        if (bad[at].size != 0) memcpy(to, bad[at].list, bad[at].size);
     }
     return true;
 }
@@ -108,12 +142,13 @@ static bool take_room(jls_mended *it, size_t room, size_t count) {
 }
 
 /* Mends copies. What is too short is taken once more, as long as it has to be. */
-static uint32_t mend(const joined *all, size_t count, const asked *asked, size_t room, jls_mended *it) {
+static uint32_t mend(const joined *all, size_t count, const joined_lists *bad, const asked *asked, size_t room, jls_mended *it) {
     size_t sizes = NUMBERED + 2;
     if (!take_room(it, room, sizes) && !take_room(it, room = SPARE, sizes)) return JLS_OUT_OF_MEMORY;
     uint32_t answer = JLS_SHORT_ROOM;
     for (;;) {
-        answer = proved_jls_mend(all->bytes, all->size, all->sizes, count, asked, &it->told, it->bytes, room, it->sizes, sizes);
+        answer = proved_jls_mend(all->bytes, all->size, all->sizes, count, bad->texts, bad->size, bad->lists, bad->count, asked, &it->told,
+                                 it->bytes, room, it->sizes, sizes);
         if (answer != JLS_SHORT_ROOM) return answer;
         room = (size_t)it->told.bytes;
         sizes = (size_t)it->told.outputs;
@@ -132,13 +167,17 @@ static void fit(jls_mended *it) {
     if (bytes != NULL) it->bytes = bytes;
 }
 
-/* Mends copies that are not joined yet. */
-static uint32_t join_and_mend(const jls_copy *copies, size_t count, const asked *asked, jls_mended *it) {
-    joined all;
+/* Mends copies that are not joined yet, nor are the lists. */
+static uint32_t join_and_mend(const jls_copy *copies, size_t count, const jls_mend_options *options, const asked *asked, jls_mended *it) {
+    joined all = {NULL, 0, NULL};
+    joined_lists bad = {NULL, 0, NULL, 0};
     uint32_t answer = JLS_OUT_OF_MEMORY;
-    if (join_copies(copies, count, &all)) answer = mend(&all, count, asked, likely_room(copies, count, asked->files != 0), it);
+    if (join_copies(copies, count, &all) && join_lists(options->bad, options->bad_count, &bad))
+        answer = mend(&all, count, &bad, asked, likely_room(copies, count, asked->files != 0), it);
     free(all.bytes);
     free(all.sizes);
+    free(bad.texts);
+    free(bad.lists);
     return answer;
 }
 
@@ -148,6 +187,11 @@ uint32_t jls_mend(const jls_copy *copies, size_t count, const jls_mend_options *
     if (!runs_here()) return JLS_PROCESSOR;
     jls_mend_options all;
     if (!take_options(options, &all)) return JLS_BAD_SIZE;
+#ifdef JLS_CHECKS
+    const jls_bad_list *bad = all.bad;
+    REFUSE_MISUSE(READ(bad, all.bad_count), WRITTEN(mended, 1));
+    for (size_t at = 0; at < all.bad_count; at++) REFUSE_MISUSE(READ(bad[at].list, bad[at].size), WRITTEN(mended, 1));
+#endif
     asked asked;
     memcpy(&asked, &all.tries, sizeof asked);
     if (asked.tries == 0) asked.tries = TRIES;
@@ -155,7 +199,7 @@ uint32_t jls_mend(const jls_copy *copies, size_t count, const jls_mend_options *
     if (it == NULL) return JLS_OUT_OF_MEMORY;
     stopping call = {all.stop, all.context, 0, false};
     jls_stopping = all.stop != NULL ? &call : NULL;
-    uint32_t answer = join_and_mend(copies, count, &asked, it);
+    uint32_t answer = join_and_mend(copies, count, &all, &asked, it);
     jls_stopping = NULL;
     if (call.is_stopped) answer = JLS_STOPPED;
     if (answer != JLS_DONE && answer != JLS_NOT_MENDED) return jls_mended_free(it), answer;
@@ -180,6 +224,9 @@ uint32_t jls_mended_info(const jls_mended *mended, jls_mend_info *info) {
     all.is_promised = told->is_promised;
     all.is_whole = told->is_whole;
     all.has_file = told->has_file;
+    all.has_list = told->has_list;
+    all.list = told->list;
+    all.line = told->line;
     memcpy(info, &all, info->size < sizeof all ? info->size : sizeof all);
     return JLS_DONE;
 }

@@ -17,9 +17,10 @@ static const char *const ANSWERS[] = {
     [JLS_UNSUPPORTED] = "not supported",
     [JLS_BAD_SIZE] = "the size of a structure is not set",
     [JLS_BAD_LAYOUT] = "no such layout",
-    [JLS_BAD_COPIES] = "fewer than two copies",
+    [JLS_BAD_COPIES] = "fewer than two copies, or with a list none",
     [JLS_NOT_MENDED] = "the copies can't be mended",
     [JLS_STOPPED] = "stopped by the caller",
+    [JLS_BAD_LISTS] = "a list of bad places is of no copy",
 };
 
 static const char *const FAULTS[] = {

@@ -53,13 +53,16 @@ def content(folder: str, name: str) -> Optional[bytes]:
         return file.read()
 
 
-def by_hand(program: str, copies: Sequence[bytes], words: Sequence[str]) -> tuple[int, str, object, object, list[bytes]]:
+def by_hand(program: str, copies: Sequence[bytes], words: Sequence[str], bad: Sequence[tuple[int, bytes]] = (),
+            ) -> tuple[int, str, object, object, list[bytes]]:  # fmt: skip
     """What the program gives: its status, what it prints, OUT, the single file and all files."""
     with tempfile.TemporaryDirectory() as folder:
-        for number, copy in enumerate(copies):
-            with open(os.path.join(folder, f"copy{number}"), "wb") as file:
-                file.write(copy)
         names = [f"copy{number}" for number in range(len(copies))]
+        lists = [f"places{number}" for number in range(len(bad))]
+        for name, copy in zip([*names, *lists], [*copies, *(text for _, text in bad)]):
+            with open(os.path.join(folder, name), "wb") as file:
+                file.write(copy)
+        words = [*words, *(word for name, (copy, _) in zip(lists, bad) for word in ("--bad", f"{copy + 1}:{name}"))]
         ran = subprocess.run([program, "--file", "one", "--files", "all", *words, "o", *names], cwd=folder, capture_output=True, text=True)
         files = (content(folder, f"all-{number}") for number in range(1, 65))
         return ran.returncode, ran.stdout, content(folder, "o"), content(folder, "one"), [file for file in files if file is not None]
@@ -80,7 +83,7 @@ def lines_of(mended: Mended) -> list[str]:
 def same(name: str, program: str, copies: Sequence[bytes], words: Sequence[str] = (), **options: Any) -> Mended:
     """What `mend` gives, after a comparison with the program."""
     mended = jls_salvage.mend(copies, **options)
-    status, printed, partial, single, files = by_hand(program, copies, words)
+    status, printed, partial, single, files = by_hand(program, copies, words, options.get("bad", ()))
     differ(f"{name}: lines", mended.printed, printed)
     differ(f"{name}: partial picture, file and files", (mended.partial, mended.file, list(mended.files)), (partial, single, files))
     differ(f"{name}: promise", mended.is_promised, status == 0)
@@ -149,6 +152,44 @@ def examples(program: str, folder: str) -> None:
     for each in running:
         each.join()
     differ("four threads", found, [True] * 4)
+
+
+def bad_places(program: str) -> None:
+    """Lists of bad places: what a search of one try doesn't mend, they do. One copy with a list is enough."""
+    chance = random.Random(9)
+    for number in range(GROUPS // 3):
+        true, samples = made(chance)
+        begin = true.index(b"\xff\xda") + 20
+        copies, lists = [], []
+        for part in range(2):
+            places = [begin + (4 * at + 2 * part) * (len(true) - begin - 8) // 16 for at in range(4)]
+            copy = bytearray(true)
+            for place in places:
+                copy[place : place + 3] = bytes(3) if number % 2 else chance.randbytes(3)
+            copies.append(bytes(copy))
+            lists.append((part, "".join(f"{place} 3\n" for place in places).encode()))
+        one_try = ["--tries", "1"]
+        differ(f"bad places {number}: one try", same(f"bad places {number}, none", program, copies, one_try, tries=1).is_promised, False)
+        mended = same(f"bad places {number}", program, copies, one_try, tries=1, bad=lists[:: 1 - 2 * (number % 2)])
+        differ(f"bad places {number}: promise", mended.promise, Promise.PICTURE)
+        differ(f"bad places {number}: the true file", (mended.file == true, list(mended.picture.samples) == samples), (True, True))
+        same(f"bad places {number}, one copy", program, copies[1:], bad=[(0, lists[1][1])])
+        view = memoryview(bytearray(lists[0][1]))
+        same(f"bad places {number}, of the first copy", program, copies, bad=[(0, view)])
+    whole = jls_salvage.write([1] * 4, 8, 2, 2)
+    differ("one copy, and nothing bad", same("one copy", program, [whole], bad=[(0, b"")]).file == whole, True)
+    for what, bad, wanted in (
+        ("a list that is none", [(0, b"# none\n"), (0, b"1 1\nat 3\n")],
+         (jls_salvage.NotMendable, "list 1: is no list of bad places, by line 2")),
+        ("a partial picture as a list", [(0, b"JLSP")], (jls_salvage.NotMendable, "list 0: is a partial picture")),
+        ("a list of no copy", [(1, b"")], (ValueError, "a list of bad places is of copy 1, and there are 1")),
+        ("a list of copy -1", [(-1, b"")], (ValueError, "a list of bad places is of copy -1, and there are 1")),
+    ):  # fmt: skip
+        differ(what, raised(lambda: jls_salvage.mend([whole], bad=bad)), wanted)
+    name: Any = "map"
+    differ("a name as a list", kind(raised(lambda: jls_salvage.mend([whole], bad=[(0, name)]))), TypeError)
+    differ("no list", kind(raised(lambda: jls_salvage.mend([whole], bad=[]))), ValueError)
+    differ("a list without a copy", kind(raised(lambda: jls_salvage.mend([], bad=[(0, b"")]))), ValueError)
 
 
 def codings(program: str) -> None:
@@ -371,6 +412,7 @@ def main() -> int:
         examples(program, folder)
         refusals()
         codings(program)
+        bad_places(program)
         helped()
         stand_ins(folder)
         differ("files that are left behind", os.listdir(place), [])

@@ -1,7 +1,8 @@
 """tests/library_mended.py MENDING PROGRAM FOLDER: does jls_mend of the library give what jls-splice gives? FOLDER is that of the examples.
 
 MENDING is tests/library_c/mending.c, and PROGRAM is jls-splice. Both are called on the same copies, which are the examples, and files that
-are made and damaged here. Lines, partial picture, mended file, files with numbers and promise have to be the same. It prints what differs.
+are made and damaged here, and with the same lists of bad places. Lines, partial picture, mended file, files with numbers and promise have
+to be the same. It prints what differs.
 """
 from __future__ import annotations
 
@@ -27,27 +28,32 @@ def differ(what: str, found: object, wanted: object) -> None:
 
 
 def contents(folder: str) -> dict[str, bytes]:
-    """The files of a folder, but the copies."""
+    """The files of a folder, but the copies and the lists."""
     found = {}
-    for name in sorted(set(os.listdir(folder)) - {str(number) for number in range(1, 10)}):
+    inputs = {f"{kind}{number}" for kind in ("", "BAD-") for number in range(1, 10)}
+    for name in sorted(set(os.listdir(folder)) - inputs):
         with open(os.path.join(folder, name), "rb") as file:
             found[name] = file.read()
     return found
 
 
 def same(what: str, programs: Sequence[str], copies: Sequence[bytes], tries: str = "4096", source: str = "-", most: str = "-",
-         files: bool = True) -> None:  # fmt: skip
-    """Compares what both make of these copies, whose names are their numbers."""
+         files: bool = True, bad: Sequence[tuple[int, str]] = ()) -> None:  # fmt: skip
+    """Compares what both make of these copies, whose names are their numbers, and of these lists of bad places."""
     mending, program = programs
     with tempfile.TemporaryDirectory() as ours, tempfile.TemporaryDirectory() as theirs:
         names = [str(number) for number in range(1, len(copies) + 1)]
-        for name, copy in zip(names, copies):
+        lists = [f"{copy}:BAD-{number}" for number, (copy, _) in enumerate(bad, 1)]
+        texts = [text.encode() for _, text in bad]
+        for name, copy in zip([*names, *(word.partition(":")[2] for word in lists)], [*copies, *texts]):
             with open(os.path.join(theirs, name), "wb") as file:
                 file.write(copy)
         words = [mending, tries if tries != "4096" else "0", source, most, "1" if files else "0", ours, *names]
+        words += ["--bad", *lists] if lists else []
         told = subprocess.run(words, cwd=theirs, capture_output=True, text=True)
         words = [program, "--file", "FILE", *(["--files", "ALL"] if files else []), "--tries", tries]
         words += (["--source", source] if source != "-" else []) + (["--max", most] if most != "-" else [])
+        words += [word for each in lists for word in ("--bad", each)]
         ran = subprocess.run([*words, "OUT", *names], cwd=theirs, capture_output=True)
         wanted = {**contents(theirs), **({"LINES": ran.stdout} if ran.stdout else {})}
         found = contents(ours)
@@ -58,8 +64,11 @@ def same(what: str, programs: Sequence[str], copies: Sequence[bytes], tries: str
         if ran.returncode > 1:
             differ(f"{what}: answer", values.get("answer"), "15")
             line = ran.stderr.decode()
-            copy = int(values.get("copy", -1)) + 1
-            differ(f"{what}: the copy is named", line.startswith(f"jls-splice: {copy}: "), True)
+            copy, number = int(values.get("copy", -1)) + 1, int(values.get("list", -1)) + 1
+            name = f"BAD-{number}" if number else str(copy)
+            differ(f"{what}: the copy or list is named", (line.startswith(f"jls-splice: {name}: "), copy * number), (True, 0))
+            by_line = re.search(r"by line (\d+)$", line.strip())
+            differ(f"{what}: the line", values.get("line"), by_line.group(1) if by_line else "0")
             offset = re.search(r"at (?:offset )?(\d+)$", line.strip())
             differ(f"{what}: the offset", values.get("offset"), offset.group(1) if offset else "0")
             return
@@ -122,10 +131,46 @@ def examples(programs: Sequence[str], folder: str) -> None:
         same(what, programs, copies)
 
 
+def lists(programs: Sequence[str], folder: str) -> None:
+    """Copies with lists of their bad places: each pair is damaged where a search of one try mends nothing, and the lists do."""
+    chance, before = random.Random(12), len(promised)
+    for number in range(GROUPS // 2):
+        true = made(chance)
+        begin = true.index(b"\xff\xda") + 20
+        copies, texts = [], []
+        for part in range(2):
+            places = [begin + (4 * at + 2 * part) * (len(true) - begin - 8) // 16 for at in range(4)]
+            copy = bytearray(true)
+            for place in places:
+                copy[place : place + 3] = b"\0\0\0" if number % 2 else chance.randbytes(3)
+            copies.append(bytes(copy))
+            texts.append((part + 1, "".join(f"{place} 3\n" for place in places)))
+        same(f"bad places {number}, one try", programs, copies, "1")
+        differ(f"bad places {number}: a search of one try mends them", promised.pop(), False)
+        same(f"bad places {number}", programs, copies, "1", bad=texts[::-1] if number % 3 else texts)
+        same(f"bad places {number}, of one copy", programs, copies, bad=texts[1:])
+        same(f"bad places {number}, one copy", programs, copies[:1], bad=texts[:1])
+        promised.pop()
+    differ("what lists mend is promised", all(promised[before:]), True)
+    with open(os.path.join(folder, "plain-first.jls"), "rb") as file:
+        whole = [file.read()]
+    mapfile = "# Mapfile. Created by GNU ddrescue version 1.27\n0x10 ? 1\n0x0 0x40 +\n0x40 0x8 -\n0x48 0x1000 +\n"
+    for what, bad in {
+        "a mapfile": [(1, mapfile)],
+        "two lists of one copy": [(1, "60 8\n"), (1, "# none\n")],
+        "a list behind the end": [(1, "100000000 9\n")],
+        "a list that is none": [(1, "# none\n"), (1, "60 8\nat 70\n")],
+        "a partial picture as a list": [(1, "JLSP 1\n")],
+        "a list with a large number": [(1, "18446744073709551616 1\n")],
+    }.items():
+        same(what, programs, whole, bad=bad)
+
+
 def main() -> int:
     mending, program, folder = (os.path.abspath(word) for word in sys.argv[1:])
     groups((mending, program))
     examples((mending, program), folder)
+    lists((mending, program), folder)
     return 1 if differing else 0
 
 

@@ -5,7 +5,7 @@ import operator
 import os
 import re
 import tempfile
-from typing import List, NoReturn, Optional, Sequence
+from typing import List, NoReturn, Optional, Sequence, Tuple
 
 from ._library import refuse_name
 from ._mended import Mended, Report
@@ -41,7 +41,7 @@ def _found(folder: str) -> List[bytes]:
     return found
 
 
-def _words(tries: Optional[int], max_sample: Optional[int], source: Optional[int]) -> Sequence[str]:
+def _words(tries: Optional[int], max_sample: Optional[int], source: Optional[int]) -> List[str]:
     """The options of the program."""
     words = ["--file", FILE, "--files", FILES]
     for name, value, least, most in (
@@ -58,7 +58,9 @@ def _words(tries: Optional[int], max_sample: Optional[int], source: Optional[int
 
 def _refused(ended: Ended) -> NoReturn:
     """Raises what the status of the program says."""
-    said = re.sub(r"^jls-splice: (?:(\d+)\.jls)?", lambda found: f"copy {found[1]}" if found[1] else "", ended.faults.strip())
+    kinds = {"jls": "copy", "bad": "list"}
+    named = re.compile(r"^jls-splice: (?:(\d+)\.(jls|bad))?")
+    said = named.sub(lambda found: f"{kinds[found[2]]} {found[1]}" if found[1] else "", ended.faults.strip())
     no_picture = NO_PICTURE.search(said)
     if ended.status == 5:
         raise MemoryError("jls-splice: out of memory")
@@ -85,9 +87,19 @@ def _refuse_coding(copies: Sequence[Bytes], picture: Picture) -> None:
         raise Unsupported(headers[0].coding, headers[0].end_offset)
 
 
+def _lists(bad: Sequence[Tuple[int, Bytes]], count: int) -> List[Bytes]:
+    """The lists of bad places, if each is of one of so many copies."""
+    for copy, text in bad:
+        refuse_name(text)
+        if not 0 <= operator.index(copy) < count:
+            raise ValueError(f"a list of bad places is of copy {copy}, and there are {count}")
+    return [text for _, text in bad]
+
+
 def mend(
     copies: Sequence[Bytes],
     *,
+    bad: Sequence[Tuple[int, Bytes]] = (),
     tries: Optional[int] = None,
     max_sample: Optional[int] = None,
     source: Optional[int] = None,
@@ -96,8 +108,10 @@ def mend(
     """Mends damaged copies of one JPEG-LS file, or of one picture in several codings.
 
     It calls the program jls-splice, of which JLS_SPLICE can name the path, in a folder of its own that `tempfile` makes and that goes
-    again. `tries` is the most that each search tries, 4,096 if it isn't given. `max_sample` looks only for files whose samples are no
-    larger. `source` is a number of 32 bits for the readings. After `timeout` seconds the search is stopped, and TimeoutError raised.
+    again. `bad` has lists of bad places, each behind the number of its copy, from 0: the bytes of GNU ddrescue's mapfile, or of lines
+    `OFFSET LENGTH`. Bytes of other copies stand in these places, and with a list one copy is enough. `tries` is the most that each search
+    tries, 4,096 if it isn't given. `max_sample` looks only for files whose samples are no larger. `source` is a number of 32 bits for the
+    readings. After `timeout` seconds the search is stopped, and TimeoutError raised.
 
     Raises `NoPicture` where no copy and no splice has a picture, `Unsupported` where all copies have one coding that isn't read and no
     line came back, `ShapesDiffer`, `NotMendable`, `MissingProgram`, OSError where the folder can't be written, and MemoryError.
@@ -105,15 +119,19 @@ def mend(
     if isinstance(copies, (bytes, bytearray, memoryview)):
         raise TypeError("a list of copies is wanted, and these are the bytes of one")
     refuse_name(copies)
-    copies, words = list(copies), _words(tries, max_sample, source)
+    copies, bad, words = list(copies), list(bad), _words(tries, max_sample, source)
     for copy in copies:
         refuse_name(copy)
-    if len(copies) < 2:
+    if len(copies) < (1 if bad else 2):
         raise ValueError("two copies or more are wanted: read takes one")
+    lists = _lists(bad, len(copies))
     with tempfile.TemporaryDirectory(prefix="jls_salvage-") as folder:
         names = [f"{number}.jls" for number in range(len(copies))]
-        for name, copy in zip(names, copies):
-            _put(os.path.join(folder, name), copy)
+        listed = [f"{number}.bad" for number in range(len(lists))]
+        for name, text in zip([*names, *listed], [*copies, *lists]):
+            _put(os.path.join(folder, name), text)
+        for name, (copy_number, _) in zip(listed, bad):
+            words += ["--bad", f"{operator.index(copy_number) + 1}:{name}"]
         ended = called(PROGRAM, [*words, OUT, *names], folder, timeout, is_inside=True)
         partial = _got(folder, OUT)
         if ended.status not in (0, 1) or partial is None:

@@ -40,6 +40,7 @@ class Answer(enum.IntEnum):
     BAD_COPIES = 14
     NOT_MENDED = 15
     STOPPED = 16
+    BAD_LISTS = 17
 
 
 class _Told(enum.IntEnum):

@@ -1,5 +1,5 @@
-/* mend_bad [trusting]: calls jls_mend with copies of no bytes. With a word it also calls it with sizes that add up to more than there is, and
-   with more copies than there is memory for: a library with -DJLS_CHECKS would stop at these, and another one refuses them before it reads
+/* mend_bad [trusting]: calls jls_mend with copies of no bytes. With a word it also calls it with sizes that add up to more than there is, of
+   copies or of lists of bad places, and with more of them than there is memory for: a library with -DJLS_CHECKS would stop at these, and another one refuses them before it reads
    what isn't there. Each call has its answer, and one that is refused writes nothing. It prints each difference. */
 #define _GNU_SOURCE
 #include <jls_salvage.h>
@@ -61,6 +61,29 @@ static void sums(void) {
     refused("two files, and 2^63 - 1 bytes", last, 3);
 }
 
+/* The same of lists, of which each is of the first copy. */
+static void sums_of_lists(void) {
+    static const struct {
+        const char *what;
+        jls_bad_list lists[3];
+        size_t count;
+    } rows[] = {
+        {"a list of 2^63 - 1 bytes", {{0, one, HALF}}, 1},
+        {"lists of 2^63 bytes", {{0, one, HALF}, {0, one, 1}}, 2},
+        {"lists of 2^64 bytes", {{0, one, HALF + 1}, {0, one, HALF + 1}, {0, NULL, 0}}, 3},
+        {"a list that ends behind all memory", {{0, one, SIZE_MAX}}, 1},
+        {"lists that end behind all memory", {{0, NULL, 0}}, SIZE_MAX},
+        {"2^59 lists", {{0, NULL, 0}}, SIZE_MAX / 32},
+    };
+    const jls_copy both[] = {ONE, ONE};
+    for (size_t at = 0; at < sizeof rows / sizeof *rows; at++) {
+        jls_mend_options listed = JLS_MEND_OPTIONS;
+        jls_mended *mended = (jls_mended *)&differ;
+        listed.bad = rows[at].lists, listed.bad_count = rows[at].count;
+        want(rows[at].what, jls_mend(both, 2, &listed, &mended) == JLS_OUT_OF_MEMORY && mended == (jls_mended *)&differ);
+    }
+}
+
 static void empty(void) {
     const jls_copy behind[] = {ONE, NOTHING}, before[] = {NOTHING, ONE}, here[] = {{one, 0}, ONE, ONE}, all[] = {NOTHING, {one, 0}, NOTHING};
     is_mended("a copy of no bytes, last", behind, 2);
@@ -96,6 +119,6 @@ static void many(void) {
 int main(int count, char **words) {
     (void)words;
     empty();
-    if (count > 1) sums(), many();
+    if (count > 1) sums(), sums_of_lists(), many();
     return differ != 0;
 }

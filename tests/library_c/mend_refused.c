@@ -1,5 +1,5 @@
-/* mend_refused COPY COPY..: refuses memory that jls_mend asks for: one request, or all from one on, until the call asks for no more. It has
-   to answer JLS_OUT_OF_MEMORY, and to have written nothing; or it did without, and gives what it gives otherwise. No block may be left. And
+/* mend_refused COPY COPY..: refuses memory that jls_mend asks for, with and without lists of bad places: one request, or all from one on,
+   until the call asks for no more. It has to answer JLS_OUT_OF_MEMORY, and to have written nothing; or it did without, and gives what it gives otherwise. No block may be left. And
    where a damaged header claims a large picture, no large block may be asked for. Link it with --wrap for malloc, calloc, realloc and free.
    It prints each difference. */
 #include <jls_salvage.h>
@@ -103,11 +103,16 @@ int main(int count, char **names) {
         copies[number] = (jls_copy){rooms[number], fread(rooms[number], 1, ROOM, stream)};
         fclose(stream);
     }
-    options.files = 1;
-    if (jls_mend(copies, number, &options, &whole) != JLS_DONE) return 98;
-    for (once = 0; once < 2; once++) /* with many requests some are left out */
-        for (long request = 0; calls++, !has_none(request, whole); request += 1 + request / 16) {}
-    jls_mended_free(whole);
+    static const uint8_t place[] = "40 1\n", none[] = "# nothing is bad\n";
+    static const jls_bad_list lists[] = {{0, place, sizeof place - 1}, {1, none, sizeof none - 1}};
+    options.files = 1, options.bad = lists;
+    for (options.bad_count = 0; options.bad_count <= 2; options.bad_count += 2) {
+        if (jls_mend(copies, number, &options, &whole) != JLS_DONE) return 98;
+        for (once = 0; once < 2; once++) /* with many requests some are left out */
+            for (long request = 0; calls++, !has_none(request, whole); request += 1 + request / 16) {}
+        jls_mended_free(whole);
+    }
+    options.bad_count = 0;
     claims();
     want("few requests were refused", calls > 20);
     return printf("%ld calls, %d differ\n", calls, differ), differ != 0;

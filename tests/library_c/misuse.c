@@ -15,6 +15,9 @@ static union { uint8_t bytes[256]; uint16_t samples[128]; jls_piece pieces[4]; j
 static const jls_frame frame = {.width = 1, .height = 1, .precision = 8, .components = 1};
 static const jls_layout bytes = {.size = sizeof bytes, .bytes = 1}, pairs = {.size = sizeof pairs, .bytes = 2};
 static const jls_mend_options options = JLS_MEND_OPTIONS;
+static const jls_bad_list lost_list = {0, NULL, 9};
+static const jls_mend_options without_lists = {.size = sizeof without_lists, .bad = NULL, .bad_count = 1};
+static const jls_mend_options lost_lists = {.size = sizeof lost_lists, .bad = &lost_list, .bad_count = 1};
 static const jls_copy both[2] = {{copy, sizeof copy}, {copy, sizeof copy}}, lost[2] = {{copy, sizeof copy}, {NULL, 1}};
 static const jls_copy none[2] = {{copy, sizeof copy}, {NULL, 0}}, endless[2] = {{copy, sizeof copy}, {copy, SIZE_MAX}};
 static const jls_copy written[2] = {{copy, sizeof copy}, {one.bytes, 9}}, parts[2] = {{copy, sizeof copy}, {copy + 1, sizeof copy - 1}};
@@ -72,6 +75,8 @@ static const char *told_of(int line, int run) {
     NULLS(jls_mend(both, 2, NULL, &mended), "jls_mend", "options");
     NULLS(jls_mend(both, 2, &options, NULL), "jls_mend", "mended");
     NULLS(jls_mend(lost, 2, &options, &mended), "jls_mend", "copies[at].bytes");
+    NULLS(jls_mend(both, 2, &without_lists, &mended), "jls_mend", "bad");
+    NULLS(jls_mend(both, 2, &lost_lists, &mended), "jls_mend", "bad[at].list");
     NULLS(jls_mended_info(NULL, &two.told), "jls_mended_info", "mended");
     NULLS(jls_mended_picture(NULL, &count), "jls_mended_picture", "mended");
     NULLS(jls_mended_file(NULL, &count), "jls_mended_file", "mended");

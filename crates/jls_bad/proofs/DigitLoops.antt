@@ -3,7 +3,7 @@ use Rattle.std.proofs.Common.{◌≡◌, ℕ, zero, suc, ◌+◌, ◌*◌, ◌^�
 use Rattle.std.specs.List.{list_all}
 use Rattle.std.specs.Char.{is_digit, digit_value}
 use Rattle.std.specs.Str.Parse.{digits_value, digits_value_after}
-use Rattle.std.proofs.lemmas.List.Folds.{list_all_at, list_all_more}
+use Rattle.std.proofs.lemmas.List.Folds.{list_all_more}
 use Rattle.std.proofs.lemmas.Bool.Decides.{nat_tests}
 use Rattle.std.proofs.lemmas.Int.Digits.{digits_value_more}
 use Rattle.std.proofs.Math.Bool.{and-false}
@@ -27,12 +27,6 @@ front-le : (base k : ℕ) (xs : List ℕ) → 0 < base → digits_value base (ta
 front-le base k xs h =
     let joined : digits_value base xs ≡ digits_value_after base (digits_value base (take k xs)) (drop k xs) = ap (digits_value base) (sym (take-append-drop k xs)) ∙ after-append base 0 (take k xs) (drop k xs) in
     omega (arith, joined, after-ge base (digits_value base (take k xs)) (drop k xs) h)
-
--- a byte that is no digit
-pub none_by_digit : (base : ℕ) (xs : List ℕ) (i : ℕ) → i < length xs → base ≤ digit_value (get_or xs i 0) → in_base base xs ≡ None
-none_by_digit base xs i h large =
-    let e : list_all (λ byte. is_digit byte base) xs ≡ false = list_all_at (λ byte. is_digit byte base) xs i 0 h (grind (arith, nat_tests)) in
-    simp (e, and-false)
 
 -- a number that is too large from some digit on
 pub none_by_size : (base : ℕ) (xs : List ℕ) (i : ℕ) → 0 < base → i < length xs → 2 ^ 64 ≤ digits_value base (take i xs) * base + digit_value (get_or xs i 0) → in_base base xs ≡ None

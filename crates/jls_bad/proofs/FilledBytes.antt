@@ -1,12 +1,12 @@
 -- Bytes for a copy that are found one by one.
-use Rattle.std.proofs.Common.{◌≡◌, ℕ, ◌+◌, ◌-◌, ◌<◌, ◌≤◌, ◌∙◌, Bool, true, false, cond, eqb, List, [], ◌∷◌, ◌++◌, length, get_or, map, take, Option, Some, None, slice_get, unwrap_or, is_some, not, refl, sym, ap, subst, arith, below_more, ⊎_elim}
+use Rattle.std.proofs.Common.{◌≡◌, ℕ, ◌+◌, ◌<◌, ◌∙◌, Bool, true, false, cond, eqb, List, [], ◌∷◌, ◌++◌, length, get_or, map, take, Option, Some, None, slice_get, unwrap_or, is_some, not, refl, sym, ap, subst, arith, below_more, ⊎_elim}
 use Rattle.std.specs.Option.{option_or}
-use Rattle.std.proofs.lemmas.List.{length_push, get_or_append_left, get_or_push, get_or-take, take_more}
+use Rattle.std.proofs.lemmas.List.{length_push, get_or_append_left, get_or_push, take_more}
 use Rattle.std.proofs.lemmas.Option.{slice_get-get_or, slice_get_past}
 use Rattle.std.proofs.lemmas.Bool.{false≢true, cases_lt}
 use Rattle.std.proofs.lemmas.Bool.Decides.{nat_tests}
 use Rattle.jls_bad.specs.Known.{Copy, is_bad, known_byte}
-use Rattle.jls_bad.specs.Inside.{IsFilled, IsChosen, AreMarked, marked_byte, marked_byte_for, first_as_long}
+use Rattle.jls_bad.specs.Inside.{IsFilled, AreMarked, marked_byte, marked_byte_for, first_as_long}
 use Rattle.jls_bad.specs.Copies.{copy_of, copies_of}
 use Rattle.jls_bad.specs.declared.known.Listed.{Listed}
 use Rattle.jls_bad.specs.declared.filling.Marked.{Marked}
@@ -18,9 +18,6 @@ none_of (Some x) mark e f = absurd (false≢true (sym (e ∙ ap not f)))
 some_of : (byte : Option ℕ) (mark : Bool) → is_some byte ≡ not mark → mark ≡ false → byte ≡ Some (unwrap_or byte 0)
 some_of None mark e f = absurd (false≢true (e ∙ ap not f))
 some_of (Some x) mark e f = refl
-
-pub none_filled : (f : ℕ → Option ℕ) → IsFilled f 0 [] []
-none_filled f = record { size = refl; lost = λ offset h e. absurd (omega (arith, h)); there = λ offset h e. absurd (omega (arith, h)) }
 
 get_front : (xs : List ℕ) (y : ℕ) (offset : ℕ) → offset < length xs → slice_get xs offset ≡ slice_get (xs ++ y ∷ []) offset
 get_front xs y offset h =
@@ -86,15 +83,6 @@ marked_more listed marked at copy m are h e bytes marks =
     known_push : (xs : List Listed) (y : Listed) (offset : ℕ) → map (λ c. known_byte c offset) (copies_of (xs ++ y ∷ [])) ≡ map (λ c. known_byte c offset) (copies_of xs) ++ known_byte (copy_of y) offset ∷ []
     known_push [] y offset = refl
     known_push (x ∷ xs) y offset = ap (λ rest. known_byte (copy_of x) offset ∷ rest) (known_push xs y offset)
-
--- bytes that are cut and then changed
-pub chosen_from : (bytes front known : List ℕ) (marks : List Bool) → front ≡ take (length front) bytes → length front ≤ length bytes → (length front < length bytes → get_or marks (length front) false ≡ true)
-    → length known ≡ length front → ((k : ℕ) → get_or marks k false ≡ false → (0 < k → get_or marks (k - 1) false ≡ false) → get_or known k 0 ≡ get_or front k 0) → IsChosen bytes marks known
-chosen_from bytes front known marks begins size cut same kept = record {
-  size = omega (arith, size, same);
-  kept = λ k h here before. kept k here before ∙ (ap (λ xs. get_or xs k 0) begins ∙ get_or-take (length front) bytes k 0 (omega (arith, h, same)));
-  cut = λ h. ap (λ n. get_or marks n false) same ∙ cut (omega (arith, h, same));
-}
 
 pub zero_by_test : (n : ℕ) (is_zero : Bool) → is_zero ≡ eqb n 0 → is_zero ≡ true → n ≡ 0
 zero_by_test n is_zero e f = grind (arith, nat_tests)

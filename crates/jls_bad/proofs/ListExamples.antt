@@ -1,5 +1,5 @@
 -- Numbers, words, lines and lists, by hand.
-use Rattle.std.proofs.Common.{◌≡◌, ℕ, List, [], ◌∷◌, ◌++◌, Some, None, refl, arith}
+use Rattle.std.proofs.Common.{◌≡◌, ℕ, true, false, List, [], ◌∷◌, ◌++◌, Some, None, refl, arith}
 use Rattle.std.specs.Prelude.{codes}
 use Rattle.jls_bad.specs.ListText.{words, number, meaning, AreNamed, IsFirstFault}
 use Rattle.jls_bad.specs.declared.lines.Line.TheVariants.{Bad, Nothing, Fault}
@@ -25,31 +25,37 @@ no_sign = refl
 pub two_words : words (codes "  12   0x3 # 4") ≡ codes "12" ∷ codes "0x3" ∷ []
 two_words = refl
 
-pub a_place : meaning (words (codes "12 0x3")) ≡ Bad (record { offset = 12; length = 3 })
+pub a_place : meaning false (words (codes "12 0x3")) ≡ Bad (record { offset = 12; length = 3 })
 a_place = refl
 
-pub not_read : meaning (words (codes "0x10 0x20 -")) ≡ Bad (record { offset = 16; length = 32 })
+pub not_read : meaning false (words (codes "0x10 0x20 -")) ≡ Bad (record { offset = 16; length = 32 })
 not_read = refl
 
-pub rescued : meaning (words (codes "0x10 0x20 +")) ≡ Nothing
+pub rescued : meaning false (words (codes "0x10 0x20 +")) ≡ Nothing
 rescued = refl
 
-pub a_run : meaning (words (codes "0x00002000     ?               1")) ≡ Nothing
+pub a_run : meaning true (words (codes "0x00002000     ?               1")) ≡ Nothing
 a_run = refl
 
-pub an_older_run : meaning (words (codes "0x00002000 F")) ≡ Nothing
+pub an_older_run : meaning true (words (codes "0x00002000 F")) ≡ Nothing
 an_older_run = refl
 
-pub a_comment : meaning (words (codes "# Mapfile")) ≡ Nothing
+pub a_later_run : meaning false (words (codes "0x00002000 F")) ≡ Fault
+a_later_run = refl
+
+pub a_later_pass : meaning false (words (codes "0x00002000 ? 1")) ≡ Fault
+a_later_pass = refl
+
+pub a_comment : meaning false (words (codes "# Mapfile")) ≡ Nothing
 a_comment = refl
 
-pub one_word : meaning (words (codes "12")) ≡ Fault
+pub one_word : meaning false (words (codes "12")) ≡ Fault
 one_word = refl
 
-pub other_status : meaning (words (codes "12 3 F")) ≡ Fault
+pub other_status : meaning false (words (codes "12 3 F")) ≡ Fault
 other_status = refl
 
-pub four_words : meaning (words (codes "1 2 - 3")) ≡ Fault
+pub four_words : meaning false (words (codes "1 2 - 3")) ≡ Fault
 four_words = refl
 
 abbrev text : List ℕ
@@ -57,6 +63,10 @@ text = codes "# Mapfile" ++ 10 ∷ codes "0x600  +  2" ++ 10 ∷ codes "0x0 0x20
 
 pub of_a_mapfile : AreNamed text (record { offset = 512; length = 1024 } ∷ [])
 of_a_mapfile = record { understood = refl; named = refl }
+
+-- a place that lost its length
+pub bad_later_status : IsFirstFault (codes "# Mapfile" ++ 10 ∷ codes "0 +" ++ 10 ∷ codes "0x200 -" ++ 10 ∷ []) 3
+bad_later_status = record { counted = omega arith; first = refl }
 
 pub bad_second_line : IsFirstFault (codes "1 2" ++ 10 ∷ codes "1 2 3" ++ 10 ∷ codes "4") 2
 bad_second_line = record { counted = omega arith; first = refl }

@@ -30,6 +30,7 @@ is_hexadecimal word = (slice_index word 0 == 48) && ((slice_index word 1 == 120)
 abbrev pub number : List ℕ → Option ℕ
 number word = if is_hexadecimal word then in_base 16 (drop 2 word) else in_base 10 word
 
+-- a word is a number
 abbrev pub is_number : List ℕ → Bool
 is_number word = is_some (number word)
 
@@ -39,13 +40,15 @@ has_one_of characters [] = false
 has_one_of characters (character ∷ []) = list_any (λ other. other == character) characters
 has_one_of characters (character ∷ next ∷ more) = false
 
--- statuses of ddrescue: of a place that was not read, of one that was, and of a run
+-- a status that ddrescue gives a place that was not read
 abbrev pub is_bad_status : List ℕ → Bool
 is_bad_status word = has_one_of (codes "?*/-") word
 
+-- the status of a place that was read
 abbrev pub is_good_status : List ℕ → Bool
 is_good_status word = has_one_of (codes "+") word
 
+-- a status of a run of ddrescue
 abbrev pub is_run_status : List ℕ → Bool
 is_run_status word = has_one_of (codes "?*/-FG+") word
 
@@ -55,30 +58,46 @@ place_of None length = Fault
 place_of (Some offset) None = Fault
 place_of (Some offset) (Some length) = Bad (record { offset = offset; length = length })
 
--- two words: a run of ddrescue, or an offset and a length
-abbrev pub meaning_of_two : List ℕ → List ℕ → Line
-meaning_of_two first second =
-    if is_number first && is_run_status second then Nothing else place_of (number first) (number second)
+-- Of a line there is said whether it is the first with words. There ddrescue tells how far its run came
+module _ (is_first : Bool) where
+  -- two words: a run of ddrescue, or an offset and a length
+  abbrev pub meaning_of_two : List ℕ → List ℕ → Line
+  meaning_of_two first second =
+      if is_first && (is_number first && is_run_status second) then Nothing else place_of (number first) (number second)
 
--- three words: an offset, a length and a status, or a run of ddrescue with its pass
-abbrev pub meaning_of_three : List ℕ → List ℕ → List ℕ → Line
-meaning_of_three first second third =
-    if is_bad_status third then place_of (number first) (number second)
-    else if is_number first && ((is_number second && is_good_status third) || (is_run_status second && is_number third)) then Nothing
-    else Fault
+  -- three words: an offset, a length and a status, or a run of ddrescue with its pass
+  abbrev pub meaning_of_three : List ℕ → List ℕ → List ℕ → Line
+  meaning_of_three first second third =
+      if is_bad_status third then place_of (number first) (number second)
+      else if is_number first && ((is_number second && is_good_status third) || (is_first && (is_run_status second && is_number third)))
+      then Nothing else Fault
 
--- what a line of these words says
-abbrev pub meaning : List (List ℕ) → Line
-meaning [] = Nothing
-meaning (first ∷ []) = Fault
-meaning (first ∷ second ∷ []) = meaning_of_two first second
-meaning (first ∷ second ∷ third ∷ []) = meaning_of_three first second third
-meaning (first ∷ second ∷ third ∷ fourth ∷ more) = Fault
+  -- what a line of these words says
+  abbrev pub meaning : List (List ℕ) → Line
+  meaning [] = Nothing
+  meaning (first ∷ []) = Fault
+  meaning (first ∷ second ∷ []) = meaning_of_two first second
+  meaning (first ∷ second ∷ third ∷ []) = meaning_of_three first second third
+  meaning (first ∷ second ∷ third ∷ fourth ∷ more) = Fault
+
+-- a line has no words
+abbrev pub is_empty : List (List ℕ) → Bool
+is_empty line = length line == 0
+
+-- what each of these lines says. Whether no line before them has words is told
+abbrev pub meanings_of : Bool → List (List (List ℕ)) → List Line
+meanings_of is_first [] = []
+meanings_of is_first (line ∷ lines) = meaning is_first line ∷ meanings_of (is_first && is_empty line) lines
+
+-- the lines of a text, each as its words
+abbrev pub lines : List ℕ → List (List (List ℕ))
+lines text = map words (slice_split (λ byte. byte == 10) text)
 
 -- what each line of a text says
 abbrev pub meanings : List ℕ → List Line
-meanings text = map (λ line. meaning (words line)) (slice_split (λ byte. byte == 10) text)
+meanings text = meanings_of true (lines text)
 
+-- a line isn't understood
 abbrev pub is_fault : Line → Bool
 is_fault (Bad place) = false
 is_fault Nothing = false

@@ -1,6 +1,7 @@
-//! Where a known copy is cut: before the first lost byte that is in no scan data. No contract speaks of it.
+//! Where a known copy is cut: before the first lost byte that is in no scan data, or behind which nothing comes back. No contract speaks of
+//! it.
 
-use crate::filling::is_marked;
+use crate::filling::{Marked, is_marked};
 
 /// Codes of markers (T.81 B.1.1.3).
 const RST0: u8 = 0xD0;
@@ -73,8 +74,36 @@ fn first_lost(is_lost: &[bool], begin: usize, end: usize) -> Option<usize> {
     (begin..end).find(|at| is_marked(is_lost, *at))
 }
 
-/// The first lost byte that is in no scan data, or how many bytes there are.
-pub(crate) fn cut_of(bytes: &[u8], is_lost: &[bool]) -> usize {
+/// Where the last restart marker ends in scan data that isn't lost, or where the scan data begins.
+fn last_restart(bytes: &[u8], is_lost: &[bool], begin: usize, end: usize) -> usize {
+    let is_restart = |at: &usize| {
+        let is_known = !is_marked(is_lost, *at) && !is_marked(is_lost, at.saturating_add(1));
+        is_known && matches!(marker_at(bytes, *at), Some(RST0..=RST7))
+    };
+    match (begin..end).rev().find(is_restart) {
+        Some(at) => at.saturating_add(2),
+        None => begin,
+    }
+}
+
+/// Whether no scan follows scan data that ends there.
+fn is_last_scan(bytes: &[u8], end: usize) -> bool {
+    end >= bytes.len() || marker_at(bytes, end) == Some(EOI)
+}
+
+/// Whether other copies can't give what stands behind a lost byte in its restart interval. Copies of another length can be of other
+/// codings, which give it.
+pub(crate) fn are_as_long(copies: &[Marked<'_>]) -> bool {
+    copies
+        .windows(2)
+        .all(|pair| pair[0].bytes.len() == pair[1].bytes.len())
+}
+
+/// Where a copy is cut, or how many bytes it has.
+///
+/// That is before the first lost byte that is in no scan data. Where nothing comes back behind it, it is the first lost byte of the last
+/// restart interval too: the lines before the end of a file are read.
+pub(crate) fn cut_of(bytes: &[u8], is_lost: &[bool], is_read_to_end: bool) -> usize {
     let mut at = 0;
     while at < bytes.len() {
         let stretch = stretch_at(bytes, at);
@@ -82,11 +111,16 @@ pub(crate) fn cut_of(bytes: &[u8], is_lost: &[bool]) -> usize {
         if let Some(cut) = first_lost(is_lost, at, end) {
             return cut;
         }
-        at = if stretch.is_before_scan {
-            scan_end(bytes, is_lost, end).max(end)
-        } else {
-            end
-        };
+        at = end;
+        if stretch.is_before_scan {
+            at = scan_end(bytes, is_lost, end).max(end);
+            if !is_read_to_end && is_last_scan(bytes, at) {
+                let begin = last_restart(bytes, is_lost, end, at);
+                if let Some(cut) = first_lost(is_lost, begin, at) {
+                    return cut;
+                }
+            }
+        }
     }
     bytes.len()
 }

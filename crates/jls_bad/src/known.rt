@@ -5,7 +5,7 @@ ghost use Rattle.jls_bad.specs.Known.{AreKnownCopies};
 ghost use Rattle.jls_bad.specs.Copies.{bytes_in, copies_of};
 ghost use Rattle.jls_bad.specs.Inside.{IsChosen};
 
-use crate::choice::cut_of;
+use crate::choice::{are_as_long, cut_of};
 use crate::filling::{Filled, all_marked, fill, is_marked};
 use crate::place::Place;
 use std::alloc::{AllocError, Global};
@@ -63,12 +63,12 @@ fn write_faults(bytes: &mut Vec<u8>, is_lost: &[bool])
 }
 
 /// Bytes up to a lost one, or all.
-fn cut_off(mut bytes: Vec<u8>, is_lost: &[bool]) -> Vec<u8>
+fn cut_off(mut bytes: Vec<u8>, is_lost: &[bool], is_read_to_end: bool) -> Vec<u8>
     ensures front { result.items ≡ take (vec_len result) bytes.items }
     ensures size { vec_len result ≤ vec_len bytes }
     ensures cut { vec_len result < vec_len bytes → get_or is_lost.now (vec_len result) false ≡ true }
 {
-    let cut = cut_of(&bytes, is_lost);
+    let cut = cut_of(&bytes, is_lost, is_read_to_end);
     if cut >= bytes.len() || !is_marked(is_lost, cut) {
         return bytes;
     }
@@ -77,14 +77,14 @@ fn cut_off(mut bytes: Vec<u8>, is_lost: &[bool]) -> Vec<u8>
 }
 
 /// What stands for a copy, of which these bytes are known.
-fn chosen(known: Filled) -> Vec<u8>
+fn chosen(known: Filled, is_read_to_end: bool) -> Vec<u8>
     ensures { IsChosen known.bytes.items known.is_lost.items result.items }
 {
     let Filled { bytes, is_lost } = known;
     if is_lost.is_empty() {
         return bytes;
     }
-    let mut front = cut_off(bytes, &is_lost);
+    let mut front = cut_off(bytes, &is_lost, is_read_to_end);
     write_faults(&mut front, &is_lost);
     front
 }
@@ -93,14 +93,16 @@ fn chosen(known: Filled) -> Vec<u8>
 ///
 /// A copy of another length gives none: it lost or gained bytes, or is another coding. In scan data, bytes that no copy as long has are
 /// replaced by markers, so that a reader goes on at the next restart marker. Behind an odd run of them one byte more is given up, unless it
-/// is `FF`, with which a marker may begin. A copy is cut before the first such byte elsewhere. `Err` comes if memory is refused.
+/// is `FF`, with which a marker may begin. A copy is cut before the first such byte elsewhere, and before the first of its last restart
+/// interval if all copies are as long. `Err` comes if memory is refused.
 pub fn known_copies(alloc: Global, copies: &[Listed<'_>]) -> Result<Vec<Vec<u8>>, AllocError>
     ensures { IfOk result (λ known. AreKnownCopies (copies_of copies.now) (bytes_in known.items)) }
 {
     let marked = all_marked(alloc, copies)?;
+    let is_read_to_end = !are_as_long(&marked);
     let mut known = Vec::with_capacity(alloc, marked.len())?;
     for copy in &marked {
-        known.push(chosen(fill(alloc, &marked, copy)?))?;
+        known.push(chosen(fill(alloc, &marked, copy)?, is_read_to_end))?;
     }
     Ok(known)
 }

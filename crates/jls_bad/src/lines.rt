@@ -1,12 +1,10 @@
 //! What a line of a list says.
 
-ghost use Rattle.std.specs.Prelude.{◌≡◌, map, IfOk};
-ghost use Rattle.jls_bad.specs.ListText.{has_one_of, meaning, meaning_of_two, meaning_of_three, place_of, words};
+ghost use Rattle.std.specs.Prelude.{◌≡◌, map};
+ghost use Rattle.jls_bad.specs.ListText.{has_one_of, meaning, meaning_of_two, meaning_of_three, place_of};
 
 use crate::numbers::number_of;
 use crate::place::Place;
-use crate::words::words_of;
-use std::alloc::{AllocError, Global};
 
 /// What a line of a list says.
 #[derive(Clone, Copy, Debug, PartialEq, Eq, Drop)]
@@ -39,20 +37,20 @@ fn bad_place(offset: Option<u64>, length: Option<u64>) -> Line
     }
 }
 
-/// What two words say.
-fn line_of_two(first: &[u8], second: &[u8]) -> Line
-    ensures { result ≡ meaning_of_two first.now second.now }
+/// What two words say, in the first line with words or in a later one.
+fn line_of_two(is_first: bool, first: &[u8], second: &[u8]) -> Line
+    ensures { result ≡ meaning_of_two is_first first.now second.now }
 {
     let offset = number_of(first);
-    if offset.is_some() && is_one_of(b"?*/-FG+", second) {
+    if is_first && offset.is_some() && is_one_of(b"?*/-FG+", second) {
         return Line::Nothing;
     }
     bad_place(offset, number_of(second))
 }
 
-/// What three words say.
-fn line_of_three(first: &[u8], second: &[u8], third: &[u8]) -> Line
-    ensures { result ≡ meaning_of_three first.now second.now third.now }
+/// What three words say, in the first line with words or in a later one.
+fn line_of_three(is_first: bool, first: &[u8], second: &[u8], third: &[u8]) -> Line
+    ensures { result ≡ meaning_of_three is_first first.now second.now third.now }
 {
     let offset = number_of(first);
     let length = number_of(second);
@@ -60,7 +58,7 @@ fn line_of_three(first: &[u8], second: &[u8], third: &[u8]) -> Line
         return bad_place(offset, length);
     }
     let is_good_place = length.is_some() && is_one_of(b"+", third);
-    let is_run = is_one_of(b"?*/-FG+", second) && number_of(third).is_some();
+    let is_run = is_first && is_one_of(b"?*/-FG+", second) && number_of(third).is_some();
     if offset.is_some() && (is_good_place || is_run) {
         Line::Nothing
     } else {
@@ -68,22 +66,14 @@ fn line_of_three(first: &[u8], second: &[u8], third: &[u8]) -> Line
     }
 }
 
-/// What words say.
-fn line_of_words(words: &[&[u8]]) -> Line
-    ensures { result ≡ meaning (map (λ word. word.now) words.now) }
+/// What the words of a line say. Only the first line with words can tell how far a run of ddrescue came.
+pub(crate) fn line_of_words(is_first: bool, words: &[&[u8]]) -> Line
+    ensures { result ≡ meaning is_first (map (λ word. word.now) words.now) }
 {
     match words {
         [] => Line::Nothing,
-        [first, second] => line_of_two(first, second),
-        [first, second, third] => line_of_three(first, second, third),
+        [first, second] => line_of_two(is_first, first, second),
+        [first, second, third] => line_of_three(is_first, first, second, third),
         _ => Line::Fault,
     }
-}
-
-/// What a line says. `Err` comes if memory is refused.
-pub(crate) fn line_of(alloc: Global, line: &[u8]) -> Result<Line, AllocError>
-    ensures { IfOk result (λ said. said ≡ meaning (words line.now)) }
-{
-    let words = words_of(alloc, line)?;
-    Ok(line_of_words(&words))
 }

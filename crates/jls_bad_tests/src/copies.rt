@@ -19,6 +19,12 @@ const RESTARTED: &[u8] = &[
     0xFF, 0xD8, 0xFF, 0xDA, 0x00, 0x03, 0x01, 0x11, 0x22, 0xFF, 0xD0, 0x33, 0x44, 0x55, 0xFF, 0xD9,
 ];
 
+/// SOI, the header of a scan, three bytes of scan data, a second scan with two, and EOI.
+const TWO_SCANS: &[u8] = &[
+    0xFF, 0xD8, 0xFF, 0xDA, 0x00, 0x03, 0x01, 0x11, 0x22, 0x33, 0xFF, 0xDA, 0x00, 0x03, 0x01, 0x44,
+    0x55, 0xFF, 0xD9,
+];
+
 /// Whether a copy with bad places, and another with others, have this to stand for them.
 fn stand(alloc: Global, copies: &[Listed<'_>], wanted: &[&[u8]]) -> Result<bool, AllocError> {
     let known = known_copies(alloc, copies)?;
@@ -50,7 +56,6 @@ fn is_lone(
     stand(alloc, &[copy], &[wanted])
 }
 
-/// Bad bytes are those of the other copy, where it has none that is bad.
 /// FILE without its last byte.
 const SHORTER: &[u8] = &[
     0xFF, 0xD8, 0xFF, 0xDA, 0x00, 0x03, 0x01, 0x11, 0x22, 0x33, 0x44, 0x55, 0x66, 0xFF, 0xD9,
@@ -62,6 +67,7 @@ const LONGER: &[u8] = &[
     0x77,
 ];
 
+/// Bad bytes are those of the other copy, where it has none that is bad.
 #[test]
 fn filled_from_the_other(rt: HostRuntime) -> Result<(), Fail> {
     let alloc = rt.alloc();
@@ -73,11 +79,7 @@ fn filled_from_the_other(rt: HostRuntime) -> Result<(), Fail> {
         bytes: OTHER,
         places: &[place(7, 1), place(8, 1), place(8, 0)],
     };
-    let mixed = [
-        0xFF, 0xD8, 0xFF, 0xDA, 0x00, 0x03, 0x01, 0xFF, 0xD8, 0x33, 0x44, 0x55, 0x66, 0xFF, 0xD9,
-        0x77,
-    ];
-    assert!(rt; stand(alloc, &[first, second], &[&mixed, &mixed])?);
+    assert!(rt; stand(alloc, &[first, second], &[&FILE[..7], &FILE[..7]])?);
     Ok(())
 }
 
@@ -124,38 +126,24 @@ fn filled_from_the_same_length(rt: HostRuntime) -> Result<(), Fail> {
     Ok(())
 }
 
-/// Lost bytes of scan data are markers, and one byte behind an odd run is given up.
+/// Before another scan lost bytes of scan data are markers, and one byte behind an odd run is given up.
 #[test]
-fn lost_in_a_scan(rt: HostRuntime) -> Result<(), Fail> {
+fn lost_before_a_scan(rt: HostRuntime) -> Result<(), Fail> {
     let alloc = rt.alloc();
-    assert!(rt;
-        is_lone(
-            alloc,
-            FILE,
-            8,
-            2,
-            &[
-                0xFF, 0xD8, 0xFF, 0xDA, 0x00, 0x03, 0x01, 0x11, 0xFF, 0xD8, 0x44, 0x55, 0x66, 0xFF,
-                0xD9, 0x77,
-            ]
-        )?
-    );
-    assert!(rt;
-        is_lone(
-            alloc,
-            FILE,
-            8,
-            3,
-            &[
-                0xFF, 0xD8, 0xFF, 0xDA, 0x00, 0x03, 0x01, 0x11, 0xFF, 0xD8, 0xFF, 0xD8, 0x66, 0xFF,
-                0xD9, 0x77,
-            ]
-        )?
-    );
+    let one = [
+        0xFF, 0xD8, 0xFF, 0xDA, 0x00, 0x03, 0x01, 0xFF, 0xD8, 0x33, 0xFF, 0xDA, 0x00, 0x03, 0x01,
+        0x44, 0x55, 0xFF, 0xD9,
+    ];
+    assert!(rt; is_lone(alloc, TWO_SCANS, 7, 1, &one)?);
+    let two = [
+        0xFF, 0xD8, 0xFF, 0xDA, 0x00, 0x03, 0x01, 0x11, 0xFF, 0xD8, 0xFF, 0xDA, 0x00, 0x03, 0x01,
+        0x44, 0x55, 0xFF, 0xD9,
+    ];
+    assert!(rt; is_lone(alloc, TWO_SCANS, 8, 2, &two)?);
     Ok(())
 }
 
-/// Behind an odd run a marker stays, and any other byte is given up.
+/// Behind an odd run a restart marker stays.
 #[test]
 fn lost_before_a_marker(rt: HostRuntime) -> Result<(), Fail> {
     let alloc = rt.alloc();
@@ -164,16 +152,19 @@ fn lost_before_a_marker(rt: HostRuntime) -> Result<(), Fail> {
         0xD9,
     ];
     assert!(rt; is_lone(alloc, RESTARTED, 8, 1, &before_restart)?);
-    let before_data = [
-        0xFF, 0xD8, 0xFF, 0xDA, 0x00, 0x03, 0x01, 0x11, 0x22, 0xFF, 0xD0, 0xFF, 0xD8, 0x55, 0xFF,
-        0xD9,
-    ];
-    assert!(rt; is_lone(alloc, RESTARTED, 11, 1, &before_data)?);
-    let before_end = [
-        0xFF, 0xD8, 0xFF, 0xDA, 0x00, 0x03, 0x01, 0x11, 0x22, 0xFF, 0xD0, 0xFF, 0xD8, 0xFF, 0xFF,
-        0xD9,
-    ];
-    assert!(rt; is_lone(alloc, RESTARTED, 11, 3, &before_end)?);
+    Ok(())
+}
+
+/// Where no restart marker and no scan follows, a copy is cut, since the lines before the end of a file are read.
+#[test]
+fn lost_at_last(rt: HostRuntime) -> Result<(), Fail> {
+    let alloc = rt.alloc();
+    assert!(rt; is_lone(alloc, FILE, 8, 2, &FILE[..8])?);
+    assert!(rt; is_lone(alloc, FILE, 13, 1, &FILE[..13])?);
+    assert!(rt; is_lone(alloc, RESTARTED, 9, 1, &RESTARTED[..9])?);
+    assert!(rt; is_lone(alloc, RESTARTED, 11, 1, &RESTARTED[..11])?);
+    assert!(rt; is_lone(alloc, RESTARTED, 11, 3, &RESTARTED[..11])?);
+    assert!(rt; is_lone(alloc, TWO_SCANS, 16, 1, &TWO_SCANS[..16])?);
     Ok(())
 }
 

@@ -71,5 +71,7 @@ fn faults(rt: HostRuntime) -> Result<(), Fail> {
     assert!(rt; fault(alloc, b"18446744073709551616 2")? == 1);
     assert!(rt; fault(alloc, b"# \xFF\n1 2 F\n")? == 2);
     assert!(rt; fault(alloc, b"1 2\n\xFF\xFF 3\n")? == 2);
+    assert!(rt; fault(alloc, b"# Mapfile\n0x10 +\n0x20 -\n")? == 3);
+    assert!(rt; fault(alloc, b"0 2 ?\n5 ? 1\n")? == 2);
     Ok(())
 }

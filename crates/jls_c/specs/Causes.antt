@@ -41,6 +41,11 @@ cause_offset (Input (input.Read stop offset)) = offset
 cause_offset (NoPicture fault offset) = offset
 cause_offset _ = 0
 
+-- the line of a list that is none, from 1 on, or 0
+abbrev pub cause_line : Cause → ℕ
+cause_line (NoList line) = line
+cause_line _ = 0
+
 -- what is answered: 1 where memory was refused, as an output in memory fails for nothing else; 15 for all other causes
 abbrev pub mend_answer : Cause → ℕ
 mend_answer (Input (input.Text fault)) = text_answer fault 15
@@ -52,15 +57,15 @@ mend_answer (FileNotWritten number count) = 1
 mend_answer OutOfMemory = 1
 mend_answer _ = 15
 
--- whether it showed at a copy: 1 if it did
-abbrev pub has_copy : Option ℕ → ℕ
-has_copy None = 0
-has_copy (Some copy) = 1
+-- whether it showed at a copy, or at a list: 1 if it did
+abbrev pub has_place : Option ℕ → ℕ
+has_place None = 0
+has_place (Some place) = 1
 
--- the number of this copy, from 0 on, or 0
-abbrev pub copy_at : Option ℕ → ℕ
-copy_at None = 0
-copy_at (Some copy) = copy
+-- the number of this copy or list, from 0 on, or 0
+abbrev pub place_at : Option ℕ → ℕ
+place_at None = 0
+place_at (Some place) = place
 
 -- what is reported of a refusal
 abbrev pub stopped_info : MendRefusal → JlsMendInfo
@@ -68,12 +73,15 @@ stopped_info v = record {
   bytes = 0;
   outputs = 0;
   lines = 0;
-  copy = copy_at v.copy;
+  copy = place_at v.copy;
   offset = cause_offset v.cause;
-  has_copy = has_copy v.copy;
+  has_copy = has_place v.copy;
   cause = cause_number v.cause;
   fault = cause_fault v.cause;
   has_file = 0;
   is_promised = 0;
   is_whole = 0;
+  has_list = has_place v.list;
+  list = place_at v.list;
+  line = cause_line v.cause;
 }

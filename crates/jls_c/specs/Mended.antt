@@ -3,6 +3,7 @@ use Rattle.std.specs.Prelude.{◌≡◌, ◌≤◌, ◌<◌, ◌++◌, ℕ, Bool
 use Rattle.std.specs.List.{flat_map, list_any}
 use Rattle.std.specs.Str.{bytes_eq}
 use Rattle.std.specs.String.{string_bytes}
+use Rattle.jls_mend.specs.Asking.{BadPlaces}
 use Rattle.jls_mend.specs.Mending.{IsMendedOf, IsOfRun, Stops}
 use Rattle.jls_mend.specs.declared.mending.Mended.{Mended}
 use Rattle.jls_mend.specs.declared.mending.MendRefusal.{MendRefusal}
@@ -42,6 +43,9 @@ mended_info v = record {
   has_file = flag (has_file v);
   is_promised = flag v.is_promised;
   is_whole = flag v.is_whole;
+  has_list = 0;
+  list = 0;
+  line = 0;
 }
 
 -- it stands in the buffers, which go on as they were, and is reported
@@ -57,23 +61,26 @@ pub record IsTooLong (v : Mended) (info : JlsMendInfo) (room size_room : ℕ) : 
   pub info_is : info ≡ mended_info v
   pub short : length (bytes_in v) ≤ room → size_room < length (sizes_in v)
 
--- what was mended of copies, as a run of the program hands it out, stands in the buffers
-pub record AreMended (o : JlsMendOptions) (copies : List (List ℕ)) (info : JlsMendInfo) (old new old_sizes new_sizes : List ℕ) : Type 0
+-- what was mended of copies and lists, as a run of the program hands it out, stands in the buffers
+pub record AreMended (o : JlsMendOptions) (copies : List (List ℕ)) (bad : List BadPlaces) (info : JlsMendInfo)
+    (old new old_sizes new_sizes : List ℕ) : Type 0
   where
     pub v : Mended
-    pub mended : IsMendedOf (options_of o) copies v
-    pub of_run : IsOfRun (options_of o) copies v
+    pub mended : IsMendedOf (options_of o) copies bad v
+    pub of_run : IsOfRun (options_of o) copies bad v
     pub put : IsPut v info old new old_sizes new_sizes
 
 -- there is too little room for it
-pub record AreMendedLonger (o : JlsMendOptions) (copies : List (List ℕ)) (info : JlsMendInfo) (room size_room : ℕ) : Type 0 where
-  pub v : Mended
-  pub mended : IsMendedOf (options_of o) copies v
-  pub of_run : IsOfRun (options_of o) copies v
-  pub longer : IsTooLong v info room size_room
+pub record AreMendedLonger (o : JlsMendOptions) (copies : List (List ℕ)) (bad : List BadPlaces) (info : JlsMendInfo)
+    (room size_room : ℕ) : Type 0
+  where
+    pub v : Mended
+    pub mended : IsMendedOf (options_of o) copies bad v
+    pub of_run : IsOfRun (options_of o) copies bad v
+    pub longer : IsTooLong v info room size_room
 
--- something stops the program on these copies, and what it is is reported
-pub record AreNotMended (o : JlsMendOptions) (copies : List (List ℕ)) (info : JlsMendInfo) : Type 0 where
+-- something stops the program on these copies and lists, and what it is is reported
+pub record AreNotMended (o : JlsMendOptions) (copies : List (List ℕ)) (bad : List BadPlaces) (info : JlsMendInfo) : Type 0 where
   pub refusal : MendRefusal
-  pub stops : Stops (options_of o) copies refusal
+  pub stops : Stops (options_of o) copies bad refusal
   pub info_is : info ≡ stopped_info refusal

@@ -20,7 +20,9 @@ pub const BAD_FRAME: u32 = 7;
 pub const LARGE_SAMPLE: u32 = 8;
 /// A restart interval would have more than 2^28 samples.
 pub const LARGE_INTERVAL: u32 = 9;
-/// The sizes of copies don't add up, there are fewer than two, or a search may try nothing.
+/// The sizes of copies don't add up, there are fewer than two, or with a list none, or a search may try nothing.
 pub const BAD_COPIES: u32 = 14;
 /// Something stops the mending of copies.
 pub const NOT_MENDED: u32 = 15;
+/// The sizes of lists of bad places don't add up, or one is of no copy.
+pub const BAD_LISTS: u32 = 17;

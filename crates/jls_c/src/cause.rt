@@ -12,7 +12,8 @@ use jls_station::InputFault;
 
 /// What came of a mending. `bytes` counts those of all outputs and of the lines, `lines` those of the lines alone, and `outputs` the
 /// outputs. The picture is promised if `is_promised` is 1, and each copy was read to its end if `is_whole` is 1. `cause` is not 0 if
-/// nothing was mended: its `fault` is at `offset`, in bytes, of `copy`, from 0 on, if `has_copy` is 1.
+/// nothing was mended: its `fault` is at `offset`, in bytes, of `copy`, from 0 on, if `has_copy` is 1. If `has_list` is 1, it showed at
+/// `list`, from 0 on. That is no list of bad places by `line`, from 1 on, if this isn't 0.
 #[repr(C)]
 #[derive(Clone, Copy)]
 pub struct JlsMendInfo {
@@ -27,6 +28,9 @@ pub struct JlsMendInfo {
     pub has_file: u8,
     pub is_promised: u8,
     pub is_whole: u8,
+    pub has_list: u8,
+    pub list: u64,
+    pub line: u64,
 }
 
 /// The number of a cause.
@@ -72,6 +76,27 @@ fn cause_offset(cause: Cause) -> u64
     }
 }
 
+/// The line of a list that is none, or 0.
+fn cause_line(cause: Cause) -> u64
+    ensures { result ≡ reported.cause_line cause }
+{
+    match cause {
+        Cause::NoList(line) => line,
+        _ => 0,
+    }
+}
+
+/// Whether there is a place, and which, or 0.
+fn place_of(place: Option<usize>) -> (u8, u64)
+    ensures has { result.0 ≡ reported.has_place place }
+    ensures at { result.1 ≡ reported.place_at place }
+{
+    match place {
+        None => (0, 0),
+        Some(place) => (1, place as u64),
+    }
+}
+
 /// What is answered for a cause.
 fn mend_answer(cause: Cause) -> u32
     ensures answer { result ≡ reported.mend_answer cause }
@@ -91,10 +116,8 @@ fn mend_answer(cause: Cause) -> u32
 fn stopped_info(refusal: MendRefusal) -> JlsMendInfo
     ensures { result ≡ reported.stopped_info refusal }
 {
-    let (has_copy, copy) = match refusal.copy {
-        None => (0, 0),
-        Some(copy) => (1, copy as u64),
-    };
+    let (has_copy, copy) = place_of(refusal.copy);
+    let (has_list, list) = place_of(refusal.list);
     JlsMendInfo {
         bytes: 0,
         outputs: 0,
@@ -107,6 +130,9 @@ fn stopped_info(refusal: MendRefusal) -> JlsMendInfo
         has_file: 0,
         is_promised: 0,
         is_whole: 0,
+        has_list,
+        list,
+        line: cause_line(refusal.cause),
     }
 }
 

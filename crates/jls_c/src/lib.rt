@@ -5,7 +5,7 @@
 //! - `statuses`, `samples`: the statuses and the samples of all lines
 //! - `text`: partial pictures as bytes in a buffer
 //! - `frame`, `write`: samples as a JPEG-LS file
-//! - `copies`, `cause`, `outputs`, `mend`: copies that mend each other, what stops them, and what comes of them
+//! - `copies`, `cause`, `outputs`, `mend`: copies that mend each other, lists of their bad places, what stops them, and what comes of them
 //! - `laws`: what several calls come to, and calls beside runs of `jls-salvage`
 //!
 //! In C a slice is a pointer and a length, and `alloc` is no argument. `include/jls_salvage.h`, `library/symbols.map`,
@@ -35,7 +35,7 @@ mod write;
 
 pub use cause::JlsMendInfo;
 pub use check::jls_check;
-pub use copies::JlsMendOptions;
+pub use copies::{JlsBadList, JlsMendOptions};
 pub use frame::JlsFrame;
 pub use info::{JlsInfo, JlsPiece};
 pub use join::jls_join;

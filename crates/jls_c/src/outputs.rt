@@ -60,6 +60,9 @@ fn mended_info(mended: &Mended, bytes: &[u8], sizes: &[u64]) -> JlsMendInfo
         has_file: u8::from(has_file(mended)),
         is_promised: u8::from(mended.is_promised),
         is_whole: u8::from(mended.is_whole),
+        has_list: 0,
+        list: 0,
+        line: 0,
     }
 }
 

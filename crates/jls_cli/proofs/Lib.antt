@@ -1,6 +1,7 @@
 -- Lemmas of this crate.
 mod ErrorKinds
 mod FaultLineExamples
+mod FaultlessWords
 mod NumbersRead
 pub mod OutputSteps
 pub mod SalvageWordsRead

@@ -1,5 +1,5 @@
 -- Words that clap reads, and words that it refuses: the premises of the theorems on `run` hold of them.
-use Rattle.std.proofs.Common.{◌≡◌, ℕ, true, false, List, [], ◌∷◌, ◌++◌, Some, None, refl, inl}
+use Rattle.std.proofs.Common.{◌≡◌, ℕ, true, false, List, [], ◌∷◌, ◌++◌, Some, None, refl}
 use Rattle.std.specs.Prelude.{codes}
 use Rattle.clap.specs.Words.{Text, Kinds, fault_of}
 use Rattle.clap.specs.declared.error.kind.ErrorKind.TheVariants as kind
@@ -21,18 +21,18 @@ default = record { source = None; tries = 4096; ceiling = None; progress = false
 
 no_option-asked : AskFor (with_words []) (two_copies default)
 unfolding clap_on_literals
-no_option-asked = record { taken = inl refl; asks = refl }
+no_option-asked = record { taken = refl; asks = refl }
 
 -- `jls-splice - A B C`
 three_copies-asked : AskFor (codes "jls-splice" ∷ codes "-" ∷ codes "A" ∷ codes "B" ∷ codes "C" ∷ [])
     (record { options = default; out = codes "-"; copies = codes "A" ∷ codes "B" ∷ codes "C" ∷ []; bad = [] })
 unfolding clap_on_literals
-three_copies-asked = record { taken = inl refl; asks = refl }
+three_copies-asked = record { taken = refl; asks = refl }
 
 -- `jls-splice --tries 4294967295 OUT A B`
 most_tries-asked : AskFor (with_words (codes "--tries" ∷ codes "4294967295" ∷ [])) (two_copies (record default { tries = 4294967295 }))
 unfolding clap_on_literals
-most_tries-asked = record { taken = inl refl; asks = refl }
+most_tries-asked = record { taken = refl; asks = refl }
 
 -- `jls-splice --max N OUT A B`
 abbrev AsksForCeiling : Text → ℕ → Type 0
@@ -41,7 +41,7 @@ AsksForCeiling text n = AskFor (with_words (codes "--max" ∷ text ∷ [])) (two
 ceilings-asked : AsksForCeiling (codes "4095") 4095 × AsksForCeiling (codes "0") 0 × AsksForCeiling (codes "65535") 65535
 unfolding clap_on_literals
 ceilings-asked =
-    (record { taken = inl refl; asks = refl }, record { taken = inl refl; asks = refl }, record { taken = inl refl; asks = refl })
+    (record { taken = refl; asks = refl }, record { taken = refl; asks = refl }, record { taken = refl; asks = refl })
 
 -- all options
 all_options-asked : AskFor
@@ -56,32 +56,32 @@ all_options-asked : AskFor
       files = Some (codes "P");
     }))
 unfolding clap_on_literals
-all_options-asked = record { taken = inl refl; asks = refl }
+all_options-asked = record { taken = refl; asks = refl }
 
 -- `jls-splice --bad 1:L --bad 1:M OUT A`: one copy, with two lists of its bad places
 one_copy_and_lists-asked : AskFor
     (codes "jls-splice" ∷ codes "--bad" ∷ codes "1:L" ∷ codes "--bad" ∷ codes "1:M" ∷ codes "OUT" ∷ codes "A" ∷ [])
     (record { options = default; out = codes "OUT"; copies = codes "A" ∷ []; bad = codes "1:L" ∷ codes "1:M" ∷ [] })
 unfolding clap_on_literals
-one_copy_and_lists-asked = record { taken = inl refl; asks = refl }
+one_copy_and_lists-asked = record { taken = refl; asks = refl }
 
 -- `jls-splice --bad=2:L OUT A --bad 1:M B`: the values are in the order of the words, and may stand among the copies
 lists_among_copies-asked : AskFor
     (codes "jls-splice" ∷ codes "--bad=2:L" ∷ codes "OUT" ∷ codes "A" ∷ codes "--bad" ∷ codes "1:M" ∷ codes "B" ∷ [])
     (record (two_copies default) { bad = codes "2:L" ∷ codes "1:M" ∷ [] })
 unfolding clap_on_literals
-lists_among_copies-asked = record { taken = inl refl; asks = refl }
+lists_among_copies-asked = record { taken = refl; asks = refl }
 
 -- `jls-splice --bad x OUT A`: clap takes any value, and what it names is judged later
 any_list-asked : AskFor (codes "jls-splice" ∷ codes "--bad" ∷ codes "x" ∷ codes "OUT" ∷ codes "A" ∷ [])
     (record { options = default; out = codes "OUT"; copies = codes "A" ∷ []; bad = codes "x" ∷ [] })
 unfolding clap_on_literals
-any_list-asked = record { taken = inl refl; asks = refl }
+any_list-asked = record { taken = refl; asks = refl }
 
 -- `jls-splice OUT A`: one copy alone, and no list of its bad places
 one_copy-nothing_asked : AskForNothing (codes "jls-splice" ∷ codes "OUT" ∷ codes "A" ∷ [])
 unfolding clap_on_literals
-one_copy-nothing_asked = record { taken = inl refl; asks = refl }
+one_copy-nothing_asked = record { taken = refl; asks = refl }
 
 -- clap finds these faults alone
 abbrev finds : List Text → Kinds → Type 0

@@ -1,5 +1,5 @@
 -- What both programs take, by clap's own definition of what a simple command takes, and the numbers among their words.
-use Rattle.std.specs.Prelude.{◌≡◌, ◌⊎◌, ℕ, true, List, [], Option, Some, None, codes, if◌then◌else◌}
+use Rattle.std.specs.Prelude.{◌≡◌, ◌↔◌, ℕ, true, List, [], Option, Some, None, codes, if◌then◌else◌}
 use Rattle.std.specs.Str.Parse.{digits_value, without_leading_plus}
 use Rattle.clap.specs.ValueTests.{is_unsigned_in}
 use Rattle.clap.specs.Words.{App, Rule, Text, fault_of, IsAmong, new_rule, takes}
@@ -26,9 +26,13 @@ source_rule = number_rule (codes "source") 0 4294967295
 abbrev pub number_in : ℕ → ℕ → Text → Option ℕ
 number_in least most value = if is_unsigned_in least most value then Some (digits_value 10 (without_leading_plus value)) else None
 
--- by clap's own definitions a program takes the words, or there is no fault in them
+-- by clap's own definition a program takes the words
 abbrev pub TakesWords : App → List Text → Type 0
-TakesWords app words = (takes app words ≡ true) ⊎ (fault_of app words ≡ [])
+TakesWords app words = takes app words ≡ true
+
+-- a program takes words if and only if clap's definition finds no fault in them
+abbrev pub TakesFaultless : App → Type 0
+TakesFaultless app = (words : List Text) → TakesWords app words ↔ (fault_of app words ≡ [])
 
 -- clap does not take the words, and this is one of the kinds of fault that its definition finds in them
 pub record RefusesWords (app : App) (words : List Text) (k : ErrorKind) : Type 0 where

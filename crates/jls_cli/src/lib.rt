@@ -6,6 +6,7 @@
 //! - `answering`: `answer`: what a program says of words that clap refused, where, and with which status. Both programs call it with
 //!   their names
 //! - `arguments`, `numbers`: what the words of both have in common
+//! - `laws`: clap takes words if and only if it finds no fault in them
 //! - `outcome`: `Done`, `Refusal` and its `Cause`, and the exit status of what came of a command
 //! - `output`: creates an output and writes it
 //! - `printing`: the line of a refusal on the fault output
@@ -19,6 +20,7 @@
 
 mod answering;
 mod arguments;
+pub mod laws;
 mod numbers;
 mod outcome;
 mod output;

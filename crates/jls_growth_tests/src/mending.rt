@@ -1,11 +1,11 @@
-//! Two damaged copies in memory, mended by a call.
+//! Two damaged copies in memory, mended by a call, also with lists of bad places.
 
 use crate::met::{Met, Stopped, Tally};
 use crate::pairs::{Which, pair_of};
 use crate::splicing::{FOUR_BACK, lines_of};
 use jls_cli::Cause;
 use jls_memory::Output;
-use jls_mend::{MendOptions, Mended, mend};
+use jls_mend::{BadPlaces, MendOptions, Mended, are_mendable, mend};
 use std::alloc::Global;
 use std::process::Abort;
 
@@ -40,7 +40,7 @@ fn is_want_of_memory(cause: Cause) -> bool {
     )
 }
 
-fn mend_pair(rt: &impl Abort, alloc: Global) -> Result<Met, Stopped> {
+fn mend_pair(rt: &impl Abort, alloc: Global, lists: &[BadPlaces<'_>]) -> Result<Met, Stopped> {
     let pair = pair_of(alloc, Which::Mended)?;
     let text = lines_of(alloc, &FOUR_BACK)?.to_bytes(alloc)?;
     let copies: [&[u8]; 2] = [&pair.first, &pair.second];
@@ -50,7 +50,8 @@ fn mend_pair(rt: &impl Abort, alloc: Global) -> Result<Met, Stopped> {
         ceiling: None,
         files: true,
     };
-    match mend(alloc, &copies, &options) {
+    assert!(rt; are_mendable(&copies, lists));
+    match mend(alloc, &copies, lists, &options) {
         Ok(mended) => {
             assert!(rt; is_whole(&mended, &text, &pair.file));
             Ok(Met::Done)
@@ -65,6 +66,21 @@ fn mend_pair(rt: &impl Abort, alloc: Global) -> Result<Met, Stopped> {
 #[test]
 fn mend_copies(rt: HostRuntime) {
     let mut tally = Tally::of("mend");
-    tally.note(&rt, mend_pair(&rt, rt.alloc()));
+    tally.note(&rt, mend_pair(&rt, rt.alloc(), &[]));
+    assert!(&rt; tally.is_single());
+}
+
+/// Lists that name no place: what comes of the copies is the same.
+#[test]
+fn mend_copies_with_lists(rt: HostRuntime) {
+    let lists = [
+        BadPlaces {
+            copy: 0,
+            text: b"# nothing is bad\n",
+        },
+        BadPlaces { copy: 1, text: b"" },
+    ];
+    let mut tally = Tally::of("mend with lists");
+    tally.note(&rt, mend_pair(&rt, rt.alloc(), &lists));
     assert!(&rt; tally.is_single());
 }

@@ -15,6 +15,7 @@ pub record Disk : Type 0 where
   pub has : ℕ → Content
   pub is_input : ℕ → Bool
 
+-- what a name has that leads to this file, or to none
 abbrev pub content_of : (ℕ → Content) → Option ℕ → Option Content
 content_of has None = None
 content_of has (Some i) = Some (has i)

@@ -9,6 +9,7 @@ abbrev pub names_of : Option FileBeside → Option (List ℕ × List ℕ)
 names_of None = None
 names_of (Some beside) = cond beside.is_copied None (Some (beside.name.bytes, beside.own.bytes))
 
+-- the same of an output
 abbrev pub takes_name : {F : Type 0} → Output F → Option (List ℕ × List ℕ)
 takes_name output = names_of output.beside
 

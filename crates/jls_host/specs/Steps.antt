@@ -12,6 +12,7 @@ pub record IsHeld (name : List ℕ) (held : Beside) (d : Disk) : Type 0 where
   pub beside : IsBeside name held.0 held.1 d
   pub stored : d.has held.1 ≡ (held.2, true)
 
+-- the same where there is such a file, and nothing where there is none
 abbrev pub Holds : List ℕ → Option Beside → Disk → Type 0
 Holds name None d = Unit {0}
 Holds name (Some held) d = IsHeld name held d

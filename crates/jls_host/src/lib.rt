@@ -2,7 +2,9 @@
 //!
 //! - `choice`: decides how an output is made, what it replaces and whether it is kept. Its contracts say when
 //! - `name`: the name of the temporary file beside OUT, and the name for an older OUT
-//! - `output`: makes that file, and renames it to OUT or removes it. Its calls of the system go through `Machine`
+//! - `output`: an output, from its making to its end. Its calls of the system go through `Machine`
+//! - `making`: makes the temporary file, or opens the file at the name
+//! - `ending`: renames that file to OUT, copies it there, or removes it
 //! - `older`: keeps an older OUT under its other name
 //! - `machine`: the trait `Machine`, which a test can implement
 //! - `recorded`: a machine whose calls are noted, for contracts alone
@@ -28,8 +30,10 @@
 
 mod calls;
 mod choice;
+mod ending;
 mod host;
 mod machine;
+mod making;
 mod name;
 mod older;
 mod output;

@@ -9,8 +9,9 @@ ghost use Rattle.jls_host.specs.Recorded.{calls_of, number_of};
 
 use crate::choice::can_go;
 use crate::machine::Machine;
+use crate::making::{TRIES, create_beside};
 use crate::name::{Name, name_beside, name_kept};
-use crate::output::{TRIES, Why, create_beside};
+use crate::output::Why;
 use crate::recorded::{Held, Recorded};
 use std::io;
 

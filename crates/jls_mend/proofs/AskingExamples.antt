@@ -1,5 +1,5 @@
 -- Words that ask for what a mending of two copies asks for, as clap reads them: the premise of `IsOfRun` holds of them.
-use Rattle.std.proofs.Common.{◌≡◌, ℕ, true, false, List, [], ◌∷◌, Some, None, refl, inl, subst, sym, lit<}
+use Rattle.std.proofs.Common.{◌≡◌, ℕ, true, false, List, [], ◌∷◌, Some, None, refl, subst, sym, lit<}
 use Rattle.std.specs.Prelude.{codes, decimal}
 use Rattle.std.proofs.lemmas.Fmt.{decimal-digits_of}
 use Rattle.clap.specs.Words.{Text}
@@ -23,7 +23,7 @@ all_options =
     ∷ codes "--tries" ∷ codes "40" ∷ codes "--max" ∷ codes "255" ∷ codes "OUT" ∷ codes "1" ∷ codes "2" ∷ []
 
 all_asked : (first second : List ℕ)
-    → AskFor all_options (asked_for (record { source = Some 7; tries = 40; ceiling = Some 255; files = true }) (first ∷ second ∷ []))
+    → AskFor all_options (asked_for (record { source = Some 7; tries = 40; ceiling = Some 255; files = true }) (first ∷ second ∷ []) [])
 unfolding clap_on_literals
 all_asked first second =
     subst (λ (names : List Text). AskFor all_options (record {
@@ -38,7 +38,7 @@ all_asked first second =
       out = codes "OUT";
       copies = names;
       bad = [];
-    })) names_are (record { taken = inl refl; asks = refl })
+    })) names_are (record { taken = refl; asks = refl })
 
 -- `jls-splice --file FILE --tries 4096 OUT 1 2`
 abbrev file_alone : List Text
@@ -46,7 +46,7 @@ file_alone =
     codes "jls-splice" ∷ codes "--file" ∷ codes "FILE" ∷ codes "--tries" ∷ codes "4096" ∷ codes "OUT" ∷ codes "1" ∷ codes "2" ∷ []
 
 file_asked : (first second : List ℕ)
-    → AskFor file_alone (asked_for (record { source = None; tries = 4096; ceiling = None; files = false }) (first ∷ second ∷ []))
+    → AskFor file_alone (asked_for (record { source = None; tries = 4096; ceiling = None; files = false }) (first ∷ second ∷ []) [])
 unfolding clap_on_literals
 file_asked first second =
     subst (λ (names : List Text). AskFor file_alone (record {
@@ -61,4 +61,4 @@ file_asked first second =
       out = codes "OUT";
       copies = names;
       bad = [];
-    })) names_are (record { taken = inl refl; asks = refl })
+    })) names_are (record { taken = refl; asks = refl })

@@ -11,6 +11,10 @@ use Rattle.jls_station.specs.declared.input.ReadStop.{ReadStop}
 use Rattle.jls_station.specs.declared.input.ReadStop.TheVariants.{Whole, Failed, Turns}
 use Rattle.jls_memory.specs.Files.{File, bytes_named}
 use Rattle.jls_memory.specs.Inputs.{Reads}
+use Rattle.jls_bad.specs.ListText.{AreNamed}
+use Rattle.jls_bad.specs.declared.place.Place.{Place}
+use Rattle.jls_splice_run.specs.BadLists.{IsList}
+use Rattle.jls_mend.specs.Asking.{BadPlaces}
 use Rattle.jls_mend.specs.Mending.{IsReadOf}
 
 -- ---- the reads of one input that each gave some bytes
@@ -139,3 +143,22 @@ all_read all (f ∷ fs) (c ∷ read) left rest reading more found are h =
     (ap (λ (es : List Event). es ++ more) are.2 ∙ append_assoc are.0 are.1 more) h in
     let t = taken all left rest f.name f.bytes c are.0 (are.1 ++ more) found.0 are.3 here in
     (t.is_read_of, all_read all fs read t.then_left rest are.1 more found.1 are.4 t.after)
+
+-- ---- lists
+
+named_one : (text : List ℕ) (file : CopyBytes) (own : List Place) → IsReadOf text file → IsList file own → AreNamed text own
+named_one text file own r l =
+    let all : text ≡ file.bytes =
+    r.copy_is ∙ (ap (λ (more : List ℕ). file.bytes ++ more) (r.if_whole l.whole) ∙ append-nil file.bytes) in
+    subst (λ (bytes : List ℕ). AreNamed bytes own) (sym all) l.named
+
+-- a list that was read to its end names what its text does
+pub all_named : (bad : List BadPlaces) (lists : List CopyBytes) (places : List (List Place))
+    → AllZip IsReadOf (map (λ (l : BadPlaces). l.text) bad) lists → AllZip IsList lists places
+    → AllZip (λ (l : BadPlaces) (own : List Place). AreNamed l.text own) bad places
+all_named [] [] [] r l = tt
+all_named [] [] (own ∷ places) r l = absurd l
+all_named [] (file ∷ lists) places r l = absurd r
+all_named (b ∷ bad) [] places r l = absurd r
+all_named (b ∷ bad) (file ∷ lists) [] r l = absurd l
+all_named (b ∷ bad) (file ∷ lists) (own ∷ places) r l = (named_one b.text file own r.0 l.0, all_named bad lists places r.1 l.1)

@@ -2,6 +2,8 @@
 mod AskingExamples
 mod Numbers
 mod NamesOn
+mod ListNames
+mod ListFiles
 mod CopiesRead
 mod HandedOut
 mod TaskOf

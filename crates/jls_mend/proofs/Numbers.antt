@@ -58,11 +58,11 @@ names_more copies i h =
 
 -- ---- each has its own name
 
-not_true : (b : Bool) → (b ≡ true → ⊥) → b ≡ false
+pub not_true : (b : Bool) → (b ≡ true → ⊥) → b ≡ false
 not_true true never = absurd (never refl)
 not_true false never = refl
 
-apart : (a b : ℕ) → a < b → b < 2 ^ 64 → bytes_eq (decimal a) (decimal b) ≡ false
+pub apart : (a b : ℕ) → a < b → b < 2 ^ 64 → bytes_eq (decimal a) (decimal b) ≡ false
 apart a b lt small = not_true (bytes_eq (decimal a) (decimal b)) (λ e.
     let same = decimal_injective a b (omega (arith, lt, small)) small ((bytes_eq-Decides (decimal a) (decimal b)).0 e) in
     omega (arith, lt, same))
@@ -76,7 +76,7 @@ others a k (copy ∷ copies) lt small = (
   others a (k + 1) copies (omega (arith, lt)) (omega (arith, small)),
 )
 
-own_first : (name : List ℕ) (f : File) (files : List File) → bytes_eq f.name name ≡ true → bytes_named name (f ∷ files) ≡ Some f.bytes
+pub own_first : (name : List ℕ) (f : File) (files : List File) → bytes_eq f.name name ≡ true → bytes_named name (f ∷ files) ≡ Some f.bytes
 own_first name f files e =
     ap (λ (b : Bool). option_map (λ (f : File). f.bytes) (cond b (Some f) (find (λ (f : File). bytes_eq f.name name) files))) e
 
@@ -86,7 +86,7 @@ other_first name f files e =
     ap (λ (b : Bool). option_map (λ (f : File). f.bytes) (cond b (Some f) (find (λ (f : File). bytes_eq f.name name) files))) e
 
 -- a file of another name first
-behind : (first : File) (all files : List File) → AllByRecursion (λ (f : File). bytes_eq first.name f.name ≡ false) files
+pub behind : (first : File) (all files : List File) → AllByRecursion (λ (f : File). bytes_eq first.name f.name ≡ false) files
     → AllByRecursion (λ (f : File). bytes_named f.name all ≡ Some f.bytes) files
     → AllByRecursion (λ (f : File). bytes_named f.name (first ∷ all) ≡ Some f.bytes) files
 behind first all [] others_are found = tt

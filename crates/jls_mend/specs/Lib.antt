@@ -2,3 +2,4 @@
 pub mod Asking
 pub mod Running
 pub mod Mending
+pub mod Laws

@@ -1,8 +1,9 @@
 //! What a mending is asked for.
 
-ghost use Rattle.std.specs.Prelude.{◌≡◌, []};
+ghost use Rattle.std.specs.Prelude.{◌≡◌, ◌↔◌, [], IsTrue, length, map};
+ghost use Rattle.std.specs.List.{AllByRecursion};
 ghost use Rattle.jls_cli.specs.SpliceAsking.{options_in};
-ghost use Rattle.jls_mend.specs.Asking.{asked_for};
+ghost use Rattle.jls_mend.specs.Asking.{AreMendable, IsNumberOf, asked_for, places_of};
 
 use jls_cli::splice::Options;
 
@@ -28,9 +29,18 @@ pub struct MendOptions {
     pub files: bool,
 }
 
+/// A list of bad places of a copy, as `--bad` of `jls-splice` takes it.
+#[derive(Clone, Copy)]
+pub struct BadPlaces<'a> {
+    /// The number of the copy, from 0 on.
+    pub copy: usize,
+    /// The list: GNU ddrescue's mapfile, or lines `OFFSET LENGTH`.
+    pub text: &'a [u8],
+}
+
 /// The options of the run.
 pub(crate) fn options_for(options: &MendOptions) -> Options<'static>
-    ensures { options_in result ≡ (asked_for options.now []).options }
+    ensures { options_in result ≡ (asked_for options.now [] []).options }
 {
     Options {
         source: options.source,
@@ -40,4 +50,32 @@ pub(crate) fn options_for(options: &MendOptions) -> Options<'static>
         file: Some(FILE),
         files: if options.files { Some(ALL) } else { None },
     }
+}
+
+/// Whether it is the number of one of so many copies, which `--bad` takes as the number behind it.
+fn is_number_of(count: usize, number: usize) -> bool
+    ensures { IsTrue result ↔ IsNumberOf count number }
+{
+    number < count && number < u32::MAX as usize
+}
+
+/// Whether each list is of one of so many copies.
+fn are_of_copies(count: usize, bad: &[BadPlaces<'_>]) -> bool
+    ensures { IsTrue result ↔ AllByRecursion (λ l. IsNumberOf count l.copy) (map places_of bad.now) }
+{
+    for list in bad {
+        if !is_number_of(count, list.copy) {
+            return false;
+        }
+    }
+    true
+}
+
+/// Whether these can be mended: two copies or more, and with a list one. Each list has to be of one of the copies, whose number is below
+/// 4,294,967,295.
+pub fn are_mendable(copies: &[&[u8]], bad: &[BadPlaces<'_>]) -> bool
+    ensures { IsTrue result ↔ AreMendable (map (λ copy. copy.now) copies.now) (map places_of bad.now) }
+{
+    let least = if bad.is_empty() { 2 } else { 1 };
+    copies.len() >= least && are_of_copies(copies.len(), bad)
 }

@@ -1,16 +1,16 @@
 //! From the copies to what the program hands out.
 
-ghost use Rattle.std.specs.Prelude.{◌≡◌, ◌≤◌, ◌++◌, ◌∷◌, [], ℕ, List, IfErr, IfOk, length, map};
+ghost use Rattle.std.specs.Prelude.{◌≡◌, ◌++◌, ◌∷◌, [], ℕ, List, IfErr, IfOk, map};
 ghost use Rattle.jls_memory.specs.Files.{File};
 ghost use Rattle.jls_memory.specs.Held.{output_files};
+ghost use Rattle.jls_mend.specs.Asking.{AreMendable, places_of};
 ghost use Rattle.jls_mend.specs.Mending.{IsMendedOf, IsOfRun, IsRefusedOf};
 
-use crate::asking::{MendOptions, OUT, options_for};
-use crate::naming::{are_few, inputs_for, names_of, numbers_of, place_of};
-use crate::running::{Ran, run_over};
+use crate::asking::{BadPlaces, MendOptions};
+use crate::naming::{are_few, lists_are_few, names_for, place_of};
+use crate::running::{Ran, run_named};
 use jls_cli::Cause;
 use jls_memory::{Output, outputs_hold_what_is_handed_out};
-use jls_splice_run::Task;
 use std::alloc::{AllocError, Global};
 
 /// What was mended.
@@ -34,18 +34,21 @@ pub struct MendRefusal {
     pub cause: Cause,
     /// The number of the copy at which it showed, from 0 on, if it showed at one.
     pub copy: Option<usize>,
+    /// The number of the list at which it showed, from 0 on, if it showed at one. The cause `NoList` has its line.
+    pub list: Option<usize>,
 }
 
 impl From<AllocError> for MendRefusal {
     ghost use Rattle.std.specs.Prelude.{◌≡◌, None};
     ghost use Rattle.jls_cli.specs.declared.outcome.Cause.TheVariants.{OutOfMemory};
 
-    ghost from_gives = { λ _ refusal. refusal ≡ record { cause = OutOfMemory; copy = None } };
+    ghost from_gives = { λ _ refusal. refusal ≡ record { cause = OutOfMemory; copy = None; list = None } };
 
     fn from(_error: AllocError) -> MendRefusal {
         MendRefusal {
             cause: Cause::OutOfMemory,
             copy: None,
+            list: None,
         }
     }
 }
@@ -64,28 +67,26 @@ fn last_bytes(alloc: Global, mut outputs: Vec<Output>) -> Vec<u8>
     }
 }
 
-/// Mends copies of one file, of which there are two or more, as `jls-splice --file FILE OUT 1 2 ..` does, and with `--files ALL` if these
-/// are asked for. The names of the copies are their numbers, from 1 on.
+/// Mends copies of one file as `jls-splice --file FILE OUT 1 2 ..` does, and with `--files ALL` if these are asked for. The names of the
+/// copies are their numbers, from 1 on. Lists of bad places are given as by `--bad N:BAD-1 --bad N:BAD-2 ..`. With a list one copy is enough.
 ///
 /// It is the program's own run over inputs in memory.
-pub fn mend(alloc: Global, copies: &[&[u8]], options: &MendOptions) -> Result<Mended, MendRefusal>
-    requires { 2 ≤ length copies.now }
-    ensures mended { IfOk result (IsMendedOf options.now (map (λ copy. copy.now) copies.now)) }
-    ensures ran { IfOk result (IsOfRun options.now (map (λ copy. copy.now) copies.now)) }
-    ensures refused { IfErr result (IsRefusedOf options.now (map (λ copy. copy.now) copies.now)) }
+pub fn mend(
+    alloc: Global,
+    copies: &[&[u8]],
+    bad: &[BadPlaces<'_>],
+    options: &MendOptions,
+) -> Result<Mended, MendRefusal>
+    requires { AreMendable (map (λ copy. copy.now) copies.now) (map places_of bad.now) }
+    ensures mended { IfOk result (IsMendedOf options.now (map (λ copy. copy.now) copies.now) (map places_of bad.now)) }
+    ensures ran { IfOk result (IsOfRun options.now (map (λ copy. copy.now) copies.now) (map places_of bad.now)) }
+    ensures refused { IfErr result (IsRefusedOf options.now (map (λ copy. copy.now) copies.now) (map places_of bad.now)) }
 {
     outputs_hold_what_is_handed_out();
     are_few(copies);
-    let numbers = numbers_of(alloc, copies)?;
-    let inputs = inputs_for(alloc, &numbers, copies)?;
-    let names = names_of(alloc, &inputs)?;
-    let task = Task {
-        options: options_for(options),
-        out: OUT,
-        names: &names,
-        bad: &[],
-    };
-    let ran = run_over(alloc, &inputs, &task)?;
+    lists_are_few(bad);
+    let names = names_for(alloc, copies, bad)?;
+    let ran = run_named(alloc, &names, copies, bad, options)?;
     let Ran {
         outcome,
         outputs,
@@ -100,7 +101,8 @@ pub fn mend(alloc: Global, copies: &[&[u8]], options: &MendOptions) -> Result<Me
         }),
         Err(refusal) => Err(MendRefusal {
             cause: refusal.cause,
-            copy: place_of(&names, refusal.name),
+            copy: place_of(&names.copies, refusal.name),
+            list: place_of(&names.lists, refusal.name),
         }),
     }
 }

@@ -58,7 +58,7 @@ module _ (p : CodingParameters) (ok : AreCodingParameters p) (w c : ℕ) (up : R
         bits_are = x.bits_are;
       }
 
-  regular_is : (pixel : List ℕ) → event_bits p earlier (regular_pixel now pixel)
+  pub regular_is : (pixel : List ℕ) → event_bits p earlier (regular_pixel now pixel)
       ≡ bits_of_samples p 0 (coded_samples earlier) (coded_with regular now pixel)
   unfolding event_bits
   regular_is pixel = refl
@@ -76,11 +76,11 @@ module _ (p : CodingParameters) (ok : AreCodingParameters p) (w c : ℕ) (up : R
   -- Runs --------------------------------------------------------------------------------------------
 
   module _ (w0 : ℕ) (w0_is : length row + w0 ≡ w) (mode : is_run_pixel now ≡ true) where
-    end_is : (n : ℕ) → event_bits p earlier (run_to_end n) ≡ run_to_end_bits (blocks r n)
+    pub end_is : (n : ℕ) → event_bits p earlier (run_to_end n) ≡ run_to_end_bits (blocks r n)
     unfolding event_bits
     end_is n = ap (λ z. run_to_end_bits (blocks z n)) (sym t.run_index_is)
 
-    interrupted_is : (n : ℕ) (nears : List Neighbours) (pixel : List ℕ) (rest : List Bool)
+    pub interrupted_is : (n : ℕ) (nears : List Neighbours) (pixel : List ℕ) (rest : List Bool)
         → event_bits p earlier (interrupted_run n nears pixel) ++ rest
         ≡ interrupted_run_bits (blocks r n)
         (bits_of_samples p (run_order (blocks r n).run_index) (coded_samples earlier) (coded_with interrupting nears pixel) ++ rest)

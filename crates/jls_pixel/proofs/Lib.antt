@@ -19,3 +19,10 @@ pub mod PixelReading
 pub mod PendingSteps
 pub mod NoMore
 pub mod PushedBytes
+pub mod HeadRows
+pub mod CutPixels
+pub mod CutSamples
+pub mod CutRuns
+pub mod CutEvents
+pub mod CutRows
+mod HeadExamples

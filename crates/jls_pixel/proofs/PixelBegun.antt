@@ -29,12 +29,12 @@ samples_append p order earlier (x ∷ xs) ys =
     ∙ sym (append_assoc (sample_bits p order earlier x) (bits_of_samples p order (earlier ++ x ∷ []) xs)
     (bits_of_samples p order (earlier ++ x ∷ xs) ys))
 
-samples_first : (p : CodingParameters) (order : ℕ) (earlier : List CodedSample) (x : CodedSample) (ys : List CodedSample)
+pub samples_first : (p : CodingParameters) (order : ℕ) (earlier : List CodedSample) (x : CodedSample) (ys : List CodedSample)
     → bits_of_samples p order earlier (x ∷ ys) ≡ sample_bits p order earlier x ++ bits_of_samples p order (earlier ++ x ∷ []) ys
 unfolding bits_of_samples
 samples_first p order earlier x ys = refl
 
-samples_none : (p : CodingParameters) (order : ℕ) (earlier : List CodedSample) → bits_of_samples p order earlier [] ≡ []
+pub samples_none : (p : CodingParameters) (order : ℕ) (earlier : List CodedSample) → bits_of_samples p order earlier [] ≡ []
 unfolding bits_of_samples
 samples_none p order earlier = refl
 
@@ -48,7 +48,7 @@ module _ (p : CodingParameters) (kind : SampleKind) (f : ℕ → Neighbours) (c 
   nears = map f (range_with_len 0 c)
 
   -- the samples of the components from k on
-  abbrev others : ℕ → List ℕ → List CodedSample
+  abbrev pub others : ℕ → List ℕ → List CodedSample
   others k samples = coded_with (coded_as kind) (map f (range_with_len k (c - k))) samples
 
   -- the first samples of a pixel were read
@@ -57,9 +57,9 @@ module _ (p : CodingParameters) (kind : SampleKind) (f : ℕ → Neighbours) (c 
     pub cells_after : CellsAfter p cells (earlier ++ done)
     pub bits_are : given ≡ bits_of_samples p (order_of kind) earlier done ++ left
     pub whole : (more : List ℕ) → coded_with (coded_as kind) nears (pixel ++ more) ≡ done ++ others k more
-    -- whatever pixel stands at the start of the bits begins so
-    pub forced : (xs : List ℕ) (rest : List Bool) → length xs ≡ c → AllByRecursion (λ s. s ≤ p.maxval) xs
-        → given ≡ bits_of_samples p (order_of kind) earlier (coded_with (coded_as kind) nears xs) ++ rest
+    -- whatever pixel stands at the start of the bits, with any bits after them, begins so
+    pub forced : (xs : List ℕ) (on rest : List Bool) → length xs ≡ c → AllByRecursion (λ s. s ≤ p.maxval) xs
+        → given ++ on ≡ bits_of_samples p (order_of kind) earlier (coded_with (coded_as kind) nears xs) ++ rest
         → (more : List ℕ) × (xs ≡ pixel ++ more)
 
   pub begun_none : (cells : Variables) → CellsAfter p cells earlier → PixelBegun [] 0 cells given
@@ -68,39 +68,39 @@ module _ (p : CodingParameters) (kind : SampleKind) (f : ℕ → Neighbours) (c 
     cells_after = subst (CellsAfter p cells) (sym (append-nil earlier)) t;
     bits_are = ap (λ z. z ++ given) (sym (samples_none p (order_of kind) earlier));
     whole = λ more. (let e : c - 0 ≡ c = omega arith in ap (λ z. coded_with (coded_as kind) (map f (range_with_len 0 z)) more) (sym e));
-    forced = λ xs rest l a e. (xs, refl);
+    forced = λ xs on rest l a e. (xs, refl);
   }
 
   module _ (pixel : List ℕ) (k : ℕ) (cells : Variables) (left : List Bool) (t : PixelBegun pixel k cells left) (l : length pixel ≡ k)
       (within : k < c) where
-    others_first : (s : ℕ) (more : List ℕ) → others k (s ∷ more) ≡ coded_as kind (f k) s ∷ others (k + 1) more
+    pub others_first : (s : ℕ) (more : List ℕ) → others k (s ∷ more) ≡ coded_as kind (f k) s ∷ others (k + 1) more
     others_first s more = ap (λ z. coded_with (coded_as kind) z (s ∷ more)) (range_first f k c within)
 
-    -- the next sample of a pixel that stands at the start of the bits
-    record Next (xs : List ℕ) (rest : List Bool) : Type 0 where
-      s : ℕ
-      more : List ℕ
-      xs_is : xs ≡ pixel ++ s ∷ more
-      small : s ≤ p.maxval
-      after : List Bool
-      left_is : left ≡ sample_bits p (order_of kind) (earlier ++ t.done) (coded_as kind (f k) s) ++ after
+    -- the next sample of a pixel that stands at the start of the bits, with any bits after them
+    pub record Next (xs : List ℕ) (on : List Bool) : Type 0 where
+      pub s : ℕ
+      pub more : List ℕ
+      pub xs_is : xs ≡ pixel ++ s ∷ more
+      pub small : s ≤ p.maxval
+      pub after : List Bool
+      pub left_is : left ++ on ≡ sample_bits p (order_of kind) (earlier ++ t.done) (coded_as kind (f k) s) ++ after
 
     all_right : (xs ys : List ℕ) → AllByRecursion (λ s. s ≤ p.maxval) (xs ++ ys) → AllByRecursion (λ s. s ≤ p.maxval) ys
     all_right [] ys h = h
     all_right (x ∷ xs) ys h = all_right xs ys h.1
 
-    next : (xs : List ℕ) (rest : List Bool) → length xs ≡ c → AllByRecursion (λ s. s ≤ p.maxval) xs
-        → given ≡ bits_of_samples p (order_of kind) earlier (coded_with (coded_as kind) nears xs) ++ rest → Next xs rest
-    next xs rest lx small e = go (t.forced xs rest lx small e).0 (t.forced xs rest lx small e).1
+    pub next : (xs : List ℕ) (on rest : List Bool) → length xs ≡ c → AllByRecursion (λ s. s ≤ p.maxval) xs
+        → given ++ on ≡ bits_of_samples p (order_of kind) earlier (coded_with (coded_as kind) nears xs) ++ rest → Next xs on
+    next xs on rest lx small e = go (t.forced xs on rest lx small e).0 (t.forced xs on rest lx small e).1
       where
-        go : (more : List ℕ) → xs ≡ pixel ++ more → Next xs rest
+        go : (more : List ℕ) → xs ≡ pixel ++ more → Next xs on
         go [] is = let la = ap length is in let lb = length-append pixel [] in absurd (omega arith)
         go (s ∷ more) is =
             let o = order_of kind in let here = coded_as kind (f k) s in
             let after = bits_of_samples p o ((earlier ++ t.done) ++ here ∷ []) (others (k + 1) more) ++ rest in
             let split : coded_with (coded_as kind) nears xs ≡ t.done ++ here ∷ others (k + 1) more =
             ap (coded_with (coded_as kind) nears) is ∙ t.whole (s ∷ more) ∙ ap (λ z. t.done ++ z) (others_first s more) in
-            let bits_split : given ≡ bits_of_samples p o earlier t.done
+            let bits_split : given ++ on ≡ bits_of_samples p o earlier t.done
             ++ (sample_bits p o (earlier ++ t.done) here ++ after) =
             e ∙ ap (λ z. bits_of_samples p o earlier z ++ rest) split
             ∙ ap (λ z. z ++ rest) (samples_append p o earlier t.done (here ∷ others (k + 1) more)
@@ -116,8 +116,9 @@ module _ (p : CodingParameters) (kind : SampleKind) (f : ℕ → Neighbours) (c 
               xs_is = is;
               small = (all_right pixel (s ∷ more) (subst (AllByRecursion (λ x. x ≤ p.maxval)) is small)).0;
               after = after;
-              left_is = append_cancel_left (bits_of_samples p o earlier t.done) left
-                  (sample_bits p o (earlier ++ t.done) here ++ after) (sym t.bits_are ∙ bits_split);
+              left_is = append_cancel_left (bits_of_samples p o earlier t.done) (left ++ on)
+                  (sample_bits p o (earlier ++ t.done) here ++ after)
+                  (sym (append_assoc (bits_of_samples p o earlier t.done) left on) ∙ ap (λ z. z ++ on) (sym t.bits_are) ∙ bits_split);
             }
 
     -- no sample stands where the next one is to come
@@ -125,7 +126,8 @@ module _ (p : CodingParameters) (kind : SampleKind) (f : ℕ → Neighbours) (c 
         → left ≡ sample_bits p (order_of kind) (earlier ++ t.done) (coded_as kind (f k) s) ++ rest → ⊥)
         → (xs : List ℕ) (rest : List Bool) → length xs ≡ c → AllByRecursion (λ s. s ≤ p.maxval) xs
         → given ≡ bits_of_samples p (order_of kind) earlier (coded_with (coded_as kind) nears xs) ++ rest → ⊥
-    begun_refused none xs rest lx small e = let n = next xs rest lx small e in none n.s n.after n.small n.left_is
+    begun_refused none xs rest lx small e =
+        let n = next xs [] rest lx small (append-nil given ∙ e) in none n.s n.after n.small (sym (append-nil left) ∙ n.left_is)
 
     -- a sample more
     pub begun_more : AreCodingParameters p → IsKind kind → SmallNear p (f k) → (s : ℕ) → s ≤ p.maxval → (cells' : Variables)
@@ -141,9 +143,10 @@ module _ (p : CodingParameters) (kind : SampleKind) (f : ℕ → Neighbours) (c 
               ∙ ap (λ z. z ++ left') (sym (one_more o here));
           whole = λ more. ap (coded_with (coded_as kind) nears) (append_assoc pixel (s ∷ []) more) ∙ t.whole (s ∷ more)
               ∙ ap (λ z. t.done ++ z) (others_first s more) ∙ sym (append_assoc t.done (here ∷ []) (others (k + 1) more));
-          forced = λ xs rest lx a e. (let n = next xs rest lx a e in
-              let same : s ≡ n.s = told p kind ok is (earlier ++ t.done) (f k) s n.s left' n.after near small n.small
-              (sym r.bits_are ∙ n.left_is) in
+          forced = λ xs on rest lx a e. (let n = next xs on rest lx a e in
+              let same : s ≡ n.s = told p kind ok is (earlier ++ t.done) (f k) s n.s (left' ++ on) n.after near small n.small
+              (sym (append_assoc (sample_bits p o (earlier ++ t.done) here) left' on) ∙ ap (λ z. z ++ on) (sym r.bits_are)
+              ∙ n.left_is) in
               (n.more, n.xs_is ∙ ap (λ z. pixel ++ z ∷ n.more) (sym same) ∙ sym (append_assoc pixel (s ∷ []) n.more)));
         }
       where

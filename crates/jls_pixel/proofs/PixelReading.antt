@@ -1,10 +1,9 @@
 -- A reader that is given bits: what each of its steps says.
-use Rattle.std.proofs.Common.{◌≡◌, ℕ, suc, ◌+◌, ◌-◌, ◌*◌, ◌^◌, ◌<◌, ◌≤◌, Bool, List, [], ◌∷◌, ◌++◌, length, refl, sym, ap, ◌∙◌}
+use Rattle.std.proofs.Common.{◌≡◌, ℕ, ◌+◌, ◌^◌, ◌<◌, ◌≤◌, Bool, List, [], ◌∷◌, ◌++◌, length, refl, sym, ap, ◌∙◌}
 use Rattle.std.proofs.Common.{subst, arith}
 use Rattle.std.proofs.Common.{append_assoc, length-append, min, inl, inr}
 use Rattle.std.proofs.lemmas.Bool.{cases_lt}
 use Rattle.std.specs.List.{AllByRecursion}
-use Rattle.std.proofs.Math.Nat.{suc-mul}
 use Rattle.std.proofs.lemmas.List.{append-nil}
 use Rattle.jls_values.specs.Params.{CodingParameters, AreCodingParameters}
 use Rattle.jls_context.specs.Variables.{Variables, initial_variables}
@@ -178,16 +177,6 @@ state_at_start p w c n some cells is s none any given rows row pending g r l b =
     (subst (λ z. StateIs p w c n [] z row cells 0 pending s) (sym r)
     (subst (λ z. StateIs p w c n [] [] z cells 0 pending s) (sym l)
     (subst (λ z. StateIs p w c n [] [] [] cells 0 z s) (sym b) (state_start p w c n some cells is s none any))))
-
--- How many pixels are to come ------------------------------------------------------------------------
-
-pub left_in_row : (n r w l l' : ℕ) → l < l' → l' ≤ w → (n - r) * w + (w - l') < (n - r) * w + (w - l)
-left_in_row n r w l l' a b = omega arith
-
-pub left_after_row : (n r w l r' l' : ℕ) → r < n → l ≡ w → r' ≡ r + 1 → l' ≡ 0 → (n - r') * w + (w - l') ≤ (n - r) * w + (w - l)
-left_after_row n r w l r' l' few full more none =
-    let a : n - r ≡ suc (n - r') = omega arith in
-    let b : (n - r) * w ≡ (n - r') * w + w = ap (λ z. z * w) a ∙ suc-mul (n - r') w in omega (arith, b, full, none)
 
 -- A reader that found no code ------------------------------------------------------------------------
 

@@ -69,12 +69,12 @@ module _ (p : CodingParameters) (ok : AreCodingParameters p) (cells : Variables)
     abbrev g : ℕ
     g = limit p - order - 1
 
-    interrupting_is : (earlier : List CodedSample) → CellsAfter p cells earlier → (s : ℕ)
+    pub interrupting_is : (earlier : List CodedSample) → CellsAfter p cells earlier → (s : ℕ)
         → sample_bits p order earlier (interrupting near s) ≡ interrupting_bits p run_cell near order s
     unfolding sample_bits
     interrupting_is earlier t s = ap (λ (z : RunCell). interrupting_bits p z near order s) (sym t.run_cell)
 
-    run_has : (s : ℕ) → has_golomb (run_k false run_cell) g (qbpp p) (interruption_mapped false run_cell (interruption_error p near s))
+    pub run_has : (s : ℕ) → has_golomb (run_k false run_cell) g (qbpp p) (interruption_mapped false run_cell (interruption_error p near s))
         ≡ true
     run_has s =
         let w = wide p ok in let room = limit_room p order few in let v = interruption_error p near s in

@@ -19,3 +19,7 @@ pub mod FinishedRows
 pub mod PixelReading
 pub mod PixelBytes
 pub mod Heads
+pub mod OpenEvents
+pub mod OpenSamples
+pub mod CutEnds
+pub mod CutRows

@@ -3,8 +3,9 @@ use Rattle.std.specs.Prelude.{◌≡◌, ℕ, ◌+◌, ◌-◌, ◌*◌, ◌^◌
 use Rattle.std.specs.List.{AllByRecursion}
 use Rattle.jls_values.specs.Params.{CodingParameters}
 use Rattle.jls_context.specs.Variables.{Variables}
-use Rattle.jls_pixel.specs.Pixels.{AreRows, IsPixel}
+use Rattle.jls_pixel.specs.Pixels.{AreRows, IsPixel, rows_above}
 use Rattle.jls_pixel.specs.Code.{pixel_code}
+use Rattle.jls_pixel.specs.EventRead.{RefusesEvent}
 use Rattle.jls_pixel.specs.RowRead.{RowBegun, NoRows}
 use Rattle.jls_pixel.specs.declared.pixel_reader.State.{State}
 use Rattle.jls_pixel.specs.declared.pixel_reader.State.TheVariants.{Working, Complete, NoCode}
@@ -65,10 +66,12 @@ pub record HasTaken (p : CodingParameters) (given : List Bool) (d : PixelReader)
   pub shape : HasShape p d
   pub begun : IsBegun p d.width d.components d.count given d.rows d.row.items d.coder.cells d.run_index d.pending
 
--- the bits given are no rows' code with more bits after it, and if an event would have to be whole, none of which these are the first ones
+-- The bits given are no rows' code with more bits after it, and if an event would have to be whole, none of which these are the first ones.
+-- No event stands at the start of the bits that wait
 pub record FindsNone (p : CodingParameters) (given : List Bool) (d : PixelReader) : Type 0 where
   pub none : NoRows p d.width d.components d.count given
   pub never : longest_event ≤ length d.pending → BeginsNoCode p d.width d.components d.count given
+  pub refuses : RefusesEvent p d.width d.components (rows_above d.rows) d.row.items d.coder.cells d.run_index d.pending
 
 -- an event was taken, or none stands at the start of the bits that wait
 abbrev pub TakesEvent : PixelReader → PixelReader → Bool → Type 0

@@ -11,6 +11,8 @@ pub(crate) struct CodeLengths {
     pub qbpp: u8,
     /// LIMIT.
     pub limit: u8,
+    /// MAXVAL, the largest sample.
+    pub maxval: u16,
 }
 
 impl CodeLengths {
@@ -21,6 +23,7 @@ impl CodeLengths {
         CodeLengths {
             qbpp: params.qbpp(),
             limit: params.limit(),
+            maxval: params.maxval(),
         }
     }
 }

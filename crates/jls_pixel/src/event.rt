@@ -19,7 +19,11 @@ use crate::sample::SampleKind;
 use std::alloc::AllocError;
 
 /// Adds the pixels of a run to its row.
-fn push_run(place: &Place<'_>, row: &mut Vec<Pixel>, count: u32) -> Result<(), AllocError>
+pub(crate) fn push_run(
+    place: &Place<'_>,
+    row: &mut Vec<Pixel>,
+    count: u32,
+) -> Result<(), AllocError>
     requires { length row.old.items + count ≤ place.now.width }
     ensures { IfOk result (λ _. row.new.items ≡ row.old.items
         ++ replicate count (run_value (pixel_neighbours place.now.width (above_of place.now) row.old.items place.now.components))) }

@@ -11,14 +11,17 @@
 //!   be ended, and fewer than 500 bits wait between two bytes
 //! - `pixel_decoder`: the public decoder. It gives the data bits of its bytes to the reader
 //! - `decode`: `decode_pixels`: a decoder that is pushed the whole piece
-//! - `laws`: the laws. Codes are apart, and rows grow event by event
+//! - `cut_end`, `cut_rows`, `cut_event`, `cut_run`, `cut_pixel`, `cut_sample`: heads. What a decoder answers where the input ends. The
+//!   finished rows. Whether the bits that wait are the first ones of an event, and the same for a run, for a pixel, and for a sample, by
+//!   trying each value that it can have
+//! - `laws`, `heads`: the laws. Codes are apart, and rows grow event by event. Heads are one
 //!
 //! What is the same as in an interval by line is that of `jls_interval` and `jls_context`: neighbours, predictions, errors, cells, the
 //! blocks of a run, Golomb codes. Definitions: `Pixels` (rows, the neighbours of a pixel, its mode), `Events` (pixels in regular mode, and
 //! runs), `Cells` (the state before an event), `Code` (bits), `Reads` (which bytes read, are too long, are broken). For laws and the
 //! decoder: `Growth` (the interval as a code that is read step by step), `Laws`, `PieceFaults`. The record `PixelBytes` is what contracts
-//! see of a decoder. `FinishedRows` says which list handles of rows are. `Heads`: the rows that stand whole where bits break off, which no
-//! function answers yet. The other files are needed inside the crate only.
+//! see of a decoder. `FinishedRows` says which list handles of rows are. `Heads`: the rows that stand whole where bits break off, and their
+//! laws. `CutEnds` says what `finish_cut` answers. The other files are needed inside the crate only.
 //!
 //! # What differs from an interval by line
 //!
@@ -34,15 +37,31 @@
 //! These are readings that other coders agree on, and not quotations of the standard. Not proved: that a call succeeds where memory is
 //! enough, which is tested, and how many bits wait at most.
 //!
+//! # Where bits break off
+//!
+//! Bits are the first ones, and not all, of the code of some rows in exactly these cases. They are the bits of whole events, and then the
+//! first ones, and not all, of an event that can come next. Of a pixel, they end in the first sample that isn't whole. Some value of that
+//! sample has to begin with them. The later samples can always be completed, since each value has a code. They can also be chosen so that
+//! the pixel is not the value of the run that it interrupts, since MAXVAL is at least 1. Only if the last sample is cut, and all earlier
+//! ones are the run's own, is one value of it excepted. In a run, ones for full blocks always go on. A count goes on if its least
+//! continuation is below the columns left, and if a pixel has a component.
+//!
 //! `crates/jls_pixel/proofs/WorkedExamples.antt` computes some intervals from these definitions alone. The bytes are those of other coders.
 #![tactic(auto)]
 
 mod code_lengths;
 mod coder;
+mod cut_end;
+mod cut_event;
+mod cut_pixel;
+mod cut_rows;
+mod cut_run;
+mod cut_sample;
 mod data_bits;
 mod decode;
 mod event;
 mod finished_rows;
+mod heads;
 mod laws;
 mod pending_bits;
 mod pixel;
@@ -54,8 +73,13 @@ mod run;
 mod run_index;
 mod sample;
 
+pub use cut_end::PixelCutEnd;
 pub use decode::{PixelFault, decode_pixels};
 pub use finished_rows::FinishedRows;
+pub use heads::{
+    pixel_cuts_are_exact, pixel_heads_are_finished_rows, pixel_heads_are_one,
+    read_pixel_pieces_have_no_head,
+};
 pub use laws::{
     broken_pixel_pieces_begin_with_no_code, growth_ends_in_rows, pixel_codes_are_apart,
     pixel_events_are_apart, pixel_events_have_bits, pixel_pieces_read_once, rows_grow,

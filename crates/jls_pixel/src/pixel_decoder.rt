@@ -1,13 +1,15 @@
 //! The rows of an interval, from bytes that come a few at a time.
 
 ghost use Rattle.std.specs.Prelude.{◌≡◌, ◌≤◌, ◌++◌, true, [], ◌∷◌, false, List, ℕ, Some, None, Err, IsSome, OnOk, OnErr, IfOk};
-ghost use Rattle.std.specs.Prelude.{IfErr, IfSome, IfNone, MatchResult};
+ghost use Rattle.std.specs.Prelude.{IfErr, IfSome, IfNone, IsErr, MatchResult};
 ghost use Rattle.std.specs.Option.{option_map};
 ghost use Rattle.jls_pixel.specs.Reads.{Reads, ReadsNoMore};
 ghost use Rattle.jls_pixel.specs.PieceFaults.{FaultIs};
 ghost use Rattle.jls_pixel.specs.PixelBytes.{pixels_asked};
+ghost use Rattle.jls_pixel.specs.CutEnds.{CutEndIs};
 
 use crate::coder::Coder;
+use crate::cut_end::PixelCutEnd;
 use crate::data_bits::DataBits;
 use crate::decode::PixelFault;
 use crate::finished_rows::FinishedRows;
@@ -190,5 +192,23 @@ impl PixelDecoder {
         }
         let PixelDecoder { reader, .. } = self;
         reader.into_rows()
+    }
+
+    /// What the bytes give if the input ends after them: the rows that they read as. If they read as none, it is the fault that
+    /// `finish` would answer, with the rows of their head. The only refusal is out of memory: if a push was refused, and also here, since
+    /// the events that wait are read now.
+    pub fn finish_cut(self) -> Result<PixelCutEnd, AllocError>
+        ensures refused { IfNone self.bytes (IsErr result) }
+        ensures cut_end { IfSome self.bytes (λ bytes. IfOk result (CutEndIs (pixels_asked self) bytes)) }
+    {
+        if self.refused {
+            return Err(AllocError);
+        }
+        let PixelDecoder { ended, reader, .. } = self;
+        if ended {
+            let none = FinishedRows::new(reader.alloc);
+            return Ok(PixelCutEnd::Head(none, PixelFault::Broken));
+        }
+        reader.into_cut_end()
     }
 }

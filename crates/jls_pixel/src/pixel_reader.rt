@@ -155,7 +155,7 @@ impl PixelReader {
     }
 
     /// The same as `take_event`, and adds the row to the finished ones, if it is whole.
-    fn push_event(&mut self) -> Result<bool, AllocError>
+    pub(crate) fn push_event(&mut self) -> Result<bool, AllocError>
         requires state { self.old.state ≡ State.Working }
         requires reading { (p : CodingParameters) × (given : List Bool) × IsReading p given self.old }
         ensures shape { KeepsShape self.old self.new }

@@ -9,16 +9,16 @@ use std::test::Fail;
 
 /// A piece, and its samples: row by row, pixel by pixel, and in a pixel by component.
 #[derive(Drop)]
-struct Known {
-    width: u16,
-    components: u8,
-    rows: u32,
-    samples: &'static [u16],
-    piece: &'static [u8],
+pub(crate) struct Known {
+    pub width: u16,
+    pub components: u8,
+    pub rows: u32,
+    pub samples: &'static [u16],
+    pub piece: &'static [u8],
 }
 
 /// Pixels in regular mode, with escapes.
-const PIXELS: Known = Known {
+pub(crate) const PIXELS: Known = Known {
     width: 2,
     components: 3,
     rows: 2,
@@ -30,7 +30,7 @@ const PIXELS: Known = Known {
 };
 
 /// Runs that are interrupted, and runs to the end of a row.
-const RUNS: Known = Known {
+pub(crate) const RUNS: Known = Known {
     width: 4,
     components: 3,
     rows: 3,
@@ -42,7 +42,7 @@ const RUNS: Known = Known {
 };
 
 /// The gradients of the first component are 0, and the others' are not.
-const CONTEXT_0: Known = Known {
+pub(crate) const CONTEXT_0: Known = Known {
     width: 1,
     components: 3,
     rows: 4,
@@ -51,7 +51,7 @@ const CONTEXT_0: Known = Known {
 };
 
 /// Three colours in runs.
-const BLOCKS: Known = Known {
+pub(crate) const BLOCKS: Known = Known {
     width: 12,
     components: 3,
     rows: 6,
@@ -83,7 +83,7 @@ const BLOCKS: Known = Known {
 };
 
 /// The same at 16 bits.
-const DEEP: Known = Known {
+pub(crate) const DEEP: Known = Known {
     width: 9,
     components: 3,
     rows: 4,
@@ -118,7 +118,7 @@ const DEEP: Known = Known {
 };
 
 /// A run that the fourth component alone interrupts. CharLS compares three components of four, so that this is another coder's.
-const FOUR: Known = Known {
+pub(crate) const FOUR: Known = Known {
     width: 3,
     components: 4,
     rows: 2,
@@ -131,7 +131,7 @@ const FOUR: Known = Known {
 };
 
 /// Two components, which CharLS has not.
-const TWO: Known = Known {
+pub(crate) const TWO: Known = Known {
     width: 3,
     components: 2,
     rows: 2,
@@ -140,7 +140,7 @@ const TWO: Known = Known {
 };
 
 /// RESET 3, at which CharLS fails.
-const RESET_3: Known = Known {
+pub(crate) const RESET_3: Known = Known {
     width: 10,
     components: 3,
     rows: 5,
@@ -209,7 +209,7 @@ fn is_read(alloc: Global, params: &Params, known: &Known) -> bool {
 }
 
 /// A decoder that was given bytes in slices of at most this length.
-fn sliced(
+pub(crate) fn sliced(
     alloc: Global,
     params: &Params,
     known: &Known,

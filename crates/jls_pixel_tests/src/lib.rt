@@ -3,3 +3,5 @@
 
 #[cfg(test)]
 mod decoding;
+#[cfg(test)]
+mod heads;

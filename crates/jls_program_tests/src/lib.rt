@@ -3,6 +3,10 @@
 #![tactic(auto)]
 
 #[cfg(test)]
+mod choices;
+#[cfg(test)]
+mod noting;
+#[cfg(test)]
 mod outputs;
 #[cfg(test)]
 mod program;

@@ -46,7 +46,7 @@ join_words = codes "jls-salvage" ∷ codes "join" ∷ codes "o" ∷ codes "a" �
 
 asks_join : AskFor join_words (join None (111 ∷ []) ((97 ∷ []) ∷ (98 ∷ []) ∷ []))
 unfolding clap_on_literals
-asks_join = record { taken = inl refl; asks = refl }
+asks_join = record { taken = refl; asks = refl }
 
 module _ (a b : ReadCopy) (ra : CopyReads first a) (rb : CopyReads second b) where
   join_run : JoinRun pic 0 (runs.joining a b ra rb)
@@ -99,7 +99,7 @@ write_words = codes "jls-salvage" ∷ codes "write" ∷ codes "--as" ∷ codes "
 
 asks_write : AskFor write_words (write_pnm (112 ∷ []) (111 ∷ []))
 unfolding clap_on_literals
-asks_write = record { taken = inl refl; asks = refl }
+asks_write = record { taken = refl; asks = refl }
 
 module _ (a b : ReadCopy) (ra : CopyReads first a) (rb : CopyReads second b) (low : AreBytes (text (runs.both a b ra rb))) where
   abbrev writing : List Event

@@ -246,7 +246,7 @@ asked = record {
 
 pub asks : AskFor words asked
 unfolding clap_on_literals
-asks = record { taken = inl refl; asks = refl }
+asks = record { taken = refl; asks = refl }
 
 -- each copy is read at once, and a second read meets its end
 abbrev pub copy_read : List ℕ → CopyBytes

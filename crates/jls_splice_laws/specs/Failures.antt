@@ -64,8 +64,8 @@ pub record StopsUnread (a : Asked) (r : Refusal) (desk : List Event) : Type 0 wh
   pub first_in_part : get_or (stops_read copies_read) 0 Whole ≡ Whole → ⊥
   pub no_frame : AllByRecursion HasNoFrame (bytes_read copies)
 
--- all was read, and something was made of what is searched. The report output, OUT, the output of `--file` or one of `--files` can't be created
--- or written, and those before it, in this order, were handed all that is theirs
+-- all was read, and something was made of what is searched. The report output, OUT, the output of `--file` or one of `--files` can't be
+-- created or written, and those before it, in this order, were handed all that is theirs
 pub record StopsAtAnOutput (a : Asked) (r : Refusal) (desk report : List Event) : Type 0 where
   pub copies_read : List CopyBytes
   pub copies : List CopyBytes

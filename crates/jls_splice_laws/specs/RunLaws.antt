@@ -28,9 +28,9 @@ use Rattle.jls_splice_run.specs.Telling.{IsTold}
 
 -- ---- runs
 
--- The words ask for this, and it was done: copies were read, this was made of those that are searched, and all of it was handed out. Without
--- lists of bad places these are the same. The fault output has how far the searches were, if that is asked for. Where OUT is standard
--- output, what was found stands there too, up to a write that fails
+-- The words ask for this, and it was done: copies were read, this was made of those that are searched, and all of it was handed out.
+-- Without lists of bad places these are the same. The fault output has how far the searches were, if that is asked for. Where OUT is
+-- standard output, what was found stands there too, up to a write that fails
 pub record DidMake (words : List Text) (a : Asked) (desk report faults : List Event) : Type 0 where
   pub asks : AskFor words a
   pub copies_read : List CopyBytes

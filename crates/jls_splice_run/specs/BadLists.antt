@@ -58,7 +58,7 @@ abbrev pub copies_with : List BadList → List (List Place) → List (List ℕ) 
 copies_with lists places copies = with_places copies (places_from 1 lists places (length copies))
 
 -- The lists of these values were read, and name places of the copies that were read. What is searched are known copies: each has its bytes
--- that are not bad, and else those of the first copy that has one which is not
+-- that are not bad, and else those of the first copy of the same length that has one which is not
 pub record AreKnownBy (values : List Text) (read searched : List CopyBytes) (listing : List Event) : Type 0 where
   pub lists : List CopyBytes
   pub lists_read : AreCopiesRead (list_names values) lists listing

@@ -24,4 +24,5 @@ numbered_out_line name = line_about program name (codes ": is named as OUT and b
 
 -- the line of words with this value of --bad
 abbrev pub bad_value_line : List ℕ → List ℕ
-bad_value_line value = line_about program value (codes ": --bad wants N:LIST, with the number of a COPY, and a LIST that is no output and not -")
+bad_value_line value =
+    line_about program value (codes ": --bad wants N:LIST, with the number of a COPY, and a LIST that is no output and not -")

@@ -14,7 +14,8 @@ use Rattle.jls_diff.specs.Parts.{Part}
 use Rattle.jls_search.specs.Found.{ByGroups, Found, IsGroupSearch, IsFound, found_of, splices_in}
 use Rattle.jls_report.specs.Report.{report_of}
 use Rattle.jls_report.specs.ReportText.{report_text}
-use Rattle.jls_splice_run.specs.Carrying.{Carried, IsCarried, carried_file, carried_files, carried_of, carried_promise, files_beside, joined}
+use Rattle.jls_splice_run.specs.Carrying.{Carried, IsCarried, carried_file, carried_files, carried_of, carried_promise, files_beside}
+use Rattle.jls_splice_run.specs.Carrying.{joined}
 use Rattle.jls_carried.specs.declared.carrying.Between.{Between}
 use Rattle.jls_splice_run.specs.CodingLines.{carried_noted_text, carried_text}
 use Rattle.jls_splice_run.specs.Differences.{differences, offset_at}

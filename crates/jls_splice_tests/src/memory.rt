@@ -86,7 +86,7 @@ fn copy_named<'a>(copies: &'a [Vec<u8>], name: &str) -> Option<&'a [u8]> {
 }
 
 /// The list of this name.
-fn list_named(name: &str) -> Option<&'static [u8]> {
+pub(crate) fn list_named(name: &str) -> Option<&'static [u8]> {
     for list in LISTS {
         if list.0 == name {
             return Some(list.1.as_bytes());

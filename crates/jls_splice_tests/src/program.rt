@@ -123,11 +123,11 @@ bad places in two lists of one copy: eight: 200+8=0 300+8=0 / 100+8=85: --bad 1:
 the mended file of bad places: eight: 100+8=0 300+8=0 / 200+8=0: --file NAME --bad 1:two --bad 2:map OUT 1 2: 0 eight: splices 0
 no bad place: eight: 100+8=0 / 400+8=0: --bad 1:none OUT 1 2: 0 eight: splices 1
 a header that is bad in one copy: eight: 6+1=12 / 300+8=85: --bad 1:header OUT 1 2: 0 eight: differ 300 8
-a place that is bad in all: eight: 300+8=0 / 300+8=85: --bad 1:place --bad 2:place OUT 1 2: 1 other: missing 1 0-19 | promise lines
-a byte that is bad in all: eight: 300+1=0 / 300+1=85: --bad 1:byte --bad 2:byte OUT 1 2: 1 other: missing 1 0-19 | promise lines
+a place that is bad in all: eight: 300+8=0 / 300+8=85: --bad 1:place --bad 2:place OUT 1 2: 1 other: missing 1 7-19 | promise lines
+a byte that is bad in all: eight: 300+1=0 / 300+1=85: --bad 1:byte --bad 2:byte OUT 1 2: 1 other: missing 1 7-19 | promise lines
 bad behind a place in the copies: eight: 100+8=0 / 400+8=0: --bad 1:end OUT 1 2: 0 eight: splices 1
 one copy, and nothing bad: eight: whole: --bad 1:none OUT 1: 0 eight: splices 0
-one copy, and a bad place in its only interval: eight: 300+8=0: --bad 1:place OUT 1: 1 other: missing 1 0-19
+one copy, up to a bad place: eight: 300+8=0: --bad 1:place OUT 1: 1 other: missing 1 7-19
 one copy, and a bad place in an interval: restarts: 70+3=0: --bad 1:interval OUT 1: 1 other: missing 1 0-3
 a header that is bad in all: eight: whole / whole: --bad 1:header --bad 2:header OUT 1 2: 3 nothing: jls-splice: 1: no picture, fault 19 at 6
 one copy alone: eight: whole: OUT 1: 2 nothing: jls-splice: one COPY is enough only with --bad N:LIST

@@ -1,8 +1,8 @@
 //! The command line.
 
-ghost use Rattle.std.specs.Prelude.{◌≡◌, ◌⊎◌, false, [], IfOk, IfErr, map};
+ghost use Rattle.std.specs.Prelude.{◌≡◌, ◌⊎◌, false, IfOk, IfErr, map};
 ghost use Rattle.std.specs.String.{string_bytes};
-ghost use Rattle.clap.specs.Words.{app_of, fault_of, kind_of, new_app, rule_of, subcommand_of, subcommand_rows_of};
+ghost use Rattle.clap.specs.Words.{app_of, kind_of, new_app, rule_of, subcommand_of, subcommand_rows_of};
 ghost use Rattle.clap.specs.declared.builder.command.Command.TheViews.{out-Command};
 ghost use Rattle.jls_cli.specs.SalvageWords.{as_rule, AreRefused, check_app, files_rule, ilv_rule, join_app, ri_rule};
 ghost use Rattle.jls_cli.specs.SalvageWords.{salvage_app, show_app, write_app, write_options_app};
@@ -117,12 +117,12 @@ fn command<'a>(alloc: Global) -> Result<Command<'a>, AllocError>
     joins.subcommand(write_command(alloc)?)
 }
 
-/// Parses the words with `clap`; the first word is the program's name. If clap's definition accepts the words, the only
-/// error is out of memory. Otherwise the error is out of memory, or of a kind that clap's definition finds in the words. If
-/// they are parsed, the definition finds no fault in them, and the rows of the subcommand are those that it gives.
+/// Parses the words with `clap`; the first word is the program's name. If clap's definition takes the words, the only error is out of
+/// memory. Otherwise the error is out of memory, or of a kind that clap's definition finds in the words. If they are parsed, the
+/// definition takes them, and the rows of the subcommand are those that it gives.
 pub fn matches<'a>(alloc: Global, words: &'a [String]) -> Result<ArgMatches<'a>, Error>
     ensures rows { IfOk result (λ m. subcommand_rows_of m ≡ subcommand_of salvage_app (map string_bytes words.entry.now)) }
-    ensures no_fault { IfOk result (λ m. fault_of salvage_app (map string_bytes words.entry.now) ≡ []) }
+    ensures taken { IfOk result (λ _. TakesWords salvage_app (map string_bytes words.entry.now)) }
     ensures passes { IfErr result (λ e. TakesWords salvage_app (map string_bytes words.entry.now) → kind_of e ≡ ErrorKind.OutOfMemory) }
     ensures refused { IfErr result (λ e. (kind_of e ≡ ErrorKind.OutOfMemory) ⊎ AreRefused (map string_bytes words.entry.now) (kind_of e)) }
 {

@@ -1,8 +1,8 @@
 //! The command line.
 
-ghost use Rattle.std.specs.Prelude.{◌≡◌, ◌⊎◌, false, [], IfOk, IfErr, map};
+ghost use Rattle.std.specs.Prelude.{◌≡◌, ◌⊎◌, false, IfOk, IfErr, map};
 ghost use Rattle.std.specs.String.{string_bytes};
-ghost use Rattle.clap.specs.Words.{app_of, fault_of, found_of, kind_of, matches_of, rows_of, rule_of};
+ghost use Rattle.clap.specs.Words.{app_of, found_of, kind_of, matches_of, rows_of, rule_of};
 ghost use Rattle.clap.specs.declared.builder.command.Command.TheViews.{out-Command};
 ghost use Rattle.jls_cli.specs.SpliceWords.{AreRefused, bad_rule, bare_app, ceiling_rule, file_rule, files_rule, numbers_app};
 ghost use Rattle.jls_cli.specs.SpliceWords.{options_app, others_rule, progress_rule, splice_app, tries_rule};
@@ -116,12 +116,12 @@ fn command<'a>(alloc: Global) -> Result<Command<'a>, AllocError>
     reading.arg(others(alloc))
 }
 
-/// Parses the words with `clap`; the first word is the program's name. If clap's definition accepts the words, the only
-/// error is out of memory. Otherwise the error is out of memory, or of a kind that clap's definition finds in the words. If
-/// they are parsed, the definition finds no fault in them, and the rows are those that it gives.
+/// Parses the words with `clap`; the first word is the program's name. If clap's definition takes the words, the only error is out of
+/// memory. Otherwise the error is out of memory, or of a kind that clap's definition finds in the words. If they are parsed, the
+/// definition takes them, and the rows are those that it gives.
 pub fn matches<'a>(alloc: Global, words: &'a [String]) -> Result<ArgMatches<'a>, Error>
     ensures rows { IfOk result (λ m. rows_of (found_of m) ≡ matches_of splice_app (map string_bytes words.entry.now)) }
-    ensures no_fault { IfOk result (λ m. fault_of splice_app (map string_bytes words.entry.now) ≡ []) }
+    ensures taken { IfOk result (λ _. TakesWords splice_app (map string_bytes words.entry.now)) }
     ensures passes { IfErr result (λ e. TakesWords splice_app (map string_bytes words.entry.now) → kind_of e ≡ ErrorKind.OutOfMemory) }
     ensures refused { IfErr result (λ e. (kind_of e ≡ ErrorKind.OutOfMemory) ⊎ AreRefused (map string_bytes words.entry.now) (kind_of e)) }
 {

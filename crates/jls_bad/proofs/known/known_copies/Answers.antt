@@ -14,7 +14,7 @@ loop-copy-preserved c =
     let same : c.deref-copy-items.result.now ≡ marked = c.deref-copy-items.ensures.value in
     let count : length c.deref-copy-items.result.now ≡ length marked = ap length same in
     let filled : IsFilled (marked_byte_for marked m) (length m.bytes.now) c.in_ok-fill.field-0.bytes.items c.in_ok-fill.field-0.is_lost.items =
-    subst (λ ms. IsFilled (marked_byte_for ms m) (length m.bytes.now) c.in_ok-fill.field-0.bytes.items c.in_ok-fill.field-0.is_lost.items) c.deref.ensures.value c.in_ok-fill.ensures in
+    subst (λ ms. IsFilled (marked_byte_for ms m) (length m.bytes.now) c.in_ok-fill.field-0.bytes.items c.in_ok-fill.field-0.is_lost.items) c.deref-in-loop-copy.ensures.value c.in_ok-fill.ensures in
     let P : List (List ℕ) → Type 0 = λ files. AllZip (IsKnownCopy (copies_of c.args.copies.now)) (take (c.loop-copy.copy-index + 1) (copies_of c.args.copies.now)) files in
     subst P (sym (ap bytes_in c.in_ok-push.ensures.items ∙ bytes_push c.loop-copy.known.items c.chosen.result))
     (known_more c.args.copies.now marked c.loop-copy.copy-index m c.in_ok-fill.field-0.bytes.items c.in_ok-fill.field-0.is_lost.items c.chosen.result.items (bytes_in c.loop-copy.known.items) c.in_ok-marked.ensures

@@ -1,4 +1,4 @@
-use Rattle.std.proofs.Common.{◌∙◌, Bool, List, inr, map, sym, subst, ap}
+use Rattle.std.proofs.Common.{◌∙◌, Bool, List, map, sym, subst, ap}
 use Rattle.std.specs.String.{string_bytes}
 use Rattle.std.specs.Prelude.{option_and_then}
 use Rattle.clap.specs.Words.{Row, Text}
@@ -27,7 +27,7 @@ returns-in-None g c =
     let by_words = ap (option_and_then (λ (p : Text × List Row). asked_by p.0 p.1)) c.in-Ok.ensures.rows in
     let known = c.knows_format.ensures ∙ ap format_is_known_by c.in-Ok.ensures.rows in
     ran_nothing words desk desk report report faults faults'
-    (record { taken = inr c.in-Ok.ensures.no_fault; asks = sym by_words ∙ sym c.in-None.ensures })
+    (record { taken = c.in-Ok.ensures.taken; asks = sym by_words ∙ sym c.in-None.ensures })
     (subst (λ (known : Bool). GrewBy (Printed (unknown_value_line known)) faults faults') known c.print_unknown_value.ensures)
 
 pub returns : goal.returns
@@ -37,5 +37,5 @@ returns g c =
     (g.W.Device.history c.args.report.now) (g.W.Device.history c.perform-outcome.new.report) (g.E.Device.history c.args.faults.now)
     (g.E.Device.history c.print_outcome.new.faults)
     c.exit_status.result (asked_of c.in-Some.asked) c.perform-outcome.result c.exit_status.ensures
-    (record { taken = inr c.in-Ok.ensures.no_fault; asks = sym by_words ∙ sym c.in-Some.ensures }) c.perform-outcome.ensures
+    (record { taken = c.in-Ok.ensures.taken; asks = sym by_words ∙ sym c.in-Some.ensures }) c.perform-outcome.ensures
     c.print_outcome.ensures

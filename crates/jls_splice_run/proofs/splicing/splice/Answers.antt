@@ -32,6 +32,13 @@ counts_searched names values read searched events listing are known =
     let m = length-map searched copy_of in
     omega (arith, count, same, n, m)
 
+-- what is searched of copies is what is searched of these
+searched_as : (values : List (List ℕ)) (known : Option (Vec CopyFile Global)) (seen read : List CopyFile) (old new : List Event) → seen ≡ read
+    → GrewBy (AreSearched values (copies_of seen) (copies_of (files_searched known seen))) old new
+    → GrewBy (AreSearched values (copies_of read) (copies_of (files_searched known read))) old new
+searched_as values known seen read old new same =
+    subst (λ (xs : List CopyFile). GrewBy (AreSearched values (copies_of xs) (copies_of (files_searched known xs))) old new) same
+
 pub returns-in-Err : goal.returns-in-Err
 returns-in-Err g c = stops_at_copies (task_of c.args.task.now) _ _ _ _ c.in-Err.refusal c.in-Err.ensures.stopped
 
@@ -47,10 +54,7 @@ make-requires-clause-names g c =
     let values = texts_of c.args.task.now.bad.now in
     let read = c.in-Ok.read.items in
     let known = c.in-Ok-searched_copies.known in
-    let searched : GrewBy (AreSearched values (copies_of read) (copies_of (files_searched known read))) (history c.read_all.new.desk)
-    (history c.searched_copies.new.desk) =
-    subst (λ (xs : List CopyFile). GrewBy (AreSearched values (copies_of xs) (copies_of (files_searched known xs)))
-    (history c.read_all.new.desk) (history c.searched_copies.new.desk)) c.deref.ensures.value c.in-Ok-searched_copies.ensures.searched in
+    let searched = searched_as values known _ read _ _ c.deref.ensures.value c.in-Ok-searched_copies.ensures.searched in
     let same =
     counts_searched names values read (files_searched known read) c.in-Ok.ensures.read.events searched.events
     c.in-Ok.ensures.read.they_are searched.they_are in
@@ -64,10 +68,7 @@ make-requires-clause-some_copy g c =
     let values = texts_of c.args.task.now.bad.now in
     let read = c.in-Ok.read.items in
     let known = c.in-Ok-searched_copies.known in
-    let searched : GrewBy (AreSearched values (copies_of read) (copies_of (files_searched known read))) (history c.read_all.new.desk)
-    (history c.searched_copies.new.desk) =
-    subst (λ (xs : List CopyFile). GrewBy (AreSearched values (copies_of xs) (copies_of (files_searched known xs)))
-    (history c.read_all.new.desk) (history c.searched_copies.new.desk)) c.deref.ensures.value c.in-Ok-searched_copies.ensures.searched in
+    let searched = searched_as values known _ read _ _ c.deref.ensures.value c.in-Ok-searched_copies.ensures.searched in
     let same =
     counts_searched names values read (files_searched known read) c.in-Ok.ensures.read.events searched.events
     c.in-Ok.ensures.read.they_are searched.they_are in
@@ -81,10 +82,7 @@ returns-in-Err-make g c =
     let task = task_of c.args.task.now in
     let read = c.in-Ok.read.items in
     let known = c.in-Ok-searched_copies.known in
-    let searched : GrewBy (AreSearched task.bad (copies_of read) (copies_of (files_searched known read))) (history c.read_all.new.desk)
-    (history c.searched_copies.new.desk) =
-    subst (λ (xs : List CopyFile). GrewBy (AreSearched task.bad (copies_of xs) (copies_of (files_searched known xs)))
-    (history c.read_all.new.desk) (history c.searched_copies.new.desk)) c.deref.ensures.value c.in-Ok-searched_copies.ensures.searched in
+    let searched = searched_as task.bad known _ read _ _ c.deref.ensures.value c.in-Ok-searched_copies.ensures.searched in
     stops_unmade task _ _ _ _ _ (copies_of read) (copies_of (files_searched known read))
     (inputs_of task (copies_of read) (copies_of (files_searched known read)) (history c.args.desk.now) (history c.read_all.new.desk)
     (history c.searched_copies.new.desk) c.in-Ok.ensures.read searched)
@@ -97,10 +95,7 @@ returns g c =
     let task = task_of c.args.task.now in
     let read = c.in-Ok.read.items in
     let known = c.in-Ok-searched_copies.known in
-    let searched : GrewBy (AreSearched task.bad (copies_of read) (copies_of (files_searched known read))) (history c.read_all.new.desk)
-    (history c.searched_copies.new.desk) =
-    subst (λ (xs : List CopyFile). GrewBy (AreSearched task.bad (copies_of xs) (copies_of (files_searched known xs)))
-    (history c.read_all.new.desk) (history c.searched_copies.new.desk)) c.deref.ensures.value c.in-Ok-searched_copies.ensures.searched in
+    let searched = searched_as task.bad known _ read _ _ c.deref.ensures.value c.in-Ok-searched_copies.ensures.searched in
     stops_in_handing task _ _ _ _ _ (copies_of read) (copies_of (files_searched known read))
     (inputs_of task (copies_of read) (copies_of (files_searched known read)) (history c.args.desk.now) (history c.read_all.new.desk)
     (history c.searched_copies.new.desk) c.in-Ok.ensures.read searched)
@@ -115,10 +110,7 @@ returns-in-Ok-hand_out g c =
     let read = c.in-Ok.read.items in
     let known = c.in-Ok-searched_copies.known in
     let whole = c.are_whole.result in
-    let searched : GrewBy (AreSearched task.bad (copies_of read) (copies_of (files_searched known read))) (history c.read_all.new.desk)
-    (history c.searched_copies.new.desk) =
-    subst (λ (xs : List CopyFile). GrewBy (AreSearched task.bad (copies_of xs) (copies_of (files_searched known xs)))
-    (history c.read_all.new.desk) (history c.searched_copies.new.desk)) c.deref.ensures.value c.in-Ok-searched_copies.ensures.searched in
+    let searched = searched_as task.bad known _ read _ _ c.deref.ensures.value c.in-Ok-searched_copies.ensures.searched in
     rw c.is_of_picture.ensures
     (is_done task _ _ _ _ _ (copies_of read) (copies_of (files_searched known read))
     (inputs_of task (copies_of read) (copies_of (files_searched known read)) (history c.args.desk.now) (history c.read_all.new.desk)

@@ -45,6 +45,7 @@ returns-in-None-clause-event c = λ p given r.
           c.next_place-place.ensures.above none3;
       never = none_comes p w k n r.shape.width_at_least ok r.shape.width_below r.shape.components_at_most given rows row cells j left t up
           c.next_place-place.ensures.above none3;
+      refuses = subst (λ (z : RowsAbove). RefusesEvent p w k z row cells j left) c.next_place-place.ensures.above none3;
     }
 
 pub returns-in-Some-clause-event : goal.returns-in-Some-clause-event

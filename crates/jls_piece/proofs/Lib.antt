@@ -1,0 +1,10 @@
+pub mod RowLines
+pub mod PieceCodes
+pub mod FirstBits
+pub mod PieceReads
+pub mod PieceHeads
+pub mod LinePieces
+pub mod PixelPieces
+pub mod Outcomes
+pub mod CutOutcomes
+pub mod WorkedExamples

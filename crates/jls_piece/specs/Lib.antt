@@ -1,0 +1,9 @@
+pub mod Lines
+pub mod Code
+pub mod Reads
+pub mod Heads
+pub mod Laws
+pub mod Kinds
+pub mod PieceFaults
+pub mod CutEnds
+pub mod PieceBytes
