@@ -3,8 +3,8 @@
    Each function reads whole buffers of the caller's, and answers a number of `enum jls_answer`. A buffer is a pointer and the number of
    its elements. At 0 elements the pointer may be NULL; otherwise no pointer may be NULL. What a pointer points at is aligned as its type
    wants it. A buffer that a function writes must not overlap another one, a structure, nor what it reads. The library keeps nothing
-   between two calls, so threads may call it at once, on buffers of their own. It takes memory by malloc and gives all back: what jls_mend
-   gives, by jls_mended_free.
+   between two calls, so threads may call it at once, on buffers of their own. It takes memory by malloc, or by `resize` of
+   jls_mend_options, and gives all back: what jls_mend gives, by jls_mended_free.
 
    A library that was built by `make library CFLAGS='-O1 -DJLS_CHECKS'` looks at these rules. At a pointer that breaks one it writes a line
    to stderr, which names the function and the argument, and calls abort. Another library trusts its caller.
@@ -51,14 +51,19 @@ enum jls_answer {
     JLS_BAD_COPIES = 14,       /* there are fewer than two copies, or with a list of bad places none: nothing was written */
     JLS_NOT_MENDED = 15,       /* copies can't be mended: `cause` of jls_mend_info says why */
     JLS_STOPPED = 16,          /* the caller stopped the mending by `stop` of jls_mend_options: nothing was written */
-    JLS_BAD_LISTS = 17         /* a list of bad places is of no copy: nothing was written */
+    JLS_BAD_LISTS = 17,        /* a list of bad places is of no copy: nothing was written */
+    JLS_BAD_PROFILE = 18       /* there is no such profile: nothing was written */
 };
+
+/* Which scans are read. Under JLS_STRICT: scans of one component, and scans that are interleaved by line. Under JLS_WIDE also scans of two
+   components or more that are interleaved by sample. Another copy gives the same under both, unless damage makes a header say so. */
+enum jls_profile { JLS_STRICT = 0, JLS_WIDE = 1 };
 
 /* What a copy has that this library doesn't read. A damaged header can say it too. */
 enum jls_unsupported {
     JLS_SUPPORTED = 0,
     JLS_NEAR_LOSSLESS = 1,
-    JLS_BY_SAMPLE = 2,       /* components interleaved by sample */
+    JLS_BY_SAMPLE = 2,       /* interleaved by sample: under JLS_WIDE only of one component */
     JLS_NOT_INTERLEAVED = 3, /* several components in a scan that doesn't interleave them */
     JLS_SUBSAMPLED = 4,
     JLS_MAPPING_TABLE = 5,
@@ -70,7 +75,8 @@ enum jls_unsupported {
 /* How much is known of a line: it has no reading, one, or several that differ. */
 enum jls_status { JLS_MISSING = 0, JLS_SETTLED = 1, JLS_DISPUTED = 2 };
 
-/* Where a copy ends: at the marker EOI, with the input, or at the first fault of its headers. */
+/* Where a copy ends: at the marker EOI, with the input, or at the first fault of its headers. Of bytes that are no partial picture it is
+   JLS_END_HEADER too. */
 enum jls_end { JLS_END_EOI = 0, JLS_END_INPUT = 1, JLS_END_HEADER = 2 };
 
 /* Faults of the headers of a copy, and of the bytes of a partial picture. */
@@ -123,7 +129,8 @@ enum jls_cause {
     JLS_CAUSE_NO_LIST = 9          /* a list of bad places is none, by `line` */
 };
 
-/* What a copy says of its picture, how many lines it gives, and how it ended. Of a partial picture the same is told, but no end. */
+/* What a copy says of its picture, how many lines it gives, and how it ended. Of a partial picture the same is told, but no end:
+   `end` and `end_offset` are 0. */
 typedef struct jls_info {
     uint32_t size;          /* what the caller sets: sizeof(jls_info) */
     uint32_t unsupported;   /* enum jls_unsupported */
@@ -199,6 +206,11 @@ typedef struct jls_mend_options {
     void *context;              /* what it is given */
     const jls_bad_list *bad;    /* lists of bad places. A copy can have several */
     size_t bad_count;           /* how many there are. With one, one copy is enough */
+    void *(*resize)(void *memory, void *block, size_t size); /* if it isn't NULL, all memory comes from it, in place of malloc, realloc and
+                                  free. It gives `size` bytes, aligned as malloc aligns them, which begin with those of `block`, if that
+                                  isn't NULL. If it gives NULL, `block` stays. At a `size` of 0 it frees `block`. It is called in the
+                                  thread of the call, and of jls_mended_free. It has to return, and may call the library */
+    void *memory;               /* what it is given. Both have to stay until jls_mended_free */
 } jls_mend_options;
 
 /* What came of a mending. */
@@ -218,6 +230,11 @@ typedef struct jls_mend_info {
     uint64_t line;       /* and at JLS_CAUSE_NO_LIST the first line that isn't understood, from 1 on */
 } jls_mend_info;
 
+/* A place where copies that were mended differ, as the first copy has it. */
+typedef struct jls_place {
+    uint64_t offset, length;
+} jls_place;
+
 /* What came of a mending, with its bytes. */
 typedef struct jls_mended jls_mended;
 
@@ -226,7 +243,7 @@ typedef struct jls_mended jls_mended;
 #define JLS_INFO {sizeof(jls_info), 0, 0, 0, 0, 0, 0, 0, 0, 0, 0, 0, 0, 0, 0, 0}
 #define JLS_HEADER {sizeof(jls_header), 0, 0, 0, 0, 0, 0, 0, 0, 0, 0, 0, 0}
 #define JLS_LAYOUT {sizeof(jls_layout), 0, 0, 0}
-#define JLS_MEND_OPTIONS {sizeof(jls_mend_options), 0, 0, 0, 0, 0, 0, 0, 0, 0, 0}
+#define JLS_MEND_OPTIONS {sizeof(jls_mend_options), 0, 0, 0, 0, 0, 0, 0, 0, 0, 0, 0, 0}
 #define JLS_MEND_INFO {sizeof(jls_mend_info), 0, 0, 0, 0, 0, 0, 0, 0, 0, 0, 0, 0}
 #else
 #define JLS_INFO {.size = sizeof(jls_info)}
@@ -269,6 +286,8 @@ const char *jls_fault_text(uint32_t fault);
 const char *jls_unsupported_text(uint32_t unsupported);
 
 /* Tells what the headers of a copy say, up to the first scan. No scan data are read, so it is quick, and `copy` may end with the headers.
+   They are judged as under JLS_STRICT. JLS_BY_SAMPLE says that the first scan is by sample: JLS_WIDE reads it if it has two components
+   or more, and no other fault.
    Answers JLS_DONE, JLS_UNSUPPORTED, JLS_NO_PICTURE or JLS_OUT_OF_MEMORY. At JLS_NO_PICTURE `fault` and `end_offset` say why. */
 uint32_t jls_read_header(const uint8_t *copy, size_t size, jls_header *header);
 
@@ -292,11 +311,25 @@ uint32_t jls_read(const uint8_t *copy, size_t size, jls_info *info, uint16_t *sa
 uint32_t jls_read_as(const uint8_t *copy, size_t size, jls_info *info, const jls_layout *layout, void *samples, size_t sample_room,
                      uint8_t *statuses, size_t status_room);
 
+/* The same under a profile: jls_check, jls_read and jls_read_as are those under JLS_STRICT. Under JLS_WIDE scans that are interleaved by
+   sample are read too. Lines and samples stand in the same places.
+   Answers what those answer, or JLS_BAD_PROFILE. */
+uint32_t jls_check_under(const uint8_t *copy, size_t size, uint32_t profile, jls_info *info, jls_piece *pieces, size_t piece_room);
+uint32_t jls_read_under(const uint8_t *copy, size_t size, uint32_t profile, jls_info *info, uint16_t *samples, size_t sample_room,
+                        uint8_t *statuses, size_t status_room);
+uint32_t jls_read_as_under(const uint8_t *copy, size_t size, uint32_t profile, jls_info *info, const jls_layout *layout, void *samples,
+                           size_t sample_room, uint8_t *statuses, size_t status_room);
+
 /* Reads a copy, which may be damaged, and writes what it gives as a partial picture: the bytes that `jls-salvage join` would write of it
    under this source, which is a number for the copy. `info` tells of the copy, and `bytes` how many bytes the partial picture has.
    Answers JLS_DONE, JLS_UNSUPPORTED, JLS_SHORT_ROOM, JLS_NO_PICTURE or JLS_OUT_OF_MEMORY. At JLS_SHORT_ROOM and JLS_NO_PICTURE only `info`
    is written. */
 uint32_t jls_partial(const uint8_t *copy, size_t size, uint32_t source, jls_info *info, uint8_t *partial, size_t room);
+
+/* The same under a profile: jls_partial is that under JLS_STRICT.
+   Answers what that answers, or JLS_BAD_PROFILE. */
+uint32_t jls_partial_under(const uint8_t *copy, size_t size, uint32_t profile, uint32_t source, jls_info *info, uint8_t *partial,
+                           size_t room);
 
 /* Joins two partial pictures of one shape: writes the one that has the readings of both, with their sources. The order doesn't matter,
    and joining a partial picture once more changes nothing. `info` tells of what is written, and `bytes` how many bytes it has.
@@ -325,7 +358,9 @@ uint32_t jls_write_as(const jls_frame *frame, const jls_layout *layout, const vo
                       uint64_t *file_size);
 
 /* Mends copies of one file, of which there are two or more, as `jls-splice --file FILE OUT 1 2 ..` does, and with `--files` if these are
-   asked for. Lists of bad places are those of `--bad`: with one, one copy is enough. At JLS_DONE and JLS_NOT_MENDED *mended is what came of it, which jls_mended_free frees; at any other answer it stays as it was.
+   asked for. Scans that are interleaved by sample are read too, as by JLS_WIDE. Lists of bad places are those of `--bad`: with one, one
+   copy is enough. At JLS_DONE and JLS_NOT_MENDED *mended is what came of it, which jls_mended_free frees; at any other answer it stays as
+   it was.
    A search can take minutes: `tries` bounds it, and `stop` ends it. It takes memory for all copies and lists once more: there is none if
    the sizes of either add up to more than SIZE_MAX / 2.
    Answers JLS_DONE, JLS_NOT_MENDED, JLS_BAD_COPIES, JLS_BAD_LISTS, JLS_STOPPED or JLS_OUT_OF_MEMORY. */
@@ -334,9 +369,13 @@ uint32_t jls_mend(const jls_copy *copies, size_t count, const jls_mend_options *
 /* Tells what came of a mending. Answers JLS_DONE. */
 uint32_t jls_mended_info(const jls_mended *mended, jls_mend_info *info);
 
+/* Tells where the copies differ, as jls-splice prints it. *count is how many such places there are, and `places` takes the first, as many
+   as there is room for and at most 4096. At JLS_NOT_MENDED there is none. Answers JLS_DONE. */
+uint32_t jls_mended_places(const jls_mended *mended, jls_place *places, size_t room, uint64_t *count);
+
 /* What was mended: its bytes, until jls_mended_free, and in *size how many there are. NULL and 0 where there is no such thing, and at
-   JLS_NOT_MENDED. The picture is a partial picture, which jls_lines shows. The file is the mended one. A numbered one is one of `files` that
-   have no fault, from 0 on. The lines are what jls-splice prints, as ASCII text without a 0 at its end. */
+   JLS_NOT_MENDED. The picture is a partial picture, which jls_lines shows. The file is the mended one. A numbered one is one of `files`
+   that have no fault, from 0 on. The lines are what jls-splice prints, as ASCII text without a 0 at its end. */
 const uint8_t *jls_mended_picture(const jls_mended *mended, size_t *size);
 const uint8_t *jls_mended_file(const jls_mended *mended, size_t *size);
 const uint8_t *jls_mended_numbered(const jls_mended *mended, size_t number, size_t *size);

@@ -1,6 +1,7 @@
 /* The functions that jls_salvage.h declares. Each calls the proved function, to which library.mk gives a name that begins with "proved_",
-   and adds three things: it refuses an old processor; it writes no more of `info` than its caller has; and it says of a fault that the
-   coding isn't supported. No proof covers this file. */
+   and adds four things: it refuses an old processor, and a profile that there isn't, where a proved function takes any other than 0 for
+   JLS_WIDE; it writes no more of `info` than its caller has; and it says of a fault that the coding isn't supported. No proof covers this
+   file. */
 #include "../include/jls_salvage.h"
 #include "misuse.h"
 #include "processor.h"
@@ -24,6 +25,9 @@ _Static_assert(sizeof(jls_info) == FIRST_INFO && sizeof(jls_header) == FIRST_HEA
 uint32_t proved_jls_check(const uint8_t *, size_t, told *, jls_piece *, size_t);
 uint32_t proved_jls_read(const uint8_t *, size_t, told *, uint16_t *, size_t, uint8_t *, size_t);
 uint32_t proved_jls_partial(const uint8_t *, size_t, uint32_t, told *, uint8_t *, size_t);
+uint32_t proved_jls_check_under(const uint8_t *, size_t, uint32_t, told *, jls_piece *, size_t);
+uint32_t proved_jls_read_under(const uint8_t *, size_t, uint32_t, told *, uint16_t *, size_t, uint8_t *, size_t);
+uint32_t proved_jls_partial_under(const uint8_t *, size_t, uint32_t, uint32_t, told *, uint8_t *, size_t);
 uint32_t proved_jls_join(const uint8_t *, size_t, const uint8_t *, size_t, told *, uint8_t *, size_t);
 uint32_t proved_jls_lines(const uint8_t *, size_t, told *, uint16_t *, size_t, jls_line *, size_t);
 uint32_t proved_jls_write(const jls_frame *, const uint16_t *, size_t, uint8_t *, size_t, uint64_t *);
@@ -110,6 +114,35 @@ uint32_t jls_partial(const uint8_t *copy, size_t size, uint32_t source, jls_info
     REFUSE_BAD(info, FIRST_INFO);
     told told = {0};
     uint32_t answer = proved_jls_partial(copy, size, source, &told, partial, room);
+    return told_of_copy(answer, copy, size, info, &told);
+}
+
+uint32_t jls_check_under(const uint8_t *copy, size_t size, uint32_t profile, jls_info *info, jls_piece *pieces, size_t piece_room) {
+    REFUSE_MISUSE(READ(copy, size), WRITTEN(info, 1), WRITTEN(pieces, piece_room));
+    REFUSE_BAD(info, FIRST_INFO);
+    if (profile > JLS_WIDE) return JLS_BAD_PROFILE;
+    told told = {0};
+    uint32_t answer = proved_jls_check_under(copy, size, profile, &told, pieces, piece_room);
+    return told_of_copy(answer, copy, size, info, &told);
+}
+
+uint32_t jls_read_under(const uint8_t *copy, size_t size, uint32_t profile, jls_info *info, uint16_t *samples, size_t sample_room,
+                        uint8_t *statuses, size_t status_room) {
+    REFUSE_MISUSE(READ(copy, size), WRITTEN(info, 1), WRITTEN(samples, sample_room), WRITTEN(statuses, status_room));
+    REFUSE_BAD(info, FIRST_INFO);
+    if (profile > JLS_WIDE) return JLS_BAD_PROFILE;
+    told told = {0};
+    uint32_t answer = proved_jls_read_under(copy, size, profile, &told, samples, sample_room, statuses, status_room);
+    return told_of_copy(answer, copy, size, info, &told);
+}
+
+uint32_t jls_partial_under(const uint8_t *copy, size_t size, uint32_t profile, uint32_t source, jls_info *info, uint8_t *partial,
+                           size_t room) {
+    REFUSE_MISUSE(READ(copy, size), WRITTEN(info, 1), WRITTEN(partial, room));
+    REFUSE_BAD(info, FIRST_INFO);
+    if (profile > JLS_WIDE) return JLS_BAD_PROFILE;
+    told told = {0};
+    uint32_t answer = proved_jls_partial_under(copy, size, profile, source, &told, partial, room);
     return told_of_copy(answer, copy, size, info, &told);
 }
 

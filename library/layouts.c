@@ -64,31 +64,48 @@ static void gather(const void *from, const place *at, uint16_t *to, uint8_t byte
 /* Room for samples; NULL where there is none, or they can't be so many. */
 static uint16_t *room_for(uint64_t count) { return count > SIZE_MAX / 2 ? NULL : malloc(count != 0 ? 2 * (size_t)count : 1); }
 
+/* What jls_read_as and jls_read_as_under do, under a profile that there is. */
+static uint32_t read_as(const uint8_t *copy, size_t size, uint32_t profile, jls_info *info, const jls_layout *layout, void *samples,
+                        size_t sample_room, uint8_t *statuses, size_t status_room) {
+    jls_header header = JLS_HEADER;
+    uint16_t *planes;
+    place at;
+    uint32_t answer = jls_read_header(copy, size, &header);
+    if (answer == JLS_OUT_OF_MEMORY) return answer;
+    if (answer == JLS_NO_PICTURE) return jls_check_under(copy, size, profile, info, NULL, 0);
+    if (!place_of(layout, header.width, header.height, header.components, &at)) return JLS_BAD_LAYOUT;
+    if (layout->bytes == 1 && header.precision > 8) return JLS_LARGE_SAMPLE;
+    if (at.room > sample_room) {
+        answer = jls_check_under(copy, size, profile, info, NULL, 0);
+        return answer == JLS_DONE || answer == JLS_UNSUPPORTED ? JLS_SHORT_ROOM : answer;
+    }
+    planes = room_for(header.samples);
+    if (planes == NULL) return JLS_OUT_OF_MEMORY;
+    answer = jls_read_under(copy, size, profile, info, planes, (size_t)header.samples, statuses, status_room);
+    if (answer == JLS_DONE || answer == JLS_UNSUPPORTED) spread(planes, &at, samples, layout->bytes);
+    free(planes);
+    return answer;
+}
+
 uint32_t jls_read_as(const uint8_t *copy, size_t size, jls_info *info, const jls_layout *layout, void *samples, size_t sample_room,
                      uint8_t *statuses, size_t status_room) {
     REFUSE_MISUSE(READ(layout, 1));
     REFUSE_MISUSE(READ(copy, size), WRITTEN(info, 1), READ(layout, 1), WRITTEN_BYTES(samples, sample_room, layout->bytes),
                   WRITTEN(statuses, status_room));
-    jls_header header = JLS_HEADER;
-    uint16_t *planes;
-    place at;
     if (!runs_here()) return JLS_PROCESSOR;
     if (layout->size < FIRST_LAYOUT) return JLS_BAD_SIZE;
-    uint32_t answer = jls_read_header(copy, size, &header);
-    if (answer == JLS_OUT_OF_MEMORY) return answer;
-    if (answer == JLS_NO_PICTURE) return jls_check(copy, size, info, NULL, 0);
-    if (!place_of(layout, header.width, header.height, header.components, &at)) return JLS_BAD_LAYOUT;
-    if (layout->bytes == 1 && header.precision > 8) return JLS_LARGE_SAMPLE;
-    if (at.room > sample_room) {
-        answer = jls_check(copy, size, info, NULL, 0);
-        return answer == JLS_DONE || answer == JLS_UNSUPPORTED ? JLS_SHORT_ROOM : answer;
-    }
-    planes = room_for(header.samples);
-    if (planes == NULL) return JLS_OUT_OF_MEMORY;
-    answer = jls_read(copy, size, info, planes, (size_t)header.samples, statuses, status_room);
-    if (answer == JLS_DONE || answer == JLS_UNSUPPORTED) spread(planes, &at, samples, layout->bytes);
-    free(planes);
-    return answer;
+    return read_as(copy, size, JLS_STRICT, info, layout, samples, sample_room, statuses, status_room);
+}
+
+uint32_t jls_read_as_under(const uint8_t *copy, size_t size, uint32_t profile, jls_info *info, const jls_layout *layout, void *samples,
+                           size_t sample_room, uint8_t *statuses, size_t status_room) {
+    REFUSE_MISUSE(READ(layout, 1));
+    REFUSE_MISUSE(READ(copy, size), WRITTEN(info, 1), READ(layout, 1), WRITTEN_BYTES(samples, sample_room, layout->bytes),
+                  WRITTEN(statuses, status_room));
+    if (!runs_here()) return JLS_PROCESSOR;
+    if (layout->size < FIRST_LAYOUT) return JLS_BAD_SIZE;
+    if (profile > JLS_WIDE) return JLS_BAD_PROFILE;
+    return read_as(copy, size, profile, info, layout, samples, sample_room, statuses, status_room);
 }
 
 uint32_t jls_write_as(const jls_frame *frame, const jls_layout *layout, const void *samples, size_t count, uint8_t *file, size_t room,

@@ -13,7 +13,7 @@ library: $(LIBRARIES)
 
 ifeq ($(PACKED),)
 # The proved functions get other names, and those of library/calls.c and mend.c are called in their place
-FUNCTIONS = jls_check jls_join jls_lines jls_mend jls_partial jls_read jls_write
+FUNCTIONS = jls_check jls_check_under jls_join jls_lines jls_mend jls_partial jls_partial_under jls_read jls_read_under jls_write
 OBJCOPY ?= $(or $(shell $(CC) -print-prog-name=objcopy 2> /dev/null),objcopy)
 PARTS = memory calls layouts mend texts
 $(BUILD)/libjls_salvage.o: $(PARTS:%=library/%.c) library/processor.h library/misuse.h library/stop.h include/jls_salvage.h dist/SHA256SUMS $(BUILD)/.how | ready

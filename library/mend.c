@@ -27,13 +27,15 @@ typedef struct listed {
 } listed;
 
 /* The sizes in earlier versions, which stay as they are when a structure grows: callers that are older have these. In the first version
-   jls_mend_options ended with `files`, and was aligned as a number of 32 bits is. In the second it ended with `context`. */
-enum { FIRST_OPTIONS = 20, SECOND_OPTIONS = 40, FIRST_INFO = 32 };
+   jls_mend_options ended with `files`, and was aligned as a number of 32 bits is. In the second it ended with `context`, and in the third
+   with `bad_count`. */
+enum { FIRST_OPTIONS = 20, SECOND_OPTIONS = 40, THIRD_OPTIONS = 56, FIRST_INFO = 32 };
 
-_Static_assert(sizeof(jls_mend_options) == 56 && sizeof(jls_mend_info) == 48, "the sizes of this version");
+_Static_assert(sizeof(jls_mend_options) == 72 && sizeof(jls_mend_info) == 48, "the sizes of this version");
 _Static_assert(offsetof(jls_mend_options, tries) + sizeof(asked) == FIRST_OPTIONS, "what is asked ended the first version");
 _Static_assert(offsetof(jls_mend_options, stop) >= FIRST_OPTIONS, "what came later stands behind it");
 _Static_assert(offsetof(jls_mend_options, bad) == SECOND_OPTIONS, "and what came then behind the second");
+_Static_assert(offsetof(jls_mend_options, resize) == THIRD_OPTIONS, "and behind the third");
 _Static_assert(offsetof(jls_mend_info, list) == FIRST_INFO, "what came later stands behind the first version");
 
 enum { TRIES = 4096, NUMBERED = 64, SPARE = 1 << 20, SAMPLES_A_BYTE = 64 };
@@ -44,6 +46,7 @@ uint32_t proved_jls_mend(const uint8_t *, size_t, const uint64_t *, size_t, cons
 /* The outputs stand in `bytes` one behind the other: the picture, the mended file if there is one, those with numbers, and the lines.
    `sizes` has how many bytes each output has. */
 struct jls_mended {
+    memory memory;
     told told;
     uint8_t *bytes;
     uint64_t *sizes;
@@ -71,23 +74,34 @@ static bool take_options(const void *from, jls_mend_options *options) {
     memset(options, 0, sizeof *options);
     memcpy(&options->size, bytes, sizeof options->size);
     size_t size = options->size;
-    if (size != FIRST_OPTIONS && size != SECOND_OPTIONS && size < sizeof *options) return false;
+    if (size != FIRST_OPTIONS && size != SECOND_OPTIONS && size != THIRD_OPTIONS && size < sizeof *options) return false;
     for (size_t at = sizeof *options; at < size; at++)
         if (bytes[at] != 0) return false;
     memcpy(options, bytes, size < sizeof *options ? size : sizeof *options);
     return true;
 }
 
-static void *room_for(size_t count, size_t size) { return count > SIZE_MAX / 2 / size ? NULL : calloc(count != 0 ? count : 1, size); }
+/* Room for so many elements, which are 0. */
+static void *room_for(const memory *by, size_t count, size_t size) {
+    if (count > SIZE_MAX / 2 / size) return NULL;
+    if (count == 0) count = 1;
+    if (by->resize == NULL) return calloc(count, size);
+    void *room = jls_resized(by, NULL, count * size);
+    return room != NULL ? memset(room, 0, count * size) : NULL;
+}
 
-static bool join_copies(const jls_copy *copies, size_t count, joined *all) {
-    *all = (joined){NULL, 0, room_for(count, sizeof *all->sizes)};
+static void give_back(const memory *by, void *block) {
+    if (block != NULL) jls_resized(by, block, 0);
+}
+
+static bool join_copies(const memory *by, const jls_copy *copies, size_t count, joined *all) {
+    *all = (joined){NULL, 0, room_for(by, count, sizeof *all->sizes)};
     if (all->sizes == NULL) return false;
     for (size_t at = 0; at < count; at++) {
         if (copies[at].size > SIZE_MAX / 2 - all->size) return false;
         all->size += copies[at].size;
     }
-    all->bytes = room_for(all->size, 1);
+    all->bytes = room_for(by, all->size, 1);
     if (all->bytes == NULL) return false;
     uint8_t *to = all->bytes;
     for (size_t at = 0; at < count; to += copies[at++].size) {
@@ -97,14 +111,14 @@ static bool join_copies(const jls_copy *copies, size_t count, joined *all) {
     return true;
 }
 
-static bool join_lists(const jls_bad_list *bad, size_t count, joined_lists *all) {
-    *all = (joined_lists){NULL, 0, room_for(count, sizeof *all->lists), count};
+static bool join_lists(const memory *by, const jls_bad_list *bad, size_t count, joined_lists *all) {
+    *all = (joined_lists){NULL, 0, room_for(by, count, sizeof *all->lists), count};
     if (all->lists == NULL) return false;
     for (size_t at = 0; at < count; at++) {
         if (bad[at].size > SIZE_MAX / 2 - all->size) return false;
         all->size += bad[at].size;
     }
-    all->texts = room_for(all->size, 1);
+    all->texts = room_for(by, all->size, 1);
     if (all->texts == NULL) return false;
     uint8_t *to = all->texts;
     for (size_t at = 0; at < count; to += bad[at++].size) {
@@ -134,10 +148,10 @@ static size_t likely_room(const jls_copy *copies, size_t count, bool has_files) 
 
 /* Takes so much room for the outputs. */
 static bool take_room(jls_mended *it, size_t room, size_t count) {
-    free(it->bytes);
-    free(it->sizes);
-    it->bytes = room_for(room, 1);
-    it->sizes = room_for(count, sizeof *it->sizes);
+    give_back(&it->memory, it->bytes);
+    give_back(&it->memory, it->sizes);
+    it->bytes = room_for(&it->memory, room, 1);
+    it->sizes = room_for(&it->memory, count, sizeof *it->sizes);
     return it->bytes != NULL && it->sizes != NULL;
 }
 
@@ -159,11 +173,11 @@ static uint32_t mend(const joined *all, size_t count, const joined_lists *bad, c
 /* Gives back the room that wasn't needed. */
 static void fit(jls_mended *it) {
     if (it->told.bytes == 0) {
-        free(it->bytes);
+        give_back(&it->memory, it->bytes);
         it->bytes = NULL;
         return;
     }
-    uint8_t *bytes = realloc(it->bytes, (size_t)it->told.bytes);
+    uint8_t *bytes = jls_resized(&it->memory, it->bytes, (size_t)it->told.bytes);
     if (bytes != NULL) it->bytes = bytes;
 }
 
@@ -172,12 +186,12 @@ static uint32_t join_and_mend(const jls_copy *copies, size_t count, const jls_me
     joined all = {NULL, 0, NULL};
     joined_lists bad = {NULL, 0, NULL, 0};
     uint32_t answer = JLS_OUT_OF_MEMORY;
-    if (join_copies(copies, count, &all) && join_lists(options->bad, options->bad_count, &bad))
+    if (join_copies(&it->memory, copies, count, &all) && join_lists(&it->memory, options->bad, options->bad_count, &bad))
         answer = mend(&all, count, &bad, asked, likely_room(copies, count, asked->files != 0), it);
-    free(all.bytes);
-    free(all.sizes);
-    free(bad.texts);
-    free(bad.lists);
+    give_back(&it->memory, all.bytes);
+    give_back(&it->memory, all.sizes);
+    give_back(&it->memory, bad.texts);
+    give_back(&it->memory, bad.lists);
     return answer;
 }
 
@@ -195,10 +209,11 @@ uint32_t jls_mend(const jls_copy *copies, size_t count, const jls_mend_options *
     asked asked;
     memcpy(&asked, &all.tries, sizeof asked);
     if (asked.tries == 0) asked.tries = TRIES;
-    jls_mended *it = calloc(1, sizeof *it);
+    stopping call = {all.stop, all.context, {all.resize, all.memory}, 0, false};
+    jls_mended *it = room_for(&call.memory, 1, sizeof *it);
     if (it == NULL) return JLS_OUT_OF_MEMORY;
-    stopping call = {all.stop, all.context, 0, false};
-    jls_stopping = all.stop != NULL ? &call : NULL;
+    it->memory = call.memory;
+    jls_stopping = all.stop != NULL || all.resize != NULL ? &call : NULL;
     uint32_t answer = join_and_mend(copies, count, &all, &asked, it);
     jls_stopping = NULL;
     if (call.is_stopped) answer = JLS_STOPPED;
@@ -228,6 +243,42 @@ uint32_t jls_mended_info(const jls_mended *mended, jls_mend_info *info) {
     all.list = told->list;
     all.line = told->line;
     memcpy(info, &all, info->size < sizeof all ? info->size : sizeof all);
+    return JLS_DONE;
+}
+
+/* Whether a line begins with these words, which then are left behind. */
+static bool begins(const uint8_t **line, const uint8_t *end, const char *words) {
+    size_t length = strlen(words);
+    if ((size_t)(end - *line) < length || memcmp(*line, words, length) != 0) return false;
+    return *line += length, true;
+}
+
+/* The number at the begin of a line, which is left behind with the byte after it. */
+static uint64_t take_number(const uint8_t **line, const uint8_t *end) {
+    uint64_t number = 0;
+    for (; *line < end && **line >= '0' && **line <= '9'; ++*line) number = 10 * number + (uint64_t)(**line - '0');
+    if (*line < end) ++*line;
+    return number;
+}
+
+uint32_t jls_mended_places(const jls_mended *mended, jls_place *places, size_t room, uint64_t *count) {
+    REFUSE_MISUSE(READ(mended, 1), WRITTEN(places, room), WRITTEN(count, 1));
+    if (!runs_here()) return JLS_PROCESSOR;
+    size_t size = 0;
+    const uint8_t *line = jls_mended_lines(mended, &size), *end = size != 0 ? line + size : line;
+    *count = 0;
+    while (line < end) {
+        const uint8_t *newline = memchr(line, '\n', (size_t)(end - line)), *next = newline != NULL ? newline + 1 : end;
+        if (begins(&line, next, "differ more ")) {
+            *count += take_number(&line, next);
+        } else if (begins(&line, next, "differ ")) {
+            jls_place place = {.offset = take_number(&line, next)};
+            place.length = take_number(&line, next);
+            if (*count < room) places[*count] = place;
+            ++*count;
+        }
+        line = next;
+    }
     return JLS_DONE;
 }
 
@@ -263,7 +314,8 @@ const uint8_t *jls_mended_lines(const jls_mended *mended, size_t *size) {
 
 void jls_mended_free(jls_mended *mended) {
     if (mended == NULL) return;
-    free(mended->bytes);
-    free(mended->sizes);
-    free(mended);
+    memory by = mended->memory;
+    give_back(&by, mended->bytes);
+    give_back(&by, mended->sizes);
+    give_back(&by, mended);
 }

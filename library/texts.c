@@ -21,6 +21,7 @@ static const char *const ANSWERS[] = {
     [JLS_NOT_MENDED] = "the copies can't be mended",
     [JLS_STOPPED] = "stopped by the caller",
     [JLS_BAD_LISTS] = "a list of bad places is of no copy",
+    [JLS_BAD_PROFILE] = "no such profile",
 };
 
 static const char *const FAULTS[] = {

@@ -14,12 +14,12 @@ def near_of(stream):
 
 def unsupported(stream):
     """{its name: a codestream of a kind that isn't read}, by T.87, C.2.2 and C.2.3, and T.81, B.2.2."""
-    three = "ffd8fff70011080010001003011100021100031100ffda000c0301000200030000"
+    three = "ffd8fff70011080010001003011100021100031100ffda000c03010002000300"
     size, one = "080010001001", bytes.fromhex("ffda0008010100000000") + SCAN
     return {
         "near-lossless coding": near_of(stream),
-        "interleaved by sample": bytes.fromhex(f"{three}0200") + SCAN,
-        "several components in a scan without interleaving": bytes.fromhex(f"{three}0000") + SCAN,
+        "one component interleaved by sample": bytes.fromhex(f"ffd8fff7000b{size}011100 ffda0008010100000200") + SCAN,
+        "several components in a scan without interleaving": bytes.fromhex(f"{three}000000") + SCAN,
         "a mapping table": bytes.fromhex(f"ffd8fff7000b{size}011100 fff80006020101aa ffda0008010101000000") + SCAN,
         "subsampling": bytes.fromhex(f"ffd8fff7000b{size}012200") + one,
         "a height of 0": bytes.fromhex("ffd8fff7000b08000000100101 1100") + one,
@@ -27,9 +27,23 @@ def unsupported(stream):
     }
 
 
+def unsupported_by_sample():
+    """The same of three components that are interleaved by sample."""
+    three = "ffd8fff700110800100010030111000211000311"
+    scan = "00ffda000c03010002000300"
+    large = "ffd8fff70011 08 ffff ffff 03 011100021100031100ffda000c03010002000300000200"
+    return {
+        "near-lossless coding": bytes.fromhex(f"{three}{scan}030200") + SCAN,
+        "a mapping table": bytes.fromhex(f"{three}00ffda000c03010002010300000200") + SCAN,
+        "a point transform": bytes.fromhex(f"{three}{scan}000201") + SCAN,
+        "subsampling": bytes.fromhex(f"{three[:-2]}22{scan}000200") + SCAN,
+        "an interval of more than 2^28 samples": bytes.fromhex(large) + SCAN,
+    }
+
+
 def checks_of_info(work, rng):
     stream, name = frame(rng, 8, 16, 12, work), f"{work}/one.jls"
-    for kind, data in unsupported(stream).items():
+    for kind, data in [*unsupported(stream).items(), *unsupported_by_sample().items()]:
         with open(name, "wb") as file:
             file.write(data)
         status, printed, _ = called("info", name)

@@ -177,10 +177,10 @@ def headers():
     told = jls_salvage.header(bytes.fromhex(GREY))
     differ("headers", "sizes", (told.width, told.height, told.components, told.precision), (3, 2, 1, 8))
     differ("headers", "coding", jls_salvage.header(bytes.fromhex(BY_SAMPLE)).coding, jls_salvage.Coding.BY_SAMPLE)
-    for call in (jls_salvage.read, lambda copy: jls_salvage.partial(copy, 1)):
+    for call in (lambda copy: jls_salvage.read(copy, strict=True), lambda copy: jls_salvage.partial(copy, 1, strict=True)):
         try:
             call(bytes.fromhex(BY_SAMPLE))
-            print("headers: colour by sample is read")
+            print("headers: colour by sample is read strictly")
         except jls_salvage.Unsupported as why:
             differ("headers", "coding", (why.coding, why.offset), (jls_salvage.Coding.BY_SAMPLE, 21))
 

@@ -18,7 +18,7 @@ import pydicom
 from pydicom.encaps import encapsulate
 
 import jls_salvage
-from jls_salvage import pydicom_handler, pydicom_mending
+from jls_salvage import pydicom_decoder, pydicom_handler, pydicom_mending
 
 SUM = "4d4c93c70f26b06e41f8a046f5900162b8abfdd9954301437fb380038af4b9a0"
 differing: list[str] = []
@@ -73,7 +73,10 @@ def whole(files: Files, examples: str) -> None:
     differ("samples above the most that is given", pydicom_mending.mend([first, second], max_sample=0).is_whole, False)
     differ("a promise", mended.frames[0].words.startswith("promise picture if the true file "), True)
     differ("what is undecided", (list(mended.undecided), mended.is_whole), ([], True))
-    pydicom.config.pixel_data_handlers = [pydicom_handler]
+    if pydicom.__version__.startswith("2."):
+        pydicom.config.pixel_data_handlers = [pydicom_handler]
+    else:
+        pydicom_decoder.register()
     differ("samples", (mended.dataset().pixel_array == files.samples).all(), True)
     differ("a copy", Path(first).read_bytes() == before, True)
     by_sum = pydicom_mending.mend([first, second], sha256=hashlib.sha256(files.bytes).hexdigest().upper())

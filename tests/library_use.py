@@ -8,6 +8,8 @@ from __future__ import annotations
 
 import array
 import ctypes
+import logging
+import mmap
 import os
 import pickle
 import pydoc
@@ -17,7 +19,7 @@ import time
 from typing import Any, Callable
 
 import jls_salvage
-from jls_salvage import NotWritable, _library, pydicom_handler
+from jls_salvage import NotWritable, _library, _writing, pydicom_decoder, pydicom_handler
 
 TOP = os.path.dirname(os.path.dirname(os.path.realpath(__file__)))
 
@@ -30,6 +32,8 @@ def optional(name: str) -> Any:
 
 
 numpy, pydicom = optional("numpy"), optional("pydicom")
+#: The first number of pydicom's version, or 0: frames come to version 2 by a handler, and from 3 on by a decoder.
+PYDICOM = int(pydicom.__version__.partition(".")[0]) if numpy is not None and pydicom is not None else 0
 differing = []
 
 
@@ -198,6 +202,25 @@ def masks(copy: bytes) -> None:
     differ("the same of a partial picture", (parts.array().filled(9) == values.filled(9)).all(), True)
 
 
+def uncopied(name: str) -> None:
+    """Buffers without gaps are read where they stand, arrays show the samples that were read, and are written where they stand."""
+    with open(name, "rb") as file, mmap.mmap(file.fileno(), 0, access=mmap.ACCESS_READ) as mapped:
+        whole = bytearray(mapped)
+        for each in (mapped, whole, memoryview(whole), memoryview(bytes(whole))[1:], array.array("B", whole)):
+            where = numpy.frombuffer(each, numpy.uint8)
+            differ(f"{type(each).__name__} is copied", _library.Buffer(each).address != where.ctypes.data, False)
+        picture = jls_salvage.read(mapped)
+        del where
+    colour = jls_salvage.read(jls_salvage.write(range(24), 8, 4, 2, 3))
+    for found in (picture, colour, jls_salvage.lines(jls_salvage.partial(bytes(whole), 1))):
+        differ("samples are copied to an array", numpy.shares_memory(numpy.ma.getdata(found.array()), found.samples), True)
+        differ("samples are copied to be written", _writing._planes(found.samples)[1] == found.samples.ctypes.data, True)
+        line = found.line(0, found.info.height - 1) if found is colour else None
+        differ("a line is copied", line is None or numpy.shares_memory(line, found.samples), True)
+    square = numpy.arange(12, dtype=numpy.uint16).reshape(3, 4)
+    differ("an array is copied to be written", _writing._planes(square)[1] == square.ctypes.data, True)
+
+
 def threads(copy: bytes) -> None:
     """Four threads at once: calls let the others run."""
     wanted, found = jls_salvage.read(copy), []
@@ -224,7 +247,7 @@ def lets_go() -> None:
         data, info = _library.Buffer(big), _library.info_struct()
         began.set()
         start = time.perf_counter()
-        _library.library().jls_check(data.address, data.size, ctypes.byref(info), None, 0)
+        _library.library().jls_check_under(data.address, data.size, _library.WIDE, ctypes.byref(info), None, 0)
         moments.extend((start, time.perf_counter()))
         ended.set()
 
@@ -240,34 +263,96 @@ def lets_go() -> None:
     differ("a call lets other threads run", len(amid) > 10, True)
 
 
-def frames() -> None:
-    """What pydicom 2 gets: frames that don't fit are refused before room is taken."""
+class Runner:
+    """What pydicom 3 gives a decoder of a frame."""
+
+    def __init__(self, rows: int, columns: int, samples_per_pixel: int = 1, is_signed: bool = False) -> None:
+        self.rows, self.columns, self.samples_per_pixel = rows, columns, samples_per_pixel
+        self.pixel_representation = int(is_signed)
+        self.options: dict[str, int] = {}
+
+    def set_option(self, name: str, value: int) -> None:
+        self.options[name] = value
+
+
+def decoded(copy: bytes) -> None:
+    """What the decoder makes of frames, called as pydicom 3 does."""
+    decode = pydicom_decoder._decode_frame
+    rows = ((12, "<u2", [0, 7, 2047, 2048, 4095, 9]), (8, "u1", [0, 7, 127, 128, 255, 9]), (5, "u1", [0, 15, 16, 31, 1, 2]))
+    for precision, kind, values in rows:
+        frame, runner = jls_salvage.write(values, precision, 3, 2), Runner(2, 3)
+        differ(f"{precision} bits decoded", list(numpy.frombuffer(decode(frame, runner), kind)), values)
+        bits = 8 * numpy.dtype(kind).itemsize
+        differ(f"{precision} bits: what is set", runner.options, {"bits_allocated": bits, "planar_configuration": 0})
+        signed = numpy.frombuffer(decode(frame, Runner(2, 3, is_signed=True)), kind.replace("u", "i"))
+        differ(f"{precision} bits, signed", list(signed), [it - 2**precision if it >= 2 ** (precision - 1) else it for it in values])
+    pixels = jls_salvage.write(list(range(18)), 8, 3, 2, 3)
+    differ("colour", decode(pixels, Runner(2, 3, 3)), bytes(at + 6 * k for at in range(6) for k in range(3)))
+    for height, width, count in ((3, 2, 3), (2, 3, 1)):
+        differ("another shape", raised(lambda: decode(pixels, Runner(height, width, count))), jls_salvage.Error)
+    said = jls_salvage.header(copy)
+    differ("lines that are lost", raised(lambda: decode(copy, Runner(said.height, said.width))), pydicom_handler.DamagedFrame)
+    of_uids = [pydicom_decoder.is_available(f"1.2.840.10008.1.2.4.{number}") for number in (80, 81)]
+    differ("which transfer syntaxes", of_uids, [True, False])
+
+
+def data_set(samples: list[bytes], **fields: Any) -> Any:
+    """One with these frames, of 5 rows and 7 columns if nothing else is said."""
     from pydicom.encaps import encapsulate
 
+    found = pydicom.dcmread(os.path.join(TOP, "examples", "first.dcm"))
+    for name, value in {"Rows": 5, "Columns": 7, "BitsAllocated": 16, "BitsStored": 12, "HighBit": 11, **fields}.items():
+        setattr(found, name, value)
+    found.PixelData = encapsulate(samples)
+    return found
+
+
+def decoder_frames() -> None:
+    """What pydicom 3 gets from the plugin, by its public functions."""
+    from pydicom.pixels import pixel_array
+
+    pydicom_decoder.register()
+    pydicom_decoder.register()
+    logging.getLogger("pydicom").setLevel(logging.CRITICAL)
+    by_plugin: dict[str, Any] = {"decoding_plugin": "jls_salvage"}
+    values = numpy.arange(35, dtype=numpy.uint16).reshape(5, 7) * 100
+    deep = jls_salvage.write(values, 12)
+    differ("12 bits by the plugin", (pixel_array(data_set([deep]), **by_plugin) == values).all(), True)
+    differ("two frames by the plugin", pixel_array(data_set([deep, deep], NumberOfFrames=2), **by_plugin).shape, (2, 5, 7))
+    signed = data_set([jls_salvage.write(values & 0 | 4095, 12)], PixelRepresentation=1)
+    differ("signed by the plugin", (pixel_array(signed, **by_plugin) == -1).all(), True)
+    pixels = numpy.arange(105, dtype=numpy.uint8).reshape(5, 7, 3)
+    colour = {"SamplesPerPixel": 3, "PhotometricInterpretation": "RGB", "PlanarConfiguration": 0}
+    eight = {"BitsAllocated": 8, "BitsStored": 8, "HighBit": 7}
+    rgb = data_set([jls_salvage.write(pixels, 8, interleaved=True)], **colour, **eight)
+    differ("colour by the plugin", (pixel_array(rgb, raw=True, **by_plugin) == pixels).all(), True)
+    lost = pydicom.dcmread(os.path.join(TOP, "examples", "first.dcm"))
+    turned = data_set([deep], Rows=7, Columns=5)
+    for name, dataset, words in (("lines that are lost", lost, "is damaged"), ("another shape", turned, "shape")):
+        try:
+            differ(f"{name}, by the plugin", pixel_array(dataset, **by_plugin), "a refusal")
+        except Exception as why:  # any: pydicom puts its own around those of plugins
+            differ(f"{name}, by the plugin", words in str(why), True)
+
+
+def frames() -> None:
+    """What pydicom 2 gets: frames that don't fit are refused before room is taken."""
     pydicom.config.pixel_data_handlers = [pydicom_handler]
     values = numpy.arange(35, dtype=numpy.uint16).reshape(5, 7) * 100
-
-    def made(samples: list[bytes], **fields: Any) -> Any:
-        found = pydicom.dcmread(os.path.join(TOP, "examples", "first.dcm"))
-        for name, value in {"Rows": 5, "Columns": 7, "BitsAllocated": 16, "BitsStored": 12, "HighBit": 11, **fields}.items():
-            setattr(found, name, value)
-        found.PixelData = encapsulate(samples)
-        return found
-
     deep = jls_salvage.write(values, 12)
     vast = bytes.fromhex("FFD8FFF7000B08FFFFFFFF01011100FFDD00040001FFDA00080101000000008000FFD9")
-    differ("12 bits in 16", (made([deep]).pixel_array == values).all(), True)
-    differ("masked", (pydicom_handler.masked_array(made([deep])) == values).all(), True)
-    differ("two frames", made([deep, deep], NumberOfFrames=2).pixel_array.shape, (2, 5, 7))
-    signed = made([jls_salvage.write(values & 0 | 4095, 12)], PixelRepresentation=1).pixel_array
+    differ("12 bits in 16", (data_set([deep]).pixel_array == values).all(), True)
+    differ("masked", (pydicom_handler.masked_array(data_set([deep])) == values).all(), True)
+    differ("two frames", data_set([deep, deep], NumberOfFrames=2).pixel_array.shape, (2, 5, 7))
+    signed = data_set([jls_salvage.write(values & 0 | 4095, 12)], PixelRepresentation=1).pixel_array
     differ("signed", (signed == -1).all(), True)
     wrong = {
-        "12 bits in 8": made([deep], BitsAllocated=8),
-        "Bits Allocated 32": made([deep], BitsAllocated=32),
-        "another shape": made([deep], Rows=7, Columns=5),
-        "more components": made([deep], SamplesPerPixel=3),
-        "a vast frame": made([vast]),
-        "a frame that isn't there": made([deep], NumberOfFrames=2),
+        "12 bits in 8": data_set([deep], BitsAllocated=8),
+        "Bits Allocated 32": data_set([deep], BitsAllocated=32),
+        "another shape": data_set([deep], Rows=7, Columns=5),
+        "more components": data_set([deep], SamplesPerPixel=3),
+        "a vast frame": data_set([vast]),
+        "a frame that isn't there": data_set([deep], NumberOfFrames=2),
     }
     for name, dataset in wrong.items():
         differ(name, raised(lambda: dataset.pixel_array), jls_salvage.Error)
@@ -289,8 +374,12 @@ def main() -> int:
     if numpy is not None:
         arrays()
         masks(copy)
-    if numpy is not None and pydicom is not None:
+        uncopied(sys.argv[1])
+        decoded(copy)
+    if PYDICOM == 2:
         frames()
+    if PYDICOM >= 3:
+        decoder_frames()
     for name in jls_salvage.__all__:
         differ(f"help({name})", bool(pydoc.render_doc(getattr(jls_salvage, name))), True)
     differ("help", all(name in pydoc.render_doc(jls_salvage) for name in ("read(", "NoPicture", "Picture")), True)

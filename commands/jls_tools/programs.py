@@ -6,9 +6,11 @@ import re
 import shutil
 import subprocess
 import sys
+import tempfile
 from typing import Any, Sequence
 
 from jls_tools import library
+from jls_tools.frames.by_sample import headers_by_line, is_by_sample, read_by_sample
 
 PICTURE = re.compile(r"picture (\d+)x(\d+), (\d+) bits, components (\d+(?:,\d+)*)$")
 FAULT = re.compile(r"^end fault (\d+)|no picture, fault (\d+)", re.M)
@@ -135,7 +137,11 @@ def find(name: str) -> str:
 
 
 class Programs:
-    """The two programs. Names of files are taken from `folder`: they have to be UTF-8, and not to begin with a hyphen."""
+    """The two programs. Names of files are taken from `folder`: they have to be UTF-8, and not to begin with a hyphen.
+
+    jls-salvage reads no scan by sample, and jls-splice does. So `check`, `reads` and `join` ask jls-splice of a copy that has one, and no
+    caller needs to know.
+    """
 
     def __init__(self) -> None:
         self.salvage = find("jls-salvage")
@@ -166,16 +172,62 @@ class Programs:
 
     def check(self, name: str, folder: str | None = None) -> Outcome:
         """What a copy is. Of one that is whole the library says the same as the program, without a process."""
-        whole = self.library.whole_at(os.path.join(folder or ".", name)) if self.library else None
+        path = os.path.join(folder or ".", name)
+        whole = self.library.whole_at(path) if self.library else None
         if whole:
             return Outcome(0, whole.printed(), "")
-        return self.run([self.salvage, "check", name], folder)
+        stream = read_by_sample(path)
+        found = self.check_by_sample(stream, name, folder) if stream is not None else None
+        return found or self.run([self.salvage, "check", name], folder)
+
+    def check_by_sample(self, stream: bytes, name: str, folder: str | None) -> Outcome | None:
+        """What a copy with a scan by sample is: the lines that it gives, else what its headers say; nothing if they don't read."""
+        alone = self.alone(os.devnull, name, folder)
+        if alone.report.settled or alone.report.disputed:
+            return alone
+        headers = self.run([self.salvage, "check", "-"], given=headers_by_line(stream))
+        return headers if headers.report.width else None
+
+    def alone(self, out: str, name: str, folder: str | None) -> Outcome:
+        """The lines that one copy gives, by jls-splice: it is its own second copy. The status is that of `check` and `join`."""
+        done = self.run([self.splice_program, out, name, name], folder)
+        report = done.report
+        is_settled = bool(report.settled) and not (report.missing or report.disputed)
+        return Outcome(0 if is_settled and done.status == 1 else done.status, done.printed, done.faults)
+
+    def reads(self, stream: bytes) -> bool:
+        """Whether a codestream is whole."""
+        if self.library and self.library.whole(stream):
+            return True
+        if not is_by_sample(stream):
+            return self.run([self.salvage, "check", "-"], given=stream).status == 0
+        with tempfile.TemporaryDirectory(prefix="jls-dicom-") as folder:
+            with open(os.path.join(folder, "frame.jls"), "wb") as file:
+                file.write(stream)
+            return self.check("frame.jls", folder).status == 0
 
     def show(self, name: str, folder: str | None = None) -> Outcome:
         return self.run([self.salvage, "show", name], folder)
 
     def join(self, out: str, names: Sequence[str], folder: str | None = None) -> Outcome:
-        return self.run([self.salvage, "join", out, *names], folder)
+        """Joins copies and partial pictures. A copy with a scan by sample is joined as the partial picture that jls-splice makes of it."""
+        given, made = [], []
+        try:
+            for name in names:
+                given.append(self.part_by_sample(name, folder) or name)
+                made += given[-1:] if given[-1] != name else []
+            return self.run([self.salvage, "join", out, *given], folder)
+        finally:
+            for part in made:
+                os.remove(os.path.join(folder or ".", part))
+
+    def part_by_sample(self, name: str, folder: str | None) -> str | None:
+        """The name of the partial picture of a copy with a scan by sample; nothing for any other, or where there is no picture."""
+        if read_by_sample(os.path.join(folder or ".", name)) is None:
+            return None
+        part = f"{name}.by-sample"
+        self.alone(part, name, folder)
+        return part if os.path.exists(os.path.join(folder or ".", part)) else None
 
     def write_jls(self, out: str, name: str, folder: str | None = None, by_line: bool = False) -> Outcome:
         """Writes a whole picture as JPEG-LS; by line, if its components shall be interleaved so."""

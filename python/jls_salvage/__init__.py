@@ -12,7 +12,7 @@
 `mend` calls the program jls-splice, which has to be there. `help(jls_salvage.Mended)` lists what is told.
 
 `check` tells the same without the samples, and `header` without reading any. A copy without a frame raises `NoPicture`, and one of a coding
-that isn't read raises `Unsupported`.
+that isn't read raises `Unsupported`. With `strict=True` that is so of scans that are interleaved by sample too.
 
     first, second = jls_salvage.partial(one, 1), jls_salvage.partial(other, 2)
     jls_salvage.lines(jls_salvage.join(first, second))   # what both copies give together

@@ -15,6 +15,9 @@ _SONAME = "libjls_salvage.so.2"
 #: The oldest version of the library that has all that is called here, as `jls_version` tells it.
 _OLDEST = 10200
 
+#: The profiles: `enum jls_profile`. A wide one reads scans that are interleaved by sample too.
+STRICT, WIDE = range(2)
+
 _LONG = ("samples", "bytes", "faulty_pieces", "end_offset", "lines", "missing", "settled", "disputed")
 
 
@@ -107,14 +110,14 @@ def library() -> ctypes.CDLL:
     """The library, with the types of its functions. Raises `MissingLibrary`."""
     found = _opened(_place())
     size, info, nothing = ctypes.c_size_t, ctypes.POINTER(InfoStruct), ctypes.c_void_p
-    found.jls_check.argtypes = [nothing, size, info, ctypes.POINTER(PieceStruct), size]
+    found.jls_check_under.argtypes = [nothing, size, ctypes.c_uint32, info, ctypes.POINTER(PieceStruct), size]
     found.jls_read_header.argtypes = [nothing, size, ctypes.POINTER(HeaderStruct)]
-    found.jls_read.argtypes = [nothing, size, info, nothing, size, nothing, size]
-    found.jls_partial.argtypes = [nothing, size, ctypes.c_uint32, info, nothing, size]
+    found.jls_read_under.argtypes = [nothing, size, ctypes.c_uint32, info, nothing, size, nothing, size]
+    found.jls_partial_under.argtypes = [nothing, size, ctypes.c_uint32, ctypes.c_uint32, info, nothing, size]
     found.jls_join.argtypes = [nothing, size, nothing, size, info, nothing, size]
     found.jls_lines.argtypes = [nothing, size, info, nothing, size, ctypes.POINTER(LineStruct), size]
     found.jls_write.argtypes = [ctypes.POINTER(FrameStruct), nothing, size, nothing, size, ctypes.POINTER(ctypes.c_uint64)]
-    for name in ("version", "check", "read_header", "read", "partial", "join", "lines", "write"):
+    for name in ("version", "check_under", "read_header", "read_under", "partial_under", "join", "lines", "write"):
         getattr(found, f"jls_{name}").restype = ctypes.c_uint32
     return found
 

@@ -10,7 +10,7 @@ from typing import List, NoReturn, Optional, Sequence, Tuple
 from ._library import refuse_name
 from ._mended import Mended, Report
 from ._program import Ended, called
-from ._reading import header, lines
+from ._reading import check, header, lines
 from ._types import Bytes, Coding, Error, Fault, NoPicture, NotMendable, Picture, ShapesDiffer, Unsupported
 
 PROGRAM = "jls-splice"
@@ -76,15 +76,19 @@ def _refused(ended: Ended) -> NoReturn:
 
 
 def _refuse_coding(copies: Sequence[Bytes], picture: Picture) -> None:
-    """Raises `Unsupported` where no line came back, and all copies say one coding that isn't read: damage hardly says so in each."""
+    """Raises `Unsupported` where no line came back, and all copies say one coding that isn't read: damage hardly says so in each. A header
+    says so of scans by sample too, of which those of one component aren't read."""
     if picture.info.missing < picture.info.lines:
         return
     try:
         headers = [header(copy) for copy in copies]
     except NoPicture:
         return
-    if headers[0].coding != Coding.SUPPORTED and all(it.coding == headers[0].coding for it in headers):
-        raise Unsupported(headers[0].coding, headers[0].end_offset)
+    coding = headers[0].coding
+    if coding == Coding.BY_SAMPLE and any(check(copy).coding != coding for copy in copies):
+        return
+    if coding != Coding.SUPPORTED and all(it.coding == coding for it in headers):
+        raise Unsupported(coding, headers[0].end_offset)
 
 
 def _lists(bad: Sequence[Tuple[int, Bytes]], count: int) -> List[Bytes]:

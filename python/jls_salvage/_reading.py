@@ -8,10 +8,14 @@ import operator
 import os
 from typing import Any, Callable, Sequence, Tuple, Union
 
-from ._library import Buffer, InfoStruct, LineStruct, PieceStruct, header_struct, info_struct, judge, library
+from ._library import STRICT, WIDE, Buffer, InfoStruct, LineStruct, PieceStruct, header_struct, info_struct, judge, library
 from ._types import Answer, Bytes, Coding, End, Error, Fault, Header, Info, NoPicture, Picture, Piece, Unsupported
 
 MOST_PIECES = 4096
+
+
+def _profile(strict: bool) -> int:
+    return STRICT if strict else WIDE
 
 
 def _info(found: InfoStruct, pieces: Sequence[Piece] = ()) -> Info:
@@ -22,8 +26,9 @@ def _info(found: InfoStruct, pieces: Sequence[Piece] = ()) -> Info:
 
 
 def header(copy: Bytes) -> Header:
-    """Tells what the headers of a copy say, up to its first scan. It reads no scan data, and the copy may end there. Raises `NoPicture`
-    where there is no frame, and MemoryError."""
+    """Tells what the headers of a copy say, up to its first scan. It reads no scan data, and the copy may end there. They are judged as
+    with `strict`. Where `coding` is `Coding.BY_SAMPLE`, `read` reads the scan if it has two components or more, and no other fault. Raises
+    `NoPicture` where there is no frame, and MemoryError."""
     data, found = Buffer(copy), header_struct()
     judge(library().jls_read_header(data.address, data.size, ctypes.byref(found)), found)
     return Header(
@@ -32,11 +37,12 @@ def header(copy: Bytes) -> Header:
     )  # fmt: skip
 
 
-def check(copy: Bytes) -> Info:
+def check(copy: Bytes, *, strict: bool = False) -> Info:
     """Tells what a copy, which may be damaged, says of its picture, how many of its lines it gives, and how it ended. `pieces` has the
-    first 4,096 of its faulty pieces, and `coding` what isn't supported. Raises `NoPicture` where there is no frame, and MemoryError."""
+    first 4,096 of its faulty pieces, and `coding` what isn't supported. With `strict` a scan that is interleaved by sample isn't read.
+    Raises `NoPicture` where there is no frame, and MemoryError."""
     data, found, pieces = Buffer(copy), info_struct(), (PieceStruct * MOST_PIECES)()
-    judge(library().jls_check(data.address, data.size, ctypes.byref(found), pieces, MOST_PIECES), found)
+    judge(library().jls_check_under(data.address, data.size, _profile(strict), ctypes.byref(found), pieces, MOST_PIECES), found)
     kept = min(found.faulty_pieces, MOST_PIECES)
     return _info(found, tuple(Piece(it.offset, it.interval, it.scan, it.kind) for it in pieces[:kept]))
 
@@ -63,21 +69,22 @@ def _likely_room(data: Buffer) -> Tuple[int, int]:
     return (found.samples, found.lines) if found.samples <= 4096 * data.size else (0, 0)
 
 
-def _read_into(data: Buffer, found: InfoStruct, count: int, lines: int) -> Tuple[Answer, Any, bytearray]:
+def _read_into(data: Buffer, strict: bool, found: InfoStruct, count: int, lines: int) -> Tuple[Answer, Any, bytearray]:
     samples, address = _room(count)
     statuses = bytearray(lines)
     held = (ctypes.c_uint8 * lines).from_buffer(statuses)
-    answer = library().jls_read(data.address, data.size, ctypes.byref(found), address, count, ctypes.addressof(held), lines)
+    where = ctypes.byref(found), address, count, ctypes.addressof(held), lines
+    answer = library().jls_read_under(data.address, data.size, _profile(strict), *where)
     return judge(answer, found), samples, statuses
 
 
-def read(copy: Bytes) -> Picture:
-    """Reads a copy, which may be damaged. Raises `NoPicture` where there is no frame, `Unsupported` where it has a coding that isn't read,
-    and MemoryError."""
+def read(copy: Bytes, *, strict: bool = False) -> Picture:
+    """Reads a copy, which may be damaged. With `strict` a scan that is interleaved by sample isn't read. Raises `NoPicture` where there is
+    no frame, `Unsupported` where it has a coding that isn't read, and MemoryError."""
     data, found = Buffer(copy), info_struct()
-    answer, samples, statuses = _read_into(data, found, *_likely_room(data))
+    answer, samples, statuses = _read_into(data, strict, found, *_likely_room(data))
     if answer == Answer.SHORT_ROOM:
-        answer, samples, statuses = _read_into(data, found, found.samples, found.lines)
+        answer, samples, statuses = _read_into(data, strict, found, found.samples, found.lines)
     if answer not in (Answer.DONE, Answer.UNSUPPORTED):
         raise Error(f"libjls_salvage: {answer.name}")
     picture = Picture(_info(found), statuses[: found.lines], samples[: found.samples])
@@ -86,10 +93,10 @@ def read(copy: Bytes) -> Picture:
     return picture
 
 
-def read_file(path: Union[str, os.PathLike[str]]) -> Picture:
+def read_file(path: Union[str, os.PathLike[str]], *, strict: bool = False) -> Picture:
     """Reads a copy that is a file, as `read` does. Raises OSError too."""
     with open(path, "rb") as file:
-        return read(file.read())
+        return read(file.read(), strict=strict)
 
 
 def _written(call: Callable[[Any, int, int], Any], found: InfoStruct, room: int) -> bytes:
@@ -106,16 +113,18 @@ def _written(call: Callable[[Any, int, int], Any], found: InfoStruct, room: int)
         room = found.bytes
 
 
-def partial(copy: Bytes, source: int) -> bytes:
+def partial(copy: Bytes, source: int, *, strict: bool = False) -> bytes:
     """Reads a copy, which may be damaged, and gives it as a partial picture: the bytes of a .jlsp file. `source` is a number of 32 bits for
-    the copy. Raises `NoPicture` where there is no frame, `Unsupported` where it has a coding that isn't read, and MemoryError."""
+    the copy. With `strict` a scan that is interleaved by sample isn't read. Raises `NoPicture` where there is no frame, `Unsupported` where
+    it has a coding that isn't read, and MemoryError."""
     source = operator.index(source)
     if not 0 <= source < 2**32:
         raise ValueError("a source has 32 bits")
     data, found = Buffer(copy), info_struct()
     count, lines = _likely_room(data)
     room = 2 * count + 31 * lines + 64
-    return _written(lambda info, out, size: library().jls_partial(data.address, data.size, source, info, out, size), found, room)
+    copied = data.address, data.size, _profile(strict), source
+    return _written(lambda info, out, size: library().jls_partial_under(*copied, info, out, size), found, room)
 
 
 def _joined(first: Bytes, second: Bytes) -> bytes:

@@ -41,6 +41,7 @@ class Answer(enum.IntEnum):
     NOT_MENDED = 15
     STOPPED = 16
     BAD_LISTS = 17
+    BAD_PROFILE = 18
 
 
 class _Told(enum.IntEnum):
@@ -106,7 +107,8 @@ class Fault(_Told):
 
 
 class Coding(_Told):
-    """What a copy has that the library doesn't read: `enum jls_unsupported`. A damaged header can say it too."""
+    """What a copy has that the library doesn't read: `enum jls_unsupported`. A damaged header can say it too. `BY_SAMPLE` is read, unless
+    `strict` is asked for or the scan has one component."""
 
     SUPPORTED = 0, "supported"
     NEAR_LOSSLESS = 1, "near-lossless coding"

@@ -3,7 +3,9 @@
     import pydicom
     from jls_salvage import pydicom_decoder
     pydicom_decoder.register()
-    pydicom.pixels.pixel_array("file.dcm")           # raises DamagedFrame where lines are missing
+    pydicom.pixels.pixel_array("file.dcm", decoding_plugin="jls_salvage")       # refuses a frame where lines are missing
+
+`decoding_plugin` names this one alone: else pydicom may ask its other plugins after a refusal, which may take damage for samples.
 """
 from __future__ import annotations
 
@@ -22,7 +24,8 @@ def is_available(uid: str) -> bool:
 
 
 def _decode_frame(src: bytes, runner: Any) -> bytes:
-    """The samples of a frame, pixel by pixel, as pydicom wants them. Raises `DamagedFrame` where a line is missing."""
+    """The samples of a frame, pixel by pixel, as pydicom wants them. A signed sample of few bits has its sign repeated above them. Raises
+    `DamagedFrame` where a line is missing."""
     import numpy
 
     found = jls_salvage.header(src)
@@ -36,7 +39,11 @@ def _decode_frame(src: bytes, runner: Any) -> bytes:
     deep = found.precision > 8
     runner.set_option("bits_allocated", 16 if deep else 8)
     runner.set_option("planar_configuration", 0)
-    samples: bytes = numpy.ascontiguousarray(picture.array().astype("<u2" if deep else "u1")).tobytes()
+    values = picture.array()
+    if getattr(runner, "pixel_representation", 0):
+        above = 16 - found.precision
+        values = (values << above).astype(numpy.uint16).view(numpy.int16) >> above
+    samples: bytes = numpy.ascontiguousarray(values.astype("<u2" if deep else "u1")).tobytes()
     return samples
 
 

@@ -16,7 +16,7 @@ import os
 import re
 import tempfile
 from dataclasses import dataclass, field
-from typing import Any, List, NoReturn, Optional, Sequence, Union
+from typing import Any, Callable, List, NoReturn, Optional, Sequence, Tuple, Union
 
 from ._program import Ended, called
 from ._reading import lines, read
@@ -103,7 +103,8 @@ def _refused(ended: Ended) -> NoReturn:
 
 def _picture(folder: str, number: int) -> Optional[Picture]:
     """What came back of a frame, of the folder that has the frames."""
-    for ending, reader in ((".jls", read), (".jlsp", lines)):
+    readers: Sequence[Tuple[str, Callable[[bytes], Picture]]] = ((".jls", read), (".jlsp", lines))
+    for ending, reader in readers:
         try:
             with open(os.path.join(folder, f"frame-{number:04}{ending}"), "rb") as file:
                 return reader(file.read())

@@ -190,6 +190,6 @@ int main(void) {
     for (uint32_t number = 0; number < 64; number++)
         want("no text", jls_text(number)[0] != 0 && jls_fault_text(number)[0] != 0 && jls_unsupported_text(number)[0] != 0);
     want("a text", strcmp(jls_text(JLS_BAD_LAYOUT), "no such layout") == 0);
-    want("a last text", strcmp(jls_text(JLS_BAD_LISTS), "a list of bad places is of no copy") == 0 && strcmp(jls_text(JLS_BAD_LISTS + 1), "unknown") == 0);
+    want("a last text", strcmp(jls_text(JLS_BAD_PROFILE), "no such profile") == 0 && strcmp(jls_text(JLS_BAD_PROFILE + 1), "unknown") == 0);
     return differ;
 }

@@ -1,7 +1,8 @@
-/* mend_refused COPY COPY..: refuses memory that jls_mend asks for, with and without lists of bad places: one request, or all from one on,
-   until the call asks for no more. It has to answer JLS_OUT_OF_MEMORY, and to have written nothing; or it did without, and gives what it gives otherwise. No block may be left. And
-   where a damaged header claims a large picture, no large block may be asked for. Link it with --wrap for malloc, calloc, realloc and free.
-   It prints each difference. */
+/* mend_refused COPY COPY..: refuses memory that jls_mend asks for, with and without lists of bad places, of the C library and of `resize`:
+   one request, or all from one on, until the call asks for no more. It has to answer JLS_OUT_OF_MEMORY, and to have written nothing; or it
+   did without, and gives what it gives otherwise. No block may be left, and with `resize` none may come from elsewhere. And where a damaged
+   header claims a large picture, no large block may be asked for. Link it with --wrap for malloc, calloc, realloc and free. It prints each
+   difference. */
 #include <jls_salvage.h>
 #include <stdio.h>
 #include <stdlib.h>
@@ -11,7 +12,7 @@ void *__real_malloc(size_t size);
 void *__real_calloc(size_t count, size_t size);
 void *__real_realloc(void *old, size_t size);
 void __real_free(void *block);
-static long left = -1, refusals, blocks;
+static long left = -1, refusals, blocks, plain; /* plain: how often the C library was called */
 static int once, differ;
 static size_t largest; /* what was asked for at once */
 
@@ -25,21 +26,31 @@ static int is_refused(size_t size) {
 
 static void *counted(void *block) { return blocks += block != NULL, block; }
 
-void *__wrap_malloc(size_t size) { return is_refused(size) ? NULL : counted(__real_malloc(size)); }
-void *__wrap_calloc(size_t count, size_t size) { return is_refused(count * size) ? NULL : counted(__real_calloc(count, size)); }
-
-void *__wrap_realloc(void *old, size_t size) {
-    if (is_refused(size)) return NULL;
-    return old == NULL ? counted(__real_realloc(old, size)) : __real_realloc(old, size);
-}
-
-void __wrap_free(void *block) {
+static void freed(void *block) {
     blocks -= block != NULL;
     __real_free(block);
 }
 
+static void *resized(void *old, size_t size) {
+    if (is_refused(size)) return NULL;
+    return old == NULL ? counted(__real_realloc(old, size)) : __real_realloc(old, size);
+}
+
+void *__wrap_malloc(size_t size) { return plain++, resized(NULL, size); }
+void *__wrap_calloc(size_t count, size_t size) { return plain++, is_refused(count * size) ? NULL : counted(__real_calloc(count, size)); }
+void *__wrap_realloc(void *old, size_t size) { return plain++, resized(old, size); }
+void __wrap_free(void *block) { plain++, freed(block); }
+
 static void want(const char *what, int holds) {
     if (!holds) differ++, printf("%s\n", what);
+}
+
+/* Memory of the caller's, with his context. */
+static void *resize(void *memory, void *block, size_t size) {
+    want("another context", memory == &blocks);
+    if (size != 0) return resized(block, size);
+    want("no block is freed", block != NULL);
+    return freed(block), NULL;
 }
 
 enum { MOST = 4, ROOM = 1 << 20 };
@@ -67,7 +78,7 @@ static int is_same(const jls_mended *one, const jls_mended *other) {
 static int has_none(long request, const jls_mended *whole) {
     jls_mended *mended = (jls_mended *)&differ;
     long before = blocks;
-    left = request, refusals = 0;
+    left = request, refusals = 0, plain = 0;
     uint32_t answer = jls_mend(copies, number, &options, &mended);
     left = -1;
     want("another answer", answer == JLS_DONE || (answer == JLS_OUT_OF_MEMORY && refusals > 0));
@@ -78,6 +89,7 @@ static int has_none(long request, const jls_mended *whole) {
         want("a refusal has written", mended == (jls_mended *)&differ);
     }
     want("a block is left", blocks == before);
+    want("a block of the C library", plain == 0 || options.resize == NULL);
     return refusals == 0;
 }
 
@@ -105,14 +117,19 @@ int main(int count, char **names) {
     }
     static const uint8_t place[] = "40 1\n", none[] = "# nothing is bad\n";
     static const jls_bad_list lists[] = {{0, place, sizeof place - 1}, {1, none, sizeof none - 1}};
-    options.files = 1, options.bad = lists;
+    options.files = 1, options.bad = lists, options.memory = &blocks;
     for (options.bad_count = 0; options.bad_count <= 2; options.bad_count += 2) {
+        options.resize = NULL;
         if (jls_mend(copies, number, &options, &whole) != JLS_DONE) return 98;
-        for (once = 0; once < 2; once++) /* with many requests some are left out */
+        for (int way = 0; way < 4; way++) { /* with many requests some are left out */
+            once = way % 2, options.resize = way < 2 ? NULL : resize;
             for (long request = 0; calls++, !has_none(request, whole); request += 1 + request / 16) {}
+        }
         jls_mended_free(whole);
     }
     options.bad_count = 0;
+    claims();
+    options.resize = NULL;
     claims();
     want("few requests were refused", calls > 20);
     return printf("%ld calls, %d differ\n", calls, differ), differ != 0;

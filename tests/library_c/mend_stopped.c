@@ -1,7 +1,7 @@
 /* mend_stopped COPY COPY..: stops jls_mend by `stop` at its first ask, at each later one, and never. A call that is stopped has to answer
-   JLS_STOPPED, to write nothing, to ask no more, and to leave no block. One that isn't stopped gives what it gives without `stop`, also where
-   its caller reads and mends while it is asked, or has options of the first version. In four threads each call asks its own caller. Link it
-   with --wrap for malloc, calloc, realloc and free. It prints each difference. */
+   JLS_STOPPED, to write nothing, to ask no more, and to leave no block. One that isn't stopped gives what it gives without `stop`, also
+   where its caller reads and mends while it is asked or gives memory, or has options of the first version. In four threads each call asks
+   its own caller, and each has memory of its own. Link it with --wrap for malloc, calloc, realloc and free. It prints each difference. */
 #include <jls_salvage.h>
 #include <pthread.h>
 #include <stdatomic.h>
@@ -38,11 +38,13 @@ static jls_copy copies[MOST];
 static size_t number;
 static jls_mended *whole; /* what comes of them without `stop` */
 
-/* A caller: how often it was asked, the ask from which on it says to stop, and what it says then. */
+/* A caller: how often it was asked, the ask from which on it says to stop, and what it says then. `taken` is how many blocks of its own it
+   has given and not got back, and `times` how often it was called for that. */
 typedef struct caller {
     long asked, from;
     int says;
     void (*meanwhile)(void);
+    long taken, times;
 } caller;
 
 static int stop(void *context) {
@@ -55,6 +57,22 @@ static jls_mend_options options_of(caller *it) {
     jls_mend_options options = JLS_MEND_OPTIONS;
     options.files = 1, options.stop = stop, options.context = it;
     return options;
+}
+
+/* A caller's memory: each block says behind which caller it stands. */
+static void *resize(void *memory, void *block, size_t size) {
+    enum { BEFORE = 16 };
+    caller *it = memory, *whose = it;
+    uint8_t *old = block != NULL ? (uint8_t *)block - BEFORE : NULL;
+    if (it->meanwhile != NULL && it->times % 64 == 0) it->meanwhile();
+    it->times++;
+    if (old != NULL) memcpy(&whose, old, sizeof whose);
+    want("another caller's block", whose == it);
+    it->taken += (size != 0) - (old != NULL);
+    if (size == 0) return __real_free(old), NULL;
+    uint8_t *found = __real_realloc(old, BEFORE + size);
+    if (found == NULL) exit(96);
+    return memcpy(found, &it, sizeof it), found + BEFORE;
 }
 
 typedef const uint8_t *(*part)(const jls_mended *, size_t *);
@@ -91,7 +109,7 @@ static uint32_t mend(const jls_mend_options *options) {
 /* Stops at each ask in turn, until there is none so late. Answers how many there are. */
 static long stop_at_each(int says) {
     for (long from = 0;; from++) {
-        caller it = {0, from, says, NULL};
+        caller it = {0, from, says, NULL, 0, 0};
         jls_mend_options options = options_of(&it);
         uint32_t answer = mend(&options);
         want("another answer", answer == (it.asked > from ? JLS_STOPPED : JLS_DONE));
@@ -109,7 +127,7 @@ static void reads(void) {
 }
 
 static void mends(void) {
-    caller it = {0, 0, 1, NULL};
+    caller it = {0, 0, 1, NULL, 0, 0};
     jls_mend_options options = options_of(&it);
     want("another one is not stopped", mend(&options) == JLS_STOPPED && it.asked == 1);
 }
@@ -118,9 +136,14 @@ static void mends(void) {
 static void go_on(long asks) {
     void (*const meanwhile[])(void) = {NULL, reads, mends};
     for (size_t at = 0; at < sizeof meanwhile / sizeof *meanwhile; at++) {
-        caller it = {0, asks + 1, 1, meanwhile[at]};
+        caller it = {0, asks + 1, 1, meanwhile[at], 0, 0};
         jls_mend_options options = options_of(&it);
         want("a call that goes on ends", mend(&options) == JLS_DONE && it.asked == asks);
+        options.resize = resize, options.memory = &it, it.asked = 0;
+        want("a call with memory of its own ends", mend(&options) == JLS_DONE && it.asked == asks);
+        options.stop = NULL;
+        want("one that nobody stops ends", mend(&options) == JLS_DONE && it.asked == asks);
+        want("a block is not freed", it.taken == 0 && it.times > 0);
     }
     jls_mend_options none = options_of(NULL);
     none.stop = NULL;
@@ -129,11 +152,11 @@ static void go_on(long asks) {
     want("context without stop", mend(&none) == JLS_DONE);
 }
 
-/* Options of each size, in blocks of just their length. The first version has no `stop`, and is aligned as a number of 32 bits is. The second
-   has no lists. */
+/* Options of each size, in blocks of just their length. The first version has no `stop`, and is aligned as a number of 32 bits is. The
+   second has no lists, and the third no `resize`. */
 static void versions(void) {
-    enum { FIRST = 20, SECOND = 40 };
-    caller it = {0, 0, 1, NULL};
+    enum { FIRST = 20, SECOND = 40, THIRD = 56 };
+    caller it = {0, 0, 1, NULL, 0, 0};
     for (uint32_t size = sizeof size; size <= sizeof(jls_mend_options) + 8; size++) {
         jls_mend_options options = options_of(&it);
         size_t before = size == FIRST ? 4 : 0;
@@ -141,17 +164,19 @@ static void versions(void) {
         options.size = size;
         memcpy(block + before, &options, size < sizeof options ? size : sizeof options);
         uint32_t answer = mend((const jls_mend_options *)(const void *)(block + before));
-        int is_known = size == SECOND || size >= sizeof options;
+        int is_known = size == SECOND || size == THIRD || size >= sizeof options;
         want("another answer to a size", answer == (size == FIRST ? JLS_DONE : is_known ? JLS_STOPPED : JLS_BAD_SIZE));
         __real_free(block);
     }
 }
 
 static void *thread(void *from) {
-    caller it = {0, (long)(intptr_t)from, 1, NULL};
+    caller it = {0, (long)(intptr_t)from, 1, NULL, 0, 0};
     jls_mend_options options = options_of(&it);
+    options.resize = resize, options.memory = &it;
     want("another thread's answer", mend(&options) == (it.asked > it.from ? JLS_STOPPED : JLS_DONE));
     want("another thread's ask", it.asked <= it.from + 1);
+    want("another thread's block", it.taken == 0 && it.times > 0);
     return NULL;
 }
 

@@ -44,6 +44,36 @@ static int read_lists(char **words, int count) {
     return count;
 }
 
+/* Whether the places are those of the lines, which begin with them: all that are listed, and how many more there are. */
+static void has_places(const jls_mended *mended) {
+    enum { LISTED = 4096 };
+    static jls_place places[LISTED + 1];
+    uint64_t all = 0, again = 0;
+    size_t size = 0, rooms[] = {0, 1, LISTED - 1, LISTED, LISTED + 1};
+    const char *line = (const char *)jls_mended_lines(mended, &size), *end = size != 0 ? line + size : line;
+    want("places are not counted", jls_mended_places(mended, NULL, 0, &all) == JLS_DONE);
+    for (size_t at = 0; at < sizeof rooms / sizeof *rooms; at++) {
+        size_t given = rooms[at] < all ? rooms[at] : (size_t)all;
+        if (given > LISTED) given = LISTED;
+        memset(places, 0xA5, sizeof places);
+        want("other places", jls_mended_places(mended, places, rooms[at], &again) == JLS_DONE && again == all);
+        for (size_t byte = 0; byte < sizeof *places; byte++) want("a place too many", ((uint8_t *)&places[given])[byte] == 0xA5);
+    }
+    uint64_t listed = all < LISTED ? all : LISTED;
+    for (uint64_t at = 0; at < listed + (all > LISTED); at++) {
+        char text[64];
+        unsigned long long offset = places[at].offset, its = places[at].length, more = all - listed;
+        int length = at < listed ? snprintf(text, sizeof text, "differ %llu %llu\n", offset, its)
+                                 : snprintf(text, sizeof text, "differ more %llu\n", more);
+        if (end - line < length || memcmp(line, text, (size_t)length) != 0) {
+            want("another place", 0);
+            return;
+        }
+        line += length;
+    }
+    want("a place is lost", end - line < 7 || memcmp(line, "differ ", 7) != 0);
+}
+
 static int mend_files(char **words, int count) {
     jls_mend_options options = JLS_MEND_OPTIONS;
     jls_mend_info info = JLS_MEND_INFO;
@@ -68,6 +98,7 @@ static int mend_files(char **words, int count) {
     printf("answer %u cause %u fault %u offset %llu copy %lld promised %u whole %u file %u files %u list %lld line %llu\n", (unsigned)answer, info.cause,
            info.fault, (unsigned long long)info.offset, info.has_copy ? (long long)info.copy : -1, info.is_promised, info.is_whole,
            info.has_file, (unsigned)info.files, info.has_list ? (long long)info.list : -1, (unsigned long long)info.line);
+    has_places(mended);
     const uint8_t *bytes = jls_mended_picture(mended, &size);
     put(words[4], "OUT", bytes, size);
     bytes = jls_mended_file(mended, &size);
@@ -84,7 +115,7 @@ static int mend_files(char **words, int count) {
     bytes = jls_mended_lines(mended, &size);
     put(words[4], "LINES", bytes, size);
     jls_mended_free(mended);
-    return 0;
+    return differ != 0;
 }
 
 /* A file of one sample, and one of two lines, by hand: each sample is 0. */
@@ -111,6 +142,7 @@ static void stopped(const char *what, jls_copy first, jls_copy second, int cause
     want(what, jls_mended_picture(mended, &size) == NULL && size == 0);
     want(what, jls_mended_file(mended, &size) == NULL && jls_mended_numbered(mended, 0, &size) == NULL);
     want(what, jls_mended_lines(mended, &size) == NULL && size == 0);
+    has_places(mended);
     jls_mended_free(mended);
 }
 

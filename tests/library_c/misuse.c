@@ -51,9 +51,24 @@ static const char *told_of(int line, int run) {
     NULLS(jls_read_as(COPY, &info, NULL, one.bytes, 1, two.bytes, 1), "jls_read_as", "layout");
     NULLS(jls_read_as(COPY, &info, &bytes, NULL, 1, two.bytes, 1), "jls_read_as", "samples");
     NULLS(jls_read_as(COPY, &info, &bytes, one.bytes, 1, NULL, 1), "jls_read_as", "statuses");
+    NULLS(jls_check_under(NULL, 1, JLS_WIDE, &info, NULL, 0), "jls_check_under", "copy");
+    NULLS(jls_check_under(COPY, JLS_WIDE, NULL, NULL, 0), "jls_check_under", "info");
+    NULLS(jls_check_under(COPY, JLS_WIDE, &info, NULL, 1), "jls_check_under", "pieces");
+    NULLS(jls_read_under(NULL, 1, JLS_WIDE, &info, NULL, 0, NULL, 0), "jls_read_under", "copy");
+    NULLS(jls_read_under(COPY, JLS_WIDE, NULL, NULL, 0, NULL, 0), "jls_read_under", "info");
+    NULLS(jls_read_under(COPY, JLS_WIDE, &info, NULL, 1, one.bytes, 1), "jls_read_under", "samples");
+    NULLS(jls_read_under(COPY, JLS_WIDE, &info, one.samples, 1, NULL, 1), "jls_read_under", "statuses");
+    NULLS(jls_read_as_under(NULL, 1, JLS_WIDE, &info, &bytes, NULL, 0, NULL, 0), "jls_read_as_under", "copy");
+    NULLS(jls_read_as_under(COPY, JLS_WIDE, NULL, &bytes, NULL, 0, NULL, 0), "jls_read_as_under", "info");
+    NULLS(jls_read_as_under(COPY, JLS_WIDE, &info, NULL, one.bytes, 1, two.bytes, 1), "jls_read_as_under", "layout");
+    NULLS(jls_read_as_under(COPY, JLS_WIDE, &info, &bytes, NULL, 1, two.bytes, 1), "jls_read_as_under", "samples");
+    NULLS(jls_read_as_under(COPY, JLS_WIDE, &info, &bytes, one.bytes, 1, NULL, 1), "jls_read_as_under", "statuses");
     NULLS(jls_partial(NULL, 1, 1, &info, NULL, 0), "jls_partial", "copy");
     NULLS(jls_partial(COPY, 1, NULL, NULL, 0), "jls_partial", "info");
     NULLS(jls_partial(COPY, 1, &info, NULL, 1), "jls_partial", "partial");
+    NULLS(jls_partial_under(NULL, 1, JLS_WIDE, 1, &info, NULL, 0), "jls_partial_under", "copy");
+    NULLS(jls_partial_under(COPY, JLS_WIDE, 1, NULL, NULL, 0), "jls_partial_under", "info");
+    NULLS(jls_partial_under(COPY, JLS_WIDE, 1, &info, NULL, 1), "jls_partial_under", "partial");
     NULLS(jls_join(NULL, 1, COPY, &info, NULL, 0), "jls_join", "first");
     NULLS(jls_join(COPY, NULL, 1, &info, NULL, 0), "jls_join", "second");
     NULLS(jls_join(COPY, COPY, NULL, NULL, 0), "jls_join", "info");
@@ -78,6 +93,9 @@ static const char *told_of(int line, int run) {
     NULLS(jls_mend(both, 2, &without_lists, &mended), "jls_mend", "bad");
     NULLS(jls_mend(both, 2, &lost_lists, &mended), "jls_mend", "bad[at].list");
     NULLS(jls_mended_info(NULL, &two.told), "jls_mended_info", "mended");
+    NULLS(jls_mended_places(NULL, NULL, 0, &size), "jls_mended_places", "mended");
+    NULLS(jls_mended_places(MENDED, NULL, 1, &size), "jls_mended_places", "places");
+    NULLS(jls_mended_places(MENDED, NULL, 0, NULL), "jls_mended_places", "count");
     NULLS(jls_mended_picture(NULL, &count), "jls_mended_picture", "mended");
     NULLS(jls_mended_file(NULL, &count), "jls_mended_file", "mended");
     NULLS(jls_mended_numbered(NULL, 0, &count), "jls_mended_numbered", "mended");
@@ -91,6 +109,7 @@ static const char *told_of(int line, int run) {
     WRONG(jls_mend(both, 2, &one.options, &one.mended), "libjls_salvage: jls_mend: mended overlaps options\n");
     WRONG(jls_mend(written, 2, &options, &one.mended), "libjls_salvage: jls_mend: mended overlaps copies[at].bytes\n");
     WRONG(jls_mended_info(MENDED, &one.told), "libjls_salvage: jls_mended_info: info overlaps mended\n");
+    WRONG(jls_mended_places(MENDED, NULL, 0, &one.size), "libjls_salvage: jls_mended_places: count overlaps mended\n");
     WRONG(jls_mended_picture(MENDED, &one.count), "libjls_salvage: jls_mended_picture: size overlaps mended\n");
     WRONG(jls_mended_file(MENDED, &one.count), "libjls_salvage: jls_mended_file: size overlaps mended\n");
     WRONG(jls_mended_numbered(MENDED, 0, &one.count), "libjls_salvage: jls_mended_numbered: size overlaps mended\n");
@@ -107,6 +126,11 @@ static const char *told_of(int line, int run) {
     WRONG(jls_read_as(COPY, &info, &pairs, one.samples, 2, one.bytes + 3, 1), "libjls_salvage: jls_read_as: statuses overlaps samples\n");
     WRONG(jls_read_header(one.bytes, 256, &one.header), "libjls_salvage: jls_read_header: header overlaps copy\n");
     WRONG(jls_partial(one.bytes, 9, 1, &info, one.bytes + 8, 9), "libjls_salvage: jls_partial: partial overlaps copy\n");
+    WRONG(jls_check_under(one.bytes, 256, JLS_WIDE, &info, one.pieces, 1), "libjls_salvage: jls_check_under: pieces overlaps copy\n");
+    WRONG(jls_read_under(COPY, JLS_WIDE, &info, one.samples, 2, one.bytes + 3, 1), "libjls_salvage: jls_read_under: statuses overlaps samples\n");
+    WRONG(jls_read_as_under(COPY, JLS_WIDE, &info, &pairs, one.samples, 2, one.bytes + 3, 1), "libjls_salvage: jls_read_as_under: statuses overlaps samples\n");
+    WRONG(jls_partial_under(one.bytes, 9, JLS_WIDE, 1, &info, one.bytes + 8, 9), "libjls_salvage: jls_partial_under: partial overlaps copy\n");
+    WRONG(jls_check_under(COPY, JLS_WIDE, (jls_info *)(void *)(one.bytes + 4), NULL, 0), "libjls_salvage: jls_check_under: info is not aligned\n");
     WRONG(jls_join(COPY, one.bytes, 9, &info, one.bytes, 9), "libjls_salvage: jls_join: joined overlaps second\n");
     WRONG(jls_lines(COPY, &info, one.samples, 9, one.lines, 1), "libjls_salvage: jls_lines: lines overlaps samples\n");
     WRONG(jls_write(&frame, one.samples, 1, one.bytes + 1, 9, &size), "libjls_salvage: jls_write: file overlaps samples\n");
@@ -121,6 +145,10 @@ static const char *told_of(int line, int run) {
     WRONG(jls_read(COPY, &info, one.samples, 2, one.bytes + 4, 1), "");
     WRONG(jls_read_as(COPY, &info, &pairs, one.bytes + 1, 2, one.bytes + 5, 1), "");
     WRONG(jls_check(NULL, 0, &info, NULL, 0), "");
+    WRONG(jls_read_under(COPY, JLS_WIDE, &info, one.samples, 2, one.bytes + 4, 1), "");
+    WRONG(jls_check_under(NULL, 0, JLS_WIDE, &info, NULL, 0), "");
+    WRONG(jls_read_as_under(COPY, JLS_WIDE, &info, &pairs, one.bytes + 1, 2, one.bytes + 5, 1), "");
+    WRONG(jls_partial_under(NULL, 0, JLS_WIDE, 1, &info, NULL, 0), "");
     WRONG(jls_write(&frame, NULL, 0, NULL, 0, &size), "");
     WRONG(jls_mend(none, 2, &options, &mended), "");
     WRONG(jls_mend(both, 2, &options, &mended), "");
@@ -161,5 +189,5 @@ int main(void) {
         cases++;
         if (!is_right(line, wanted)) differ++, printf("line %d doesn't tell: %s\n", line, wanted);
     }
-    return printf("%d cases, %d differ\n", cases, differ), differ != 0 || cases < 80;
+    return printf("%d cases, %d differ\n", cases, differ), differ != 0 || cases < 110;
 }

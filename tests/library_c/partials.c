@@ -65,6 +65,7 @@ static void refused(const struct bytes *bytes, const struct bytes *good, int fau
         uint32_t answer = at == 0   ? jls_lines(bytes->at, bytes->size, &info, &sample, 1, &line, 1)
                           : at == 1 ? jls_join(bytes->at, bytes->size, good->at, good->size, &info, out, sizeof out)
                                     : jls_join(good->at, good->size, bytes->at, bytes->size, &info, out, sizeof out);
+        want("another end of a refusal", info.end == JLS_END_HEADER);
         if (answer != answers[at] || info.fault != fault || info.end_offset != offset)
             want("another refusal", 0), printf("  %d: %u, fault %d at %lu\n", fault, answer, info.fault, (unsigned long)info.end_offset);
         want("a refusal has written", sample == 7 && is_all(&line, sizeof line, 0xA5) && is_all(out, sizeof out, 0xA5));
@@ -87,6 +88,7 @@ static void shown(const char *what, const struct bytes *partial, int status, uin
             want("more was written", samples[shown] == 7 && is_all(&told[shown], sizeof *told * (4 - shown), 0xA5));
             uint64_t counts[3] = {info.missing, info.settled, info.disputed};
             want("other counts", counts[status] == info.lines);
+            want("an end", info.end == 0 && info.end_offset == 0 && info.fault == JLS_FAULT_NONE && info.unsupported == JLS_SUPPORTED);
         }
 }
 

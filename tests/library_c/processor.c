@@ -19,6 +19,10 @@ int main(void) {
         jls_check(copy, sizeof copy, &out.info, out.pieces, COUNT(out.pieces)),
         jls_read(copy, sizeof copy, &out.info, out.samples, COUNT(out.samples), out.bytes, COUNT(out.bytes)),
         jls_partial(copy, sizeof copy, 1, &out.info, out.bytes, COUNT(out.bytes)),
+        jls_check_under(copy, sizeof copy, JLS_WIDE, &out.info, out.pieces, COUNT(out.pieces)),
+        jls_read_under(copy, sizeof copy, JLS_WIDE, &out.info, out.samples, COUNT(out.samples), out.bytes, COUNT(out.bytes)),
+        jls_partial_under(copy, sizeof copy, JLS_WIDE, 1, &out.info, out.bytes, COUNT(out.bytes)),
+        jls_read_as_under(copy, sizeof copy, JLS_WIDE, &out.info, &layout, out.samples, COUNT(out.samples), out.bytes, COUNT(out.bytes)),
         jls_join(copy, sizeof copy, copy, sizeof copy, &out.info, out.bytes, COUNT(out.bytes)),
         jls_lines(copy, sizeof copy, &out.info, out.samples, COUNT(out.samples), out.lines, COUNT(out.lines)),
         jls_write(&frame, out.samples, 4, out.bytes, COUNT(out.bytes), &out.size),
@@ -27,6 +31,7 @@ int main(void) {
         jls_write_as(&frame, &layout, out.samples, 4, out.bytes, COUNT(out.bytes), &out.size),
         jls_mend(copies, COUNT(copies), &options, &out.mended),
         jls_mended_info((const jls_mended *)(const void *)&out, &out.told),
+        jls_mended_places((const jls_mended *)(const void *)&out, NULL, 0, &out.size),
     };
     int status = 0;
     for (size_t at = 0; at < COUNT(answers); at++) {

@@ -1,17 +1,21 @@
 """Where bytes of a file are bad, in few cells from its begin to its end. A cell is a digit: 0 where all of it is well, 9 where none is.
 
-Of copies that differ, bytes are bad where these do. Of equal ones they are what `jls-salvage check` could not decode.
+Of copies that differ, bytes are bad where these do. Of equal ones they are what `jls-salvage check` could not decode. Where lines of a scan
+by sample are missing, they are all of its data, or those from the offset on up to which jls-splice says that one prefix fits.
 """
 from __future__ import annotations
 
 import re
 from typing import Iterable, Iterator, List, Mapping, Sequence, Tuple
 
+from jls_tools.frames.by_sample import scan_of
+
 CELLS = 64
 LARGEST = 1 << 25  # bytes: of larger files nothing is said
 NEXT_MARKER = re.compile(rb"\xff[\x80-\xfe]", re.S)
 PIECE = re.compile(r"piece \d+ \d+ (\d+) ")
 END = re.compile(r"end (?:input|fault \d+(?: at)?) (\d+)")
+BEFORE = re.compile(r"before (\d+)")  # of jls-splice, which prints no line on a piece
 Range = Tuple[int, int]
 
 
@@ -70,4 +74,13 @@ def ranges_in(stream: bytes, lines: Sequence[str], begin: int = 0) -> List[Range
             found.append((begin + at, begin + (marker.start() if marker else len(stream))))
         elif end:
             found.append((begin + int(end.group(1)), begin + len(stream)))
-    return found
+    return found or range_by_sample(stream, lines, begin)
+
+
+def range_by_sample(stream: bytes, lines: Sequence[str], begin: int) -> List[Range]:
+    """The same of a scan by sample, where jls-splice said it: it names no piece."""
+    scan = scan_of(stream)
+    if not scan or not any(line.startswith("missing ") for line in lines):
+        return []
+    before = next(filter(None, map(BEFORE.match, lines)), None)
+    return [(begin + (int(before.group(1)) if before else scan.end()), begin + len(stream))]

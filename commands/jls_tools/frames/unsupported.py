@@ -27,7 +27,8 @@ def unsupported(stream: bytes, fault: Optional[int]) -> Optional[str]:
         return str(coding)
     shape = shape_of(stream)
     if fault == SCAN:
-        return "interleaved by sample" if shape and shape.interleave == BY_SAMPLE else "several components in a scan without interleaving"
+        is_by_sample = shape is not None and shape.interleave == BY_SAMPLE  # of several components such a scan is read
+        return "one component interleaved by sample" if is_by_sample else "several components in a scan without interleaving"
     if fault == FRAME and shape and shape.rows == 0:
         return "a height of 0"
     return None if fault is None else NAMES.get(fault)

@@ -2,7 +2,7 @@
 
 Where bytes are damaged is known from the mended file. Where there is none, each copy is drawn as the lines that it gives by itself. Copies
 in several codings have a mended file for each, and jls-splice says where a copy differs from it. Which lines stand before a byte is asked
-of jls-salvage, for the file cut there: it uses the lines that are complete.
+of Programs.join, for the file cut there: it uses the lines that are complete.
 """
 from __future__ import annotations
 
@@ -11,6 +11,7 @@ import os
 from collections.abc import Iterable, Iterator
 
 from jls_tools import partial_picture
+from jls_tools.frames.by_sample import is_by_sample
 from jls_tools.programs import Programs
 from jls_tools.view.canvas import Canvas
 
@@ -80,11 +81,14 @@ class Splice:
             os.remove(os.path.join(self.folder, "cut.given"))
         return set(picture.readings) if picture else set()
 
-    def next_lines(self, before: set[Line], picture: partial_picture.PartialPicture) -> set[Line]:
-        """The lines whose code goes on where these end: of each component that has begun, or of the first that has not ended."""
+    def next_lines(self, before: set[Line], picture: partial_picture.PartialPicture, are_pixels: bool) -> set[Line]:
+        """The lines whose code goes on where these end: of each component that has begun, or of the first that has not ended.
+
+        By sample it is that of all components.
+        """
         counts = [sum(index == component for index, _ in before) for component in range(len(picture.ids))]
         begun = [index for index, count in enumerate(counts) if 0 < count < picture.height]
-        first = [index for index, count in enumerate(counts) if count < picture.height][:1]
+        first = [index for index, count in enumerate(counts) if count < picture.height][: None if are_pixels else 1]
         return {(index, counts[index]) for index in begun or first}
 
     def damaged_lines(
@@ -94,7 +98,7 @@ class Splice:
         found: set[Line] = set()
         for begin, end in places:
             until = self.lines_before(mended, end)
-            found |= (until | self.next_lines(until, picture)) - self.lines_before(mended, begin)
+            found |= (until | self.next_lines(until, picture, is_by_sample(mended))) - self.lines_before(mended, begin)
         return found
 
     def panels(self) -> Iterator[partial_picture.PartialPicture]:

@@ -10,18 +10,8 @@ leb_true m n h = grind (arith, nat_tests)
 leb_false : (m n : ℕ) → n < m → leb m n ≡ false
 leb_false m n h = grind (arith, nat_tests)
 
-ltb_true : (m n : ℕ) → m < n → ltb m n ≡ true
-ltb_true m n h = grind (arith, nat_tests)
-
 ltb_false : (m n : ℕ) → n ≤ m → ltb m n ≡ false
 ltb_false m n h = grind (arith, nat_tests)
-
-or_true : (b c : Bool) → c ≡ true → (b || c) ≡ true
-or_true true c e = refl
-or_true false c e = e
-
-both_true : (b c : Bool) → b ≡ true → c ≡ true → (b && c) ≡ true
-both_true b c e f = ap (λ x. x && c) e ∙ f
 
 -- of a place that begins in a marked run, what stands behind the run has to be marked alone
 pub behind_run : (old : Bool) (at from until begin end : ℕ) → (from ≤ at → at < until → old ≡ true) → from ≤ begin → begin ≤ until → (old || (leb until at && ltb at end)) ≡ (old || (leb begin at && ltb at end))
@@ -30,10 +20,6 @@ behind_run false at from until begin end marked h l =
     ap (λ b. b && ltb at end) (⊎_elim
     (λ k. ⊎_elim (λ m. leb_false until at k ∙ sym (leb_false begin at (omega (arith, m, h)))) (λ m. absurd (false≢true (marked m k))) (cases_lt at from))
     (λ k. leb_true until at k ∙ sym (leb_true begin at (omega (arith, k, l)))) (cases_lt at until))
-
--- what was marked, or is now
-pub now_marked : (old : Bool) (at begin end : ℕ) → begin ≤ at → at < end → (old || (leb begin at && ltb at end)) ≡ true
-now_marked old at begin end h l = or_true old _ (both_true _ _ (leb_true begin at h) (ltb_true at end l))
 
 -- the end of a loop over a range, which may be empty
 pub range_end : (k begin end at : ℕ) → begin ≤ at → end ≤ at → (begin ≤ end → at ≤ end) → (end ≤ begin → at ≡ begin) → (leb begin k && ltb k at) ≡ (leb begin k && ltb k end)

@@ -1,5 +1,5 @@
 -- The bytes in which an interval's bits are written (T.87 A.1): filled up with zeros, and never with 0xFF last, which is this
--- profile's choice.
+-- project's choice.
 use Rattle.std.specs.Prelude.{◌≡◌, ℕ, ◌+◌, ◌<◌, ◌-◌, ◌≤◌, Bool, false, ◌==◌, if◌then◌else◌, List, [], ◌∷◌, ◌++◌, length, replicate}
 use Rattle.std.specs.List.{AllByRecursion}
 use Rattle.jls_bits.specs.Bits.{value_of_bits, width_after, AreDataBits}

@@ -100,7 +100,7 @@ impl BitWriter {
     }
 
     /// The bytes whose data bits are the bits and then zeros alone. They are as few as there can be without 0xFF at the end, and so
-    /// exactly one list. That zeros fill up, and that 0xFF is never last, is this profile's choice. Out of memory gives the bits up.
+    /// exactly one list. That zeros fill up, and that 0xFF is never last, is this project's choice. Out of memory gives the bits up.
     pub fn finish(self) -> Result<Vec<u8>, AllocError>
         ensures { IfOk result (λ v. IsPad self v.items) }
     {

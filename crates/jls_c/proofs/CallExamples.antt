@@ -24,6 +24,7 @@ use Rattle.jls_marker.specs.HeaderState.{HeaderState}
 use Rattle.jls_marker.specs.Headers.{headers_after}
 use Rattle.jls_marker.specs.MarkerCodes.{has_segment}
 use Rattle.jls_marker.specs.SegmentLaws.{AreBytes}
+use Rattle.jls_marker.specs.declared.profile.Profile.TheVariants.{Strict}
 use Rattle.jls_values.specs.PresetParameters.{no_presets}
 use Rattle.jls_copy.specs.Course.{Course, IsCourse, segment, with_soi, at_eoi, for_good}
 use Rattle.jls_copy.specs.CopyReads.{CopyReads}
@@ -293,7 +294,7 @@ abbrev copy : List ℕ
 copy = 0xFF ∷ 0xD8 ∷ 0xFF ∷ 0xF7 ∷ 0x00 ∷ 0x0B ∷ frame ++ 0xFF ∷ 0xD9 ∷ []
 
 abbrev framed : HeaderState
-framed = record { frame = Some shape; preset = no_presets; restart_interval = 0; scans = 0 }
+framed = record { profile = Strict; frame = Some shape; preset = no_presets; restart_interval = 0; scans = 0 }
 
 abbrev course : Course
 course = record { begin = 2; units = segment 0 0xF7 frame ∷ []; headers = framed; end = Eoi 15 }

@@ -253,7 +253,7 @@ not_refused bytes p info is none = (let e = sym (read_again bytes p is) ∙ none
 
 pub calls_read_what_calls_wrote : CallsReadWhatCallsWrote
 calls_read_what_calls_wrote = (
-  λ call info none. let p = with_source call.made.read.partial call.source in
+  λ profile call info none. let p = with_source call.made.read.partial call.source in
       not_refused (bytes_written call.info call.new) p info
       (text_is p (info_of call.made.read) call.info call.old call.new call.made.put) none,
   λ call info none. let p = union call.joined.p call.joined.q in

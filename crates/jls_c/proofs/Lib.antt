@@ -9,5 +9,6 @@ pub mod Known
 pub mod Planned
 pub mod Mending
 mod AnswerExamples
+mod SampleExamples
 mod MendExamples
 mod CallExamples

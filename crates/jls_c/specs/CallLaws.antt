@@ -2,12 +2,14 @@
 use Rattle.std.specs.Prelude.{◌≡◌, ◌⊎◌, ℕ, Bool, List, [], ◌∷◌, ◌++◌, take, Option, Some}
 use Rattle.std.specs.List.{AllByRecursion}
 use Rattle.jls_marker.specs.SegmentLaws.{AreBytes}
+use Rattle.jls_marker.specs.declared.profile.Profile.{Profile}
+use Rattle.jls_marker.specs.declared.profile.Profile.TheVariants.{Strict}
 use Rattle.jls_partial.specs.Partial.{PartialPicture}
 use Rattle.jls_io.specs.Event.{Event}
 use Rattle.jls_station.specs.Inputs.{IsCopyDone}
 use Rattle.jls_salvage_run.specs.CommandLaws.{HaveSameMembers, input_bytes, output_bytes}
 use Rattle.jls_salvage_run.specs.Joining.{JoinIsDone}
-use Rattle.jls_c.specs.PartialAnswers.{IsJoined, IsPartialMade, HasNoPartial}
+use Rattle.jls_c.specs.PartialAnswers.{IsJoined, IsPartialMadeUnder, HasNoPartial}
 use Rattle.jls_c.specs.declared.info.JlsInfo.{JlsInfo}
 
 -- ---- calls and runs that are done
@@ -21,14 +23,18 @@ pub record JoinCall : Type 0 where
   pub new : List ℕ
   pub joined : IsJoined first second info old new
 
--- a call of `jls_partial` that is done: its copy and source, what it reported, and its buffer before and after it
-pub record PartialCall : Type 0 where
+-- a call of `jls_partial_under` with this profile that is done: its copy and source, what it reported, and its buffer before and after it
+pub record PartialCallUnder (profile : Profile) : Type 0 where
   pub copy : List ℕ
   pub source : ℕ
   pub info : JlsInfo
   pub old : List ℕ
   pub new : List ℕ
-  pub made : IsPartialMade copy source info old new
+  pub made : IsPartialMadeUnder profile copy source info old new
+
+-- a call of `jls_partial` that is done: it reads under the strict profile
+abbrev pub PartialCall : Type 0
+PartialCall = PartialCallUnder Strict
 
 -- what a call wrote: so many of the first bytes of its buffer as it reported
 abbrev pub bytes_written : JlsInfo → List ℕ → List ℕ
@@ -75,10 +81,10 @@ CallsAndRunsReadAlike =
 
 -- ---- any number of calls
 
--- what a call wrote is refused by no call: neither what `jls_partial` wrote nor what `jls_join` wrote has a fault
+-- what a call wrote is refused by no call: neither what `jls_partial` or `jls_partial_under` wrote nor what `jls_join` wrote has a fault
 abbrev pub CallsReadWhatCallsWrote : Type 0
 CallsReadWhatCallsWrote =
-    ((call : PartialCall) (info : JlsInfo) → HasNoPartial (bytes_written call.info call.new) info → ⊥)
+    ((profile : Profile) (call : PartialCallUnder profile) (info : JlsInfo) → HasNoPartial (bytes_written call.info call.new) info → ⊥)
     × ((call : JoinCall) (info : JlsInfo) → HasNoPartial (bytes_written call.info call.new) info → ⊥)
 
 -- what calls made of these inputs, as a run would read them. It is a text as it was given; or what `jls_partial` wrote of a copy

@@ -1,7 +1,9 @@
 -- What the functions answer that make, join and show partial pictures.
 use Rattle.std.specs.Prelude.{◌≡◌, ℕ, true, false, ◌≤◌, ◌<◌, List, length, Err}
-use Rattle.jls_copy.specs.CopyReads.{CopyReads}
+use Rattle.jls_copy.specs.CopyReads.{CopyReadsUnder}
 use Rattle.jls_copy.specs.ReadCopy.{ReadCopy}
+use Rattle.jls_marker.specs.declared.profile.Profile.{Profile}
+use Rattle.jls_marker.specs.declared.profile.Profile.TheVariants.{Strict}
 use Rattle.jls_partial.specs.Partial.{PartialPicture, with_source, union, has_same_shape}
 use Rattle.jls_partial.specs.Text.{IsPartial, IsTextOf, text}
 use Rattle.jls_partial.specs.TextReading.{read_text}
@@ -29,17 +31,25 @@ pub record IsTextLonger (p : PartialPicture) (reported info : JlsInfo) (room : �
 
 -- ---- a copy as a partial picture
 
--- the partial picture of what a copy gives, each of its readings with this source
-pub record IsPartialMade (copy : List ℕ) (source : ℕ) (info : JlsInfo) (old new : List ℕ) : Type 0 where
+-- the partial picture of what a copy gives under a profile, each of its readings with this source
+pub record IsPartialMadeUnder (profile : Profile) (copy : List ℕ) (source : ℕ) (info : JlsInfo) (old new : List ℕ) : Type 0 where
   pub read : ReadCopy
-  pub reads : CopyReads copy read
+  pub reads : CopyReadsUnder profile copy read
   pub put : IsTextPut (with_source read.partial source) (info_of read) info old new
 
+-- the same under the strict profile
+abbrev pub IsPartialMade : List ℕ → ℕ → JlsInfo → List ℕ → List ℕ → Type 0
+IsPartialMade copy source info old new = IsPartialMadeUnder Strict copy source info old new
+
 -- there is too little room for it
-pub record IsPartialLonger (copy : List ℕ) (source : ℕ) (info : JlsInfo) (room : ℕ) : Type 0 where
+pub record IsPartialLongerUnder (profile : Profile) (copy : List ℕ) (source : ℕ) (info : JlsInfo) (room : ℕ) : Type 0 where
   pub read : ReadCopy
-  pub reads : CopyReads copy read
+  pub reads : CopyReadsUnder profile copy read
   pub longer : IsTextLonger (with_source read.partial source) (info_of read) info room
+
+-- the same under the strict profile
+abbrev pub IsPartialLonger : List ℕ → ℕ → JlsInfo → ℕ → Type 0
+IsPartialLonger copy source info room = IsPartialLongerUnder Strict copy source info room
 
 -- ---- two partial pictures as one
 

@@ -1,14 +1,16 @@
 //! Checking a copy.
 
-ghost use Rattle.jls_c.specs.Answers.{BeginsWith, IsChecked, HasNoPicture};
+ghost use Rattle.jls_c.specs.Answers as answers;
+ghost use Rattle.jls_c.specs.Answers.{BeginsWith, IsChecked, HasNoPicture, IsCheckedUnder, HasNoPictureUnder};
 ghost use Rattle.jls_c.specs.Info as reported;
 ghost use Rattle.std.specs.Prelude.{◌≡◌, ◌≢◌, ◌≤◌, [], ◌∷◌, length, map, take, Contains, IfOk};
 
 use crate::answer::{DONE, NO_PICTURE, OUT_OF_MEMORY};
 use crate::info::{JlsInfo, JlsPiece, info_of, piece_of, refuse};
-use crate::read::read_copy;
+use crate::read::{read_copy, read_copy_under};
 use crate::statuses::statuses_of;
 use jls_copy::{CopyRead, PieceRecord};
+use jls_marker::Profile;
 use std::alloc::{AllocError, Global};
 
 /// The first records, and at most so many.
@@ -73,7 +75,29 @@ pub extern "C" fn jls_check(
     ensures out_of_memory { result ≡ OUT_OF_MEMORY → info.new ≡ info.old }
     ensures pieces_kept { result ≢ DONE → pieces.new ≡ pieces.old }
 {
-    match read_copy(alloc, copy) {
+    match read_copy(alloc, copy, Profile::Strict) {
+        Ok(read) => tell(alloc, &read, info, pieces),
+        Err(fault) => refuse(fault, info),
+    }
+}
+
+/// Tells of a copy what `jls_check` tells, under a profile: the strict one where this number is 0, and otherwise the wide one.
+#[tactic(auto, using(crate::proofs::Reported::checked, crate::proofs::Reported::refusals, crate::proofs::Known::of_check))]
+#[unsafe(no_mangle)]
+pub extern "C" fn jls_check_under(
+    alloc: Global,
+    copy: &[u8],
+    profile: u32,
+    info: &mut JlsInfo,
+    pieces: &mut [JlsPiece],
+) -> u32
+    ensures answers { Contains (DONE ∷ NO_PICTURE ∷ OUT_OF_MEMORY ∷ []) result }
+    ensures done { result ≡ DONE → IsCheckedUnder (answers.profile_of profile) copy.now info.new pieces.old pieces.new }
+    ensures no_picture { result ≡ NO_PICTURE → HasNoPictureUnder (answers.profile_of profile) copy.now info.new }
+    ensures out_of_memory { result ≡ OUT_OF_MEMORY → info.new ≡ info.old }
+    ensures pieces_kept { result ≢ DONE → pieces.new ≡ pieces.old }
+{
+    match read_copy_under(alloc, copy, profile) {
         Ok(read) => tell(alloc, &read, info, pieces),
         Err(fault) => refuse(fault, info),
     }

@@ -1,6 +1,7 @@
 //! The library for C: what a damaged JPEG-LS file still gives, from the caller's bytes into the caller's buffers.
 //!
-//! - `check`, `read`, `make`, `join`, `lines`, `write`, `mend`: the exported functions. Each answers a number of `answer`
+//! - `check`, `read`, `make`, `join`, `lines`, `write`, `mend`: the exported functions. Each answers a number of `answer`. Those that read
+//!   a copy stand there twice: strict ones, and those to which the caller gives a profile
 //! - `info`: the structures that they fill
 //! - `statuses`, `samples`: the statuses and the samples of all lines
 //! - `text`: partial pictures as bytes in a buffer
@@ -34,7 +35,7 @@ mod text;
 mod write;
 
 pub use cause::JlsMendInfo;
-pub use check::jls_check;
+pub use check::{jls_check, jls_check_under};
 pub use copies::{JlsBadList, JlsMendOptions};
 pub use frame::JlsFrame;
 pub use info::{JlsInfo, JlsPiece};
@@ -44,7 +45,7 @@ pub use laws::{
     calls_read_what_calls_wrote, many_calls_join_alike,
 };
 pub use lines::{JlsLine, jls_lines};
-pub use make::jls_partial;
+pub use make::{jls_partial, jls_partial_under};
 pub use mend::jls_mend;
-pub use read::jls_read;
+pub use read::{jls_read, jls_read_under};
 pub use write::jls_write;

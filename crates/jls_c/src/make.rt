@@ -1,17 +1,20 @@
 //! A copy as a partial picture.
 
-ghost use Rattle.jls_c.specs.Answers.{HasNoPicture};
+ghost use Rattle.jls_c.specs.Answers as answers;
+ghost use Rattle.jls_c.specs.Answers.{HasNoPicture, HasNoPictureUnder};
 ghost use Rattle.jls_c.specs.PartialAnswers.{IsTextPut, IsTextLonger, IsPartialMade, IsPartialLonger};
+ghost use Rattle.jls_c.specs.PartialAnswers.{IsPartialMadeUnder, IsPartialLongerUnder};
 ghost use Rattle.jls_c.specs.Info as reported;
 ghost use Rattle.jls_partial.specs.Partial.{with_source};
 ghost use Rattle.std.specs.Prelude.{◌≡◌, ◌≢◌, ◌≤◌, [], ◌∷◌, length, Contains};
 
 use crate::answer::{DONE, NO_PICTURE, OUT_OF_MEMORY, SHORT_ROOM};
 use crate::info::{JlsInfo, info_of, refuse};
-use crate::read::read_copy;
+use crate::read::{read_copy, read_copy_under};
 use crate::statuses::statuses_of;
 use crate::text::put_text;
 use jls_copy::CopyRead;
+use jls_marker::Profile;
 use std::alloc::Global;
 
 /// Puts what was read, each reading with this source, into a buffer.
@@ -54,7 +57,33 @@ pub extern "C" fn jls_partial(
     ensures out_of_memory { result ≡ OUT_OF_MEMORY → info.new ≡ info.old }
     ensures kept { result ≢ DONE → partial.new ≡ partial.old }
 {
-    match read_copy(alloc, copy) {
+    match read_copy(alloc, copy, Profile::Strict) {
+        Ok(read) => put_read(alloc, read, source, info, partial),
+        Err(fault) => refuse(fault, info),
+    }
+}
+
+/// Writes what `jls_partial` writes, under a profile: the strict one where this number is 0, and otherwise the wide one.
+#[tactic(auto, using(crate::proofs::Reported::makes, crate::proofs::Reported::refusals, crate::proofs::Known::of_read))]
+#[unsafe(no_mangle)]
+pub extern "C" fn jls_partial_under(
+    alloc: Global,
+    copy: &[u8],
+    profile: u32,
+    source: u32,
+    info: &mut JlsInfo,
+    partial: &mut [u8],
+) -> u32
+    ensures answers { Contains (DONE ∷ SHORT_ROOM ∷ NO_PICTURE ∷ OUT_OF_MEMORY ∷ []) result }
+    ensures done { result ≡ DONE
+        → IsPartialMadeUnder (answers.profile_of profile) copy.now source info.new partial.old partial.new }
+    ensures short_room { result ≡ SHORT_ROOM
+        → IsPartialLongerUnder (answers.profile_of profile) copy.now source info.new (length partial.old) }
+    ensures no_picture { result ≡ NO_PICTURE → HasNoPictureUnder (answers.profile_of profile) copy.now info.new }
+    ensures out_of_memory { result ≡ OUT_OF_MEMORY → info.new ≡ info.old }
+    ensures kept { result ≢ DONE → partial.new ≡ partial.old }
+{
+    match read_copy_under(alloc, copy, profile) {
         Ok(read) => put_read(alloc, read, source, info, partial),
         Err(fault) => refuse(fault, info),
     }

@@ -69,8 +69,8 @@ pub extern "C" fn jls_mend(
     ensures answers { Contains (DONE ∷ SHORT_ROOM ∷ BAD_COPIES ∷ BAD_LISTS ∷ NOT_MENDED ∷ OUT_OF_MEMORY ∷ []) result }
     ensures done { result ≡ DONE → AreMended options.now (parted sizes.now bytes.now) (listed lists.now texts.now) info.new
         outputs.old outputs.new output_sizes.old output_sizes.new }
-    ensures short_room { result ≡ SHORT_ROOM → AreMendedLonger options.now (parted sizes.now bytes.now) (listed lists.now texts.now) info.new
-        (length outputs.old) (length output_sizes.old) }
+    ensures short_room { result ≡ SHORT_ROOM → AreMendedLonger options.now (parted sizes.now bytes.now) (listed lists.now texts.now)
+        info.new (length outputs.old) (length output_sizes.old) }
     ensures bad_copies { result ≡ BAD_COPIES → AreCopies options.now sizes.now bytes.now lists.now → ⊥ }
     ensures good_copies { result ≢ BAD_COPIES → AreCopies options.now sizes.now bytes.now lists.now }
     ensures bad_lists { result ≡ BAD_LISTS → AreLists (length sizes.now) lists.now texts.now → ⊥ }

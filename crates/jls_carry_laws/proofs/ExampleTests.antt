@@ -4,7 +4,7 @@ use Rattle.std.specs.Prelude.{◌&&◌, ◌||◌, ◌==◌, not, nat_lt}
 use Rattle.std.specs.List.{AllByRecursion, list_all}
 use Rattle.std.proofs.lemmas.Bool.{and_parts, and_cases, and_from, ltb-true, lt-ltb, eq-eqb, not-true, agree_below, agree_below_at}
 use Rattle.std.proofs.lemmas.Bool.{true≢false}
-use Rattle.jls_interval.specs.Lines.{IntervalShape}
+use Rattle.jls_piece.specs.Lines.{PieceShape}
 use Rattle.jls_copy.specs.ScanData.{IsPiece, closes_piece}
 use Rattle.jls_held.specs.MendedFiles.{MendedFile, IsHeldByte}
 use Rattle.jls_held.specs.LineCode.{code_length, bits_before, IsByteOf}
@@ -46,7 +46,7 @@ or_right_of true y e is = e
 or_right_of false y e is = absurd (true≢false (sym is))
 
 -- all bytes of a line's code are held, if its code begins and ends with these bits
-pub code_of_test : (f : MendedFile) (offset : ℕ) (i : IntervalShape) (piece : List ℕ) (before : List (List ℕ)) (line : List ℕ) (start end : ℕ)
+pub code_of_test : (f : MendedFile) (offset : ℕ) (i : PieceShape) (piece : List ℕ) (before : List (List ℕ)) (line : List ℕ) (start end : ℕ)
     → code_length i before ≡ start → code_length i (before ++ line ∷ []) ≡ end → code_test f offset piece start end ≡ true
     → (place : ℕ) → IsByteOf i piece before line place → IsHeldByte f (offset + place)
 code_of_test f offset i piece before line start end starts ends test place b =

@@ -1,13 +1,14 @@
 -- Each held line is the picture's, where each mended file has a true file in which the pieces begin at the same offsets.
-use Rattle.std.proofs.Common.{◌≡◌, ℕ, suc, ◌+◌, ◌<◌, ◌≤◌, List, [], ◌∷◌, ◌++◌, length, sym, ap, ◌∙◌, subst, arith}
+use Rattle.std.proofs.Common.{◌≡◌, ℕ, suc, ◌+◌, ◌<◌, ◌≤◌, false, List, [], ◌∷◌, ◌++◌, length, sym, ap, ◌∙◌, subst, arith}
 use Rattle.std.proofs.Common.{get_or}
 use Rattle.std.specs.List.{AllByRecursion, Contains}
 use Rattle.std.proofs.lemmas.List.{get_or-append-add, get_or_append_left}
 use Rattle.jls_values.proofs.Lists.{all_at}
-use Rattle.jls_interval.specs.Reads.{Reads, BeginsWithCode}
+use Rattle.jls_piece.specs.Reads.{Reads, BeginsWithCode}
 use Rattle.jls_partial.specs.Reading.{Reading}
 use Rattle.jls_marker.specs.Scan.{IsScan, first_row}
 use Rattle.jls_copy.specs.Course.{Course, IsCourse}
+use Rattle.jls_copy.specs.CourseLaws.{StrictPiecesAreByLine}
 use Rattle.jls_copy.specs.Numbers.{Interval}
 use Rattle.jls_copy.specs.Pieces.{FoundPiece, pieces, placed, readings}
 use Rattle.jls_copy.specs.TellingLaws.{StandsAt, PiecesStandAtTheirOffsets}
@@ -54,7 +55,7 @@ StrictPiecesHaveHeads picture =
     → length f.bytes ≤ length bytes → (p : PieceOf f) (w : BeforePiece f p)
     → ((s : Reading) → Contains (readings w.earlier w.outcomes) s → IsPictureLine picture s) → HasHead is.course f p
 
-module _ (stand : PiecesStandAtTheirOffsets) (picture : PictureLines) where
+module _ (stand : PiecesStandAtTheirOffsets) (strict : StrictPiecesAreByLine) (picture : PictureLines) where
   fellow : (f : MendedFile) (bytes : List ℕ) (p : PieceOf f) (c : Course) → IsCourse bytes c → HasTruePieces picture c → HasHead c f p
       → Fellow picture f bytes p
   fellow f bytes p c is each h =
@@ -106,8 +107,10 @@ module _ (stand : PiecesStandAtTheirOffsets) (picture : PictureLines) where
       let theirs : BeginsWithCode i w.piece (before ++ m.other ∷ m.others) w.reads.unread =
       subst (λ z. BeginsWithCode i w.piece z w.reads.unread) m.lines_are w.reads.begins in
       let width = sound.width_at_least in
-      let same = one_line i sound.params (omega (arith, width)) p.piece.bytes w.piece before line m.other m.others w.reads.unread begins theirs
-      (bytes_agree f bytes p before line has w own) in
+      let by_line : p.piece.plan.by_sample ≡ false = all_at (λ (q : FoundPiece). q.plan.by_sample ≡ false) (pieces p.course) p.piece
+      (strict f.bytes p.course p.is_course) p.among in
+      let same = one_line i by_line sound.params (omega (arith, width)) p.piece.bytes w.piece before line m.other m.others
+      w.reads.unread begins theirs (bytes_agree f bytes p before line has w own) in
       m.line_is ∙ same ∙ m.other_is
 
   held_is : (files : List MendedFile) → AreFilesOfBytes files → HaveTrueFilesOfTheirSkeletons picture files
@@ -125,9 +128,10 @@ module _ (stand : PiecesStandAtTheirOffsets) (picture : PictureLines) where
       line_is f t.0 p (low f among) is.has_held (fellow f t.0 p is.course is.is_course is.each head) before line begins own
       earlier r placed_are (λ s inside. strictly_held_is heads files low true s (held s inside))
 
-pub held_lines_are_the_picture : PiecesStandAtTheirOffsets → HeldLinesAreThePicture
-held_lines_are_the_picture stand files picture low true r h = held_is stand picture files low true r h
+pub held_lines_are_the_picture : PiecesStandAtTheirOffsets → StrictPiecesAreByLine → HeldLinesAreThePicture
+held_lines_are_the_picture stand strict files picture low true r h = held_is stand strict picture files low true r h
 
-pub strictly_held_from_heads : PiecesStandAtTheirOffsets → ((picture : PictureLines) → StrictPiecesHaveHeads picture)
-    → StrictlyHeldLinesAreThePicture
-strictly_held_from_heads stand heads files picture low true r h = strictly_held_is stand picture (heads picture) files low true r h
+pub strictly_held_from_heads : PiecesStandAtTheirOffsets → StrictPiecesAreByLine
+    → ((picture : PictureLines) → StrictPiecesHaveHeads picture) → StrictlyHeldLinesAreThePicture
+strictly_held_from_heads stand strict heads files picture low true r h =
+    strictly_held_is stand strict picture (heads picture) files low true r h

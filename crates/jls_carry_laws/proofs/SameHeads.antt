@@ -6,7 +6,7 @@ use Rattle.std.specs.Prelude.{if◌then◌else◌, ◌==◌}
 use Rattle.std.proofs.lemmas.List.{get_or-append-add}
 use Rattle.std.proofs.lemmas.List.Elements.{Contains-append_left, Contains-append_right}
 use Rattle.jls_values.proofs.Lists.{is_first, in_rest, none_in, first_or_rest}
-use Rattle.jls_interval.specs.Reads.{Reads}
+use Rattle.jls_piece.specs.Reads.{Reads}
 use Rattle.jls_partial.specs.Reading.{Reading}
 use Rattle.jls_marker.specs.MarkerCodes.{has_segment}
 use Rattle.jls_marker.specs.Scan.{Scan, intervals, first_row}

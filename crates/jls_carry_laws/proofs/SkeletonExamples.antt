@@ -17,12 +17,13 @@ use Rattle.jls_context.specs.Errors.{modulo_reduced}
 use Rattle.jls_context.specs.Prediction.{corrected_prediction}
 use Rattle.jls_context.specs.Regular.{golomb_k, updated}
 use Rattle.jls_context.specs.Interruption.{run_updated}
-use Rattle.jls_interval.specs.Lines.{IntervalShape, interval_shape}
+use Rattle.jls_interval.specs.Lines.{interval_shape}
 use Rattle.jls_interval.specs.Events.{events_from, events_after}
 use Rattle.jls_interval.specs.Cells.{cell_before, run_cell_before}
 use Rattle.jls_interval.specs.Runs.{block_columns, full_blocks, blocks, run_index_before}
 use Rattle.jls_interval.specs.Code.{event_bits, bits_of_events, code}
-use Rattle.jls_interval.specs.Reads.{Reads}
+use Rattle.jls_piece.specs.Lines.{PieceShape, line_piece}
+use Rattle.jls_piece.specs.Reads.{Reads}
 use Rattle.jls_partial.specs.Reading.{Reading, reading_of}
 use Rattle.jls_marker.specs.ComponentIndex.{index_of}
 use Rattle.jls_marker.specs.MarkerCodes.{has_segment}
@@ -40,6 +41,7 @@ use Rattle.jls_held.specs.Edits.{Edit, edited}
 use Rattle.jls_copy.specs.InHand.{BeginsWithLines}
 use Rattle.jls_held.specs.LineCode.{code_length, bits_before}
 use Rattle.jls_held.specs.HeldLines.{PieceOf, IsHeld, in_piece}
+use Rattle.jls_held.proofs.LineBytes.{any_rows}
 use Rattle.jls_carry_laws.specs.StrictlyHeld.{BeforePiece, IsStrictlyHeld, in_file}
 use Rattle.jls_carry_laws.specs.TrueFiles.{PictureLines, IsPictureLine, IsTruePiece, HasTruePieces, IsTrueFile, HasHead, HasSkeleton}
 use Rattle.jls_carry_laws.specs.TrueFiles.{AreFilesOfBytes, HaveTrueFilesAsLong}
@@ -55,7 +57,7 @@ abbrev bits_8 : CodingParameters
 bits_8 = record { precision = 8; maxval = 255; t1 = 3; t2 = 7; t3 = 21; reset = 64 }
 
 abbrev plan : Scan
-plan = record { components = 0 ∷ []; params = bits_8; width = 4; height = 2; restart_interval = 1 }
+plan = record { components = 0 ∷ []; params = bits_8; width = 4; height = 2; restart_interval = 1; by_sample = false }
 
 -- the code of a line, and its bytes
 abbrev line : List ℕ
@@ -173,8 +175,8 @@ other_is =
 -- What is computed of them ------------------------------------------------------------------------------
 
 -- both intervals have one line
-abbrev one_line : IntervalShape
-one_line = interval_shape bits_8 4 1 1
+abbrev one_line : PieceShape
+one_line = line_piece (interval_shape bits_8 4 1 1)
 
 its_intervals : (interval_of plan 0 ≡ one_line) × (interval_of plan 1 ≡ one_line)
 its_intervals = (refl, refl)
@@ -234,6 +236,7 @@ line_reads = record {
   begins = record {
     are_bytes = bytes_of_test line_bytes refl;
     are_lines = record { count_is = refl; each = ((refl, (lit≤ tt, (lit≤ tt, (lit≤ tt, (lit≤ tt, tt))))), tt) };
+    whole_rows = any_rows one_line refl (line ∷ []);
     data_bits = record { whole = refl; read = refl };
   };
   at_most_seven = lit≤ tt;
@@ -264,6 +267,7 @@ zeros_read = record {
   begins = record {
     are_bytes = bytes_of_test (0xF0 ∷ []) refl;
     are_lines = record { count_is = refl; each = ((refl, (lit≤ tt, (lit≤ tt, (lit≤ tt, (lit≤ tt, tt))))), tt) };
+    whole_rows = any_rows one_line refl ((0 ∷ 0 ∷ 0 ∷ 0 ∷ []) ∷ []);
     data_bits = record { whole = refl; read = refl };
   };
   at_most_seven = lit≤ tt;

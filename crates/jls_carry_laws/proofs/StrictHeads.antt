@@ -10,6 +10,7 @@ use Rattle.jls_marker.specs.Scan.{Scan, first_row}
 use Rattle.jls_copy.specs.ScanData.{fill_bytes}
 use Rattle.jls_copy.specs.IntervalOf.{interval_of}
 use Rattle.jls_copy.specs.Course.{AreUnits, Course, IsCourse, with_soi, with_another_marker, with_no_marker, with_fill_alone}
+use Rattle.jls_copy.specs.CourseLaws.{StrictPiecesAreByLine}
 use Rattle.jls_copy.specs.Pieces.{FoundPiece, pieces, pieces_in}
 use Rattle.jls_copy.specs.TellingLaws.{StandsAt, PiecesStandAtTheirOffsets}
 use Rattle.jls_copy.proofs.OneCut.{no_mark}
@@ -97,5 +98,5 @@ module _ (picture : PictureLines) where
         head_is = ap (λ o. head_at o r.0.plan p.number) r.2.offset ∙ ap (λ v. head_at p.piece.offset v p.number) r.2.plan;
       }
 
-pub strictly_held_lines_are_the_picture : PiecesStandAtTheirOffsets → StrictlyHeldLinesAreThePicture
-strictly_held_lines_are_the_picture stand = strictly_held_from_heads stand (λ picture. strict_heads picture stand)
+pub strictly_held_lines_are_the_picture : PiecesStandAtTheirOffsets → StrictPiecesAreByLine → StrictlyHeldLinesAreThePicture
+strictly_held_lines_are_the_picture stand strict = strictly_held_from_heads stand strict (λ picture. strict_heads picture stand)

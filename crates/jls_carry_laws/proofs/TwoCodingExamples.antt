@@ -24,7 +24,7 @@ use Rattle.jls_interval.specs.Events.{events_from, events_after}
 use Rattle.jls_interval.specs.Cells.{cell_before, run_cell_before}
 use Rattle.jls_interval.specs.Runs.{block_columns, full_blocks, blocks, run_index_before}
 use Rattle.jls_interval.specs.Code.{event_bits, bits_of_events, code}
-use Rattle.jls_interval.specs.Reads.{Reads}
+use Rattle.jls_piece.specs.Reads.{Reads}
 use Rattle.jls_partial.specs.Reading.{Reading, reading_of}
 use Rattle.jls_marker.specs.ComponentIndex.{index_of}
 use Rattle.jls_marker.specs.MarkerCodes.{has_segment}
@@ -41,6 +41,7 @@ use Rattle.jls_held.specs.Edits.{Edit, edited}
 use Rattle.jls_copy.specs.InHand.{BeginsWithLines}
 use Rattle.jls_held.specs.LineCode.{code_length}
 use Rattle.jls_held.specs.HeldLines.{PieceOf, IsHeld, in_piece}
+use Rattle.jls_held.proofs.LineBytes.{any_rows}
 use Rattle.jls_carry_laws.specs.StrictlyHeld.{BeforePiece, IsStrictlyHeld, in_file}
 use Rattle.jls_carry_laws.specs.TrueFiles.{PictureLines, IsTruePiece, HasTruePieces, IsTrueFile, HaveTrueFilesAsLong}
 use Rattle.jls_carry_laws.specs.Laws.{StrictlyHeldLinesAreThePicture}
@@ -135,10 +136,10 @@ line_other = (edited 0 line_copy (line_edits (0xE0 ∷ 0x07 ∷ 0xFF ∷ 0xD9 �
 -- Their courses -----------------------------------------------------------------------------------------
 
 abbrev plane : ℕ → Scan
-plane component = record { components = component ∷ []; params = bits_16; width = 2; height = 2; restart_interval = 0 }
+plane component = record { components = component ∷ []; params = bits_16; width = 2; height = 2; restart_interval = 0; by_sample = false }
 
 abbrev lines : Scan
-lines = record { components = 0 ∷ 1 ∷ []; params = bits_16; width = 2; height = 2; restart_interval = 0 }
+lines = record { components = 0 ∷ 1 ∷ []; params = bits_16; width = 2; height = 2; restart_interval = 0; by_sample = false }
 
 abbrev framed : HeaderState
 framed = record no_headers { frame = Some shape }
@@ -361,6 +362,7 @@ begun = record {
     begins = record {
       are_bytes = bytes_of_test both_lines refl;
       are_lines = record { count_is = refl; each = ((refl, (lit≤ tt, (lit≤ tt, tt))), tt) };
+      whole_rows = any_rows (interval_of lines 0) refl (first_0 ∷ []);
       data_bits = record { whole = refl; read = refl };
     };
   };
@@ -370,6 +372,7 @@ begun = record {
     begins = record {
       are_bytes = bytes_of_test both_lines refl;
       are_lines = record { count_is = refl; each = ((refl, (lit≤ tt, (lit≤ tt, tt))), ((refl, (lit≤ tt, (lit≤ tt, tt))), ((refl, (lit≤ tt, (lit≤ tt, tt))), tt))) };
+      whole_rows = any_rows (interval_of lines 0) refl (first_0 ∷ second_0 ∷ first_1 ∷ []);
       data_bits = record { whole = refl; read = refl };
     };
   };
@@ -379,6 +382,7 @@ begun = record {
     begins = record {
       are_bytes = bytes_of_test second_plane refl;
       are_lines = record { count_is = refl; each = ((refl, (lit≤ tt, (lit≤ tt, tt))), tt) };
+      whole_rows = any_rows (interval_of (plane 1) 0) refl (second_0 ∷ []);
       data_bits = record { whole = refl; read = refl };
     };
   };
@@ -388,6 +392,7 @@ begun = record {
     begins = record {
       are_bytes = bytes_of_test second_plane refl;
       are_lines = record { count_is = refl; each = ((refl, (lit≤ tt, (lit≤ tt, tt))), ((refl, (lit≤ tt, (lit≤ tt, tt))), tt)) };
+      whole_rows = any_rows (interval_of (plane 1) 0) refl (second_0 ∷ second_1 ∷ []);
       data_bits = record { whole = refl; read = refl };
     };
   };
@@ -487,6 +492,7 @@ other_reads = record {
     begins = record {
       are_bytes = bytes_of_test other_first refl;
       are_lines = record { count_is = refl; each = ((refl, (lit≤ tt, (lit≤ tt, tt))), ((refl, (lit≤ tt, (lit≤ tt, tt))), tt)) };
+      whole_rows = any_rows (interval_of (plane 0) 0) refl (first_0 ∷ first_0 ∷ []);
       data_bits = record { whole = refl; read = refl };
     };
     at_most_seven = lit≤ tt;
@@ -496,6 +502,7 @@ other_reads = record {
     begins = record {
       are_bytes = bytes_of_test other_second refl;
       are_lines = record { count_is = refl; each = ((refl, (lit≤ tt, (lit≤ tt, tt))), ((refl, (lit≤ tt, (lit≤ tt, tt))), tt)) };
+      whole_rows = any_rows (interval_of (plane 1) 0) refl (zeros ∷ zeros ∷ []);
       data_bits = record { whole = refl; read = refl };
     };
     at_most_seven = lit≤ tt;
@@ -505,6 +512,7 @@ other_reads = record {
     begins = record {
       are_bytes = bytes_of_test other_both refl;
       are_lines = record { count_is = refl; each = ((refl, (lit≤ tt, (lit≤ tt, tt))), ((refl, (lit≤ tt, (lit≤ tt, tt))), ((refl, (lit≤ tt, (lit≤ tt, tt))), ((refl, (lit≤ tt, (lit≤ tt, tt))), tt)))) };
+      whole_rows = any_rows (interval_of lines 0) refl (first_0 ∷ zeros ∷ first_0 ∷ zeros ∷ []);
       data_bits = record { whole = refl; read = refl };
     };
     at_most_seven = lit≤ tt;

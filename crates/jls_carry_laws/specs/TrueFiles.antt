@@ -1,8 +1,8 @@
 -- True files: undamaged files of one picture, each of which has the held bytes of a mended file.
 use Rattle.std.specs.Prelude.{◌≡◌, ℕ, ◌<◌, ◌≤◌, List, [], length, get_or}
 use Rattle.std.specs.List.{AllByRecursion, Contains}
-use Rattle.jls_interval.specs.Lines.{IntervalShape}
-use Rattle.jls_interval.specs.Reads.{Reads}
+use Rattle.jls_piece.specs.Lines.{PieceShape}
+use Rattle.jls_piece.specs.Reads.{Reads}
 use Rattle.jls_partial.specs.Reading.{Reading}
 use Rattle.jls_marker.specs.Scan.{first_row}
 use Rattle.jls_copy.specs.Course.{Course, IsCourse}
@@ -47,7 +47,7 @@ pub record IsTrueFile (picture : PictureLines) (f : MendedFile) (bytes : List �
 pub record PieceHead : Type 0 where
   pub offset : ℕ
   pub components : List ℕ
-  pub shape : IntervalShape
+  pub shape : PieceShape
   pub row : ℕ
 
 -- the head of a piece that has the number of an interval

@@ -9,10 +9,13 @@
 //! It has definitions and laws, on which a promise of `jls-splice` rests; what mended files and held lines are, stands in jls_held.
 //! Definitions: `StrictlyHeld`, `TrueFiles` (undamaged files of one picture), `Laws`.
 //!
-//! The proofs, bottom up: `Walk` and `OneLine` (two pieces that agree on the bytes of a line have that line in common), `PlacedLines`
-//! (lines of an interval against a picture's), `HeldLines` (the law, for files of one skeleton), `OneLength`, `SameHeads`, `ScanWalk`,
-//! `UnitsWalk` and `StrictHeads` (what stands before a strictly held line fixes the skeleton up to it), `SettledPictures`,
-//! `EditedFiles`, `CopiesOfOneFile`.
+//! The proofs, bottom up:
+//!
+//! - `Walk`, `OneLine`: two pieces that agree on the bytes of a line have that line in common
+//! - `PlacedLines`: lines of an interval against a picture's
+//! - `HeldLines`: the law, for files of one skeleton
+//! - `OneLength`, `SameHeads`, `ScanWalk`, `UnitsWalk`, `StrictHeads`: what stands before a strictly held line fixes the skeleton up to it
+//! - `SettledPictures`, `EditedFiles`, `CopiesOfOneFile`
 //!
 //! Not proved here: how lines and edits are found.
 #![tactic(auto)]

@@ -1,5 +1,5 @@
 -- A file of three components by line, of 2 columns and 2 rows, as CharLS 2.4.1 wrote it.
-use Rattle.std.proofs.Common.{◌≡◌, ℕ, List, [], ◌∷◌, Some, refl, lit<, arith}
+use Rattle.std.proofs.Common.{◌≡◌, ℕ, List, [], ◌∷◌, Some, refl, lit<, arith, false}
 use Rattle.jls_values.specs.Params.{CodingParameters}
 use Rattle.jls_values.specs.Shape.{PictureShape}
 use Rattle.jls_partial.specs.Reading.{reading_of}
@@ -19,7 +19,7 @@ abbrev pub bits_8 : CodingParameters
 bits_8 = record { precision = 8; maxval = 255; t1 = 3; t2 = 7; t3 = 21; reset = 64 }
 
 abbrev pub plan : Scan
-plan = record { components = 0 ∷ 1 ∷ 2 ∷ []; params = bits_8; width = 2; height = 2; restart_interval = 0 }
+plan = record { components = 0 ∷ 1 ∷ 2 ∷ []; params = bits_8; width = 2; height = 2; restart_interval = 0; by_sample = false }
 
 -- SOI and SOF55, SOS, the scan data, EOI
 abbrev pub file : List ℕ

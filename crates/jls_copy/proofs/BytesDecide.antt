@@ -5,11 +5,11 @@ use Rattle.std.specs.List.{AllByRecursion}
 use Rattle.jls_values.specs.OrderedSet as set
 use Rattle.jls_values.specs.Shape.{PictureShape}
 use Rattle.jls_partial.specs.Partial.{PartialPicture, without_sources}
-use Rattle.jls_interval.specs.Reads.{Reads, IsLong}
+use Rattle.jls_piece.specs.Reads.{Reads, IsLong}
 use Rattle.jls_bits.specs.Bits.{bits_read, is_whole}
-use Rattle.jls_interval.proofs.HeadLines.{one_head}
-use Rattle.jls_interval.proofs.PiecesReadOnce.{reads_once, read_not_long}
-use Rattle.jls_interval.specs.Lines.{interval_shape}
+use Rattle.jls_piece.proofs.PieceHeads.{one_head}
+use Rattle.jls_piece.proofs.PieceReads.{reads_once, read_not_long}
+use Rattle.jls_copy.specs.IntervalOf.{interval_of}
 use Rattle.jls_interval.proofs.EventsApart.{true_false}
 use Rattle.jls_marker.specs.Scan.{Scan, IsScan, row_count}
 use Rattle.jls_marker.specs.declared.fault.MarkerFault.{MarkerFault}
@@ -19,28 +19,23 @@ use Rattle.jls_copy.specs.Course.{Course}
 use Rattle.jls_copy.specs.CutPieces.{closed_by_input, last_piece, cut_pieces, IsHeadAt, IsHeadOfCut, head_readings}
 use Rattle.std.specs.Prelude.{if◌then◌else◌}
 use Rattle.jls_copy.specs.ReadCopy.{ReadCopy}
-use Rattle.jls_copy.specs.CopyReads.{CopyReads, no_picture}
-use Rattle.jls_copy.specs.CopyLaws.{BytesDecide}
+use Rattle.jls_copy.specs.CopyReads.{CopyReadsUnder, no_picture}
+use Rattle.jls_copy.specs.CopyLaws.{BytesDecide, BytesDecideUnder}
 use Rattle.jls_copy.specs.declared.piece.PieceKind.TheVariants as kind
 use Rattle.jls_copy.specs.declared.reader.CopyFault.TheVariants.{NoPicture}
 use Rattle.jls_copy.proofs.OneCourse.{one_course}
 use Rattle.jls_copy.proofs.ScansOfCourse.{HasScan, course_has}
+use Rattle.jls_marker.specs.declared.profile.Profile.{Profile}
+use Rattle.jls_marker.specs.declared.profile.Profile.TheVariants.{Strict}
 
 -- One outcome --------------------------------------------------------------------------------
 
 module _ (s : Scan) (ok : IsScan s) (k : ℕ) (bytes : List ℕ) where
-  abbrev count : ℕ
-  count = row_count s k * length s.components
+  one_list : (a b : List (List ℕ)) → Reads (interval_of s k) bytes a → Reads (interval_of s k) bytes b → a ≡ b
+  one_list a b h r = reads_once (interval_of s k) ok.params (let w = ok.width_at_least in omega arith) bytes a b h r
 
-  one_list : (a b : List (List ℕ)) → Reads (interval_shape s.params s.width (length s.components) count) bytes a
-      → Reads (interval_shape s.params s.width (length s.components) count) bytes b → a ≡ b
-  one_list a b h r = reads_once s.params ok.params s.width (length s.components) count (let w = ok.width_at_least in omega arith) bytes a b
-      h r
-
-  not_long : (a : List (List ℕ)) → Reads (interval_shape s.params s.width (length s.components) count) bytes a
-      → IsLong (interval_shape s.params s.width (length s.components) count) bytes → ⊥
-  not_long a h l = read_not_long s.params ok.params s.width (length s.components) count (let w = ok.width_at_least in omega arith) bytes a h
-      l
+  not_long : (a : List (List ℕ)) → Reads (interval_of s k) bytes a → IsLong (interval_of s k) bytes → ⊥
+  not_long a h l = read_not_long (interval_of s k) ok.params (let w = ok.width_at_least in omega arith) bytes a h l
 
   within : (o p : PieceOutcome) → IsOutcomeAt s (Interval k) bytes o → IsOutcomeAt s (Interval k) bytes p → o ≡ p
   within (Lines a) (Lines b) h r = ap Lines (one_list a b h r)
@@ -95,8 +90,7 @@ some_is a b e = cc
 one_head_at : (s : Scan) (n : PieceNumber) (bytes : List ℕ) (a b : List (List ℕ)) → IsScan s → IsHeadAt s n bytes a → IsHeadAt s n bytes b
     → a ≡ b
 one_head_at s (Interval k) bytes a b ok (inl h) (inl r) =
-    one_head s.params s.width (length s.components) (row_count s k * length s.components) ok.params
-    (let w = ok.width_at_least in omega arith) (bits_read bytes) a b h.1 r.1
+    one_head (interval_of s k) ok.params (let w = ok.width_at_least in omega arith) (bits_read bytes) a b h.1 r.1
 one_head_at s (Interval k) bytes a b ok (inl h) (inr r) = absurd (true_false (is_whole bytes) h.0 r.0)
 one_head_at s (Interval k) bytes a b ok (inr h) (inl r) = absurd (true_false (is_whole bytes) r.0 h.0)
 one_head_at s (Interval k) bytes a b ok (inr h) (inr r) = h.1 ∙ sym r.1
@@ -122,8 +116,9 @@ abbrev given : Course → PictureShape → List PieceOutcome → List (List ℕ)
 given c shape os head =
     without_sources shape (set.insert_all set.empty (readings (pieces c) os ++ head_readings (cut_pieces c) head))
 
-one_reading : (bytes : List ℕ) → AllByRecursion (λ b. b < 256) bytes → (r s : ReadCopy) → CopyReads bytes r → CopyReads bytes s → r ≡ s
-one_reading bytes low r s k l =
+one_reading : (profile : Profile) (bytes : List ℕ) → AllByRecursion (λ b. b < 256) bytes → (r s : ReadCopy)
+    → CopyReadsUnder profile bytes r → CopyReadsUnder profile bytes s → r ≡ s
+one_reading profile bytes low r s k l =
     let same = one_course bytes k.course l.course k.is_course l.is_course in
     let shape = some_is k.shape l.shape (sym k.framed ∙ ap (λ (c : Course). c.headers.frame) same ∙ l.framed) in
     let each = subst (λ c. AreOutcomes (pieces c) l.outcomes) (sym same) l.each in
@@ -144,12 +139,15 @@ fault_is f g m n e = (cc, cc)
 none_is_some : (o : Option PictureShape) (shape : PictureShape) → o ≡ None → o ≡ Some shape → ⊥
 none_is_some o shape e f = cc
 
-pub bytes_decide : BytesDecide
-bytes_decide bytes low = record {
-  one_reading = one_reading bytes low;
+pub bytes_decide_under : (profile : Profile) → BytesDecideUnder profile
+bytes_decide_under profile bytes low = record {
+  one_reading = one_reading profile bytes low;
   one_fault = λ f g m n h k.
       fault_is f g m n (h.3 ∙ ap (λ (c : Course). no_picture c.end) (one_course bytes h.0 k.0 h.1 k.1) ∙ sym k.3);
   not_both = λ r f n h k.
       none_is_some k.0.headers.frame h.shape k.2
       (ap (λ (c : Course). c.headers.frame) (one_course bytes k.0 h.course k.1 h.is_course) ∙ h.framed);
 }
+
+pub bytes_decide : BytesDecide
+bytes_decide = bytes_decide_under Strict

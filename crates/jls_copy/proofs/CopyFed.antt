@@ -11,7 +11,7 @@ use Rattle.jls_copy.specs.Pieces.{pieces}
 use Rattle.jls_copy.specs.ReaderState.{reading}
 use Rattle.jls_copy.specs.Reader.{all_pieces}
 use Rattle.jls_copy.specs.Conclusion.{SaysNone, is_final}
-use Rattle.jls_copy.specs.CopyReads.{CopyGivesNone, IsDone, is_final_end, no_picture}
+use Rattle.jls_copy.specs.CopyReads.{CopyGivesNoneUnder, IsDoneUnder, is_final_end, no_picture}
 use Rattle.std.specs.Prelude.{Bool, true, false}
 use Rattle.jls_marker.specs.HeaderState.{HeaderState}
 use Rattle.jls_copy.specs.Course.{EndsHere, at_eoi, at_eoi_before_a_frame, at_no_marker, at_unknown_code, at_short_length}
@@ -32,6 +32,7 @@ use Rattle.jls_copy.specs.CutPieces.{IsHeadAt, IsHeadOfCut, head_readings, cut_p
 use Rattle.jls_copy.specs.ReaderState.{closed_at_end}
 use Rattle.jls_copy.proofs.CourseFed.{course_fed}
 use Rattle.jls_partial.specs.Partial.{without_sources}
+use Rattle.jls_marker.specs.declared.profile.Profile.{Profile}
 
 outcome_at : (s : Scan) (n : PieceNumber) (x w : List ℕ) (o : PieceOutcome) → FedAs n x w → IsOutcomeAt s n x o → IsOutcomeAt s n w o
 outcome_at s (Interval k) x w o t h = same_outcome s k x w o t h
@@ -84,10 +85,10 @@ head_readings_alike [] (q ∷ qs) head a = absurd a
 head_readings_alike (p ∷ ps) [] head a = absurd a
 head_readings_alike (p ∷ ps) (q ∷ qs) head a = readings_alike p q (Lines head) a.0
 
-pub conclusion_fed : ConclusionFed
-conclusion_fed bytes low read k =
-    let fed = course_fed bytes low in
-    let all = all_alike (all_pieces (reading bytes)) (pieces fed.0) k.outcomes fed.4 k.each in
+pub conclusion_fed : (profile : Profile) → ConclusionFed profile
+conclusion_fed profile bytes low read k =
+    let fed = course_fed profile bytes low in
+    let all = all_alike (all_pieces (reading profile bytes)) (pieces fed.0) k.outcomes fed.4 k.each in
     record {
       course = fed.0;
       is_course = fed.1;
@@ -96,21 +97,22 @@ conclusion_fed bytes low read k =
       outcomes = k.outcomes;
       each = all.0;
       head = k.head;
-      head_is = head_alike (closed_at_end (reading bytes).state.place) (cut_pieces fed.0) k.head fed.5 k.head_is;
+      head_is = head_alike (closed_at_end (reading profile bytes).state.place) (cut_pieces fed.0) k.head fed.5 k.head_is;
       partial_is = k.partial_is
           ∙ ap (λ rs. without_sources k.shape
-          (set.insert_all set.empty (rs ++ head_readings (closed_at_end (reading bytes).state.place) k.head))) all.1
+          (set.insert_all set.empty (rs ++ head_readings (closed_at_end (reading profile bytes).state.place) k.head))) all.1
           ∙ ap (λ rs. without_sources k.shape (set.insert_all set.empty (readings (pieces fed.0) k.outcomes ++ rs)))
-          (head_readings_alike (closed_at_end (reading bytes).state.place) (cut_pieces fed.0) k.head fed.5);
+          (head_readings_alike (closed_at_end (reading profile bytes).state.place) (cut_pieces fed.0) k.head fed.5);
       pieces_are = k.pieces_are ∙ ap (take 4096) all.2;
       count_is = k.count_is ∙ ap length all.2;
       ended_is = k.ended_is ∙ sym fed.3;
     }
 
-pub none_fed : (bytes : List ℕ) → AllByRecursion (λ b. b < 256) bytes → (f : CopyFault) → SaysNone (reading bytes) f
-    → CopyGivesNone bytes f
-none_fed bytes low OutOfMemory k = tt
-none_fed bytes low (NoPicture f offset) k = let fed = course_fed bytes low in
+pub none_fed : (profile : Profile) (bytes : List ℕ) → AllByRecursion (λ b. b < 256) bytes → (f : CopyFault)
+    → SaysNone (reading profile bytes) f
+    → CopyGivesNoneUnder profile bytes f
+none_fed profile bytes low OutOfMemory k = tt
+none_fed profile bytes low (NoPicture f offset) k = let fed = course_fed profile bytes low in
     (fed.0, fed.1, ap (λ h. h.frame) fed.2 ∙ k.0, k.1 ∙ ap no_picture (sym fed.3))
 
 stops_final : (h : HeaderState) (at : ℕ) (x : List ℕ) (e : End) → EndsHere h at x e → is_final_end e ≡ true
@@ -121,31 +123,33 @@ stops_final _ _ _ _ (at_unknown_code h at n code more p q r) = refl
 stops_final _ _ _ _ (at_short_length h at n code a b more p q) = refl
 stops_final _ _ _ _ (at_refused_segment h at n code payload more f p r) = fault_is_final h code payload f _ r
 
-ended_final : (e : End) (h : HeaderState) (ps : List FoundPiece) (x : List ℕ) → EndedAt e h ps x → is_final_end e ≡ true
-ended_final _ _ _ _ (ended before h us ps following tail x e p w f s) = stops_final h (length before) tail e s
-ended_final _ _ _ _ (without_soi n code more x p q w) = refl
-ended_final _ _ _ _ (without_ff b more x p w) = refl
+ended_final : (profile : Profile) (e : End) (h : HeaderState) (ps : List FoundPiece) (x : List ℕ) → EndedAt profile e h ps x
+    → is_final_end e ≡ true
+ended_final profile _ _ _ _ (ended before h us ps following tail x e p w f s) = stops_final h (length before) tail e s
+ended_final profile _ _ _ _ (without_soi n code more x p q w) = refl
+ended_final profile _ _ _ _ (without_ff b more x p w) = refl
 
-place_final : (p : CopyPosition) (h : HeaderState) (payload : List ℕ) (ps : List FoundPiece) (x : List ℕ) (count : ℕ)
-    → Tells p h payload ps x
+place_final : (profile : Profile) (p : CopyPosition) (h : HeaderState) (payload : List ℕ) (ps : List FoundPiece) (x : List ℕ) (count : ℕ)
+    → Tells profile p h payload ps x
     → is_final p ≡ is_final_end (end_at p count)
-place_final (Start fill) h payload ps x count t = refl
-place_final (AtMarker true) h payload ps x count t = refl
-place_final (AtMarker false) h payload ps x count t = refl
-place_final (AtLength marker code) h payload ps x count t = refl
-place_final (InLength marker code high) h payload ps x count t = refl
-place_final (InPayload marker code size) h payload ps x count t = refl
-place_final (InScan scan) h payload ps x count t = refl
-place_final (Done e) h payload ps x count t = sym (ended_final e h ps x t)
+place_final profile (Start fill) h payload ps x count t = refl
+place_final profile (AtMarker true) h payload ps x count t = refl
+place_final profile (AtMarker false) h payload ps x count t = refl
+place_final profile (AtLength marker code) h payload ps x count t = refl
+place_final profile (InLength marker code high) h payload ps x count t = refl
+place_final profile (InPayload marker code size) h payload ps x count t = refl
+place_final profile (InScan scan) h payload ps x count t = refl
+place_final profile (Done e) h payload ps x count t = sym (ended_final profile e h ps x t)
 
-pub done_fed : (bytes : List ℕ) → AllByRecursion (λ b. b < 256) bytes → (p : CopyPosition) → p ≡ (reading bytes).state.place → (done : Bool)
-    → done ≡ is_final p → IsDone bytes done
-done_fed bytes low p e done d =
-    let fed = course_fed bytes low in
-    let r = reading bytes in (
+pub done_fed : (profile : Profile) (bytes : List ℕ) → AllByRecursion (λ b. b < 256) bytes → (p : CopyPosition)
+    → p ≡ (reading profile bytes).state.place → (done : Bool)
+    → done ≡ is_final p → IsDoneUnder profile bytes done
+done_fed profile bytes low p e done d =
+    let fed = course_fed profile bytes low in
+    let r = reading profile bytes in (
       fed.0,
       fed.1,
       d ∙ ap is_final e
-          ∙ place_final r.state.place r.state.headers r.state.payload r.pieces bytes r.state.count (readings_tell bytes low)
+          ∙ place_final profile r.state.place r.state.headers r.state.payload r.pieces bytes r.state.count (readings_tell profile bytes low)
           ∙ ap is_final_end (sym fed.3),
     )

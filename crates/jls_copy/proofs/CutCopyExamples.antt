@@ -1,7 +1,7 @@
 -- A file of one column, 1 and 9, that CharLS 2.4.1 wrote, cut after the first byte of its scan data. By hand a fill byte was put before
 -- SOI,
 -- and a byte 0xFF at the end, as where the input ends before the code of a marker.
-use Rattle.std.proofs.Common.{◌≡◌, ℕ, List, [], ◌∷◌, Some, refl, lit<, arith}
+use Rattle.std.proofs.Common.{◌≡◌, ℕ, List, [], ◌∷◌, Some, refl, lit<, arith, false}
 use Rattle.jls_values.specs.Params.{CodingParameters}
 use Rattle.jls_values.specs.Shape.{PictureShape}
 use Rattle.jls_partial.specs.Reading.{reading_of}
@@ -23,7 +23,7 @@ abbrev pub bits_8 : CodingParameters
 bits_8 = record { precision = 8; maxval = 255; t1 = 3; t2 = 7; t3 = 21; reset = 64 }
 
 abbrev pub plan : Scan
-plan = record { components = 0 ∷ []; params = bits_8; width = 1; height = 2; restart_interval = 0 }
+plan = record { components = 0 ∷ []; params = bits_8; width = 1; height = 2; restart_interval = 0; by_sample = false }
 
 -- a fill byte, SOI and SOF55; SOS; the first byte of scan data, and 0xFF
 abbrev pub copy : List ℕ

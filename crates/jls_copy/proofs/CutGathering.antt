@@ -19,6 +19,7 @@ use Rattle.jls_copy.specs.declared.findings.Findings.{Findings}
 use Rattle.jls_copy.specs.declared.machine.Machine.{Machine}
 use Rattle.jls_copy.proofs.Gathering.{are_more, readings_more, records_more, kept_more}
 use Rattle.jls_partial.specs.Partial.{without_sources}
+use Rattle.jls_marker.specs.declared.profile.Profile.{Profile}
 
 -- what is kept is what the pieces give, with the readings of the head of the last one
 record CutGathers (frame : Option PictureShape) (ps qs : List FoundPiece) (f : Findings) : Type 0 where
@@ -78,17 +79,18 @@ cut_gathers frame ps (p ∷ []) old new g (shape, framed, adds) =
     some_is x y e = cc
 
 -- the input ends
-pub concluding : (m n : Machine) (bytes : List ℕ) (e : End) (read : ReadCopy) → IsReadingCopy m bytes → e ≡ end_at m.place m.count
+pub concluding : (profile : Profile) (m n : Machine) (bytes : List ℕ) (e : End) (read : ReadCopy) → IsReadingCopy profile m bytes
+    → e ≡ end_at m.place m.count
     → AddsCut m.headers.frame (closed_at_end m.place) m.findings n.findings → n.headers ≡ m.headers
     → ((shape : PictureShape) × (n.headers.frame ≡ Some shape) × (read.partial ≡ picture_of shape n.findings.partial)
     × (read.pieces ≡ n.findings.records.items) × (read.piece_count ≡ n.findings.record_count) × (read.ended ≡ e))
-    → Concludes (reading bytes) read
-concluding m n bytes e read h end_is a same (shape, framed, p, q, r, s) =
-    let all : CutGathers m.headers.frame (reading bytes).pieces (closed_at_end m.place) n.findings =
-    cut_gathers m.headers.frame (reading bytes).pieces (closed_at_end m.place) m.findings n.findings h.gathers a in
-    let place_is : m.place ≡ (reading bytes).state.place = ap (λ t. t.place) h.state_is in
-    let now : CutGathers m.headers.frame (reading bytes).pieces (closed_at_end (reading bytes).state.place) n.findings =
-    subst (λ t. CutGathers m.headers.frame (reading bytes).pieces (closed_at_end t) n.findings) place_is all in
+    → Concludes (reading profile bytes) read
+concluding profile m n bytes e read h end_is a same (shape, framed, p, q, r, s) =
+    let all : CutGathers m.headers.frame (reading profile bytes).pieces (closed_at_end m.place) n.findings =
+    cut_gathers m.headers.frame (reading profile bytes).pieces (closed_at_end m.place) m.findings n.findings h.gathers a in
+    let place_is : m.place ≡ (reading profile bytes).state.place = ap (λ t. t.place) h.state_is in
+    let now : CutGathers m.headers.frame (reading profile bytes).pieces (closed_at_end (reading profile bytes).state.place) n.findings =
+    subst (λ t. CutGathers m.headers.frame (reading profile bytes).pieces (closed_at_end t) n.findings) place_is all in
     let frame : m.headers.frame ≡ Some shape = ap (λ t. t.frame) (sym same) ∙ framed in
     record {
       shape = shape;

@@ -6,18 +6,20 @@ use Rattle.std.proofs.lemmas.List.{append-nil}
 use Rattle.jls_values.specs.Shape.{PictureShape}
 use Rattle.jls_values.specs.Params.{CodingParameters, AreCodingParameters}
 use Rattle.jls_bits.specs.Bits.{bits_read}
-use Rattle.jls_interval.specs.Lines.{AreLines, interval_shape}
-use Rattle.jls_interval.specs.Reads.{Reads}
-use Rattle.jls_interval.specs.Heads.{IsHeadOfPiece}
-use Rattle.jls_interval.specs.CutEnds.{CutEndIs}
-use Rattle.jls_interval.specs.IntervalBytes.{IntervalBytes, interval_asked}
-use Rattle.jls_interval.specs.declared.cut_end.CutEnd.{CutEnd}
-use Rattle.jls_interval.specs.declared.cut_end.CutEnd.TheVariants.{Whole, Head}
+use Rattle.jls_interval.specs.Lines.{AreLines}
+use Rattle.jls_piece.specs.Lines.{PieceShape}
+use Rattle.jls_piece.specs.Reads.{Reads}
+use Rattle.jls_piece.specs.Heads.{IsHeadOfPiece}
+use Rattle.jls_piece.specs.CutEnds.{CutEndIs}
+use Rattle.jls_piece.specs.PieceBytes.{PieceBytes, piece_asked}
+use Rattle.jls_piece.specs.declared.cut_end.CutEnd.{CutEnd}
+use Rattle.jls_piece.specs.declared.cut_end.CutEnd.TheVariants.{Whole, Head}
 use Rattle.jls_interval.specs.declared.decode_piece.PieceFault.{PieceFault}
 use Rattle.jls_interval.specs.declared.decode_piece.PieceFault.TheVariants as piece_fault
-use Rattle.jls_interval.proofs.CutStates.{over_head}
+use Rattle.jls_piece.proofs.PieceHeads.{no_head}
 use Rattle.jls_interval.proofs.HeadLines.{prefix_lines}
 use Rattle.jls_marker.specs.Scan.{Scan, IsScan, intervals, row_count, first_row}
+use Rattle.jls_copy.specs.IntervalOf.{interval_of}
 use Rattle.jls_copy.specs.Numbers.{Interval}
 use Rattle.jls_copy.specs.Pieces.{placed, Lines, Fault, IsOutcomeAt}
 use Rattle.jls_copy.specs.Findings.{AddsCut, IsKindOf, with_readings, picture_of, kept_with}
@@ -31,28 +33,22 @@ use Rattle.jls_copy.specs.declared.findings.Findings.{Findings}
 use Rattle.jls_copy.proofs.Outcomes.{decoding_with, decoding_is}
 
 -- what `finish_cut` says of a decoder
-abbrev pub CutFinishes : IntervalBytes → CutEnd → Type 0
-CutFinishes d end = IfSome d.bytes (λ bytes. CutEndIs (interval_asked d) bytes end)
+abbrev pub CutFinishes : PieceBytes → CutEnd → Type 0
+CutFinishes d end = IfSome d.bytes (λ bytes. CutEndIs (piece_asked d) bytes end)
 
--- a piece that reads has no head
-no_head : (p : CodingParameters) (w c n : ℕ) (bytes : List ℕ) (lines : List (List ℕ)) → AreCodingParameters p → 0 < w
-    → Reads (interval_shape p w c n) bytes lines → IsHeadOfPiece (interval_shape p w c n) bytes []
-no_head p w c n bytes lines ok some r =
-    inl (
-      r.begins.data_bits.whole,
-      over_head p ok w c n some (bits_read bytes) lines (min 8 (length r.unread))
-          (record { unread = r.unread; are_lines = r.begins.are_lines; begins = r.begins.data_bits.read; counted = refl }),
+-- the lines of a head are first lines of a piece
+head_lines : (i : PieceShape) (bytes : List ℕ) (head : List (List ℕ)) → IsHeadOfPiece i bytes head
+    → (count : ℕ) × (count ≤ i.line_count) × AreLines i.params i.width count head
+head_lines i bytes head (inl (whole, inl (cut, f))) =
+    let l = length-append head f.begins.others in let e = ap length f.begins.lines_are in let k = cut.are_lines.count_is in (
+      length head,
+      omega (arith, l, e, k),
+      prefix_lines i.params i.width i.line_count cut.lines head f.begins.others cut.are_lines f.begins.lines_are,
     )
-
--- the lines of a head are first lines of an interval
-head_lines : (p : CodingParameters) (w c n : ℕ) (bytes : List ℕ) (head : List (List ℕ)) → IsHeadOfPiece (interval_shape p w c n) bytes head
-    → (count : ℕ) × (count ≤ n) × AreLines p w count head
-head_lines p w c n bytes head (inl (whole, inl (cut, f))) =
-    let l = length-append head f.begins.others in let e = ap length f.begins.lines_are in let k = cut.are_lines.count_is in
-    (length head, omega (arith, l, e, k), prefix_lines p w n cut.lines head f.begins.others cut.are_lines f.begins.lines_are)
-head_lines p w c n bytes head (inl (whole, inr (none, e))) =
-    (0, omega arith, subst (AreLines p w 0) (sym e) (record { count_is = refl; each = tt }))
-head_lines p w c n bytes head (inr (none, e)) = (0, omega arith, subst (AreLines p w 0) (sym e) (record { count_is = refl; each = tt }))
+head_lines i bytes head (inl (whole, inr (none, e))) =
+    (0, omega arith, subst (AreLines i.params i.width 0) (sym e) (record { count_is = refl; each = tt }))
+head_lines i bytes head (inr (none, e)) =
+    (0, omega arith, subst (AreLines i.params i.width 0) (sym e) (record { count_is = refl; each = tt }))
 
 module _ (shape : PictureShape) (index : ℕ) (s : Scan) (offset k : ℕ) (old new : Findings) where
   pub beyond_adds : (piece : OpenPiece) → piece ≡ Beyond k → new.partial ≡ old.partial
@@ -74,7 +70,7 @@ module _ (shape : PictureShape) (index : ℕ) (s : Scan) (offset k : ℕ) (old n
         },
       )
 
-module _ (s : Scan) (k : ℕ) (d : IntervalBytes) (piece : OpenPiece) (is : piece ≡ Within k d) (sound : IsOpenPiece s piece) where
+module _ (s : Scan) (k : ℕ) (d : PieceBytes) (piece : OpenPiece) (is : piece ≡ Within k d) (sound : IsOpenPiece s piece) where
   abbrev open_is : IsDecodingOf s k d
   open_is = subst (IsOpenPiece s) is sound
 
@@ -87,7 +83,7 @@ module _ (s : Scan) (k : ℕ) (d : IntervalBytes) (piece : OpenPiece) (is : piec
   whole : piece ≡ Within k (decoding_with s k fed_bytes)
   whole = is ∙ ap (Within k) (decoding_is s k d open_is)
 
-  said : (end : CutEnd) → CutFinishes d end → CutEndIs (interval_shape s.params s.width (length s.components) count) fed_bytes end
+  said : (end : CutEnd) → CutFinishes d end → CutEndIs (interval_of s k) fed_bytes end
   said end h = subst (λ x. CutFinishes x end) (decoding_is s k d open_is) h
 
   pub cut_interval : k < intervals s
@@ -102,7 +98,7 @@ module _ (s : Scan) (k : ℕ) (d : IntervalBytes) (piece : OpenPiece) (is : piec
   not_memory head fault h e = said (Head head piece_fault.OutOfMemory) (subst (λ f. CutFinishes d (Head head f)) e h)
 
   its_head : (head : List (List ℕ)) (fault : PieceFault) → CutFinishes d (Head head fault)
-      → IsHeadOfPiece (interval_shape s.params s.width (length s.components) count) fed_bytes head
+      → IsHeadOfPiece (interval_of s k) fed_bytes head
   its_head head piece_fault.Long h = (said (Head head piece_fault.Long) h).1
   its_head head piece_fault.Broken h = (said (Head head piece_fault.Broken) h).1
   its_head head piece_fault.OutOfMemory h = absurd (said (Head head piece_fault.OutOfMemory) h)
@@ -115,7 +111,7 @@ module _ (s : Scan) (k : ℕ) (d : IntervalBytes) (piece : OpenPiece) (is : piec
 
   pub cut_lines : (head : List (List ℕ)) (fault : PieceFault) → CutFinishes d (Head head fault)
       → (n : ℕ) × (n ≤ count) × AreLines s.params s.width n head
-  cut_lines head fault h = head_lines s.params s.width (length s.components) count fed_bytes head (its_head head fault h)
+  cut_lines head fault h = head_lines (interval_of s k) fed_bytes head (its_head head fault h)
 
   module _ (ok : IsScan s) (shape : PictureShape) (index offset : ℕ) (old new : Findings) where
     pub whole_adds : (lines : List (List ℕ)) → CutFinishes d (Whole lines)
@@ -123,9 +119,8 @@ module _ (s : Scan) (k : ℕ) (d : IntervalBytes) (piece : OpenPiece) (is : piec
         → new.records.items ≡ old.records.items → new.record_count ≡ old.record_count
         → AddsCut (Some shape) (piece_found index s offset piece ∷ []) old new
     whole_adds lines h p r c =
-        let now : Reads (interval_shape s.params s.width (length s.components) count) fed_bytes lines = said (Whole lines) h in
-        let none = no_head s.params s.width (length s.components) count fed_bytes lines ok.params
-        (let w = ok.width_at_least in omega arith) now in
+        let now : Reads (interval_of s k) fed_bytes lines = said (Whole lines) h in
+        let none = no_head (interval_of s k) ok.params (let w = ok.width_at_least in omega arith) fed_bytes lines now in
         let found = placed s.components (first_row s k) 0 lines in
         rw whole (
           shape,

@@ -6,6 +6,7 @@ use Rattle.jls_values.specs.Params.{CodingParameters}
 use Rattle.jls_partial.specs.Reading.{reading_of}
 use Rattle.jls_marker.specs.Scan.{Scan}
 use Rattle.jls_interval.specs.Lines.{interval_shape}
+use Rattle.jls_piece.specs.Lines.{PieceShape, line_piece}
 use Rattle.jls_copy.specs.ScanData.{closes_piece, IsPiece, closed_bytes, IsClosedPiece}
 use Rattle.jls_copy.specs.Numbers.{Interval, BeyondLast, next_number, numbers_after, RiseByEightAtMost, mark_before}
 use Rattle.jls_copy.specs.IntervalOf.{interval_of}
@@ -90,13 +91,18 @@ bits_8 = record { precision = 8; maxval = 255; t1 = 3; t2 = 7; t3 = 21; reset = 
 
 -- two components by line, in intervals of two rows of which the last has one
 abbrev plan : Scan
-plan = record { components = 1 ∷ 0 ∷ []; params = bits_8; width = 3; height = 5; restart_interval = 2 }
+plan = record { components = 1 ∷ 0 ∷ []; params = bits_8; width = 3; height = 5; restart_interval = 2; by_sample = false }
 
-first_interval : interval_of plan 0 ≡ interval_shape bits_8 3 2 4
+first_interval : interval_of plan 0 ≡ line_piece (interval_shape bits_8 3 2 4)
 first_interval = refl
 
-last_interval : interval_of plan 2 ≡ interval_shape bits_8 3 2 2
+last_interval : interval_of plan 2 ≡ line_piece (interval_shape bits_8 3 2 2)
 last_interval = refl
+
+-- by sample an interval has as many lines
+by_sample_interval : interval_of (record plan { by_sample = true }) 2
+    ≡ record (line_piece (interval_shape bits_8 3 2 2)) { by_sample = true }
+by_sample_interval = refl
 
 -- in each row first the component that SOS names first
 placed_by_turns : placed (1 ∷ 0 ∷ []) 2 0 ((7 ∷ []) ∷ (8 ∷ []) ∷ (9 ∷ []) ∷ [])

@@ -4,14 +4,14 @@ use Rattle.std.proofs.Common.{length-append}
 use Rattle.std.specs.List.{AllByRecursion, Contains, flat_map}
 use Rattle.jls_values.specs.Shape.{PictureShape}
 use Rattle.jls_values.proofs.Lists.{is_first, in_rest, none_in, first_or_rest}
-use Rattle.jls_marker.specs.HeaderState.{HeaderState, no_headers}
+use Rattle.jls_marker.specs.HeaderState.{HeaderState, no_headers_under}
 use Rattle.jls_marker.specs.Scan.{Scan, intervals}
 use Rattle.jls_marker.proofs.HeaderSteps.{frame_stays}
 use Rattle.jls_copy.specs.ScanData.{ClosedPiece, closed_bytes}
 use Rattle.jls_copy.specs.Numbers.{PieceNumber, Interval, number_after, given_last}
 use Rattle.jls_copy.specs.Pieces.{FoundPiece, pieces_from, pieces_in, pieces, piece_begun}
 use Rattle.jls_copy.specs.Course.{CopyUnit, segment, scan, segment_unit_bytes, scan_data_bytes, dropped_bytes, unit_bytes, AreUnits}
-use Rattle.jls_copy.specs.Course.{Course, IsCourse}
+use Rattle.jls_copy.specs.Course.{Course, IsCourseUnder}
 use Rattle.jls_copy.specs.Course.{with_soi, with_another_marker, with_no_marker, with_fill_alone, EndsHere, at_eoi, at_eoi_before_a_frame}
 use Rattle.jls_copy.specs.Course.{at_no_marker, at_unknown_code, at_short_length, at_refused_segment, Ends, for_good, with_the_input}
 use Rattle.jls_copy.specs.Course.{in_a_unit}
@@ -20,6 +20,7 @@ use Rattle.jls_copy.specs.declared.end.End.{End}
 use Rattle.jls_copy.proofs.HeaderFacts.{scan_is_of_frame}
 use Rattle.jls_copy.proofs.TellingLaws.{pieces_stand_at_their_offsets}
 use Rattle.jls_copy.specs.TellingLaws.{StandsAt}
+use Rattle.jls_marker.specs.declared.profile.Profile.{Profile}
 
 -- one of the first pieces, or of the others
 pub either : (X : Type 0) (xs ys : List FoundPiece) (q : FoundPiece) → Contains (xs ++ ys) q → (Contains xs q → X) → (Contains ys q → X) → X
@@ -95,20 +96,22 @@ units_before_end h at bytes (scan fill code payload plan closed last closing ∷
     (λ later. units_before_end after (at + length (unit_bytes (scan fill code payload plan closed last closing))) rest us final e
     (index + 1) q more later)
 
-before_end : (copy : List ℕ) (c : Course) → IsCourse copy c → (q : FoundPiece) → Contains (pieces c) q → q.offset ≤ offset_of_end c.end
-before_end _ _ (with_soi n bytes units final e h) q m = units_before_end no_headers (n + 2) bytes units final e 0 q h m
-before_end _ _ (with_another_marker n code bytes p r) q m = absurd (none_in q m)
-before_end _ _ (with_no_marker b bytes p) q m = absurd (none_in q m)
-before_end _ _ (with_fill_alone n) q m = absurd (none_in q m)
+before_end : (profile : Profile) (copy : List ℕ) (c : Course) → IsCourseUnder profile copy c → (q : FoundPiece) → Contains (pieces c) q
+    → q.offset ≤ offset_of_end c.end
+before_end profile _ _ (with_soi n bytes units final e h) q m =
+    units_before_end (no_headers_under profile) (n + 2) bytes units final e 0 q h m
+before_end profile _ _ (with_another_marker n code bytes p r) q m = absurd (none_in q m)
+before_end profile _ _ (with_no_marker b bytes p) q m = absurd (none_in q m)
+before_end profile _ _ (with_fill_alone n) q m = absurd (none_in q m)
 
 -- a piece begins within the copy, and no later than the copy ends
-pub ends_after : (copy : List ℕ) (c : Course) → IsCourse copy c → (q : FoundPiece) → Contains (pieces c) q
+pub ends_after : (profile : Profile) (copy : List ℕ) (c : Course) → IsCourseUnder profile copy c → (q : FoundPiece) → Contains (pieces c) q
     → (q.offset ≤ length copy) × (q.offset ≤ offset_of_end c.end)
-ends_after copy c is q m =
-    let s = of_all (λ p. StandsAt copy p.offset p.bytes) (pieces c) q (pieces_stand_at_their_offsets copy c is) m in
+ends_after profile copy c is q m =
+    let s = of_all (λ p. StandsAt copy p.offset p.bytes) (pieces c) q (pieces_stand_at_their_offsets profile copy c is) m in
     let size = ap length s.copy_is ∙ length-append s.prefix (q.bytes ++ s.back) in
     let at = s.offset_is in
-    (omega (arith, size, at), before_end copy c is q m)
+    (omega (arith, size, at), before_end profile copy c is q m)
 
 -- Frames -----------------------------------------------------------------------------------------------------------
 
@@ -131,9 +134,11 @@ framed_units h at bytes (scan fill code payload plan closed last closing ∷ us)
     let f = scan_is_of_frame h after code payload plan unit.1 in
     (f.0, units_keep after (at + length (unit_bytes (scan fill code payload plan closed last closing))) rest us final e f.0 more f.1)
 
-pub framed_by_piece : (copy : List ℕ) (c : Course) → IsCourse copy c → (q : FoundPiece) → Contains (pieces c) q
+pub framed_by_piece : (profile : Profile) (copy : List ℕ) (c : Course) → IsCourseUnder profile copy c → (q : FoundPiece)
+    → Contains (pieces c) q
     → (shape : PictureShape) × (c.headers.frame ≡ Some shape)
-framed_by_piece _ _ (with_soi n bytes units final e h) q m = framed_units no_headers (n + 2) bytes units final e 0 q h m
-framed_by_piece _ _ (with_another_marker n code bytes p r) q m = absurd (none_in q m)
-framed_by_piece _ _ (with_no_marker b bytes p) q m = absurd (none_in q m)
-framed_by_piece _ _ (with_fill_alone n) q m = absurd (none_in q m)
+framed_by_piece profile _ _ (with_soi n bytes units final e h) q m =
+    framed_units (no_headers_under profile) (n + 2) bytes units final e 0 q h m
+framed_by_piece profile _ _ (with_another_marker n code bytes p r) q m = absurd (none_in q m)
+framed_by_piece profile _ _ (with_no_marker b bytes p) q m = absurd (none_in q m)
+framed_by_piece profile _ _ (with_fill_alone n) q m = absurd (none_in q m)

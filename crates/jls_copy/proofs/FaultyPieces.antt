@@ -3,7 +3,7 @@ use Rattle.std.proofs.Common.{◌≡◌, ℕ, List, [], ◌∷◌, ◌++◌, len
 use Rattle.std.specs.List.{Contains}
 use Rattle.std.proofs.lemmas.List.Elements.{Contains-append_left}
 use Rattle.jls_values.proofs.Lists.{is_first, in_rest}
-use Rattle.jls_copy.specs.Prefixes.{StaysFaulty}
+use Rattle.jls_copy.specs.Prefixes.{StaysFaultyUnder}
 use Rattle.jls_copy.specs.Pieces.{AreOutcomes, Fault, FoundPiece, IsOutcome, Lines, PieceOutcome, pieces, records}
 use Rattle.jls_copy.specs.Reader.{all_pieces}
 use Rattle.jls_copy.specs.ReaderState.{StateWithPieces, closed_at, reading, reading_from, reading_with}
@@ -12,6 +12,7 @@ use Rattle.jls_copy.proofs.CopyFed.{outcome_alike}
 use Rattle.jls_copy.proofs.CourseFed.{course_fed}
 use Rattle.jls_copy.proofs.Prefixes.{alike_of, among_all, from_append}
 use Rattle.jls_copy.proofs.OneCourse.{one_course}
+use Rattle.jls_marker.specs.declared.profile.Profile.{Profile}
 
 -- of these pieces one is faulty
 abbrev pub SomeFault : List FoundPiece → Type 0
@@ -31,12 +32,13 @@ pub closed_stay : (r : StateWithPieces) (bytes : List ℕ) (p : FoundPiece) → 
 closed_stay r [] p h = h
 closed_stay r (b ∷ bytes) p h = closed_stay (reading_with r b) bytes p (Contains-append_left r.pieces (closed_at r.state.place b) p h)
 
-pub stays_faulty : (prefix : List ℕ) → SomeFault (reading prefix).pieces → StaysFaulty prefix
-stays_faulty prefix (p, among, kind, fault) more low c is =
-    let later : Contains (reading (prefix ++ more)).pieces p =
-    subst (λ r. Contains r.pieces p) (sym (from_append _ prefix more)) (closed_stay (reading prefix) more p among) in
-    let u = course_fed (prefix ++ more) low in
-    let q = alike_of (all_pieces (reading (prefix ++ more))) (pieces u.0) p u.4 (among_all (reading (prefix ++ more)) p (inl later)) in (
+pub stays_faulty : (profile : Profile) (prefix : List ℕ) → SomeFault (reading profile prefix).pieces → StaysFaultyUnder profile prefix
+stays_faulty profile prefix (p, among, kind, fault) more low c is =
+    let later : Contains (reading profile (prefix ++ more)).pieces p =
+    subst (λ r. Contains r.pieces p) (sym (from_append _ prefix more)) (closed_stay (reading profile prefix) more p among) in
+    let u = course_fed profile (prefix ++ more) low in
+    let q = alike_of (all_pieces (reading profile (prefix ++ more))) (pieces u.0) p u.4 (among_all (reading profile (prefix ++ more)) p
+    (inl later)) in (
       q.0,
       subst (λ d. Contains (pieces d) q.0) (one_course (prefix ++ more) u.0 c u.1 is) q.1,
       kind,

@@ -1,17 +1,18 @@
 -- A course whose end is final stays where more bytes follow.
 use Rattle.std.proofs.Common.{◌≡◌, ℕ, ◌+◌, ◌/◌, ◌%◌, ◌<◌, true, List, [], ◌∷◌, ◌++◌, length, sym, ap, ◌∙◌, subst, append_assoc, arith}
 use Rattle.std.proofs.Common.{length-append}
-use Rattle.jls_marker.specs.HeaderState.{HeaderState, no_headers}
+use Rattle.jls_marker.specs.HeaderState.{HeaderState, no_headers_under}
 use Rattle.jls_copy.specs.ScanData.{fill_bytes}
 use Rattle.jls_copy.specs.Course.{LastClosed, by_input, by_marker, CopyUnit, segment, scan, segment_unit_bytes, unit_bytes, IsClosing}
 use Rattle.jls_copy.specs.Course.{IsUnit, EndsHere, at_eoi, at_eoi_before_a_frame, at_no_marker, at_unknown_code, at_short_length}
-use Rattle.jls_copy.specs.Course.{at_refused_segment, Ends, for_good, with_the_input, in_a_unit, AreUnits, without_units, IsCourse}
+use Rattle.jls_copy.specs.Course.{at_refused_segment, Ends, for_good, with_the_input, in_a_unit, AreUnits, without_units_under, Course}
+use Rattle.jls_copy.specs.Course.{IsCourseUnder}
 use Rattle.jls_copy.specs.Course.{with_soi, with_another_marker, with_no_marker, with_fill_alone}
 use Rattle.jls_copy.specs.CopyReads.{is_final_end}
-use Rattle.jls_copy.specs.CopyLaws.{FinalEndsStay}
 use Rattle.jls_copy.specs.declared.end.End.{End}
 use Rattle.jls_copy.specs.declared.end.End.TheVariants.{Eoi, Header}
 use Rattle.jls_marker.specs.declared.fault.MarkerFault.TheVariants as fault
+use Rattle.jls_marker.specs.declared.profile.Profile.{Profile}
 
 -- something stands in these lists
 some_after : (xs : List ℕ) (y : ℕ) (ys : List ℕ) → 0 < length (xs ++ y ∷ ys)
@@ -94,13 +95,15 @@ units_stay h at x (u ∷ us) final e more is (after, rest, whole, unit, next) =
       );
     }
 
-pub final_ends_stay : FinalEndsStay
-final_ends_stay _ more _ (with_soi n bytes units l e h) final =
-    subst (λ y. IsCourse y (record { begin = n + 2; units = units; headers = l; end = e }))
+pub final_ends_stay : {profile : Profile} (prefix more : List ℕ) (c : Course) → IsCourseUnder profile prefix c
+    → is_final_end c.end ≡ true → IsCourseUnder profile (prefix ++ more) c
+final_ends_stay {profile} _ more _ (with_soi n bytes units l e h) final =
+    subst (λ y. IsCourseUnder profile y (record { begin = n + 2; units = units; headers = l; end = e }))
     (sym (append_assoc (fill_bytes n) (255 ∷ 216 ∷ bytes) more))
-    (with_soi n (bytes ++ more) units l e (units_stay no_headers (n + 2) bytes units l e more final h).there)
-final_ends_stay _ more _ (with_another_marker n code bytes p q) final =
-    subst (λ y. IsCourse y (without_units n (Header fault.NoSoi n))) (sym (append_assoc (fill_bytes n) (255 ∷ code ∷ bytes) more))
+    (with_soi n (bytes ++ more) units l e (units_stay (no_headers_under profile) (n + 2) bytes units l e more final h).there)
+final_ends_stay {profile} _ more _ (with_another_marker n code bytes p q) final =
+    subst (λ y. IsCourseUnder profile y (without_units_under profile n (Header fault.NoSoi n))) (sym (append_assoc (fill_bytes n)
+    (255 ∷ code ∷ bytes) more))
     (with_another_marker n code (bytes ++ more) p q)
 final_ends_stay _ more _ (with_no_marker b bytes p) final = with_no_marker b (bytes ++ more) p
 final_ends_stay _ more _ (with_fill_alone n) final = absurd cc

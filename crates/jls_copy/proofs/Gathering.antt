@@ -35,6 +35,7 @@ use Rattle.jls_copy.specs.declared.piece.PieceRecord.{PieceRecord}
 use Rattle.jls_copy.specs.declared.place.CopyPosition.{CopyPosition}
 use Rattle.jls_copy.specs.declared.place.CopyPosition.TheVariants.{Start, AtMarker, AtLength, InLength, InPayload, InScan, Done}
 use Rattle.jls_copy.proofs.Kept.{after_some}
+use Rattle.jls_marker.specs.declared.profile.Profile.{Profile}
 
 pub are_more : (ps : List FoundPiece) (os : List PieceOutcome) (p : FoundPiece) (o : PieceOutcome) → AreOutcomes ps os → IsOutcome p o
     → AreOutcomes (ps ++ p ∷ []) (os ++ o ∷ [])
@@ -203,11 +204,12 @@ pub if_err : {A B : Type 0} {P Q : B → Type 0} (r : Result A B) → ((x : B) �
 if_err (Ok x) f p = tt
 if_err (Err e) f p = f e p
 
-pub saying_none : (m n : Machine) (bytes : List ℕ) (e : End) (f : CopyFault) → IsReadingCopy m bytes → e ≡ end_at m.place m.count
+pub saying_none : (profile : Profile) (m n : Machine) (bytes : List ℕ) (e : End) (f : CopyFault) → IsReadingCopy profile m bytes
+    → e ≡ end_at m.place m.count
     → n.headers ≡ m.headers
-    → (n.headers.frame ≡ None) × (f ≡ no_picture e) → SaysNone (reading bytes) f
-saying_none m n bytes e OutOfMemory h end_is same k = tt
-saying_none m n bytes e (NoPicture f offset) h end_is same (none, is) = (
+    → (n.headers.frame ≡ None) × (f ≡ no_picture e) → SaysNone (reading profile bytes) f
+saying_none profile m n bytes e OutOfMemory h end_is same k = tt
+saying_none profile m n bytes e (NoPicture f offset) h end_is same (none, is) = (
   ap (λ t. t.headers.frame) (sym h.state_is) ∙ ap (λ t. t.frame) (sym same) ∙ none,
   is
       ∙ ap no_picture (end_is ∙ ap (λ t. end_at t.place t.count) h.state_is),
@@ -243,25 +245,25 @@ frame_stays_on (b ∷ more) r s f =
     frame_stays_on more (reading_with r b) s (frame_stays r.state.place r.state.count r.state.headers r.state.payload b s f)
 
 -- some bytes more, which a machine took, and which were counted then
-pub reading_on : (m n : Machine) (bytes xs : List ℕ) (count : ℕ) → IsReadingCopy m bytes → Takes m xs n count
+pub reading_on : (profile : Profile) (m n : Machine) (bytes xs : List ℕ) (count : ℕ) → IsReadingCopy profile m bytes → Takes m xs n count
     → length bytes + length xs ≤ 2 ^ 63 - 1 → AllByRecursion (λ x. x < 256) (take count xs)
-    → IsReadingCopy (record n { count = n.count + count }) (bytes ++ take count xs)
-reading_on m n bytes xs count h t small low =
+    → IsReadingCopy profile (record n { count = n.count + count }) (bytes ++ take count xs)
+reading_on profile m n bytes xs count h t small low =
     let closed : List FoundPiece = closed_at m.place (get_or xs 0 0) in
     let size : length (take count xs) ≡ count = length-take-le count xs t.within in
-    let before : reading bytes ≡ record { state = state_of m; pieces = (reading bytes).pieces } =
-    ap (λ s. record { state = s; pieces = (reading bytes).pieces }) (sym h.state_is) in
+    let before : reading profile bytes ≡ record { state = state_of m; pieces = (reading profile bytes).pieces } =
+    ap (λ s. record { state = s; pieces = (reading profile bytes).pieces }) (sym h.state_is) in
     let total : m.count + length (take count xs) ≡ n.count + count = omega (arith, size, t.count_is) in
-    let fed : reading (bytes ++ take count xs)
-    ≡ record { state = record (state_of n) { count = n.count + count }; pieces = (reading bytes).pieces ++ closed } =
-    from_append _ bytes (take count xs) ∙ ap (λ r. reading_from r (take count xs)) before ∙ t.leads (reading bytes).pieces
-    ∙ ap (λ (k : ℕ). counted (state_of n) ((reading bytes).pieces ++ closed) k) total in
+    let fed : reading profile (bytes ++ take count xs)
+    ≡ record { state = record (state_of n) { count = n.count + count }; pieces = (reading profile bytes).pieces ++ closed } =
+    from_append _ bytes (take count xs) ∙ ap (λ r. reading_from r (take count xs)) before ∙ t.leads (reading profile bytes).pieces
+    ∙ ap (λ (k : ℕ). counted (state_of n) ((reading profile bytes).pieces ++ closed) k) total in
     let frame : (s : PictureShape) → m.headers.frame ≡ Some s → n.headers.frame ≡ Some s =
     λ s f. ap (λ r. r.state.headers.frame) (sym (t.leads []))
     ∙ frame_stays_on (take count xs) (record { state = state_of m; pieces = [] }) s f in
-    let gathered : Gathers n.headers.frame ((reading bytes).pieces ++ closed) n.findings =
+    let gathered : Gathers n.headers.frame ((reading profile bytes).pieces ++ closed) n.findings =
     gathers_frame m.headers.frame n.headers.frame _ n.findings frame
-    (gathers_pieces m.headers.frame (reading bytes).pieces closed m.findings n.findings h.gathers t.found) in
+    (gathers_pieces m.headers.frame (reading profile bytes).pieces closed m.findings n.findings h.gathers t.found) in
     let one : n.findings.record_count ≤ m.findings.record_count + 1 = adds_one m.headers.frame closed m.findings n.findings t.found in
     record {
       state_is = sym (ap (λ r. r.state) fed);
@@ -273,7 +275,7 @@ reading_on m n bytes xs count h t small low =
       following = after_some n.place (n.count + count) (omega (arith, t.some));
       records_counted = omega (arith, t.count_is, one, h.records_counted, t.some);
       records_kept = rw gathered.records_are
-          (omega (arith, length-take 4096 (records ((reading bytes).pieces ++ closed) gathered.outcomes)));
+          (omega (arith, length-take 4096 (records ((reading profile bytes).pieces ++ closed) gathered.outcomes)));
       header_bytes = t.header_bytes;
     }
 
@@ -298,8 +300,8 @@ bytes_between n m at xs each =
     all (x ∷ xs) each = (each 0, all xs (λ k. each (suc k)))
 
 -- the machine of a reader can take a step
-pub is_machine : (m : Machine) (bytes : List ℕ) → IsReadingCopy m bytes → IsMachine m
-is_machine m bytes h = record {
+pub is_machine : (profile : Profile) (m : Machine) (bytes : List ℕ) → IsReadingCopy profile m bytes → IsMachine m
+is_machine profile m bytes h = record {
   count_below = omega (arith, h.count_is, h.few);
   records_below = omega (arith, h.records_counted, h.count_is, h.few);
   following = h.following;

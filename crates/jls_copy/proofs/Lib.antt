@@ -14,7 +14,6 @@ pub mod Fitting
 mod HeaderFacts
 mod Alike
 mod Kept
-mod EmptyPiece
 mod Outcomes
 mod TellsMore
 mod TellsScan
@@ -22,6 +21,8 @@ mod TellsSegment
 mod ReadingTells
 pub mod CourseFed
 mod Stretches
+mod StrictReaders
+mod WideReaders
 mod Idle
 mod PayloadStretch
 mod SegmentStretch
@@ -36,6 +37,7 @@ mod CutGathering
 mod CopyFed
 pub mod ScansOfCourse
 pub mod BytesDecide
+pub mod ByLine
 pub mod FinalEnds
 mod SegmentFaults
 mod TellingLaws

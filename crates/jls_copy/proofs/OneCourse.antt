@@ -9,7 +9,7 @@ use Rattle.std.proofs.lemmas.Bool.Decides.{nat_tests}
 use Rattle.std.specs.List.{AllByRecursion}
 use Rattle.jls_marker.specs.MarkerCodes.{has_segment}
 use Rattle.jls_marker.specs.Headers.{headers_after}
-use Rattle.jls_marker.specs.HeaderState.{HeaderState, no_headers}
+use Rattle.jls_marker.specs.HeaderState.{HeaderState, no_headers_under}
 use Rattle.jls_marker.specs.Scan.{Scan}
 use Rattle.jls_marker.specs.declared.fault.MarkerFault.{MarkerFault}
 use Rattle.jls_marker.specs.declared.fault.MarkerFault.TheVariants as fault
@@ -17,13 +17,14 @@ use Rattle.jls_copy.specs.ScanData.{fill_bytes, ClosedPiece, ScanEnd, at_input, 
 use Rattle.jls_copy.specs.Course.{LastClosed, by_input, by_marker, CopyUnit, segment, scan, segment_unit_bytes, scan_data_bytes, unit_bytes}
 use Rattle.jls_copy.specs.Course.{IsClosing, IsUnit, IsPartOfUnit, fill_alone, marker_alone, half_a_length, short_payload, EndsHere, at_eoi}
 use Rattle.jls_copy.specs.Course.{at_eoi_before_a_frame, at_no_marker, at_unknown_code, at_short_length, at_refused_segment, Ends, for_good}
-use Rattle.jls_copy.specs.Course.{with_the_input, in_a_unit, AreUnits, Course, without_units, IsCourse, with_soi, with_another_marker}
+use Rattle.jls_copy.specs.Course.{with_the_input, in_a_unit, AreUnits, Course, without_units_under, IsCourseUnder, with_soi}
+use Rattle.jls_copy.specs.Course.{with_another_marker}
 use Rattle.jls_copy.specs.Course.{with_no_marker, with_fill_alone}
-use Rattle.jls_copy.specs.CourseLaws.{OneCourse}
 use Rattle.jls_copy.specs.declared.end.End.{End}
 use Rattle.jls_copy.specs.declared.end.End.TheVariants.{Eoi, Input, Header}
 use Rattle.jls_copy.proofs.OneCut.{same_cut}
 use Rattle.jls_copy.proofs.OneMoreByte.{fills_more}
+use Rattle.jls_marker.specs.declared.profile.Profile.{Profile}
 
 -- What stands where a marker must, computed ------------------------------------------------------------------
 
@@ -264,20 +265,21 @@ one_from h at x (u ∷ us) (v ∷ vs) l m d e (a, r, f, t, p) (b, s, g, w, q) =
 
 -- The whole -------------------------------------------------------------------------------------------------------
 
-abbrev After : Found → ℕ → Course → Type 0
-After nothing total c = c ≡ without_units 0 (Header fault.Ended 0)
-After no_ff total c = c ≡ without_units 0 (Header fault.NoSoi 0)
-After cut_off total c = c ≡ without_units total (Header fault.Ended total)
-After (marker n code more) total c =
-    ((code ≡ 216) × (c.begin ≡ n + 2) × AreUnits no_headers (n + 2) more c.units c.headers c.end)
-    ⊎ ((code ≢ 216) × (c ≡ without_units n (Header fault.NoSoi n)))
+abbrev After : Profile → Found → ℕ → Course → Type 0
+After profile nothing total c = c ≡ without_units_under profile 0 (Header fault.Ended 0)
+After profile no_ff total c = c ≡ without_units_under profile 0 (Header fault.NoSoi 0)
+After profile cut_off total c = c ≡ without_units_under profile total (Header fault.Ended total)
+After profile (marker n code more) total c =
+    ((code ≡ 216) × (c.begin ≡ n + 2) × AreUnits (no_headers_under profile) (n + 2) more c.units c.headers c.end)
+    ⊎ ((code ≢ 216) × (c ≡ without_units_under profile n (Header fault.NoSoi n)))
 
-following : (bytes : List ℕ) (c : Course) → IsCourse bytes c → After (marker_at bytes) (length bytes) c
-following _ _ (with_soi n bytes units l e h) = let f = found n 216 bytes (λ z. omega (arith, z)) in rw f (inl (refl, refl, h))
-following _ _ (with_another_marker n code bytes p q) = let f = found n code bytes p in rw f (inr (q, refl))
-following _ _ (with_no_marker b bytes p) = let f : (b == 255) ≡ false = grind (arith, nat_tests, p) in rw f refl
-following _ _ (with_fill_alone zero) = refl
-following _ _ (with_fill_alone (suc n)) =
+following : (profile : Profile) (bytes : List ℕ) (c : Course) → IsCourseUnder profile bytes c
+    → After profile (marker_at bytes) (length bytes) c
+following profile _ _ (with_soi n bytes units l e h) = let f = found n 216 bytes (λ z. omega (arith, z)) in rw f (inl (refl, refl, h))
+following profile _ _ (with_another_marker n code bytes p q) = let f = found n code bytes p in rw f (inr (q, refl))
+following profile _ _ (with_no_marker b bytes p) = let f : (b == 255) ≡ false = grind (arith, nat_tests, p) in rw f refl
+following profile _ _ (with_fill_alone zero) = refl
+following profile _ _ (with_fill_alone (suc n)) =
     let e : length (fill_bytes (suc n)) ≡ suc n = length-replicate (suc n) 255 in let f = code_ends 0 n in
     rw (f, e) refl
 
@@ -285,16 +287,17 @@ course_eq : (c d : Course) → c.begin ≡ d.begin → c.units ≡ d.units → c
 course_eq c d e f g h =
     let x : c ≡ record { begin = d.begin; units = d.units; headers = d.headers; end = d.end } = rw (sym e, sym f, sym g, sym h) refl in x
 
-same : (m : Found) (total : ℕ) (c d : Course) → After m total c → After m total d → c ≡ d
-same nothing total c d p q = p ∙ sym q
-same no_ff total c d p q = p ∙ sym q
-same cut_off total c d p q = p ∙ sym q
-same (marker n code more) total c d (inl p) (inl q) =
-    let r = one_from no_headers (n + 2) more c.units d.units c.headers d.headers c.end d.end p.2 q.2 in
+same : (profile : Profile) (m : Found) (total : ℕ) (c d : Course) → After profile m total c → After profile m total d → c ≡ d
+same profile nothing total c d p q = p ∙ sym q
+same profile no_ff total c d p q = p ∙ sym q
+same profile cut_off total c d p q = p ∙ sym q
+same profile (marker n code more) total c d (inl p) (inl q) =
+    let r = one_from (no_headers_under profile) (n + 2) more c.units d.units c.headers d.headers c.end d.end p.2 q.2 in
     course_eq c d (p.1 ∙ sym q.1) r.units r.headers r.end
-same (marker n code more) total c d (inl p) (inr q) = absurd (q.0 p.0)
-same (marker n code more) total c d (inr p) (inl q) = absurd (p.0 q.0)
-same (marker n code more) total c d (inr p) (inr q) = p.1 ∙ sym q.1
+same profile (marker n code more) total c d (inl p) (inr q) = absurd (q.0 p.0)
+same profile (marker n code more) total c d (inr p) (inl q) = absurd (p.0 q.0)
+same profile (marker n code more) total c d (inr p) (inr q) = p.1 ∙ sym q.1
 
-pub one_course : OneCourse
-one_course bytes c d p q = same (marker_at bytes) (length bytes) c d (following bytes c p) (following bytes d q)
+pub one_course : {profile : Profile} (bytes : List ℕ) (c d : Course) → IsCourseUnder profile bytes c → IsCourseUnder profile bytes d → c ≡ d
+one_course {profile} bytes c d p q =
+    same profile (marker_at bytes) (length bytes) c d (following profile bytes c p) (following profile bytes d q)

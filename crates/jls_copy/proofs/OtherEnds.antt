@@ -1,7 +1,7 @@
 -- An end that isn't final is the input's, so that bytes after a copy change it.
 use Rattle.std.proofs.Common.{◌≡◌, ℕ, true, false, List, length, refl, sym, ap, ◌∙◌, arith, length-append}
 use Rattle.jls_copy.specs.CopyReads.{is_final_end}
-use Rattle.jls_copy.specs.CopyLaws.{OtherEndsChange}
+use Rattle.jls_copy.specs.CopyLaws.{OtherEndsChangeUnder}
 use Rattle.jls_copy.specs.TellingLaws.{is_of_segment, EndStands, eoi, input, eoi_before_a_frame, refused_segment, unknown_marker, no_marker}
 use Rattle.jls_copy.specs.TellingLaws.{another_marker, no_marker_first, too_early}
 use Rattle.jls_copy.specs.declared.end.End.{End}
@@ -9,6 +9,7 @@ use Rattle.jls_copy.specs.declared.end.End.TheVariants.{Eoi, Input, Header}
 use Rattle.jls_marker.specs.declared.fault.MarkerFault.{MarkerFault}
 use Rattle.jls_marker.specs.declared.fault.MarkerFault.TheVariants as fault
 use Rattle.jls_copy.proofs.TellingLaws.{ends_stand_at_their_offsets}
+use Rattle.jls_marker.specs.declared.profile.Profile.{Profile}
 
 abbrev offset_of : End → ℕ
 offset_of (Eoi offset) = offset
@@ -31,9 +32,9 @@ stands_at_length copy _ (another_marker offset code p q s) other = absurd cc
 stands_at_length copy _ (no_marker_first byte p s) other = absurd cc
 stands_at_length copy _ (too_early offset l) other = l
 
-pub other_ends_change : OtherEndsChange
-other_ends_change prefix more c d is other some longer same =
-    let a = stands_at_length prefix c.end (ends_stand_at_their_offsets prefix c is) other in
-    let b = stands_at_length _ d.end (ends_stand_at_their_offsets _ d longer) (ap is_final_end same ∙ other) in
+pub other_ends_change : (profile : Profile) → OtherEndsChangeUnder profile
+other_ends_change profile prefix more c d is other some longer same =
+    let a = stands_at_length prefix c.end (ends_stand_at_their_offsets profile prefix c is) other in
+    let b = stands_at_length _ d.end (ends_stand_at_their_offsets profile _ d longer) (ap is_final_end same ∙ other) in
     let o = ap offset_of same in
     let l = length-append prefix more in omega (arith, a, b, o, l, some)

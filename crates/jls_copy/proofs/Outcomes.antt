@@ -1,15 +1,15 @@
 -- What a whole piece adds, from what its decoder answered.
 use Rattle.std.proofs.Common.{◌≡◌, ℕ, ◌+◌, List, [], ◌∷◌, ◌++◌, length, Option, Some, Result, Ok, Err, refl, sym, ap, ◌∙◌, subst}
-use Rattle.std.proofs.Common.{add-zero}
+use Rattle.std.proofs.Common.{add-zero, Bool}
 use Rattle.std.specs.Prelude.{OnOk, MatchOption}
 use Rattle.jls_values.specs.Shape.{PictureShape}
 use Rattle.jls_values.specs.Params.{CodingParameters}
-use Rattle.jls_interval.specs.Reads.{Reads}
-use Rattle.jls_interval.specs.PieceFaults.{OutcomeIs}
+use Rattle.jls_piece.specs.Reads.{Reads}
+use Rattle.jls_piece.specs.PieceFaults.{OutcomeIs}
 use Rattle.jls_interval.specs.declared.decode_piece.PieceFault.{PieceFault}
 use Rattle.jls_interval.specs.declared.decode_piece.PieceFault.TheVariants as piece_fault
 use Rattle.jls_marker.specs.Scan.{Scan, row_count, first_row}
-use Rattle.jls_interval.specs.IntervalBytes.{IntervalBytes, interval_asked}
+use Rattle.jls_piece.specs.PieceBytes.{PieceBytes, piece_asked}
 use Rattle.jls_copy.specs.Numbers.{Interval}
 use Rattle.jls_copy.specs.Pieces.{placed, Lines, Fault, IsOutcomeAt}
 use Rattle.jls_copy.specs.Findings.{Adds, IsKindOf, with_readings, picture_of, kept_with}
@@ -28,28 +28,28 @@ on_ok3 (Ok x) f p q t = f p q t
 on_ok3 (Err e) f p q t = tt
 
 -- the decoder of an interval that was fed these bytes
-abbrev pub decoding_with : Scan → ℕ → List ℕ → IntervalBytes
+abbrev pub decoding_with : Scan → ℕ → List ℕ → PieceBytes
 decoding_with s k bytes = record {
   parameters = s.params;
   width = s.width;
   components = length s.components;
   rows = row_count s k;
-  bytes =
-      Some bytes;
+  by_sample = s.by_sample;
+  bytes = Some bytes;
 }
 
-same_decoding : (d : IntervalBytes) (p : CodingParameters) (w c r : ℕ) (b : Option (List ℕ)) → d.parameters ≡ p → d.width ≡ w
-    → d.components ≡ c → d.rows ≡ r → d.bytes ≡ b
-    → d ≡ record { parameters = p; width = w; components = c; rows = r; bytes = b }
-same_decoding d p w c r b e f g h i = rw (sym e, sym f, sym g, sym h, sym i) refl
+same_decoding : (d : PieceBytes) (p : CodingParameters) (w c r : ℕ) (by_sample : Bool) (b : Option (List ℕ)) → d.parameters ≡ p
+    → d.width ≡ w → d.components ≡ c → d.rows ≡ r → d.by_sample ≡ by_sample → d.bytes ≡ b
+    → d ≡ record { parameters = p; width = w; components = c; rows = r; by_sample = by_sample; bytes = b }
+same_decoding d p w c r by_sample b e f g h i j = rw (sym e, sym f, sym g, sym h, sym i, sym j) refl
 
-pub decoding_is : (s : Scan) (k : ℕ) (d : IntervalBytes) (i : IsDecodingOf s k d) → d ≡ decoding_with s k i.bytes
-decoding_is s k d i = same_decoding d s.params s.width (length s.components) (row_count s k) (Some i.bytes) i.parameters_are i.width_is
-    i.components_are i.rows_are i.bytes_are
+pub decoding_is : (s : Scan) (k : ℕ) (d : PieceBytes) (i : IsDecodingOf s k d) → d ≡ decoding_with s k i.bytes
+decoding_is s k d i = same_decoding d s.params s.width (length s.components) (row_count s k) s.by_sample (Some i.bytes)
+    i.parameters_are i.width_is i.components_are i.rows_are i.by_sample_is i.bytes_are
 
 -- what `finish` says of a decoder
-abbrev pub Finishes : IntervalBytes → Result (List (List ℕ)) PieceFault → Type 0
-Finishes d r = MatchOption d.bytes (r ≡ Err piece_fault.OutOfMemory) (λ bytes. OutcomeIs (interval_asked d) bytes r)
+abbrev pub Finishes : PieceBytes → Result (List (List ℕ)) PieceFault → Type 0
+Finishes d r = MatchOption d.bytes (r ≡ Err piece_fault.OutOfMemory) (λ bytes. OutcomeIs (piece_asked d) bytes r)
 
 module _ (shape : PictureShape) (index : ℕ) (s : Scan) (offset k : ℕ) (old new : Findings) where
   pub beyond_adds : (piece : OpenPiece) → piece ≡ Beyond k → new.partial ≡ old.partial
@@ -58,7 +58,7 @@ module _ (shape : PictureShape) (index : ℕ) (s : Scan) (offset k : ℕ) (old n
       → Adds (Some shape) (piece_found index s offset piece ∷ []) old new
   beyond_adds piece e p r c = rw e (shape, refl, Fault kind.Beyond, tt, record { picture_is = rw p refl; records_are = r; count_is = c })
 
-  module _ (d : IntervalBytes) (piece : OpenPiece) (is : piece ≡ Within k d) (sound : IsOpenPiece s piece) where
+  module _ (d : PieceBytes) (piece : OpenPiece) (is : piece ≡ Within k d) (sound : IsOpenPiece s piece) where
     abbrev open_is : IsDecodingOf s k d
     open_is = subst (IsOpenPiece s) is sound
 
@@ -106,6 +106,7 @@ fed_sound s (Within k d) more i = record {
   width_is = i.width_is;
   components_are = i.components_are;
   rows_are = i.rows_are;
+  by_sample_is = i.by_sample_is;
   bytes = i.bytes ++ more;
   bytes_are = let e : d.bytes ≡ Some i.bytes = i.bytes_are in rw e refl;
 }

@@ -9,22 +9,23 @@ use Rattle.jls_values.proofs.Lists.{in_rest, is_first, none_in}
 use Rattle.jls_bits.specs.Bits.{bits_read_after, is_whole}
 use Rattle.jls_bits.specs.Appending.{last_after}
 use Rattle.jls_bits.proofs.Appending.{data_append}
-use Rattle.jls_interval.specs.Lines.{IntervalShape, AreLines, interval_shape}
-use Rattle.jls_interval.specs.Code.{code}
-use Rattle.jls_interval.specs.CutEnds.{CutEndIs}
-use Rattle.jls_interval.specs.IntervalBytes.{IntervalBytes, interval_asked}
-use Rattle.jls_interval.specs.declared.cut_end.CutEnd.TheVariants.{Head}
+use Rattle.jls_interval.specs.Lines.{AreLines}
+use Rattle.jls_piece.specs.Lines.{PieceShape}
+use Rattle.jls_piece.specs.Code.{piece_code}
+use Rattle.jls_piece.specs.CutEnds.{CutEndIs}
+use Rattle.jls_piece.specs.PieceBytes.{PieceBytes, piece_asked}
+use Rattle.jls_piece.specs.declared.cut_end.CutEnd.TheVariants.{Head}
 use Rattle.jls_interval.specs.declared.decode_piece.PieceFault.{PieceFault}
 use Rattle.jls_interval.specs.declared.decode_piece.PieceFault.TheVariants as piece_fault
 use Rattle.jls_interval.proofs.HeadLines.{prefix_lines}
 use Rattle.jls_marker.specs.Scan.{Scan}
 use Rattle.jls_marker.specs.SegmentLaws.{AreBytes}
 use Rattle.jls_copy.specs.Numbers.{PieceNumber, Interval}
-use Rattle.jls_copy.specs.Course.{Course, IsCourse}
+use Rattle.jls_copy.specs.Course.{Course, IsCourseUnder}
 use Rattle.jls_copy.specs.IntervalOf.{interval_of}
 use Rattle.jls_copy.specs.Pieces.{FoundPiece, pieces}
 use Rattle.jls_copy.specs.CutPieces.{cut_pieces, closed_by_input, last_piece}
-use Rattle.jls_copy.specs.InHand.{AreFirst, BeginsWithLines, IsInHand, OpenHolds, PlaceHolds, PrefixesGoOn}
+use Rattle.jls_copy.specs.InHand.{AreFirst, BeginsWithLines, IsInHandUnder, OpenHolds, PlaceHolds, PrefixesGoOnUnder}
 use Rattle.jls_copy.specs.Reader.{all_pieces}
 use Rattle.jls_copy.specs.ReaderState.{reading, closed_at_end, found, number_of, bytes_of, fed}
 use Rattle.jls_copy.specs.Sound.{IsOpenPiece, IsPlace}
@@ -38,10 +39,12 @@ use Rattle.jls_copy.specs.declared.place.CopyPosition.TheVariants.{Start, AtMark
 use Rattle.jls_copy.proofs.CourseFed.{course_fed}
 use Rattle.jls_copy.proofs.CutOutcomes.{CutFinishes}
 use Rattle.jls_copy.proofs.OneCourse.{one_course}
+use Rattle.jls_copy.proofs.Outcomes.{decoding_is}
 use Rattle.jls_copy.proofs.Prefixes.{Stands, alike_of, among_all, at_once, from_append, of_alike, stands_from}
 use Rattle.jls_copy.proofs.PrefixReadings.{all_in}
 use Rattle.jls_copy.proofs.ScansOfCourse.{byte_parts}
 use Rattle.jls_copy.proofs.TellingLaws.{pieces_stand_at_their_offsets}
+use Rattle.jls_marker.specs.declared.profile.Profile.{Profile}
 
 -- Bytes of pieces --------------------------------------------------------------------------------------------------
 
@@ -50,11 +53,12 @@ standing_bytes copy offset bytes low s =
     (byte_parts bytes s.back (byte_parts s.prefix (bytes ++ s.back) (subst AreBytes s.copy_is low)).1).0
 
 -- each piece of a copy has bytes
-piece_bytes : (copy : List ℕ) (c : Course) → AreBytes copy → IsCourse copy c → (p : FoundPiece) → Contains (pieces c) p
+piece_bytes : (profile : Profile) (copy : List ℕ) (c : Course) → AreBytes copy → IsCourseUnder profile copy c → (p : FoundPiece)
+    → Contains (pieces c) p
     → AreBytes p.bytes
-piece_bytes copy c low is p m =
+piece_bytes profile copy c low is p m =
     standing_bytes copy p.offset p.bytes low
-    (all_in (λ q. StandsAt copy q.offset q.bytes) (pieces c) p (pieces_stand_at_their_offsets copy c is) m)
+    (all_in (λ q. StandsAt copy q.offset q.bytes) (pieces c) p (pieces_stand_at_their_offsets profile copy c is) m)
 
 -- the piece that the input's end closes is one of all
 last_among : (ps : List FoundPiece) (q : FoundPiece) → Contains (last_piece ps) q → Contains ps q
@@ -74,7 +78,7 @@ cut_among c q m = by (closed_by_input c.units) m
 none_is_not_some : (lines : List (List ℕ)) → lines ≡ [] → 0 < length lines → ⊥
 none_is_not_some lines e l = let n : length lines ≡ 0 = ap length e in omega (arith, n, l)
 
-module _ (i : IntervalShape) (bytes : List ℕ) (low : AreBytes bytes) (lines : List (List ℕ)) (some : 0 < length lines) where
+module _ (i : PieceShape) (bytes : List ℕ) (low : AreBytes bytes) (lines : List (List ℕ)) (some : 0 < length lines) where
   begins : AreFirst i bytes lines → BeginsWithLines i bytes lines
   begins (inl reads) =
       let count : length lines ≡ i.line_count = reads.begins.are_lines.count_is in
@@ -84,6 +88,7 @@ module _ (i : IntervalShape) (bytes : List ℕ) (low : AreBytes bytes) (lines : 
         begins = record {
           are_bytes = low;
           are_lines = subst (λ n. AreLines i.params i.width n lines) (sym count) reads.begins.are_lines;
+          whole_rows = reads.begins.whole_rows;
           data_bits = reads.begins.data_bits;
         };
       }
@@ -96,6 +101,7 @@ module _ (i : IntervalShape) (bytes : List ℕ) (low : AreBytes bytes) (lines : 
         begins = record {
           are_bytes = low;
           are_lines = prefix_lines i.params i.width i.line_count cut.lines lines b.others cut.are_lines b.lines_are;
+          whole_rows = b.whole_rows;
           data_bits = record { whole = whole; read = b.given_is };
         };
       }
@@ -103,39 +109,40 @@ module _ (i : IntervalShape) (bytes : List ℕ) (low : AreBytes bytes) (lines : 
   begins (inr (inr (unwhole, e))) = absurd (none_is_not_some lines e some)
 
 -- the lines of a head, as a decoder answers them
-of_cut : (i : IntervalShape) (bytes : List ℕ) (head : List (List ℕ)) (fault : PieceFault) → CutEndIs i bytes (Head head fault)
+of_cut : (i : PieceShape) (bytes : List ℕ) (head : List (List ℕ)) (fault : PieceFault) → CutEndIs i bytes (Head head fault)
     → AreFirst i bytes head
 of_cut i bytes head piece_fault.Long h = inr h.1
 of_cut i bytes head piece_fault.Broken h = inr h.1
 of_cut i bytes head piece_fault.OutOfMemory h = absurd h
 
-first_ok : {X Y : Type 0} (r : Result X Y) (f : X → List (List ℕ)) (i : IntervalShape) (bytes : List ℕ) (head : List (List ℕ))
+first_ok : {X Y : Type 0} (r : Result X Y) (f : X → List (List ℕ)) (i : PieceShape) (bytes : List ℕ) (head : List (List ℕ))
     → AreFirst i bytes head → IfOk r (λ x. f x ≡ head) → IfOk r (λ x. AreFirst i bytes (f x))
 first_ok (Ok x) f i bytes head a e = subst (AreFirst i bytes) (sym e) a
 first_ok (Err y) f i bytes head a e = tt
 
-pub head_first : {X Y : Type 0} (d : IntervalBytes) (head : List (List ℕ)) (fault : PieceFault) (r : Result X Y)
+pub head_first : {X Y : Type 0} (d : PieceBytes) (head : List (List ℕ)) (fault : PieceFault) (r : Result X Y)
     (f : X → List (List ℕ)) → CutFinishes d (Head head fault) → IfOk r (λ x. f x ≡ head)
-    → IfSome d.bytes (λ bytes. IfOk r (λ x. AreFirst (interval_asked d) bytes (f x)))
+    → IfSome d.bytes (λ bytes. IfOk r (λ x. AreFirst (piece_asked d) bytes (f x)))
 head_first d head fault r f said e = by d.bytes said
   where
-    by : (o : Option (List ℕ)) → IfSome o (λ bytes. CutEndIs (interval_asked d) bytes (Head head fault))
-        → IfSome o (λ bytes. IfOk r (λ x. AreFirst (interval_asked d) bytes (f x)))
+    by : (o : Option (List ℕ)) → IfSome o (λ bytes. CutEndIs (piece_asked d) bytes (Head head fault))
+        → IfSome o (λ bytes. IfOk r (λ x. AreFirst (piece_asked d) bytes (f x)))
     by None s = tt
-    by (Some bytes) s = first_ok r f (interval_asked d) bytes head (of_cut (interval_asked d) bytes head fault s) e
+    by (Some bytes) s = first_ok r f (piece_asked d) bytes head (of_cut (piece_asked d) bytes head fault s) e
 
 -- the same lines, where more bytes follow and all are whole
-begins_longer : (i : IntervalShape) (bytes more : List ℕ) (lines : List (List ℕ)) → AreBytes (bytes ++ more)
+begins_longer : (i : PieceShape) (bytes more : List ℕ) (lines : List (List ℕ)) → AreBytes (bytes ++ more)
     → is_whole (bytes ++ more) ≡ true → BeginsWithLines i bytes lines → BeginsWithLines i (bytes ++ more) lines
 begins_longer i bytes more lines low whole b =
     let following = bits_read_after (last_after 0 bytes) more in
-    let first = code i.params i.width i.components lines in
+    let first = piece_code i lines in
     record {
       at_most = b.at_most;
       unread = b.unread ++ following;
       begins = record {
         are_bytes = low;
         are_lines = b.begins.are_lines;
+        whole_rows = b.begins.whole_rows;
         data_bits = record {
           whole = whole;
           read = data_append 0 bytes more b.begins.data_bits.whole ∙ ap (λ v. v ++ following) b.begins.data_bits.read
@@ -150,20 +157,15 @@ begins_longer i bytes more lines low whole b =
 open_first : (s : Scan) (piece : OpenPiece) (interval : ℕ) (lines : List (List ℕ)) → IsOpenPiece s piece → OpenHolds piece interval lines
     → (number_of piece ≡ Interval interval) × (0 < length lines) × AreFirst (interval_of s interval) (bytes_of piece) lines
 open_first s (Within k d) interval lines is h =
-    let a : AreFirst (interval_asked d) is.bytes lines =
-    subst (λ o. IfSome o (λ bytes. AreFirst (interval_asked d) bytes lines)) is.bytes_are h.2 in
-    let b = subst (λ p. AreFirst (interval_shape p d.width d.components (d.rows * d.components)) is.bytes lines) is.parameters_are a in
-    let e = subst (λ w. AreFirst (interval_shape s.params w d.components (d.rows * d.components)) is.bytes lines) is.width_is b in
-    let f = subst (λ n. AreFirst (interval_shape s.params s.width n (d.rows * n)) is.bytes lines) is.components_are e in
-    let g = subst (λ r. AreFirst (interval_shape s.params s.width (length s.components) (r * length s.components)) is.bytes lines)
-    is.rows_are f in
+    let g : AreFirst (interval_of s k) is.bytes lines =
+    subst (λ (x : PieceBytes). IfSome x.bytes (λ bytes. AreFirst (piece_asked x) bytes lines)) (decoding_is s k d is) h.2 in
     let own : AreFirst (interval_of s k) (bytes_of (Within k d)) lines =
     subst (λ b. AreFirst (interval_of s k) b lines) (sym (ap fed is.bytes_are)) g in
     (ap Interval h.0, h.1, subst (λ n. AreFirst (interval_of s n) (bytes_of (Within k d)) lines) h.0 own)
 open_first s (Beyond k) interval lines is h = absurd h
 
 -- what was fed is the bytes of a piece with first lines
-fed_of_first : (i : IntervalShape) (n : PieceNumber) (interval : ℕ) (bytes piece : List ℕ) (lines : List (List ℕ)) → n ≡ Interval interval
+fed_of_first : (i : PieceShape) (n : PieceNumber) (interval : ℕ) (bytes piece : List ℕ) (lines : List (List ℕ)) → n ≡ Interval interval
     → FedAs n bytes piece → 0 < length lines → AreFirst i bytes lines → bytes ≡ piece
 fed_of_first i n interval bytes piece lines e alike some a = by (subst (λ m. FedAs m bytes piece) e alike) a
   where
@@ -179,11 +181,11 @@ some_mapped [] f e = absurd cc
 some_mapped (x ∷ xs) f e = omega arith
 
 -- a place in scan data, whose open piece has a number, and what a second decoder that was fed the same bytes gives
-pub place_holds : (p : CopyPosition) (scan : OpenScan) (k : ℕ) (d clone : IntervalBytes) (plan : Scan) (lines : List (List ℕ))
+pub place_holds : (p : CopyPosition) (scan : OpenScan) (k : ℕ) (d clone : PieceBytes) (plan : Scan) (lines : List (List ℕ))
     → p ≡ InScan scan → scan.piece ≡ Within k d → clone ≡ d → plan ≡ scan.plan → 0 < length lines
-    → IfSome clone.bytes (λ bytes. AreFirst (interval_asked clone) bytes lines) → PlaceHolds p plan k scan.offset lines
+    → IfSome clone.bytes (λ bytes. AreFirst (piece_asked clone) bytes lines) → PlaceHolds p plan k scan.offset lines
 place_holds p scan k d clone plan lines e f g h l a =
-    let own = subst (λ x. IfSome x.bytes (λ bytes. AreFirst (interval_asked x) bytes lines)) g a in
+    let own = subst (λ x. IfSome x.bytes (λ bytes. AreFirst (piece_asked x) bytes lines)) g a in
     let piece : OpenHolds scan.piece k lines = subst (λ o. OpenHolds o k lines) (sym f) (refl, l, own) in
     subst (λ q. PlaceHolds q plan k scan.offset lines) (sym e) (sym h, refl, piece)
 
@@ -194,18 +196,19 @@ of_found (Ok None) P Q f h = tt
 of_found (Ok (Some x)) P Q f h = f x h
 of_found (Err e) P Q f h = tt
 
-pub in_hand_fed : (bytes : List ℕ) → AllByRecursion (λ b. b < 256) bytes → (frame : Option PictureShape) (payload : List ℕ)
-    (p : CopyPosition) → p ≡ (reading bytes).state.place → IsPlace frame p payload
+pub in_hand_fed : (profile : Profile) (bytes : List ℕ) → AllByRecursion (λ b. b < 256) bytes
+    → (frame : Option PictureShape) (payload : List ℕ)
+    (p : CopyPosition) → p ≡ (reading profile bytes).state.place → IsPlace frame p payload
     → (plan : Scan) (interval offset : ℕ) (lines : List (List ℕ)) → PlaceHolds p plan interval offset lines
-    → IsInHand bytes plan interval offset lines
-in_hand_fed bytes low frame payload (Start fill) e is plan interval offset lines h = absurd h
-in_hand_fed bytes low frame payload (AtMarker fill) e is plan interval offset lines h = absurd h
-in_hand_fed bytes low frame payload (AtLength marker code) e is plan interval offset lines h = absurd h
-in_hand_fed bytes low frame payload (InLength marker code high) e is plan interval offset lines h = absurd h
-in_hand_fed bytes low frame payload (InPayload marker code size) e is plan interval offset lines h = absurd h
-in_hand_fed bytes low frame payload (Done end) e is plan interval offset lines h = absurd h
-in_hand_fed bytes low frame payload (InScan scan) e is plan interval offset lines h =
-    let t = course_fed bytes low in
+    → IsInHandUnder profile bytes plan interval offset lines
+in_hand_fed profile bytes low frame payload (Start fill) e is plan interval offset lines h = absurd h
+in_hand_fed profile bytes low frame payload (AtMarker fill) e is plan interval offset lines h = absurd h
+in_hand_fed profile bytes low frame payload (AtLength marker code) e is plan interval offset lines h = absurd h
+in_hand_fed profile bytes low frame payload (InLength marker code high) e is plan interval offset lines h = absurd h
+in_hand_fed profile bytes low frame payload (InPayload marker code size) e is plan interval offset lines h = absurd h
+in_hand_fed profile bytes low frame payload (Done end) e is plan interval offset lines h = absurd h
+in_hand_fed profile bytes low frame payload (InScan scan) e is plan interval offset lines h =
+    let t = course_fed profile bytes low in
     let cut : AlikePieces (found scan ∷ []) (cut_pieces t.0) = subst (λ p. AlikePieces (closed_at_end p) (cut_pieces t.0)) (sym e) t.5 in
     let q = alike_of (found scan ∷ []) (cut_pieces t.0) (found scan) cut (is_first (found scan) []) in
     let among = cut_among t.0 q.0 q.1 in
@@ -224,23 +227,23 @@ in_hand_fed bytes low frame payload (InScan scan) e is plan interval offset line
       plan_is = sym q.2.plan_is ∙ h.0;
       number_is = number;
       offset_is = sym q.2.offset_is ∙ h.1;
-      begins = begins (interval_of plan interval) q.0.bytes (piece_bytes bytes t.0 low t.1 q.0 among) lines own.1 first;
+      begins = begins (interval_of plan interval) q.0.bytes (piece_bytes profile bytes t.0 low t.1 q.0 among) lines own.1 first;
     }
 
 -- Longer -----------------------------------------------------------------------------------------------------------
 
-pub prefixes_go_on : PrefixesGoOn
-prefixes_go_on prefix more low plan interval offset lines h d is =
-    let t = course_fed prefix (byte_parts prefix more low).0 in
+pub prefixes_go_on : (profile : Profile) → PrefixesGoOnUnder profile
+prefixes_go_on profile prefix more low plan interval offset lines h d is =
+    let t = course_fed profile prefix (byte_parts prefix more low).0 in
     let here : Contains (cut_pieces t.0) h.piece =
     subst (λ c. Contains (cut_pieces c) h.piece) (one_course prefix h.course t.0 h.is_course t.1) h.in_hand in
-    let p = of_alike (closed_at_end (reading prefix).state.place) (cut_pieces t.0) h.piece t.5 here in
-    let stood : Stands (reading (prefix ++ more)) p.0 =
+    let p = of_alike (closed_at_end (reading profile prefix).state.place) (cut_pieces t.0) h.piece t.5 here in
+    let stood : Stands (reading profile (prefix ++ more)) p.0 =
     subst (λ r. Stands r p.0) (sym (from_append _ prefix more))
-    (stands_from (reading prefix) more p.0 (p.0, inr p.1, at_once p.0)) in
-    let u = course_fed (prefix ++ more) low in
-    let q = alike_of (all_pieces (reading (prefix ++ more))) (pieces u.0) stood.0 u.4
-    (among_all (reading (prefix ++ more)) stood.0 stood.1) in
+    (stands_from (reading profile prefix) more p.0 (p.0, inr p.1, at_once p.0)) in
+    let u = course_fed profile (prefix ++ more) low in
+    let q = alike_of (all_pieces (reading profile (prefix ++ more))) (pieces u.0) stood.0 u.4
+    (among_all (reading profile (prefix ++ more)) stood.0 stood.1) in
     let among : Contains (pieces d) q.0 = subst (λ e. Contains (pieces e) q.0) (one_course (prefix ++ more) u.0 d u.1 is) q.1 in
     let number : q.0.number ≡ Interval interval = sym q.2.number_is ∙ stood.2.number ∙ p.2.number_is ∙ h.number_is in (
       q.0,
@@ -256,7 +259,7 @@ prefixes_go_on prefix more low plan interval offset lines h d is =
           sym longer ∙ stood.2.bytes ∙ ap (λ b. b ++ stood.2.tail) own in
           subst (λ b. BeginsWithLines (interval_of plan interval) b lines) (sym bytes_are)
           (begins_longer (interval_of plan interval) h.piece.bytes stood.2.tail lines
-          (subst AreBytes bytes_are (piece_bytes (prefix ++ more) d low is q.0 among))
+          (subst AreBytes bytes_are (piece_bytes profile (prefix ++ more) d low is q.0 among))
           (subst (λ b. is_whole b ≡ true) bytes_are whole) h.begins),
     )
   where

@@ -5,23 +5,25 @@ use Rattle.std.specs.Prelude.{◌==◌, get_or, if◌then◌else◌}
 use Rattle.std.specs.List.{AllByRecursion, Contains}
 use Rattle.std.proofs.lemmas.List.{take-append-drop, length-take-le}
 use Rattle.std.proofs.lemmas.List.Elements.{Contains-append_cases}
-use Rattle.jls_values.specs.Params.{CodingParameters, AreCodingParameters}
+use Rattle.jls_values.specs.Params.{AreCodingParameters}
 use Rattle.jls_values.proofs.Lists.{is_first, in_rest, none_in, first_or_rest}
 use Rattle.jls_bits.specs.Bits.{bits_read, bits_read_after, is_whole}
 use Rattle.jls_bits.specs.Appending.{last_after}
 use Rattle.jls_bits.proofs.Appending.{data_append, whole_prefix}
-use Rattle.jls_interval.specs.Lines.{AreLines, interval_shape}
-use Rattle.jls_interval.specs.Code.{code}
-use Rattle.jls_interval.specs.Heads.{IsHeadOfPiece}
-use Rattle.jls_interval.specs.Reads.{Reads}
-use Rattle.jls_interval.proofs.CodesApart.{codes_apart}
-use Rattle.jls_interval.proofs.HeadLines.{prefix_lines, code_parts}
-use Rattle.jls_interval.proofs.NoMore.{unwhole_reads_no_more}
+use Rattle.jls_interval.specs.Lines.{AreLines}
+use Rattle.jls_piece.specs.Lines.{PieceShape, AreOfWholeRows}
+use Rattle.jls_piece.specs.Code.{piece_code}
+use Rattle.jls_piece.specs.Heads.{IsHeadOfPiece}
+use Rattle.jls_piece.specs.Reads.{Reads}
+use Rattle.jls_interval.proofs.HeadLines.{prefix_lines}
+use Rattle.jls_piece.proofs.PieceCodes.{codes_apart, code_parts}
+use Rattle.jls_piece.proofs.PieceReads.{unwhole_reads_no_more}
+use Rattle.jls_copy.specs.IntervalOf.{interval_of}
 use Rattle.jls_marker.specs.Scan.{Scan, IsScan, row_count, first_row}
 use Rattle.jls_partial.specs.Reading.{Reading, reading_of}
-use Rattle.jls_copy.specs.Course.{Course, IsCourse}
+use Rattle.jls_copy.specs.Course.{Course, IsCourseUnder}
 use Rattle.jls_copy.specs.CutPieces.{cut_pieces, IsHeadAt}
-use Rattle.jls_copy.specs.Prefixes.{HasLines, CourseHasReading, PrefixesKeepReadings}
+use Rattle.jls_copy.specs.Prefixes.{HasLines, CourseHasReading, PrefixesKeepReadingsUnder}
 use Rattle.jls_copy.specs.Numbers.{PieceNumber, Interval, BeyondLast}
 use Rattle.jls_copy.specs.Pieces.{FoundPiece, Lines, IsOutcomeAt, outcome_readings, readings_of, placed, pieces}
 use Rattle.jls_copy.specs.Reader.{all_pieces}
@@ -32,45 +34,50 @@ use Rattle.jls_copy.proofs.Prefixes.{alike_of, of_alike, at_once, Stands, stands
 use Rattle.jls_copy.proofs.Prefixes.{from_append, among_all}
 use Rattle.jls_copy.proofs.OneCourse.{one_course}
 use Rattle.jls_copy.proofs.ScansOfCourse.{HasScan, byte_parts, course_has}
+use Rattle.jls_marker.specs.declared.profile.Profile.{Profile}
 
 -- One interval -----------------------------------------------------------------------------------------------------
 
 -- lines with whose code the data bits begin are the first of those that more bytes read as
-module _ (p : CodingParameters) (w c n : ℕ) (ok : AreCodingParameters p) (some : 0 < w) (prefix more : List ℕ) (lines : List (List ℕ))
-    (r : Reads (interval_shape p w c n) (prefix ++ more) lines) where
-  first_lines : (xs : List (List ℕ)) (unread : List Bool) → AreLines p w (length xs) xs → length xs ≤ n
-      → bits_read prefix ≡ code p w c xs ++ unread → (others : List (List ℕ)) × (lines ≡ xs ++ others)
-  first_lines xs unread are few e =
+module _ (i : PieceShape) (ok : AreCodingParameters i.params) (some : 0 < i.width) (prefix more : List ℕ) (lines : List (List ℕ))
+    (r : Reads i (prefix ++ more) lines) where
+  first_lines : (xs : List (List ℕ)) (unread : List Bool) → AreLines i.params i.width (length xs) xs → AreOfWholeRows i xs
+      → length xs ≤ i.line_count → bits_read prefix ≡ piece_code i xs ++ unread → (others : List (List ℕ)) × (lines ≡ xs ++ others)
+  first_lines xs unread are rows few e =
       let whole = (whole_prefix 0 prefix more r.begins.data_bits.whole).0 in
       let following : List Bool = bits_read_after (last_after 0 prefix) more in
-      let count : length lines ≡ n = r.begins.are_lines.count_is in
+      let count : length lines ≡ i.line_count = r.begins.are_lines.count_is in
       let within : length xs ≤ length lines = omega (arith, few, count) in
       let own = take (length xs) lines in let others = drop (length xs) lines in
+      let size : length own ≡ length xs = length-take-le (length xs) lines within in
+      let own_rows : AreOfWholeRows i own = λ by_sample. (let n = rows by_sample in (n.0, size ∙ n.1)) in
       let parted : lines ≡ own ++ others = sym (take-append-drop (length xs) lines) in
-      let parts = code_parts p w c own others in
-      let bits_are : code p w c xs ++ (unread ++ following) ≡ code p w c own ++ (parts.0 ++ r.unread) =
-      sym (append_assoc (code p w c xs) unread following) ∙ ap (λ v. v ++ following) (sym e) ∙ sym (data_append 0 prefix more whole)
-      ∙ r.begins.data_bits.read ∙ ap (λ v. code p w c v ++ r.unread) parted ∙ ap (λ v. v ++ r.unread) parts.1
-      ∙ append_assoc (code p w c own) parts.0 r.unread in
-      let own_are : AreLines p w (length xs) own =
-      subst (λ k. AreLines p w k own) (length-take-le (length xs) lines within)
-      (prefix_lines p w n lines own others r.begins.are_lines parted) in
-      let same = codes_apart p w c (length xs) ok some xs own (unread ++ following) (parts.0 ++ r.unread) are own_are bits_are in
+      let parts = code_parts i own others own_rows in
+      let bits_are : piece_code i xs ++ (unread ++ following) ≡ piece_code i own ++ (parts.0 ++ r.unread) =
+      sym (append_assoc (piece_code i xs) unread following) ∙ ap (λ v. v ++ following) (sym e) ∙ sym (data_append 0 prefix more whole)
+      ∙ r.begins.data_bits.read ∙ ap (λ v. piece_code i v ++ r.unread) parted ∙ ap (λ v. v ++ r.unread) parts.1
+      ∙ append_assoc (piece_code i own) parts.0 r.unread in
+      let own_are : AreLines i.params i.width (length xs) own =
+      subst (λ k. AreLines i.params i.width k own) size
+      (prefix_lines i.params i.width i.line_count lines own others r.begins.are_lines parted) in
+      let same = codes_apart (record i { line_count = length xs }) ok some xs own (unread ++ following) (parts.0 ++ r.unread) are rows
+      own_are own_rows bits_are in
       (others, parted ∙ ap (λ v. v ++ others) (sym same.0))
 
   -- what the bytes before them read as
-  of_read : (xs : List (List ℕ)) → Reads (interval_shape p w c n) prefix xs → (others : List (List ℕ)) × (lines ≡ xs ++ others)
+  of_read : (xs : List (List ℕ)) → Reads i prefix xs → (others : List (List ℕ)) × (lines ≡ xs ++ others)
   of_read xs a =
-      let count : length xs ≡ n = a.begins.are_lines.count_is in
-      first_lines xs a.unread (subst (λ k. AreLines p w k xs) (sym count) a.begins.are_lines) (omega (arith, count)) a.begins.data_bits.read
+      let count : length xs ≡ i.line_count = a.begins.are_lines.count_is in
+      first_lines xs a.unread (subst (λ k. AreLines i.params i.width k xs) (sym count) a.begins.are_lines) a.begins.whole_rows
+      (omega (arith, count)) a.begins.data_bits.read
 
   -- and their head
-  of_head : (head : List (List ℕ)) → IsHeadOfPiece (interval_shape p w c n) prefix head → (others : List (List ℕ))
-      × (lines ≡ head ++ others)
+  of_head : (head : List (List ℕ)) → IsHeadOfPiece i prefix head → (others : List (List ℕ)) × (lines ≡ head ++ others)
   of_head head (inl (whole, inl (cut, f))) =
       let b = f.begins in
       let l = length-append head b.others in let l1 = ap length b.lines_are in let l2 = cut.are_lines.count_is in
-      first_lines head b.unread (prefix_lines p w n cut.lines head b.others cut.are_lines b.lines_are) (omega (arith, l, l1, l2)) b.given_is
+      first_lines head b.unread (prefix_lines i.params i.width i.line_count cut.lines head b.others cut.are_lines b.lines_are) b.whole_rows
+      (omega (arith, l, l1, l2)) b.given_is
   of_head head (inl (whole, inr (none, e))) = (lines, ap (λ v. v ++ lines) (sym e))
   of_head head (inr (not_whole, e)) = (lines, ap (λ v. v ++ lines) (sym e))
 
@@ -99,16 +106,14 @@ module _ (s : Scan) (ok : IsScan s) (prefix tail : List ℕ) (lines : List (List
       → IsOutcomeAt s n prefix (Lines xs)
       → Contains (outcome_readings s n (Lines xs)) r → Contains (outcome_readings s n (Lines lines)) r
   piece_keeps (Interval k) reads xs is m =
-      let f = of_read s.params s.width (length s.components) (row_count s k * length s.components) ok.params
-      (let a = ok.width_at_least in omega (arith, a)) prefix tail lines reads xs is in
+      let f = of_read (interval_of s k) ok.params (let a = ok.width_at_least in omega (arith, a)) prefix tail lines reads xs is in
       subst (λ ls. Contains (placed s.components (first_row s k) 0 ls) r) (sym f.1) (first_placed s.components (first_row s k) 0 xs f.0 r m)
   piece_keeps (BeyondLast k) reads xs is m = absurd reads
 
   head_keeps : (n : PieceNumber) → IsOutcomeAt s n (prefix ++ tail) (Lines lines) → (head : List (List ℕ)) → IsHeadAt s n prefix head
       → Contains (outcome_readings s n (Lines head)) r → Contains (outcome_readings s n (Lines lines)) r
   head_keeps (Interval k) reads head is m =
-      let f = of_head s.params s.width (length s.components) (row_count s k * length s.components) ok.params
-      (let a = ok.width_at_least in omega (arith, a)) prefix tail lines reads head is in
+      let f = of_head (interval_of s k) ok.params (let a = ok.width_at_least in omega (arith, a)) prefix tail lines reads head is in
       subst (λ ls. Contains (placed s.components (first_row s k) 0 ls) r) (sym f.1)
       (first_placed s.components (first_row s k) 0 head f.0 r m)
   head_keeps (BeyondLast k) reads head is m = absurd reads
@@ -121,7 +126,7 @@ fed_on : (s : Scan) (n : PieceNumber) (fed piece fed_more piece_more tail : List
     → piece_more ≡ piece ++ tail
 fed_on s (Interval k) fed piece fed_more piece_more tail lines (inl a) (inl b) e reads = sym b ∙ e ∙ ap (λ v. v ++ tail) a
 fed_on s (Interval k) fed piece fed_more piece_more tail lines (inr a) (inl b) e reads =
-    absurd (unwhole_reads_no_more s.params s.width (length s.components) (row_count s k * length s.components) fed a.0 tail lines
+    absurd (unwhole_reads_no_more (interval_of s k) fed a.0 tail lines
     (subst (λ v. IsOutcomeAt s (Interval k) v (Lines lines)) (sym b ∙ e) reads))
 fed_on s (Interval k) fed piece fed_more piece_more tail lines a (inr b) e reads =
     let whole : is_whole piece_more ≡ true = reads.begins.data_bits.whole in absurd cc
@@ -141,15 +146,16 @@ all_in P [] p h m = absurd (none_in p m)
 all_in P (q ∷ ps) p h m =
     elim (first_or_rest p q ps m) [ inl e ↦ subst P e h.0 | inr later ↦ all_in P ps p h.1 later ]
 
-module _ (prefix more : List ℕ) (low : AllByRecursion (λ b. b < 256) (prefix ++ more)) (d : Course) (is_d : IsCourse (prefix ++ more) d)
+module _ (profile : Profile) (prefix more : List ℕ) (low : AllByRecursion (λ b. b < 256) (prefix ++ more)) (d : Course)
+    (is_d : IsCourseUnder profile (prefix ++ more) d)
   where
-    goes_on : (fed p : FoundPiece) → Stands (reading prefix) fed → AlikePiece fed p → GoesOn d p
+    goes_on : (fed p : FoundPiece) → Stands (reading profile prefix) fed → AlikePiece fed p → GoesOn d p
     goes_on fed p stands alike =
-        let stood : Stands (reading (prefix ++ more)) fed =
-        subst (λ r. Stands r fed) (sym (from_append _ prefix more)) (stands_from (reading prefix) more fed stands) in
-        let u = course_fed (prefix ++ more) low in
-        let q = alike_of (all_pieces (reading (prefix ++ more))) (pieces u.0) stood.0 u.4
-        (among_all (reading (prefix ++ more)) stood.0 stood.1) in
+        let stood : Stands (reading profile (prefix ++ more)) fed =
+        subst (λ r. Stands r fed) (sym (from_append _ prefix more)) (stands_from (reading profile prefix) more fed stands) in
+        let u = course_fed profile (prefix ++ more) low in
+        let q = alike_of (all_pieces (reading profile (prefix ++ more))) (pieces u.0) stood.0 u.4
+        (among_all (reading profile (prefix ++ more)) stood.0 stood.1) in
         let plan : q.0.plan ≡ p.plan = sym q.2.plan_is ∙ stood.2.plan ∙ alike.plan_is in
         let number : q.0.number ≡ p.number = sym q.2.number_is ∙ stood.2.number ∙ alike.number_is in
         record {
@@ -186,17 +192,17 @@ module _ (prefix more : List ℕ) (low : AllByRecursion (λ b. b < 256) (prefix 
             ),
           )
 
-      keeps : (c : Course) → IsCourse prefix c → (r : Reading) → CourseHasReading c r → CourseHasReading d r
+      keeps : (c : Course) → IsCourseUnder profile prefix c → (r : Reading) → CourseHasReading c r → CourseHasReading d r
       keeps c is_c r given =
-          let t = course_fed prefix (byte_parts prefix more low).0 in
+          let t = course_fed profile prefix (byte_parts prefix more low).0 in
           let same : t.0 ≡ c = one_course prefix t.0 c t.1 is_c in
           elim given [
             | inl (p, m, lines, reads, has) ↦ (
                 let here : Contains (pieces t.0) p = subst (λ e. Contains (pieces e) p) (sym same) m in
-                let fed = of_alike (all_pieces (reading prefix)) (pieces t.0) p t.4 here in
-                let stands : Stands (reading prefix) fed.0 = (
+                let fed = of_alike (all_pieces (reading profile prefix)) (pieces t.0) p t.4 here in
+                let stands : Stands (reading profile prefix) fed.0 = (
                   fed.0,
-                  Contains-append_cases (reading prefix).pieces (closed_at_end (reading prefix).state.place) fed.0 fed.1,
+                  Contains-append_cases (reading profile prefix).pieces (closed_at_end (reading profile prefix).state.place) fed.0 fed.1,
                   at_once fed.0,
                 ) in
                 let g = goes_on fed.0 p stands fed.2 in
@@ -204,11 +210,11 @@ module _ (prefix more : List ℕ) (low : AllByRecursion (λ b. b < 256) (prefix 
                 l.3 r (piece_keeps p.plan l.1 p.bytes g.tail l.0 r p.number l.2 lines reads has))
             | inr (p, m, head, is, has) ↦ (
                 let here : Contains (cut_pieces t.0) p = subst (λ e. Contains (cut_pieces e) p) (sym same) m in
-                let fed = of_alike (closed_at_end (reading prefix).state.place) (cut_pieces t.0) p t.5 here in
+                let fed = of_alike (closed_at_end (reading profile prefix).state.place) (cut_pieces t.0) p t.5 here in
                 let g = goes_on fed.0 p (fed.0, inr fed.1, at_once fed.0) fed.2 in
                 let l = lines_of p g in
                 l.3 r (head_keeps p.plan l.1 p.bytes g.tail l.0 r p.number l.2 head is has))
           ]
 
-pub prefixes_keep_readings : PrefixesKeepReadings
-prefixes_keep_readings prefix more low c d is_c is_d each r given = keeps prefix more low d is_d each c is_c r given
+pub prefixes_keep_readings : (profile : Profile) → PrefixesKeepReadingsUnder profile
+prefixes_keep_readings profile prefix more low c d is_c is_d each r given = keeps profile prefix more low d is_d each c is_c r given

@@ -9,16 +9,16 @@ use Rattle.std.proofs.lemmas.List.Elements.{Contains-append_left, Contains-appen
 use Rattle.jls_values.specs.Shape.{PictureShape}
 use Rattle.jls_values.proofs.Lists.{is_first, in_rest, none_in, first_or_rest}
 use Rattle.jls_bits.specs.Bits.{is_whole}
-use Rattle.jls_interval.specs.Reads.{ReadsNoMore}
-use Rattle.jls_interval.proofs.NoMore.{unwhole_reads_no_more}
-use Rattle.jls_interval.specs.Lines.{interval_shape}
-use Rattle.jls_interval.specs.IntervalBytes.{interval_asked}
+use Rattle.jls_piece.specs.Reads.{ReadsNoMore}
+use Rattle.jls_piece.proofs.PieceReads.{unwhole_reads_no_more}
+use Rattle.jls_piece.specs.PieceBytes.{PieceBytes, piece_asked}
+use Rattle.jls_copy.proofs.Outcomes.{decoding_is}
 use Rattle.jls_marker.specs.HeaderState.{HeaderState}
 use Rattle.jls_marker.specs.Scan.{Scan, row_count}
 use Rattle.jls_copy.specs.Numbers.{PieceNumber, Interval, BeyondLast}
 use Rattle.jls_copy.specs.Pieces.{FoundPiece, Lines, IsOutcomeAt, pieces}
 use Rattle.jls_copy.specs.CutPieces.{cut_pieces}
-use Rattle.jls_copy.specs.Prefixes.{NeverReads, IsPieceBroken, PrefixesStayBroken, OpenReadsNoMore, PlaceReadsNoMore}
+use Rattle.jls_copy.specs.Prefixes.{NeverReads, IsPieceBrokenUnder, PrefixesStayBrokenUnder, OpenReadsNoMore, PlaceReadsNoMore}
 use Rattle.jls_copy.specs.ReaderState.{reading, StateWithPieces, reading_with, reading_from, number_of, bytes_of, fed, found, piece_with}
 use Rattle.jls_copy.specs.ReaderState.{held_bytes, class_of, closed_by, closed_at, closed_at_end, step_from, from_scan}
 use Rattle.jls_copy.specs.Reader.{all_pieces}
@@ -35,6 +35,7 @@ use Rattle.jls_copy.proofs.OneCourse.{one_course}
 use Rattle.jls_copy.proofs.ScansOfCourse.{byte_parts}
 use Rattle.jls_copy.proofs.CourseFed.{course_fed}
 use Rattle.jls_copy.specs.IntervalOf.{interval_of}
+use Rattle.jls_marker.specs.declared.profile.Profile.{Profile}
 
 -- of pieces that are alike, one of each
 pub alike_of : (ps qs : List FoundPiece) (p : FoundPiece) → AlikePieces ps qs → Contains ps p → (q : FoundPiece) × Contains qs q
@@ -60,7 +61,7 @@ of_alike (x ∷ ps) (y ∷ qs) q h m =
 -- Never ------------------------------------------------------------------------------------------------------------
 
 unwhole_never : (s : Scan) (k : ℕ) (bytes : List ℕ) → is_whole bytes ≡ false → NeverReads s (Interval k) bytes
-unwhole_never s k bytes e = unwhole_reads_no_more s.params s.width (length s.components) (row_count s k * length s.components) bytes e
+unwhole_never s k bytes e = unwhole_reads_no_more (interval_of s k) bytes e
 
 never_fed : (s : Scan) (n : PieceNumber) (fed piece : List ℕ) → FedAs n fed piece → NeverReads s n fed → NeverReads s n piece
 never_fed s (Interval k) fed piece (inl e) h = subst (NeverReads s (Interval k)) e h
@@ -97,27 +98,22 @@ never_alike p q a h =
 
 never_open : (s : Scan) (piece : OpenPiece) → IsOpenPiece s piece → OpenReadsNoMore piece → NeverReads s (number_of piece) (bytes_of piece)
 never_open s (Within k d) is h =
-    let a : ReadsNoMore (interval_asked d) is.bytes =
-    subst (λ o. IfSome o (λ bytes. ReadsNoMore (interval_asked d) bytes)) is.bytes_are h in
-    let b = subst (λ p. ReadsNoMore (interval_shape p d.width d.components (d.rows * d.components)) is.bytes) is.parameters_are a in
-    let e = subst (λ w. ReadsNoMore (interval_shape s.params w d.components (d.rows * d.components)) is.bytes) is.width_is b in
-    let f = subst (λ n. ReadsNoMore (interval_shape s.params s.width n (d.rows * n)) is.bytes) is.components_are e in
-    let g = subst (λ r. ReadsNoMore (interval_shape s.params s.width (length s.components) (r * length s.components)) is.bytes) is.rows_are
-    f in
-    subst (λ b. ReadsNoMore (interval_of s k) b) (sym (ap fed is.bytes_are)) g
+    let own : ReadsNoMore (interval_of s k) is.bytes =
+    subst (λ (x : PieceBytes). IfSome x.bytes (λ bytes. ReadsNoMore (piece_asked x) bytes)) (decoding_is s k d is) h in
+    subst (λ b. ReadsNoMore (interval_of s k) b) (sym (ap fed is.bytes_are)) own
 never_open s (Beyond k) is h = λ more lines reads. reads
 
-pub broken_fed : (bytes : List ℕ) → AllByRecursion (λ b. b < 256) bytes → (frame : Option PictureShape)
+pub broken_fed : (profile : Profile) (bytes : List ℕ) → AllByRecursion (λ b. b < 256) bytes → (frame : Option PictureShape)
     (payload : List ℕ) (p : CopyPosition)
-    → p ≡ (reading bytes).state.place → IsPlace frame p payload → PlaceReadsNoMore p → IsPieceBroken bytes
-broken_fed bytes low frame payload (Start fill) e is h = absurd h
-broken_fed bytes low frame payload (AtMarker fill) e is h = absurd h
-broken_fed bytes low frame payload (AtLength marker code) e is h = absurd h
-broken_fed bytes low frame payload (InLength marker code high) e is h = absurd h
-broken_fed bytes low frame payload (InPayload marker code size) e is h = absurd h
-broken_fed bytes low frame payload (Done end) e is h = absurd h
-broken_fed bytes low frame payload (InScan scan) e is h =
-    let t = course_fed bytes low in
+    → p ≡ (reading profile bytes).state.place → IsPlace frame p payload → PlaceReadsNoMore p → IsPieceBrokenUnder profile bytes
+broken_fed profile bytes low frame payload (Start fill) e is h = absurd h
+broken_fed profile bytes low frame payload (AtMarker fill) e is h = absurd h
+broken_fed profile bytes low frame payload (AtLength marker code) e is h = absurd h
+broken_fed profile bytes low frame payload (InLength marker code high) e is h = absurd h
+broken_fed profile bytes low frame payload (InPayload marker code size) e is h = absurd h
+broken_fed profile bytes low frame payload (Done end) e is h = absurd h
+broken_fed profile bytes low frame payload (InScan scan) e is h =
+    let t = course_fed profile bytes low in
     let cut : AlikePieces (found scan ∷ []) (cut_pieces t.0) = subst (λ p. AlikePieces (closed_at_end p) (cut_pieces t.0)) (sym e) t.5 in
     let q = alike_of (found scan ∷ []) (cut_pieces t.0) (found scan) cut (is_first (found scan) []) in
     record {
@@ -221,16 +217,18 @@ pub among_all : (r : StateWithPieces) (q : FoundPiece) → Contains r.pieces q �
 among_all r q (inl m) = Contains-append_left r.pieces (closed_at_end r.state.place) q m
 among_all r q (inr m) = Contains-append_right r.pieces (closed_at_end r.state.place) q m
 
-pub prefixes_stay_broken : PrefixesStayBroken
-prefixes_stay_broken prefix more low broken c is =
-    let t = course_fed prefix (byte_parts prefix more low).0 in
+pub prefixes_stay_broken : (profile : Profile) → PrefixesStayBrokenUnder profile
+prefixes_stay_broken profile prefix more low broken c is =
+    let t = course_fed profile prefix (byte_parts prefix more low).0 in
     let here : Contains (cut_pieces t.0) broken.piece =
     subst (λ d. Contains (cut_pieces d) broken.piece) (one_course prefix broken.course t.0 broken.is_course t.1) broken.in_hand in
-    let p = of_alike (closed_at_end (reading prefix).state.place) (cut_pieces t.0) broken.piece t.5 here in
-    let stood : Stands (reading_from (reading prefix) more) p.0 = stands_from (reading prefix) more p.0 (p.0, inr p.1, at_once p.0) in
-    let all : Stands (reading (prefix ++ more)) p.0 = subst (λ r. Stands r p.0) (sym (from_append _ prefix more)) stood in
-    let u = course_fed (prefix ++ more) low in
-    let q = alike_of (all_pieces (reading (prefix ++ more))) (pieces u.0) all.0 u.4 (among_all (reading (prefix ++ more)) all.0 all.1) in
+    let p = of_alike (closed_at_end (reading profile prefix).state.place) (cut_pieces t.0) broken.piece t.5 here in
+    let stood : Stands (reading_from (reading profile prefix) more) p.0 = stands_from (reading profile prefix) more p.0
+    (p.0, inr p.1, at_once p.0) in
+    let all : Stands (reading profile (prefix ++ more)) p.0 = subst (λ r. Stands r p.0) (sym (from_append _ prefix more)) stood in
+    let u = course_fed profile (prefix ++ more) low in
+    let q = alike_of (all_pieces (reading profile (prefix ++ more))) (pieces u.0) all.0 u.4 (among_all (reading profile
+    (prefix ++ more)) all.0 all.1) in
     let never : Never all.0 =
     subst (λ b. NeverReads all.0.plan all.0.number b) (sym all.2.bytes)
     (subst (λ s. NeverReads s all.0.number (p.0.bytes ++ all.2.tail)) (sym all.2.plan)

@@ -10,7 +10,7 @@ use Rattle.jls_partial.specs.Partial.{PartialPicture}
 use Rattle.jls_partial.specs.Reading.{Reading, reading_cmp}
 use Rattle.jls_partial.specs.ReadingOrder.{reading_total}
 use Rattle.jls_partial.proofs.HeldItems.{any_of_member, member_of_any}
-use Rattle.jls_copy.specs.CopyReads.{CopyReads}
+use Rattle.jls_copy.specs.CopyReads.{CopyReadsUnder}
 use Rattle.jls_copy.specs.CutPieces.{cut_pieces, IsHeadAt, IsHeadOfCut, head_readings}
 use Rattle.jls_copy.specs.Pieces.{FoundPiece, PieceOutcome, Lines, IsOutcome, readings_of, AreOutcomes, readings}
 use Rattle.jls_copy.specs.Pieces.{pieces}
@@ -20,6 +20,7 @@ use Rattle.jls_copy.proofs.ScansOfCourse.{HasScan, course_has}
 use Rattle.jls_values.proofs.Lists.{is_first, in_rest, none_in, first_or_rest}
 use Rattle.jls_copy.specs.Prefixes.{CourseHasReading}
 use Rattle.jls_copy.proofs.CutPieces.{cut_short, lines_give}
+use Rattle.jls_marker.specs.declared.profile.Profile.{Profile}
 
 made_tells : (rs : List Reading) (r : Reading) → set.contains (set.insert_all {R = reading_cmp} set.empty rs) r
     ≡ list_any (eq_by_cmp reading_cmp r) rs
@@ -83,7 +84,7 @@ head_given (q ∷ x ∷ ps) head p r short scans is m g = absurd (omega (arith, 
 
 -- What was read ----------------------------------------------------------------------------------------------------
 
-module _ (file : List ℕ) (read : ReadCopy) (h : CopyReads file read) where
+module _ {profile : Profile} (file : List ℕ) (read : ReadCopy) (h : CopyReadsUnder profile file read) where
   abbrev all : List Reading
   all = readings (pieces h.course) h.outcomes ++ head_readings (cut_pieces h.course) h.head
 

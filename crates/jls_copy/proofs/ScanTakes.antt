@@ -3,7 +3,7 @@ use Rattle.std.proofs.Common.{◌≡◌, ℕ, ◌<◌, ◌≤◌, Bool, true, fa
 use Rattle.std.proofs.Common.{arith}
 use Rattle.std.specs.Prelude.{◌==◌}
 use Rattle.std.proofs.lemmas.List.{append-nil}
-use Rattle.jls_interval.specs.IntervalBytes.{IntervalBytes}
+use Rattle.jls_piece.specs.PieceBytes.{PieceBytes}
 use Rattle.jls_copy.specs.ReaderState.{class_of, closed_by, piece_with, scan_with, with_bytes}
 use Rattle.jls_copy.specs.Sound.{IsOfFrame}
 use Rattle.jls_copy.specs.Stretch.{IsStretch, LeadsTo, TakesData}
@@ -63,7 +63,7 @@ class_one One b class some is = sym is
 class_one More b class some is = sym is
 
 -- a piece that was fed more
-pub within_fed : (piece : OpenPiece) (k : ℕ) (d d' : IntervalBytes) (more : List ℕ) → piece ≡ Within k d → d' ≡ with_bytes d more
+pub within_fed : (piece : OpenPiece) (k : ℕ) (d d' : PieceBytes) (more : List ℕ) → piece ≡ Within k d → d' ≡ with_bytes d more
     → Within k d' ≡ piece_with piece more
 within_fed piece k d d' more is fed = ap (Within k) fed ∙ ap (λ (p : OpenPiece). piece_with p more) (sym is)
 

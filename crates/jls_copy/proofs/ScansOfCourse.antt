@@ -1,17 +1,18 @@
 -- The scans of a course are in their ranges.
 use Rattle.std.proofs.Common.{ℕ, ◌+◌, List, [], ◌∷◌, ◌++◌, length, Some, None, subst}
 use Rattle.std.specs.List.{AllByRecursion}
-use Rattle.jls_marker.specs.HeaderState.{HeaderState, IsHeaderState, no_headers}
+use Rattle.jls_marker.specs.HeaderState.{HeaderState, IsHeaderState, no_headers_under}
 use Rattle.jls_marker.specs.Scan.{Scan, IsScan, intervals}
 use Rattle.jls_marker.specs.SegmentLaws.{AreBytes}
 use Rattle.jls_marker.proofs.HeaderSteps.{scans_are_in_range}
-use Rattle.jls_marker.proofs.HeadersKept.{headers_kept, no_headers_kept}
+use Rattle.jls_marker.proofs.HeadersKept.{headers_kept, new_headers_kept}
 use Rattle.jls_copy.specs.ScanData.{fill_bytes, ClosedPiece, closed_bytes}
 use Rattle.jls_copy.specs.Numbers.{PieceNumber, number_after, given_last}
 use Rattle.jls_copy.specs.Pieces.{FoundPiece, pieces_from, pieces_in, pieces, piece_begun}
-use Rattle.jls_copy.specs.Course.{CopyUnit, segment, scan, segment_unit_bytes, scan_data_bytes, AreUnits, Course, IsCourse, with_soi}
+use Rattle.jls_copy.specs.Course.{CopyUnit, segment, scan, segment_unit_bytes, scan_data_bytes, AreUnits, Course, IsCourseUnder, with_soi}
 use Rattle.jls_copy.specs.Course.{with_another_marker, with_no_marker, with_fill_alone}
 use Rattle.jls_copy.specs.declared.end.End.{End}
+use Rattle.jls_marker.specs.declared.profile.Profile.{Profile}
 
 -- the piece is of a scan in its ranges
 abbrev pub HasScan : FoundPiece → Type 0
@@ -56,9 +57,11 @@ units_have h at bytes (scan fill code payload plan closed last closing ∷ us) f
     (headers_kept h after code payload (Some plan) is in_segment unit.1) parts.1 more)
 
 -- each piece of a course is
-pub course_has : (bytes : List ℕ) (c : Course) → AreBytes bytes → IsCourse bytes c → AllByRecursion HasScan (pieces c)
-course_has _ _ low (with_soi n bytes units final e h) =
-    units_have no_headers (n + 2) bytes units final e 0 (n + 2) no_headers_kept (byte_parts (fill_bytes n) (255 ∷ 216 ∷ bytes) low).1.1.1 h
+pub course_has : {profile : Profile} (bytes : List ℕ) (c : Course) → AreBytes bytes → IsCourseUnder profile bytes c
+    → AllByRecursion HasScan (pieces c)
+course_has {profile} _ _ low (with_soi n bytes units final e h) =
+    units_have (no_headers_under profile) (n + 2) bytes units final e 0 (n + 2) (new_headers_kept profile)
+    (byte_parts (fill_bytes n) (255 ∷ 216 ∷ bytes) low).1.1.1 h
 course_has _ _ low (with_another_marker n code bytes p q) = tt
 course_has _ _ low (with_no_marker b bytes p) = tt
 course_has _ _ low (with_fill_alone n) = tt

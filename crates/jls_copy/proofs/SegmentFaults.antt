@@ -13,9 +13,10 @@ use Rattle.jls_values.specs.PresetParameters.{PresetParameters}
 use Rattle.jls_marker.specs.Scan.{Scan}
 use Rattle.jls_marker.specs.ScanSelection.{ScanSelection}
 use Rattle.jls_marker.specs.Segments.{frame_tests, frame_of, shape_in, scan_tests, scan_of, selection_in, preset_of, lse_of, restart_of}
-use Rattle.jls_marker.specs.Segments.{segment_of}
+use Rattle.jls_marker.specs.Segments.{segment_under}
 use Rattle.jls_marker.specs.declared.fault.MarkerFault.{MarkerFault}
 use Rattle.jls_marker.specs.declared.fault.MarkerFault.TheVariants as fault
+use Rattle.jls_marker.specs.declared.profile.Profile.{Profile}
 use Rattle.jls_marker.specs.declared.segment.Segment.{Segment}
 use Rattle.jls_marker.specs.declared.segment.Segment.TheVariants as segment
 use Rattle.jls_copy.specs.TellingLaws.{is_of_segment}
@@ -41,9 +42,9 @@ frame_fine : (o : Option FrameHeader) → IsFine (frame_of o)
 frame_fine None = refl
 frame_fine (Some h) = first_fine (frame_tests h) (segment.Frame (shape_in h)) refl
 
-scan_fine : (o : Option ScanHeader) → IsFine (scan_of o)
-scan_fine None = refl
-scan_fine (Some h) = first_fine (scan_tests h) (segment.Scan (selection_in h)) refl
+scan_fine : (profile : Profile) (o : Option ScanHeader) → IsFine (scan_of profile o)
+scan_fine profile None = refl
+scan_fine profile (Some h) = first_fine (scan_tests profile h) (segment.Scan (selection_in h)) refl
 
 preset_fine : (o : Option PresetParameters) → IsFine (preset_of o)
 preset_fine None = refl
@@ -58,11 +59,11 @@ restart_fine : (o : Option ℕ) → IsFine (restart_of o)
 restart_fine None = refl
 restart_fine (Some n) = tt
 
-segment_fine : (code : ℕ) (payload : List ℕ) → has_segment code ≡ true → IsFine (segment_of code payload)
+segment_fine : (profile : Profile) (code : ℕ) (payload : List ℕ) → has_segment code ≡ true → IsFine (segment_under profile code payload)
 unfolding has_segment
-segment_fine code payload known =
+segment_fine profile code payload known =
     cond_fine (eqb code sof55) _ _ (λ _. frame_fine (frame_header payload))
-    (λ a. cond_fine (eqb code sos) _ _ (λ _. scan_fine (scan_header payload))
+    (λ a. cond_fine (eqb code sos) _ _ (λ _. scan_fine profile (scan_header payload))
     (λ b. cond_fine (eqb code lse) _ _ (λ _. lse_fine payload)
     (λ c. cond_fine (eqb code dri) _ _ (λ _. restart_fine (restart_interval payload))
     (λ d. cond_fine (is_skipped code) _ _ (λ _. tt)
@@ -95,4 +96,4 @@ pub segment_fault : (h : HeaderState) (code : ℕ) (payload : List ℕ) (f : Mar
 unfolding headers_after
 segment_fault h code payload f known e =
     subst (λ (r : Result (HeaderState × Option Scan) MarkerFault). IsFine r) e
-    (taking_fine h (segment_of code payload) (segment_fine code payload known))
+    (taking_fine h (segment_under h.profile code payload) (segment_fine h.profile code payload known))

@@ -9,11 +9,11 @@ use Rattle.jls_marker.specs.MarkerCodes.{has_segment}
 use Rattle.jls_marker.specs.Headers.{headers_after}
 use Rattle.jls_marker.specs.Scan.{Scan, intervals}
 use Rattle.jls_marker.specs.declared.fault.MarkerFault.{MarkerFault}
-use Rattle.jls_copy.specs.Course.{Course, IsCourse}
+use Rattle.jls_copy.specs.Course.{Course, IsCourseUnder}
 use Rattle.jls_copy.specs.CutPieces.{cut_pieces}
 use Rattle.jls_copy.specs.Numbers.{PieceNumber, Interval, BeyondLast, number_after}
 use Rattle.jls_copy.specs.Pieces.{FoundPiece, Lines, pieces}
-use Rattle.jls_copy.specs.Prefixes.{AgreeBefore, AreAlsoIn, HasLines, IsPast, PlaceIsPast, PrefixesSettlePieces, ReadAlike}
+use Rattle.jls_copy.specs.Prefixes.{AgreeBefore, AreAlsoIn, HasLines, IsPastUnder, PlaceIsPast, PrefixesSettlePiecesUnder, ReadAlike}
 use Rattle.jls_copy.specs.Reader.{all_pieces}
 use Rattle.jls_copy.specs.ReaderState.{class_of, closed_at, closed_at_end, closed_by, found, from_marker, from_scan, from_start}
 use Rattle.jls_copy.specs.ReaderState.{length_known, one_more, payload_grown, place_after, scan_after, scan_opened, scan_with}
@@ -34,6 +34,7 @@ use Rattle.jls_copy.proofs.Prefixes.{stands_from}
 use Rattle.jls_copy.proofs.FaultyPieces.{closed_stay}
 use Rattle.jls_copy.proofs.ReadingTells.{reading_counts}
 use Rattle.jls_copy.proofs.ScansOfCourse.{byte_parts}
+use Rattle.jls_marker.specs.declared.profile.Profile.{Profile}
 
 -- What begins later ------------------------------------------------------------------------------------------------
 
@@ -159,16 +160,17 @@ from_on at old r (b ∷ bytes) f = from_on at old (reading_with r b) bytes (from
 
 -- Where it begins --------------------------------------------------------------------------------------------------
 
-pub past_fed : (offset : ℕ) (bytes : List ℕ) → AllByRecursion (λ b. b < 256) bytes → (p : CopyPosition) → p ≡ (reading bytes).state.place
-    → PlaceIsPast offset p → IsPast offset bytes
-past_fed offset bytes low (Start fill) e h = absurd h
-past_fed offset bytes low (AtMarker fill) e h = absurd h
-past_fed offset bytes low (AtLength marker code) e h = absurd h
-past_fed offset bytes low (InLength marker code high) e h = absurd h
-past_fed offset bytes low (InPayload marker code size) e h = absurd h
-past_fed offset bytes low (Done end) e h = absurd h
-past_fed offset bytes low (InScan scan) e h =
-    let t = course_fed bytes low in
+pub past_fed : (profile : Profile) (offset : ℕ) (bytes : List ℕ) → AllByRecursion (λ b. b < 256) bytes → (p : CopyPosition)
+    → p ≡ (reading profile bytes).state.place
+    → PlaceIsPast offset p → IsPastUnder profile offset bytes
+past_fed profile offset bytes low (Start fill) e h = absurd h
+past_fed profile offset bytes low (AtMarker fill) e h = absurd h
+past_fed profile offset bytes low (AtLength marker code) e h = absurd h
+past_fed profile offset bytes low (InLength marker code high) e h = absurd h
+past_fed profile offset bytes low (InPayload marker code size) e h = absurd h
+past_fed profile offset bytes low (Done end) e h = absurd h
+past_fed profile offset bytes low (InScan scan) e h =
+    let t = course_fed profile bytes low in
     let cut : AlikePieces (found scan ∷ []) (cut_pieces t.0) = subst (λ p. AlikePieces (closed_at_end p) (cut_pieces t.0)) (sym e) t.5 in
     let q = alike_of (found scan ∷ []) (cut_pieces t.0) (found scan) cut (is_first (found scan) []) in
     record { course = t.0; is_course = t.1; piece = q.0; in_hand = q.1; past = subst (λ n. offset ≤ n) q.2.offset_is h }
@@ -215,27 +217,28 @@ read_alike x p q a b = record {
 
 -- The law ----------------------------------------------------------------------------------------------------------
 
-module _ (at : ℕ) (prefix more : List ℕ) (low : AllByRecursion (λ b. b < 256) (prefix ++ more)) (past : IsPast at prefix) (c d : Course)
-    (is_c : IsCourse prefix c) (is_d : IsCourse (prefix ++ more) d) where
+module _ (profile : Profile) (at : ℕ) (prefix more : List ℕ) (low : AllByRecursion (λ b. b < 256) (prefix ++ more))
+    (past : IsPastUnder profile at prefix) (c d : Course)
+    (is_c : IsCourseUnder profile prefix c) (is_d : IsCourseUnder profile (prefix ++ more) d) where
   abbrev first : StateWithPieces
-  first = reading prefix
+  first = reading profile prefix
 
   abbrev all : StateWithPieces
-  all = reading (prefix ++ more)
+  all = reading profile (prefix ++ more)
 
   alike_first : AlikePieces (all_pieces first) (pieces c)
   alike_first =
-      let t = course_fed prefix (byte_parts prefix more low).0 in
+      let t = course_fed profile prefix (byte_parts prefix more low).0 in
       subst (λ x. AlikePieces (all_pieces first) (pieces x)) (one_course prefix t.0 c t.1 is_c) t.4
 
   alike_cut : AlikePieces (closed_at_end first.state.place) (cut_pieces c)
   alike_cut =
-      let t = course_fed prefix (byte_parts prefix more low).0 in
+      let t = course_fed profile prefix (byte_parts prefix more low).0 in
       subst (λ x. AlikePieces (closed_at_end first.state.place) (cut_pieces x)) (one_course prefix t.0 c t.1 is_c) t.5
 
   alike_all : AlikePieces (all_pieces all) (pieces d)
   alike_all =
-      let t = course_fed (prefix ++ more) low in
+      let t = course_fed profile (prefix ++ more) low in
       subst (λ x. AlikePieces (all_pieces all) (pieces x)) (one_course (prefix ++ more) t.0 d t.1 is_d) t.4
 
   -- the piece in hand
@@ -262,8 +265,8 @@ module _ (at : ℕ) (prefix more : List ℕ) (low : AllByRecursion (λ b. b < 25
 
   from_first : From at first.pieces all
   from_first =
-      let size : first.state.count ≡ length prefix = reading_counts prefix in
-      let within = ends_after prefix c is_c hand_first.0 hand_first.1 in
+      let size : first.state.count ≡ length prefix = reading_counts profile prefix in
+      let within = ends_after profile prefix c is_c hand_first.0 hand_first.1 in
       subst (From at first.pieces) (sym (from_append _ prefix more))
       (from_on at first.pieces first more (record {
         closed = λ q m. inl m;
@@ -299,16 +302,16 @@ module _ (at : ℕ) (prefix more : List ℕ) (low : AllByRecursion (λ b. b < 25
 
   agree : AgreeBefore at c d
   agree =
-      let u = ends_after prefix c is_c hand_first.0 hand_first.1 in
-      let v = ends_after (prefix ++ more) d is_d hand_second.0 hand_second.1 in
+      let u = ends_after profile prefix c is_c hand_first.0 hand_first.1 in
+      let v = ends_after profile (prefix ++ more) d is_d hand_second.0 hand_second.1 in
       record {
-        first_framed = framed_by_piece prefix c is_c hand_first.0 hand_first.1;
-        second_framed = framed_by_piece (prefix ++ more) d is_d hand_second.0 hand_second.1;
+        first_framed = framed_by_piece profile prefix c is_c hand_first.0 hand_first.1;
+        second_framed = framed_by_piece profile (prefix ++ more) d is_d hand_second.0 hand_second.1;
         first_end = let l = hand_first.2 in let w = u.1 in omega (arith, l, w);
         second_end = let l = hand_second.2 in let w = v.1 in omega (arith, l, w);
         first_in_second = first_in_second;
         second_in_first = second_in_first;
       }
 
-pub prefixes_settle_pieces : PrefixesSettlePieces
-prefixes_settle_pieces offset prefix more low past c d is_c is_d = agree offset prefix more low past c d is_c is_d
+pub prefixes_settle_pieces : (profile : Profile) → PrefixesSettlePiecesUnder profile
+prefixes_settle_pieces profile offset prefix more low past c d is_c is_d = agree profile offset prefix more low past c d is_c is_d

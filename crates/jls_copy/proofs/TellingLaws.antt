@@ -3,7 +3,7 @@ use Rattle.std.proofs.Common.{◌≡◌, ℕ, ◌+◌, ◌/◌, ◌%◌, List, [
 use Rattle.std.proofs.Common.{length-append}
 use Rattle.std.proofs.lemmas.List.{length-replicate}
 use Rattle.std.specs.List.{flat_map, AllByRecursion}
-use Rattle.jls_marker.specs.HeaderState.{HeaderState, no_headers}
+use Rattle.jls_marker.specs.HeaderState.{HeaderState, no_headers_under}
 use Rattle.jls_marker.specs.Scan.{Scan, intervals}
 use Rattle.jls_marker.specs.declared.fault.MarkerFault.TheVariants as fault
 use Rattle.jls_copy.specs.ScanData.{fill_bytes, ClosedPiece, closed_bytes}
@@ -13,11 +13,12 @@ use Rattle.jls_copy.specs.Pieces.{piece_begun}
 use Rattle.jls_copy.specs.Course.{CopyUnit, segment, scan, segment_unit_bytes, scan_data_bytes, unit_bytes, dropped_bytes, EndsHere, at_eoi}
 use Rattle.jls_copy.specs.Course.{at_eoi_before_a_frame, at_no_marker, at_unknown_code, at_short_length, at_refused_segment, Ends, for_good}
 use Rattle.jls_copy.specs.Course.{with_the_input, in_a_unit, AreUnits, with_soi, with_another_marker, with_no_marker, with_fill_alone}
-use Rattle.jls_copy.specs.TellingLaws.{StandsAt, PiecesStandAtTheirOffsets, EndStands, eoi, input, eoi_before_a_frame, refused_segment}
-use Rattle.jls_copy.specs.TellingLaws.{unknown_marker, no_marker, another_marker, no_marker_first, too_early, EndsStandAtTheirOffsets}
-use Rattle.jls_copy.specs.TellingLaws.{AreRecordsOf, of_none, reads, faulty, RecordsAreOfFaultyPieces}
+use Rattle.jls_copy.specs.TellingLaws.{StandsAt, PiecesStandAtTheirOffsetsUnder, EndStands, eoi, input, eoi_before_a_frame, refused_segment}
+use Rattle.jls_copy.specs.TellingLaws.{unknown_marker, no_marker, another_marker, no_marker_first, too_early, EndsStandAtTheirOffsetsUnder}
+use Rattle.jls_copy.specs.TellingLaws.{AreRecordsOf, of_none, reads, faulty, RecordsAreOfFaultyPiecesUnder}
 use Rattle.jls_copy.specs.declared.end.End.{End}
 use Rattle.jls_copy.proofs.SegmentFaults.{segment_fault}
+use Rattle.jls_marker.specs.declared.profile.Profile.{Profile}
 
 -- the piece stands at its offset
 abbrev Stands : List ℕ → FoundPiece → Type 0
@@ -97,12 +98,12 @@ soi n bytes = record {
   at_is = let e = length-append (fill_bytes n) (0xFF ∷ 0xD8 ∷ []) in let l = length-replicate {A = ℕ} n 0xFF in omega (arith, e, l);
 }
 
-pub pieces_stand_at_their_offsets : PiecesStandAtTheirOffsets
-pieces_stand_at_their_offsets _ _ (with_soi n bytes units final e h) =
-    units_stand _ (fill_bytes n ++ (0xFF ∷ 0xD8 ∷ [])) no_headers (n + 2) bytes units final e 0 (soi n bytes) h
-pieces_stand_at_their_offsets _ _ (with_another_marker n code bytes p q) = tt
-pieces_stand_at_their_offsets _ _ (with_no_marker b bytes p) = tt
-pieces_stand_at_their_offsets _ _ (with_fill_alone n) = tt
+pub pieces_stand_at_their_offsets : (profile : Profile) → PiecesStandAtTheirOffsetsUnder profile
+pieces_stand_at_their_offsets profile _ _ (with_soi n bytes units final e h) =
+    units_stand _ (fill_bytes n ++ (0xFF ∷ 0xD8 ∷ [])) (no_headers_under profile) (n + 2) bytes units final e 0 (soi n bytes) h
+pieces_stand_at_their_offsets profile _ _ (with_another_marker n code bytes p q) = tt
+pieces_stand_at_their_offsets profile _ _ (with_no_marker b bytes p) = tt
+pieces_stand_at_their_offsets profile _ _ (with_fill_alone n) = tt
 
 -- Ends -------------------------------------------------------------------------------------------------------------
 
@@ -160,15 +161,15 @@ last_stands copy prefix h at bytes (u ∷ us) final e b (after, rest, whole, uni
 all_of : (copy : List ℕ) → After copy [] copy 0
 all_of copy = record { copy_is = refl; at_is = refl }
 
-pub ends_stand_at_their_offsets : EndsStandAtTheirOffsets
-ends_stand_at_their_offsets _ _ (with_soi n bytes units final e h) =
-    last_stands _ (fill_bytes n ++ (0xFF ∷ 0xD8 ∷ [])) no_headers (n + 2) bytes units final e (soi n bytes) h
-ends_stand_at_their_offsets _ _ (with_another_marker n code bytes p q) =
+pub ends_stand_at_their_offsets : (profile : Profile) → EndsStandAtTheirOffsetsUnder profile
+ends_stand_at_their_offsets profile _ _ (with_soi n bytes units final e h) =
+    last_stands _ (fill_bytes n ++ (0xFF ∷ 0xD8 ∷ [])) (no_headers_under profile) (n + 2) bytes units final e (soi n bytes) h
+ends_stand_at_their_offsets profile _ _ (with_another_marker n code bytes p q) =
     let e : 0 + n ≡ n = omega arith in
     another_marker n code p q (subst (λ at. StandsAt (fill_bytes n ++ (0xFF ∷ code ∷ bytes)) at (0xFF ∷ code ∷ [])) e
     (marker_stands _ [] n code bytes 0 (all_of _)))
-ends_stand_at_their_offsets _ _ (with_no_marker b bytes p) = no_marker_first b p (stands _ [] (b ∷ []) bytes 0 (all_of _))
-ends_stand_at_their_offsets _ _ (with_fill_alone n) = too_early n (let l = length-replicate {A = ℕ} n 0xFF in omega (arith, l))
+ends_stand_at_their_offsets profile _ _ (with_no_marker b bytes p) = no_marker_first b p (stands _ [] (b ∷ []) bytes 0 (all_of _))
+ends_stand_at_their_offsets profile _ _ (with_fill_alone n) = too_early n (let l = length-replicate {A = ℕ} n 0xFF in omega (arith, l))
 
 -- Records ----------------------------------------------------------------------------------------------------------
 
@@ -181,6 +182,6 @@ records_so (p ∷ ps) (Fault k ∷ os) h =
     faulty p ps (record { scan = p.scan; interval = value_of p.number; offset = p.offset; kind = k }) (records ps os)
     (record { scan = refl; interval = refl; offset = refl; kind = h.0 }) (records_so ps os h.1)
 
-pub records_are_of_faulty_pieces : RecordsAreOfFaultyPieces
-records_are_of_faulty_pieces copy read h =
+pub records_are_of_faulty_pieces : (profile : Profile) → RecordsAreOfFaultyPiecesUnder profile
+records_are_of_faulty_pieces profile copy read h =
     (records (pieces h.course) h.outcomes, records_so (pieces h.course) h.outcomes h.each, h.pieces_are, h.count_is)

@@ -5,12 +5,13 @@ use Rattle.std.specs.Prelude.{is_some, ◌==◌}
 use Rattle.std.proofs.lemmas.List.{append-nil}
 use Rattle.std.proofs.lemmas.Bool.Decides.{nat_tests}
 use Rattle.jls_copy.specs.ScanData.{fill_bytes, ends_scan_data}
-use Rattle.jls_marker.specs.HeaderState.{HeaderState, no_headers}
+use Rattle.jls_marker.specs.HeaderState.{HeaderState, no_headers_under}
 use Rattle.jls_marker.specs.MarkerCodes.{has_segment}
 use Rattle.jls_copy.specs.Pieces.{FoundPiece}
 use Rattle.jls_copy.specs.Course.{CopyUnit, at_eoi, at_eoi_before_a_frame, at_no_marker, at_unknown_code}
 use Rattle.jls_copy.specs.ReaderState.{from_start, from_marker}
 use Rattle.jls_copy.specs.Tells.{Passed, passed_soi, Follows, ended, without_soi, without_ff, Tells}
+use Rattle.jls_marker.specs.declared.profile.Profile.{Profile}
 
 -- one more fill byte at the end
 pub fill_more : (n : ℕ) (rest : List ℕ) → fill_bytes n ++ (255 ∷ rest) ≡ fill_bytes (suc n) ++ rest
@@ -28,42 +29,44 @@ not_fill : (b : ℕ) → b ≢ 255 → (b == 255) ≡ false
 not_fill b ne = grind (arith, nat_tests)
 
 -- before SOI
-pub start_more : (payload : List ℕ) (b : ℕ) → (b ≡ 255) ⊎ (b ≢ 255) → Tells (from_start false 0 b) no_headers payload [] (b ∷ [])
-start_more payload b (inl e) = rw e (0, refl, refl, refl)
-start_more payload b (inr ne) = rw (not_fill b ne) (without_ff b [] (b ∷ []) ne refl)
+pub start_more : (profile : Profile) (payload : List ℕ) (b : ℕ) → (b ≡ 255) ⊎ (b ≢ 255)
+    → Tells profile (from_start false 0 b) (no_headers_under profile) payload [] (b ∷ [])
+start_more profile payload b (inl e) = rw e (0, refl, refl, refl)
+start_more profile payload b (inr ne) = rw (not_fill b ne) (without_ff b [] (b ∷ []) ne refl)
 
-pub start_fill_more : (payload : List ℕ) (n b count : ℕ) → count ≡ suc n → (b ≡ 255) ⊎ (b ≢ 255) → (b ≡ 216) ⊎ (b ≢ 216)
-    → Tells (from_start true count b) no_headers payload [] (fill_bytes (suc n) ++ b ∷ [])
-start_fill_more payload n b count c (inl e) q = rw e (suc n, fill_snoc (suc n), refl, refl)
-start_fill_more payload n b count c (inr ne) (inl e) = rw e ([], passed_soi n _ (sym (fill_more n (216 ∷ []))))
-start_fill_more payload n b count c (inr ne) (inr q) =
+pub start_fill_more : (profile : Profile) (payload : List ℕ) (n b count : ℕ) → count ≡ suc n → (b ≡ 255) ⊎ (b ≢ 255) → (b ≡ 216) ⊎ (b ≢ 216)
+    → Tells profile (from_start true count b) (no_headers_under profile) payload [] (fill_bytes (suc n) ++ b ∷ [])
+start_fill_more profile payload n b count c (inl e) q = rw e (suc n, fill_snoc (suc n), refl, refl)
+start_fill_more profile payload n b count c (inr ne) (inl e) = rw e ([], passed_soi n _ (sym (fill_more n (216 ∷ []))))
+start_fill_more profile payload n b count c (inr ne) (inr q) =
     let f : (b == 216) ≡ false = grind (arith, nat_tests) in
     let at : count - 1 ≡ n = omega arith in
     rw (not_fill b ne, f, at) (without_soi n b [] _ ne q (sym (fill_more n (b ∷ []))))
 
 -- where a marker may begin, with no fill byte
-module _ (before : List ℕ) (h : HeaderState) (us : List CopyUnit) (ps : List FoundPiece) where
+module _ (profile : Profile) (before : List ℕ) (h : HeaderState) (us : List CopyUnit) (ps : List FoundPiece) where
   none_follows : (tail : List ℕ) → Follows false tail
   none_follows tail = λ e. cc
 
-  pub marker_more : (payload : List ℕ) (b count : ℕ) → Passed before h us ps false → count ≡ length before → (b ≡ 255) ⊎ (b ≢ 255)
-      → Tells (from_marker false (is_some h.frame) count b) h payload ps (before ++ b ∷ [])
+  pub marker_more : (payload : List ℕ) (b count : ℕ) → Passed profile before h us ps false → count ≡ length before → (b ≡ 255) ⊎ (b ≢ 255)
+      → Tells profile (from_marker false (is_some h.frame) count b) h payload ps (before ++ b ∷ [])
   marker_more payload b count p c (inl e) = rw e (0, before, us, p, refl)
   marker_more payload b count p c (inr ne) =
       rw (not_fill b ne, c) (ended before h us ps false (b ∷ []) _ _ p refl (none_follows (b ∷ []))
       (at_no_marker h (length before) b [] ne))
 
   -- after fill bytes; after scan data only a marker that ends it is there
-  pub fill_marker_more : (following : Bool) (payload : List ℕ) (n b count : ℕ) → Passed before h us ps following → count ≡ length before
+  pub fill_marker_more : (following : Bool) (payload : List ℕ) (n b count : ℕ) → Passed profile before h us ps following
+      → count ≡ length before
       + suc n
       → (following ≡ true → ends_scan_data b ≡ true)
       → (b ≡ 255) ⊎ (b ≢ 255) → (b ≡ 217) ⊎ (b ≢ 217) → (is_some h.frame ≡ true) ⊎ (is_some h.frame ≡ false) → (has_segment b ≡ true)
       ⊎ (has_segment b ≡ false) → (following ≡ true) ⊎ (following ≡ false)
-      → Tells (from_marker true (is_some h.frame) count b) h payload ps (before ++ (fill_bytes (suc n) ++ b ∷ []))
+      → Tells profile (from_marker true (is_some h.frame) count b) h payload ps (before ++ (fill_bytes (suc n) ++ b ∷ []))
   fill_marker_more following payload n b count p c fol (inl e) q r s (inl t) =
       absurd (let k : ends_scan_data b ≡ true = fol t in let l : ends_scan_data 255 ≡ true = rw e at k in (cc))
   fill_marker_more following payload n b count p c fol (inl e) q r s (inr t) =
-      rw e (suc n, before, us, subst (Passed before h us ps) t p, ap (λ x. before ++ x) (fill_snoc (suc n)))
+      rw e (suc n, before, us, subst (Passed profile before h us ps) t p, ap (λ x. before ++ x) (fill_snoc (suc n)))
   fill_marker_more following payload n b count p c fol (inr ne) (inl e) (inl r) s t =
       let at : count - 1 ≡ length before + n = omega arith in
       rw (e, r, at, ← fill_more n (217 ∷ []))

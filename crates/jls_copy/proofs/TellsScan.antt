@@ -31,6 +31,7 @@ use Rattle.jls_copy.specs.declared.scan.OpenScan.{OpenScan}
 use Rattle.jls_copy.proofs.Alike.{same_more}
 use Rattle.jls_copy.proofs.OneMoreByte.{piece_more, each_more}
 use Rattle.jls_copy.proofs.TellsMore.{fill_more, fill_length, fill_marker_more}
+use Rattle.jls_marker.specs.declared.profile.Profile.{Profile}
 
 fill_snoc : (n : ℕ) → fill_bytes n ++ 255 ∷ [] ≡ fill_bytes (suc n)
 fill_snoc n = fill_more n [] ∙ append-nil _
@@ -126,7 +127,8 @@ opened_as : (s : Scan) (number : PieceNumber) → FedAs (number_of (piece_opened
 opened_as s (Interval k) = inl refl
 opened_as s (BeyondLast k) = tt
 
-module _ (o : OpenScan) (h : HeaderState) (ps : List FoundPiece) (x : List ℕ) (d : InScanData o h ps x) (b : ℕ) where
+module _ (profile : Profile) (o : OpenScan) (h : HeaderState) (ps : List FoundPiece) (x : List ℕ)
+    (d : InScanData profile o h ps x) (b : ℕ) where
   abbrev start : ℕ
   start = length d.before + length (segment_unit_bytes d.fill d.code d.payload)
 
@@ -138,7 +140,7 @@ module _ (o : OpenScan) (h : HeaderState) (ps : List FoundPiece) (x : List ℕ) 
       → (here : List FoundPiece) → AlikePieces here prefix → FedAs (number_of opened) (bytes_of opened) piece → IsFed opened
       → (n : ℕ) → HeldIs held n → qs ≡ d.earlier ++ here
       → x ++ b ∷ [] ≡ d.before ++ (segment_unit_bytes d.fill d.code d.payload ++ (flat_map closed_bytes closed ++ (piece ++ fill_bytes n)))
-      → InScanData (record o { last = last; held = held; offset = offset; piece = opened }) h qs (x ++ b ∷ [])
+      → InScanData profile (record o { last = last; held = held; offset = offset; piece = opened }) h qs (x ++ b ∷ [])
   goes_on last held offset opened qs closed each piece piece_is prefix pieces_are given_is offset_is here alike fed_as fed_is n held_is
       found_are whole = record {
         before = d.before;
@@ -173,12 +175,12 @@ module _ (o : OpenScan) (h : HeaderState) (ps : List FoundPiece) (x : List ℕ) 
         whole = whole;
       }
 
-  fill_tells : b ≡ 255 → InScanData (record o { held = one_more o.held }) h (ps ++ []) (x ++ b ∷ [])
+  fill_tells : b ≡ 255 → InScanData profile (record o { held = one_more o.held }) h (ps ++ []) (x ++ b ∷ [])
   fill_tells e = goes_on o.last (one_more o.held) o.offset o.piece (ps ++ []) d.closed d.each d.piece d.piece_is d.prefix d.pieces_are
       d.given_is d.offset_is d.here d.here_alike d.fed_as d.fed_is (suc d.held) (more_held o.held d.held d.held_is)
       (append-nil ps ∙ d.found_are) (ap (λ y. y ++ b ∷ []) d.whole ∙ rw e (simp append_assoc (rw fill_snoc refl)))
 
-  data_tells : b ≢ 255 → (0 < d.held → closes_piece b ≡ false) → InScanData (scan_with o b) h (ps ++ []) (x ++ b ∷ [])
+  data_tells : b ≢ 255 → (0 < d.held → closes_piece b ≡ false) → InScanData profile (scan_with o b) h (ps ++ []) (x ++ b ∷ [])
   data_tells ne free =
       goes_on o.last Nothing o.offset (piece_with o.piece (held_bytes o.held ++ b ∷ [])) (ps ++ []) d.closed d.each
       (d.piece ++ (fill_bytes d.held ++ b ∷ [])) (piece_more d.piece d.held b d.piece_is ne free) d.prefix (rw number_with d.pieces_are)
@@ -191,7 +193,8 @@ module _ (o : OpenScan) (h : HeaderState) (ps : List FoundPiece) (x : List ℕ) 
   alike_now = record { scan_is = d.index_is; plan_is = refl; number_is = refl; offset_is = refl; fed_as = d.fed_as }
 
   mark_tells : (m count : ℕ) → d.held ≡ suc m → is_restart_code b ≡ true → count ≡ length x
-      → InScanData (scan_after o (number_after (intervals o.plan) o.last (b - 208)) (count + 1)) h (ps ++ found o ∷ []) (x ++ b ∷ [])
+      → InScanData profile (scan_after o (number_after (intervals o.plan) o.last (b - 208)) (count + 1)) h (ps ++ found o ∷ [])
+      (x ++ b ∷ [])
   mark_tells m count hm r c =
       let low : b - 208 < 8 = grind (arith, nat_tests) in
       let back : 208 + (b - 208) ≡ b = grind (arith, nat_tests) in
@@ -226,7 +229,7 @@ module _ (o : OpenScan) (h : HeaderState) (ps : List FoundPiece) (x : List ℕ) 
           (omega (arith, length-append (flat_map closed_bytes d.closed) (closed_bytes closing)))
 
   stop_tells : (payload : List ℕ) (m count : ℕ) → d.held ≡ suc m → b ≢ 255 → ends_scan_data b ≡ true → count ≡ length x
-      → Tells (state.from_marker true true count b) h payload (ps ++ found o ∷ []) (x ++ b ∷ [])
+      → Tells profile (state.from_marker true true count b) h payload (ps ++ found o ∷ []) (x ++ b ∷ [])
   stop_tells payload m count hm ne s c =
       let unit : CopyUnit = scan d.fill d.code d.payload o.plan d.closed d.piece by_marker in
       let y : List ℕ = d.before ++ unit_bytes unit in
@@ -234,7 +237,7 @@ module _ (o : OpenScan) (h : HeaderState) (ps : List FoundPiece) (x : List ℕ) 
       (pieces_from (piece_begun d.old.scans o.plan (Interval 0) start) 0 d.closed d.piece) =
       subst (AlikePieces (d.here ++ found o ∷ [])) (sym (d.pieces_are d.piece))
       (alike_more d.here d.prefix (found o) _ d.here_alike alike_now) in
-      let passed : Passed y h (d.units ++ unit ∷ []) (d.earlier ++ (d.here ++ found o ∷ [])) true =
+      let passed : Passed profile y h (d.units ++ unit ∷ []) (d.earlier ++ (d.here ++ found o ∷ [])) true =
       passed_scan d.before d.old d.units d.earlier d.following d.passed d.fill d.code d.payload h y d.known d.size d.follows o.plan
       d.plan_is d.closed d.piece (d.here ++ found o ∷ []) d.each d.piece_is alike refl in
       let all : x ≡ y ++ fill_bytes (suc m) = d.whole ∙ rw hm (simp (append_assoc, append-nil) refl) in
@@ -244,19 +247,22 @@ module _ (o : OpenScan) (h : HeaderState) (ps : List FoundPiece) (x : List ℕ) 
       let size : count ≡ length y + suc m = c ∙ ap length all ∙ length-append y (fill_bytes (suc m))
       ∙ ap (λ k. length y + k) (fill_length (suc m)) in
       let framed : is_some h.frame ≡ true = scan_has_frame d.old h d.code d.payload o.plan d.plan_is in
-      let fed : Tells (state.from_marker true (is_some h.frame) count b) h payload (d.earlier ++ (d.here ++ found o ∷ []))
+      let fed : Tells profile (state.from_marker true (is_some h.frame) count b) h payload (d.earlier ++ (d.here ++ found o ∷ []))
       (y ++ (fill_bytes (suc m) ++ b ∷ [])) =
-      fill_marker_more y h (d.units ++ unit ∷ []) (d.earlier ++ (d.here ++ found o ∷ [])) true payload m b count passed size (λ _. s)
+      fill_marker_more profile y h (d.units ++ unit ∷ []) (d.earlier ++ (d.here ++ found o ∷ [])) true payload m b count passed size
+      (λ _. s)
       (inr ne) (cases_eq b 217) (inl framed) (cases_Bool (has_segment b)) (inl refl) in
-      subst (λ q. Tells (state.from_marker true q count b) h payload (ps ++ found o ∷ []) (x ++ b ∷ [])) framed
-      (subst (λ q. Tells (state.from_marker true (is_some h.frame) count b) h payload q (x ++ b ∷ [])) pieces
-      (subst (λ q. Tells (state.from_marker true (is_some h.frame) count b) h payload (d.earlier ++ (d.here ++ found o ∷ [])) q) bytes fed))
+      subst (λ q. Tells profile (state.from_marker true q count b) h payload (ps ++ found o ∷ []) (x ++ b ∷ [])) framed
+      (subst (λ q. Tells profile (state.from_marker true (is_some h.frame) count b) h payload q (x ++ b ∷ [])) pieces
+      (subst (λ q. Tells profile (state.from_marker true (is_some h.frame) count b) h payload (d.earlier ++
+      (d.here ++ found o ∷ [])) q) bytes fed))
 
-pub scan_more : (o : OpenScan) (h : HeaderState) (ps : List FoundPiece) (x : List ℕ) (d : InScanData o h ps x) (b : ℕ) (payload : List ℕ)
+pub scan_more : (profile : Profile) (o : OpenScan) (h : HeaderState) (ps : List FoundPiece) (x : List ℕ)
+    (d : InScanData profile o h ps x) (b : ℕ) (payload : List ℕ)
     (count : ℕ)
     → count ≡ length x
-    → Tells (state.from_scan (class_of o.held b) o count b) h payload (ps ++ state.closed_by (class_of o.held b) o) (x ++ b ∷ [])
-scan_more o h ps x d b payload count c =
+    → Tells profile (state.from_scan (class_of o.held b) o count b) h payload (ps ++ state.closed_by (class_of o.held b) o) (x ++ b ∷ [])
+scan_more profile o h ps x d b payload count c =
     by (class_is o.held d.held b d.held_is (cases_eq b 255) (cases_Bool (is_restart_code b)) (cases_Bool (ends_scan_data b)))
   where
     some : (n : ℕ) → 0 < n → (m : ℕ) × (n ≡ suc m)
@@ -264,8 +270,9 @@ scan_more o h ps x d b payload count c =
     some (suc m) k = (m, refl)
 
     by : ClassIs o.held d.held b
-        → Tells (state.from_scan (class_of o.held b) o count b) h payload (ps ++ state.closed_by (class_of o.held b) o) (x ++ b ∷ [])
-    by (is_fill _ _ _ e f) = rw e (fill_tells o h ps x d b f)
-    by (is_data _ _ _ e ne free) = rw e (data_tells o h ps x d b ne free)
-    by (is_mark _ _ _ e k r) = let m = some d.held k in rw e (mark_tells o h ps x d b m.0 count m.1 r c)
-    by (is_stop _ _ _ e k ne s) = let m = some d.held k in rw e (stop_tells o h ps x d b payload m.0 count m.1 ne s c)
+        → Tells profile (state.from_scan (class_of o.held b) o count b) h payload (ps ++ state.closed_by (class_of o.held b) o)
+        (x ++ b ∷ [])
+    by (is_fill _ _ _ e f) = rw e (fill_tells profile o h ps x d b f)
+    by (is_data _ _ _ e ne free) = rw e (data_tells profile o h ps x d b ne free)
+    by (is_mark _ _ _ e k r) = let m = some d.held k in rw e (mark_tells profile o h ps x d b m.0 count m.1 r c)
+    by (is_stop _ _ _ e k ne s) = let m = some d.held k in rw e (stop_tells profile o h ps x d b payload m.0 count m.1 ne s c)

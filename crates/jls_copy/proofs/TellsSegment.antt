@@ -18,21 +18,23 @@ use Rattle.jls_marker.specs.declared.fault.MarkerFault.{MarkerFault}
 use Rattle.jls_marker.specs.declared.fault.MarkerFault.TheVariants as fault
 use Rattle.jls_copy.specs.declared.end.End.{End}
 use Rattle.jls_copy.specs.declared.end.End.TheVariants.{Eoi, Header}
+use Rattle.jls_marker.specs.declared.profile.Profile.{Profile}
 
-abbrev TellsStep : Step → List FoundPiece → List ℕ → Type 0
-TellsStep s ps x = Tells s.place s.headers s.payload ps x
+abbrev TellsStep : (profile : Profile) → Step → List FoundPiece → List ℕ → Type 0
+TellsStep profile s ps x = Tells profile s.place s.headers s.payload ps x
 
-cond_tells : (b : Bool) (s t : Step) (ps : List FoundPiece) (x : List ℕ) → (b ≡ true → TellsStep s ps x) → (b ≡ false → TellsStep t ps x)
-    → TellsStep (cond b s t) ps x
-cond_tells true s t ps x p q = p refl
-cond_tells false s t ps x p q = q refl
+cond_tells : (profile : Profile) (b : Bool) (s t : Step) (ps : List FoundPiece) (x : List ℕ) → (b ≡ true → TellsStep profile s ps x)
+    → (b ≡ false → TellsStep profile t ps x)
+    → TellsStep profile (cond b s t) ps x
+cond_tells profile true s t ps x p q = p refl
+cond_tells profile false s t ps x p q = q refl
 
-module _ (before : List ℕ) (h : HeaderState) (us : List CopyUnit) (ps : List FoundPiece) (following : Bool)
-    (passed : Passed before h us ps following)
+module _ (profile : Profile) (before : List ℕ) (h : HeaderState) (us : List CopyUnit) (ps : List FoundPiece) (following : Bool)
+    (passed : Passed profile before h us ps following)
     (fill code : ℕ) (known : has_segment code ≡ true) (follows : following ≡ true → ends_scan_data code ≡ true) where
   -- so much of a segment
   pub at_segment : (x tail : List ℕ) (marker : ℕ) → x ≡ before ++ (fill_bytes fill ++ (255 ∷ code ∷ tail)) → marker ≡ length before + fill
-      → AtSegment marker code h ps x tail
+      → AtSegment profile marker code h ps x tail
   at_segment x tail marker w m = record {
     before = before;
     fill = fill;
@@ -49,7 +51,7 @@ module _ (before : List ℕ) (h : HeaderState) (us : List CopyUnit) (ps : List F
   taken : (payload x : List ℕ) (count marker : ℕ) → x ≡ before ++ segment_unit_bytes fill code payload → length payload + 2 < 2 ^ 16
       → count + 1 ≡ length x → marker ≡ length before + fill
       → (r : Result (HeaderState × Option Scan) MarkerFault) → headers_after h code payload ≡ r
-      → TellsStep (segment_taken count h payload marker r) ps x
+      → TellsStep profile (segment_taken count h payload marker r) ps x
   taken payload x count marker w small c m (Err f) e =
       rw m (ended before h us ps following (segment_unit_bytes fill code payload) x _ passed w (λ k. (fill, code, _, refl, follows k))
       (subst (λ y. EndsHere h (length before) y (Header f (length before + fill))) (append-nil (segment_unit_bytes fill code payload))
@@ -97,14 +99,14 @@ module _ (before : List ℕ) (h : HeaderState) (us : List CopyUnit) (ps : List F
   -- the second byte of a length
   length_tells : (x : List ℕ) (count marker high b : ℕ) → high < 256 → b < 256
       → x ≡ before ++ (fill_bytes fill ++ (255 ∷ code ∷ high ∷ b ∷ [])) → count + 1 ≡ length x → marker ≡ length before + fill
-      → TellsStep (length_known count h marker code (256 * high + b)) ps x
+      → TellsStep profile (length_known count h marker code (256 * high + b)) ps x
   length_tells x count marker high b lh lb w c m =
-      cond_tells (nat_lt (256 * high + b) 2) _ _ ps x
+      cond_tells profile (nat_lt (256 * high + b) 2) _ _ ps x
       (λ t. let low : 256 * high + b < 2 = grind (arith, nat_tests) in
       rw m (ended before h us ps following _ x _ passed w (λ k. (fill, code, _, refl, follows k))
       (at_short_length h (length before) fill code high b [] known low)))
       (λ t. let long : 2 ≤ 256 * high + b = grind (arith, nat_tests) in
-      cond_tells (256 * high + b == 2) _ _ ps x
+      cond_tells profile (256 * high + b == 2) _ _ ps x
       (λ u. let two : 256 * high + b ≡ 2 = grind (arith, nat_tests) in
       let hz : high ≡ 0 = omega arith in
       let bz : b ≡ 2 = omega arith in
@@ -116,23 +118,23 @@ module _ (before : List ℕ) (h : HeaderState) (us : List CopyUnit) (ps : List F
   -- one byte more of a payload
   payload_tells : (x payload : List ℕ) (count marker size : ℕ)
       → x ≡ before ++ (fill_bytes fill ++ (255 ∷ code ∷ size / 256 ∷ size % 256 ∷ payload)) → length payload + 2 ≤ size → size < 2 ^ 16
-      → count + 1 ≡ length x → marker ≡ length before + fill → TellsStep (payload_grown count h payload marker code size) ps x
+      → count + 1 ≡ length x → marker ≡ length before + fill → TellsStep profile (payload_grown count h payload marker code size) ps x
   payload_tells x payload count marker size w within small c m =
-      cond_tells (length payload + 2 == size) _ _ ps x
+      cond_tells profile (length payload + 2 == size) _ _ ps x
       (λ t. let e : length payload + 2 ≡ size = grind (arith, nat_tests) in
       taken payload x count marker (rw e w) (omega arith) c m (headers_after h code payload) refl)
       (λ t. let e : length payload + 2 ≢ size = grind (arith, nat_tests) in (omega arith, small, at_segment x _ marker w m))
 
   pub length_more : (x : List ℕ) (count marker high b : ℕ) → high < 256 → b < 256
       → x ≡ before ++ (fill_bytes fill ++ (255 ∷ code ∷ high ∷ [])) → count ≡ length x → marker ≡ length before + fill
-      → TellsStep (length_known count h marker code (256 * high + b)) ps (x ++ b ∷ [])
+      → TellsStep profile (length_known count h marker code (256 * high + b)) ps (x ++ b ∷ [])
   length_more x count marker high b lh lb w c m =
       length_tells (x ++ b ∷ []) count marker high b lh lb (rw w (simp append_assoc refl)) (omega (arith, length-append x (b ∷ []))) m
 
   pub payload_more : (x payload : List ℕ) (count marker size b : ℕ)
       → x ≡ before ++ (fill_bytes fill ++ (255 ∷ code ∷ size / 256 ∷ size % 256 ∷ payload)) → length payload + 2 < size → size < 2 ^ 16
       → count ≡ length x → marker ≡ length before + fill
-      → TellsStep (payload_grown count h (payload ++ b ∷ []) marker code size) ps (x ++ b ∷ [])
+      → TellsStep profile (payload_grown count h (payload ++ b ∷ []) marker code size) ps (x ++ b ∷ [])
   payload_more x payload count marker size b w within small c m =
       payload_tells (x ++ b ∷ []) (payload ++ b ∷ []) count marker size (rw w (simp append_assoc refl))
       (omega (arith, length-append payload (b ∷ []))) small (omega (arith, length-append x (b ∷ []))) m
@@ -157,10 +159,11 @@ stops_on _ _ b _ _ (at_refused_segment h at n code payload more f p r) =
 follows_on : (following : Bool) (tail : List ℕ) (b : ℕ) → Follows following tail → Follows following (tail ++ b ∷ [])
 follows_on following tail b f = λ k. let g = f k in (g.0, g.1, g.2 ++ b ∷ [], rw g.3 (simp append_assoc refl), g.4)
 
-pub ended_more : (e : End) (h : HeaderState) (ps : List FoundPiece) (x : List ℕ) (b : ℕ) → EndedAt e h ps x → EndedAt e h ps (x ++ b ∷ [])
-ended_more _ _ _ _ b (ended before h us ps following tail x e p w f s) =
+pub ended_more : (profile : Profile) (e : End) (h : HeaderState) (ps : List FoundPiece) (x : List ℕ) (b : ℕ) → EndedAt profile e h ps x
+    → EndedAt profile e h ps (x ++ b ∷ [])
+ended_more profile _ _ _ _ b (ended before h us ps following tail x e p w f s) =
     ended before h us ps following (tail ++ b ∷ []) (x ++ b ∷ []) e p (rw w (simp append_assoc refl)) (follows_on following tail b f)
     (stops_on h (length before) b tail e s)
-ended_more _ _ _ _ b (without_soi n code more x p q w) =
+ended_more profile _ _ _ _ b (without_soi n code more x p q w) =
     without_soi n code (more ++ b ∷ []) (x ++ b ∷ []) p q (rw w (simp append_assoc refl))
-ended_more _ _ _ _ b (without_ff c more x p w) = without_ff c (more ++ b ∷ []) (x ++ b ∷ []) p (rw w refl)
+ended_more profile _ _ _ _ b (without_ff c more x p w) = without_ff c (more ++ b ∷ []) (x ++ b ∷ []) p (rw w refl)

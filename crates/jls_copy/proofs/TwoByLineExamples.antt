@@ -2,7 +2,7 @@
 -- which the first two are 0 throughout: so the other two have the same code as a second row of two components, since the row before the
 -- first counts as 0 (T.87 A.2.1). The headers of two components are by hand, as CharLS writes none. `jpeg` of Debian's libjpeg-tools reads
 -- the file as these lines.
-use Rattle.std.proofs.Common.{◌≡◌, ℕ, List, [], ◌∷◌, Some, refl, lit<, arith}
+use Rattle.std.proofs.Common.{◌≡◌, ℕ, List, [], ◌∷◌, Some, refl, lit<, arith, false}
 use Rattle.jls_values.specs.Params.{CodingParameters}
 use Rattle.jls_values.specs.Shape.{PictureShape}
 use Rattle.jls_partial.specs.Reading.{reading_of}
@@ -11,6 +11,7 @@ use Rattle.jls_marker.specs.HeaderState.{HeaderState, no_headers}
 use Rattle.jls_marker.specs.Headers.{headers_after}
 use Rattle.jls_marker.specs.Scan.{Scan}
 use Rattle.jls_interval.specs.Lines.{interval_shape}
+use Rattle.jls_piece.specs.Lines.{line_piece}
 use Rattle.jls_copy.specs.Numbers.{Interval}
 use Rattle.jls_copy.specs.IntervalOf.{interval_of}
 use Rattle.jls_copy.specs.Course.{Course, IsCourse}
@@ -24,7 +25,7 @@ abbrev pub bits_8 : CodingParameters
 bits_8 = record { precision = 8; maxval = 255; t1 = 3; t2 = 7; t3 = 21; reset = 64 }
 
 abbrev pub plan : Scan
-plan = record { components = 0 ∷ 1 ∷ []; params = bits_8; width = 2; height = 2; restart_interval = 0 }
+plan = record { components = 0 ∷ 1 ∷ []; params = bits_8; width = 2; height = 2; restart_interval = 0; by_sample = false }
 
 -- SOI and SOF55, SOS, the scan data, EOI
 abbrev pub file : List ℕ
@@ -60,7 +61,7 @@ its_piece : pieces course ≡ piece ∷ []
 its_piece = refl
 
 -- two rows of two components are four lines
-its_interval : interval_of plan 0 ≡ interval_shape bits_8 2 2 4
+its_interval : interval_of plan 0 ≡ line_piece (interval_shape bits_8 2 2 4)
 its_interval = refl
 
 -- the lines that CharLS was given: here in each row those of the components in turn

@@ -2,7 +2,7 @@
 -- RESET other than the defaults. Three things were changed by hand. Before the second SOS stands a DRI of three bytes, after a fill byte.
 -- The
 -- second scan has what CharLS writes for its rows 0 and 1 alone, and for its row 2 alone. Between them stands RST0, after a fill byte.
-use Rattle.std.proofs.Common.{◌≡◌, ℕ, List, [], ◌∷◌, Some, refl, lit<, arith}
+use Rattle.std.proofs.Common.{◌≡◌, ℕ, List, [], ◌∷◌, Some, refl, lit<, arith, false}
 use Rattle.jls_values.specs.Params.{CodingParameters}
 use Rattle.jls_values.specs.Shape.{PictureShape}
 use Rattle.jls_values.specs.PresetParameters.{PresetParameters}
@@ -26,10 +26,10 @@ bits_12 = record { precision = 12; maxval = 4095; t1 = 10; t2 = 40; t3 = 90; res
 
 -- the first component has one interval, and the second has two: rows 0 and 1, and row 2
 abbrev pub first_scan : Scan
-first_scan = record { components = 0 ∷ []; params = bits_12; width = 2; height = 3; restart_interval = 0 }
+first_scan = record { components = 0 ∷ []; params = bits_12; width = 2; height = 3; restart_interval = 0; by_sample = false }
 
 abbrev pub second_scan : Scan
-second_scan = record { components = 1 ∷ []; params = bits_12; width = 2; height = 3; restart_interval = 2 }
+second_scan = record { components = 1 ∷ []; params = bits_12; width = 2; height = 3; restart_interval = 2; by_sample = false }
 
 -- SOI and SOF55; LSE; SOS and the first scan; DRI; SOS and the second scan, with RST0; EOI
 abbrev pub file : List ℕ

@@ -1,14 +1,16 @@
 -- The course of a copy: SOI, then units one after the other, and the copy's end (T.81 B.1.1.2 to B.1.1.4 and B.2.1). That a fault of
--- the headers ends a copy, and which markers end scan data, is this profile's choice.
+-- the headers ends a copy, and which markers end scan data, is this project's choice.
 use Rattle.std.specs.Prelude.{◌≡◌, ℕ, suc, ◌+◌, ◌*◌, ◌^◌, ◌/◌, ◌%◌, ◌<◌, ◌≢◌, true, false, is_some, List, [], ◌∷◌, ◌++◌, length, Some, None}
 use Rattle.std.specs.Prelude.{Ok, Err}
 use Rattle.std.specs.List.{flat_map, AllByRecursion}
 use Rattle.jls_marker.specs.MarkerCodes.{has_segment}
 use Rattle.jls_marker.specs.Headers.{headers_after}
-use Rattle.jls_marker.specs.HeaderState.{HeaderState, no_headers}
+use Rattle.jls_marker.specs.HeaderState.{HeaderState, no_headers_under}
 use Rattle.jls_marker.specs.Scan.{Scan}
 use Rattle.jls_marker.specs.declared.fault.MarkerFault.{MarkerFault}
 use Rattle.jls_marker.specs.declared.fault.MarkerFault.TheVariants as fault
+use Rattle.jls_marker.specs.declared.profile.Profile.{Profile}
+use Rattle.jls_marker.specs.declared.profile.Profile.TheVariants.{Strict}
 use Rattle.jls_copy.specs.ScanData.{fill_bytes, ClosedPiece, closed_bytes, IsClosedPiece, IsPiece, ends_scan_data}
 use Rattle.jls_copy.specs.declared.end.End.{End}
 use Rattle.jls_copy.specs.declared.end.End.TheVariants.{Eoi, Input, Header}
@@ -115,17 +117,26 @@ pub record Course : Type 0 where
   pub headers : HeaderState
   pub end : End
 
--- the course of a copy that has no unit (T.81 B.1.1.2 to B.1.1.4, B.2.1)
-abbrev pub without_units : ℕ → End → Course
-without_units begin e = record { begin = begin; units = []; headers = no_headers; end = e }
+-- the course of a copy that has no unit, under a profile (T.81 B.1.1.2 to B.1.1.4, B.2.1)
+abbrev pub without_units_under : Profile → ℕ → End → Course
+without_units_under profile begin e = record { begin = begin; units = []; headers = no_headers_under profile; end = e }
 
--- these bytes, as a whole copy, have this course. The first marker must be SOI; before it there can be fill bytes (T.81 B.1.1.2 to B.1.1.4,
--- B.2.1)
-pub data IsCourse : List ℕ → Course → Type 0 where
+-- the same under the strict profile (T.81 B.1.1.2 to B.1.1.4, B.2.1)
+abbrev pub without_units : ℕ → End → Course
+without_units begin e = without_units_under Strict begin e
+
+-- these bytes, as a whole copy, have this course under a profile. The first marker must be SOI; before it there can be fill bytes (T.81
+-- B.1.1.2 to B.1.1.4, B.2.1)
+pub data IsCourseUnder (profile : Profile) : List ℕ → Course → Type 0 where
   with_soi : (n : ℕ) (bytes : List ℕ) (units : List CopyUnit) (final : HeaderState) (e : End)
-      → AreUnits no_headers (n + 2) bytes units final e
-      → IsCourse (fill_bytes n ++ (0xFF ∷ 0xD8 ∷ bytes)) (record { begin = n + 2; units = units; headers = final; end = e })
+      → AreUnits (no_headers_under profile) (n + 2) bytes units final e
+      → IsCourseUnder profile (fill_bytes n ++ (0xFF ∷ 0xD8 ∷ bytes)) (record { begin = n + 2; units = units; headers = final; end = e })
   with_another_marker : (n code : ℕ) (bytes : List ℕ) → code ≢ 0xFF → code ≢ 0xD8
-      → IsCourse (fill_bytes n ++ (0xFF ∷ code ∷ bytes)) (without_units n (Header fault.NoSoi n))
-  with_no_marker : (b : ℕ) (bytes : List ℕ) → b ≢ 0xFF → IsCourse (b ∷ bytes) (without_units 0 (Header fault.NoSoi 0))
-  with_fill_alone : (n : ℕ) → IsCourse (fill_bytes n) (without_units n (Header fault.Ended n))
+      → IsCourseUnder profile (fill_bytes n ++ (0xFF ∷ code ∷ bytes)) (without_units_under profile n (Header fault.NoSoi n))
+  with_no_marker : (b : ℕ) (bytes : List ℕ) → b ≢ 0xFF
+      → IsCourseUnder profile (b ∷ bytes) (without_units_under profile 0 (Header fault.NoSoi 0))
+  with_fill_alone : (n : ℕ) → IsCourseUnder profile (fill_bytes n) (without_units_under profile n (Header fault.Ended n))
+
+-- the same under the strict profile, whose scans are by line (T.81 B.1.1.2 to B.1.1.4, B.2.1)
+abbrev pub IsCourse : List ℕ → Course → Type 0
+IsCourse bytes c = IsCourseUnder Strict bytes c

@@ -1,7 +1,7 @@
 -- The piece of scan data that the input's end closes, and the lines that stand whole in it: its head. That these lines count as
--- readings is this profile's choice.
+-- readings is this project's choice.
 use Rattle.std.specs.Prelude.{◌≡◌, ℕ, Bool, true, false, List, [], ◌∷◌, if◌then◌else◌}
-use Rattle.jls_interval.specs.Heads.{IsHeadOfPiece}
+use Rattle.jls_piece.specs.Heads.{IsHeadOfPiece}
 use Rattle.jls_partial.specs.Reading.{Reading}
 use Rattle.jls_marker.specs.Scan.{Scan}
 use Rattle.jls_copy.specs.Numbers.{PieceNumber, Interval, BeyondLast}

@@ -1,5 +1,5 @@
 -- The numbers that restart markers give to the pieces after them. That the least number is taken, so that fewer than eight markers in
--- a row can be lost, is this profile's choice; T.81 B.2.1 counts the markers modulo 8.
+-- a row can be lost, is this project's choice; T.81 B.2.1 counts the markers modulo 8.
 use Rattle.std.specs.Prelude.{◌≡◌, ℕ, ◌+◌, ◌-◌, ◌<◌, ◌≤◌, ◌%◌, List, [], ◌∷◌, nat_lt, if◌then◌else◌}
 
 -- Interval i, if it is not the last, is closed by the mark i mod 8. After the mark m, where the number `last` was given last, the piece

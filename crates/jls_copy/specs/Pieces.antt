@@ -1,6 +1,6 @@
 -- The pieces of a copy's scan data, each under its number, and what each gives.
 use Rattle.std.specs.Prelude.{ℕ, ◌+◌, ◌==◌, List, [], ◌∷◌, ◌++◌, length, get_or, if◌then◌else◌}
-use Rattle.jls_interval.specs.Reads.{Reads, IsLong, IsBroken}
+use Rattle.jls_piece.specs.Reads.{Reads, IsLong, IsBroken}
 use Rattle.jls_partial.specs.Reading.{Reading, reading_of}
 use Rattle.jls_marker.specs.Scan.{Scan, intervals, first_row}
 use Rattle.jls_copy.specs.ScanData.{ClosedPiece, closed_bytes}

@@ -2,11 +2,13 @@
 use Rattle.std.specs.Prelude.{◌≡◌, ◌↔◌, ℕ, ◌<◌, ◌≤◌, ◌⊎◌, List, ◌++◌, Some, IfSome}
 use Rattle.std.specs.List.{AllByRecursion, Contains}
 use Rattle.jls_values.specs.Shape.{PictureShape}
-use Rattle.jls_interval.specs.Reads.{ReadsNoMore}
-use Rattle.jls_interval.specs.IntervalBytes.{interval_asked}
+use Rattle.jls_piece.specs.Reads.{ReadsNoMore}
+use Rattle.jls_piece.specs.PieceBytes.{piece_asked}
 use Rattle.jls_marker.specs.Scan.{Scan}
 use Rattle.jls_copy.specs.Numbers.{PieceNumber}
-use Rattle.jls_copy.specs.Course.{Course, IsCourse}
+use Rattle.jls_marker.specs.declared.profile.Profile.{Profile}
+use Rattle.jls_marker.specs.declared.profile.Profile.TheVariants.{Strict}
+use Rattle.jls_copy.specs.Course.{Course, IsCourseUnder}
 use Rattle.jls_partial.specs.Reading.{Reading}
 use Rattle.jls_copy.specs.Pieces.{FoundPiece, Fault, Lines, IsOutcomeAt, IsOutcome, readings_of, pieces}
 use Rattle.jls_copy.specs.declared.piece.PieceKind.{PieceKind}
@@ -22,27 +24,39 @@ use Rattle.jls_copy.specs.declared.place.CopyPosition.TheVariants.{Start, AtMark
 abbrev pub NeverReads : Scan → PieceNumber → List ℕ → Type 0
 NeverReads s n bytes = (more : List ℕ) (lines : List (List ℕ)) → IsOutcomeAt s n (bytes ++ more) (Lines lines) → ⊥
 
--- the piece that the end of these bytes closes reads as no lines, whatever bytes follow it
-pub record IsPieceBroken (prefix : List ℕ) : Type 0 where
+-- under a profile, the piece that the end of these bytes closes reads as no lines, whatever bytes follow it
+pub record IsPieceBrokenUnder (profile : Profile) (prefix : List ℕ) : Type 0 where
   pub course : Course
-  pub is_course : IsCourse prefix course
+  pub is_course : IsCourseUnder profile prefix course
   pub piece : FoundPiece
   pub in_hand : Contains (cut_pieces course) piece
   pub broken : NeverReads piece.plan piece.number piece.bytes
 
--- a list of bytes that begins with such a prefix has a piece with that scan, number and offset. It reads as no lines
-abbrev pub PrefixesStayBroken : Type 0
-PrefixesStayBroken =
+-- the same under the strict profile
+abbrev pub IsPieceBroken : List ℕ → Type 0
+IsPieceBroken prefix = IsPieceBrokenUnder Strict prefix
+
+-- under a profile, a list of bytes that begins with such a prefix has a piece with that scan, number and offset. It reads as no lines
+abbrev pub PrefixesStayBrokenUnder : Profile → Type 0
+PrefixesStayBrokenUnder profile =
     (prefix more : List ℕ) → AllByRecursion (λ b. b < 256) (prefix ++ more)
-    → (broken : IsPieceBroken prefix) → (c : Course) → IsCourse (prefix ++ more) c
+    → (broken : IsPieceBrokenUnder profile prefix) → (c : Course) → IsCourseUnder profile (prefix ++ more) c
     → (p : FoundPiece) × Contains (pieces c) p × (p.plan ≡ broken.piece.plan) × (p.number ≡ broken.piece.number)
     × (p.offset ≡ broken.piece.offset) × ((lines : List (List ℕ)) → IsOutcome p (Lines lines) → ⊥)
 
--- each list of bytes that begins with these has a faulty piece
-abbrev pub StaysFaulty : List ℕ → Type 0
-StaysFaulty prefix =
-    (more : List ℕ) → AllByRecursion (λ b. b < 256) (prefix ++ more) → (c : Course) → IsCourse (prefix ++ more) c
+-- the same under the strict profile
+abbrev pub PrefixesStayBroken : Type 0
+PrefixesStayBroken = PrefixesStayBrokenUnder Strict
+
+-- under a profile, each list of bytes that begins with these has a faulty piece
+abbrev pub StaysFaultyUnder : Profile → List ℕ → Type 0
+StaysFaultyUnder profile prefix =
+    (more : List ℕ) → AllByRecursion (λ b. b < 256) (prefix ++ more) → (c : Course) → IsCourseUnder profile (prefix ++ more) c
     → (p : FoundPiece) × Contains (pieces c) p × (kind : PieceKind) × IsOutcome p (Fault kind)
+
+-- the same under the strict profile
+abbrev pub StaysFaulty : List ℕ → Type 0
+StaysFaulty prefix = StaysFaultyUnder Strict prefix
 
 -- What they give --------------------------------------------------------------------------------------------------
 
@@ -58,22 +72,31 @@ CourseHasReading c r =
     ⊎ ((p : FoundPiece) × Contains (cut_pieces c) p × (head : List (List ℕ)) × IsHeadAt p.plan p.number p.bytes head
     × Contains (readings_of p (Lines head)) r)
 
--- each reading that bytes give, a longer list of bytes that begins with them gives too, if each of its pieces reads as lines
-abbrev pub PrefixesKeepReadings : Type 0
-PrefixesKeepReadings =
+-- under a profile, each reading that bytes give, a longer list of bytes that begins with them gives too, if each of its pieces reads as
+-- lines
+abbrev pub PrefixesKeepReadingsUnder : Profile → Type 0
+PrefixesKeepReadingsUnder profile =
     (prefix more : List ℕ) → AllByRecursion (λ b. b < 256) (prefix ++ more)
-    → (c d : Course) → IsCourse prefix c → IsCourse (prefix ++ more) d → AllByRecursion HasLines (pieces d)
+    → (c d : Course) → IsCourseUnder profile prefix c → IsCourseUnder profile (prefix ++ more) d → AllByRecursion HasLines (pieces d)
     → (r : Reading) → CourseHasReading c r → CourseHasReading d r
+
+-- the same under the strict profile
+abbrev pub PrefixesKeepReadings : Type 0
+PrefixesKeepReadings = PrefixesKeepReadingsUnder Strict
 
 -- Pieces that are settled -----------------------------------------------------------------------------------------
 
--- the piece that the end of these bytes closes begins at this offset, or after it
-pub record IsPast (offset : ℕ) (prefix : List ℕ) : Type 0 where
+-- under a profile, the piece that the end of these bytes closes begins at this offset, or after it
+pub record IsPastUnder (profile : Profile) (offset : ℕ) (prefix : List ℕ) : Type 0 where
   pub course : Course
-  pub is_course : IsCourse prefix course
+  pub is_course : IsCourseUnder profile prefix course
   pub piece : FoundPiece
   pub in_hand : Contains (cut_pieces course) piece
   pub past : offset ≤ piece.offset
+
+-- the same under the strict profile
+abbrev pub IsPast : ℕ → List ℕ → Type 0
+IsPast offset prefix = IsPastUnder Strict offset prefix
 
 -- the offset at which a copy ends
 abbrev pub offset_of_end : End → ℕ
@@ -100,15 +123,20 @@ pub record AgreeBefore (offset : ℕ) (c d : Course) : Type 0 where
   pub first_in_second : AreAlsoIn offset c d
   pub second_in_first : AreAlsoIn offset d c
 
--- what begins before the piece in hand is settled: a longer list of bytes has the same pieces there, up to what they read as
+-- under a profile, what begins before the piece in hand is settled: a longer list of bytes has the same pieces there, up to what they read
+-- as
+abbrev pub PrefixesSettlePiecesUnder : Profile → Type 0
+PrefixesSettlePiecesUnder profile =
+    (offset : ℕ) (prefix more : List ℕ) → AllByRecursion (λ b. b < 256) (prefix ++ more) → IsPastUnder profile offset prefix
+    → (c d : Course) → IsCourseUnder profile prefix c → IsCourseUnder profile (prefix ++ more) d → AgreeBefore offset c d
+
+-- the same under the strict profile
 abbrev pub PrefixesSettlePieces : Type 0
-PrefixesSettlePieces =
-    (offset : ℕ) (prefix more : List ℕ) → AllByRecursion (λ b. b < 256) (prefix ++ more) → IsPast offset prefix
-    → (c d : Course) → IsCourse prefix c → IsCourse (prefix ++ more) d → AgreeBefore offset c d
+PrefixesSettlePieces = PrefixesSettlePiecesUnder Strict
 
 -- Inside the crate. An open piece reads as no lines, whatever follows
 abbrev pub OpenReadsNoMore : OpenPiece → Type 0
-OpenReadsNoMore (Within k d) = IfSome d.bytes (λ bytes. ReadsNoMore (interval_asked d) bytes)
+OpenReadsNoMore (Within k d) = IfSome d.bytes (λ bytes. ReadsNoMore (piece_asked d) bytes)
 OpenReadsNoMore (Beyond k) = Unit {0}
 
 -- the place is in scan data, and its open piece reads as no lines, whatever follows

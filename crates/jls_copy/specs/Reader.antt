@@ -1,6 +1,7 @@
 -- What a reader of a copy keeps true. It concerns no caller.
 use Rattle.std.specs.Prelude.{◌≡◌, ℕ, ◌^◌, ◌<◌, ◌≤◌, Bool, false, List, ◌++◌, length}
 use Rattle.std.specs.List.{AllByRecursion}
+use Rattle.jls_marker.specs.declared.profile.Profile.{Profile}
 use Rattle.jls_copy.specs.Pieces.{FoundPiece}
 use Rattle.jls_copy.specs.ReaderState.{reading, StateWithPieces, closed_at_end}
 use Rattle.jls_copy.specs.Sound.{IsPlace}
@@ -8,11 +9,11 @@ use Rattle.jls_copy.specs.Machine.{state_of, IsAfterStart}
 use Rattle.jls_copy.specs.Gathers.{Gathers}
 use Rattle.jls_copy.specs.declared.machine.Machine.{Machine}
 
--- the machine stands where these bytes lead, and holds what they give; and what it holds is bounded, beside its partial picture and
--- the decoder of one piece
-pub record IsReadingCopy (m : Machine) (bytes : List ℕ) : Type 0 where
-  pub state_is : state_of m ≡ (reading bytes).state
-  pub gathers : Gathers m.headers.frame (reading bytes).pieces m.findings
+-- under a profile, the machine stands where these bytes lead, and holds what they give; and what it holds is bounded, beside its partial
+-- picture and the decoder of one piece
+pub record IsReadingCopy (profile : Profile) (m : Machine) (bytes : List ℕ) : Type 0 where
+  pub state_is : state_of m ≡ (reading profile bytes).state
+  pub gathers : Gathers m.headers.frame (reading profile bytes).pieces m.findings
   pub count_is : m.count ≡ length bytes
   pub few : length bytes < 2 ^ 63
   pub are_bytes : AllByRecursion (λ b. b < 256) bytes
@@ -23,8 +24,8 @@ pub record IsReadingCopy (m : Machine) (bytes : List ℕ) : Type 0 where
   pub header_bytes : length m.payload.items ≤ 65535
 
 -- a reader to which no `feed` was refused stands where these bytes lead
-abbrev pub IsReader : Bool → Machine → List ℕ → Type 0
-IsReader failed m bytes = failed ≡ false → IsReadingCopy m bytes
+abbrev pub IsReader : Profile → Bool → Machine → List ℕ → Type 0
+IsReader profile failed m bytes = failed ≡ false → IsReadingCopy profile m bytes
 
 -- all pieces, if the input ends here
 abbrev pub all_pieces : StateWithPieces → List FoundPiece

@@ -1,14 +1,15 @@
 -- Where a reader stands, byte after byte. It concerns no caller: what a whole copy is, `Course` says, and a law ties the two.
 use Rattle.std.specs.Prelude.{ℕ, ◌+◌, ◌-◌, ◌*◌, nat_lt, ◌==◌, Bool, true, false, not, List, [], ◌∷◌, ◌++◌, length, is_some, Option, Some}
 use Rattle.std.specs.Prelude.{None, Result, Ok, Err, if◌then◌else◌}
-use Rattle.jls_marker.specs.HeaderState.{HeaderState, no_headers}
+use Rattle.jls_marker.specs.declared.profile.Profile.{Profile}
+use Rattle.jls_marker.specs.HeaderState.{HeaderState, no_headers_under}
 use Rattle.jls_marker.specs.Scan.{Scan, intervals, row_count}
 use Rattle.jls_marker.specs.MarkerCodes.{has_segment}
 use Rattle.jls_marker.specs.Headers.{headers_after}
 use Rattle.jls_copy.specs.Numbers.{PieceNumber, Interval, BeyondLast, number_after, given_last}
 use Rattle.jls_copy.specs.ScanData.{is_restart_code, ends_scan_data}
 use Rattle.std.specs.Option.{option_map}
-use Rattle.jls_interval.specs.IntervalBytes.{IntervalBytes}
+use Rattle.jls_piece.specs.PieceBytes.{PieceBytes}
 use Rattle.jls_copy.specs.Pieces.{FoundPiece}
 use Rattle.jls_marker.specs.declared.fault.MarkerFault.{MarkerFault}
 use Rattle.jls_marker.specs.declared.fault.MarkerFault.TheVariants as fault
@@ -31,9 +32,9 @@ pub record ReaderState : Type 0 where
   pub headers : HeaderState
   pub payload : List ℕ
 
--- the state before the first byte
-abbrev pub first_state : ReaderState
-first_state = record { count = 0; place = Start false; headers = no_headers; payload = [] }
+-- the state before the first byte, under a profile
+abbrev pub first_state : Profile → ReaderState
+first_state profile = record { count = 0; place = Start false; headers = no_headers_under profile; payload = [] }
 
 -- before SOI, after fill bytes or none
 abbrev pub from_start : Bool → ℕ → ℕ → CopyPosition
@@ -53,11 +54,18 @@ from_marker fill has_frame count b =
     else Done (end.Header fault.UnknownMarker (count - 1))
 
 -- a decoder of an interval that was fed nothing
-abbrev pub decoding_of : Scan → ℕ → IntervalBytes
-decoding_of s k = record { parameters = s.params; width = s.width; components = length s.components; rows = row_count s k; bytes = Some [] }
+abbrev pub decoding_of : Scan → ℕ → PieceBytes
+decoding_of s k = record {
+  parameters = s.params;
+  width = s.width;
+  components = length s.components;
+  rows = row_count s k;
+  by_sample = s.by_sample;
+  bytes = Some [];
+}
 
 -- a decoder that was fed more bytes
-abbrev pub with_bytes : IntervalBytes → List ℕ → IntervalBytes
+abbrev pub with_bytes : PieceBytes → List ℕ → PieceBytes
 with_bytes d more = record d { bytes = option_map (λ bytes. bytes ++ more) d.bytes }
 
 -- the piece of this number, with no byte yet
@@ -239,6 +247,6 @@ abbrev pub reading_from : StateWithPieces → List ℕ → StateWithPieces
 reading_from r [] = r
 reading_from r (b ∷ bytes) = reading_from (reading_with r b) bytes
 
--- the state after these bytes, from the first one on, with the pieces that they closed
-abbrev pub reading : List ℕ → StateWithPieces
-reading bytes = reading_from (record { state = first_state; pieces = [] }) bytes
+-- the state after these bytes, from the first one on, with the pieces that they closed, under a profile
+abbrev pub reading : Profile → List ℕ → StateWithPieces
+reading profile bytes = reading_from (record { state = first_state profile; pieces = [] }) bytes

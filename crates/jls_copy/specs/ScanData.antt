@@ -1,6 +1,6 @@
 -- Scan data: how restart markers cut it into pieces, and where it ends (T.81 B.1.1.2, B.1.1.5 and B.2.1, T.87 C.1). Bytes 0xFF before a
 -- marker are fill by T.81 B.1.1.2. Which codes end scan data, and that bytes 0xFF at the input's end belong to no piece, is this
--- profile's choice.
+-- project's choice.
 use Rattle.std.specs.Prelude.{◌≡◌, ℕ, ◌+◌, ◌<◌, ◌≤◌, ◌≢◌, Bool, true, false, ◌&&◌, ◌||◌, ◌==◌, nat_le, List, [], ◌∷◌, ◌++◌, length}
 use Rattle.std.specs.Prelude.{replicate, slice_index}
 use Rattle.std.specs.List.{flat_map, AllByRecursion}

@@ -2,7 +2,7 @@
 use Rattle.std.specs.Prelude.{◌≡◌, ℕ, ◌+◌, ◌<◌, ◌^◌, List, length, Option, Some}
 use Rattle.jls_values.specs.Shape.{PictureShape}
 use Rattle.jls_marker.specs.Scan.{Scan, IsScanOf, intervals, row_count}
-use Rattle.jls_interval.specs.IntervalBytes.{IntervalBytes}
+use Rattle.jls_piece.specs.PieceBytes.{PieceBytes}
 use Rattle.jls_copy.specs.declared.piece.OpenPiece.{OpenPiece}
 use Rattle.jls_copy.specs.declared.piece.OpenPiece.TheVariants.{Within, Beyond}
 use Rattle.jls_copy.specs.declared.scan.OpenScan.{OpenScan}
@@ -10,12 +10,13 @@ use Rattle.jls_copy.specs.declared.place.CopyPosition.{CopyPosition}
 use Rattle.jls_copy.specs.declared.place.CopyPosition.TheVariants.{Start, AtMarker, AtLength, InLength, InPayload, InScan, Done}
 
 -- the decoder is that of its interval, and no push was refused
-pub record IsDecodingOf (s : Scan) (k : ℕ) (d : IntervalBytes) : Type 0 where
+pub record IsDecodingOf (s : Scan) (k : ℕ) (d : PieceBytes) : Type 0 where
   pub within : k < intervals s
   pub parameters_are : d.parameters ≡ s.params
   pub width_is : d.width ≡ s.width
   pub components_are : d.components ≡ length s.components
   pub rows_are : d.rows ≡ row_count s k
+  pub by_sample_is : d.by_sample ≡ s.by_sample
   pub bytes : List ℕ
   pub bytes_are : d.bytes ≡ Some bytes
 

@@ -2,10 +2,12 @@
 -- with an empty body.
 use Rattle.std.specs.Prelude.{◌≡◌, ℕ, ◌≢◌, Bool, true, false, List, [], ◌∷◌, ◌++◌, length, take}
 use Rattle.std.specs.List.{AllByRecursion}
-use Rattle.jls_copy.specs.Course.{Course, IsCourse}
+use Rattle.jls_marker.specs.declared.profile.Profile.{Profile}
+use Rattle.jls_marker.specs.declared.profile.Profile.TheVariants.{Strict}
+use Rattle.jls_copy.specs.Course.{Course, IsCourseUnder}
 use Rattle.jls_copy.specs.Pieces.{FoundPiece, Lines, Fault, IsOutcome, value_of, pieces}
 use Rattle.jls_copy.specs.ReadCopy.{ReadCopy}
-use Rattle.jls_copy.specs.CopyReads.{CopyReads}
+use Rattle.jls_copy.specs.CopyReads.{CopyReadsUnder}
 use Rattle.jls_copy.specs.declared.end.End.{End}
 use Rattle.jls_copy.specs.declared.end.End.TheVariants.{Eoi, Input, Header}
 use Rattle.jls_copy.specs.declared.piece.PieceRecord.{PieceRecord}
@@ -20,10 +22,14 @@ pub record StandsAt (copy : List ℕ) (offset : ℕ) (bytes : List ℕ) : Type 0
   pub copy_is : copy ≡ prefix ++ (bytes ++ back)
   pub offset_is : offset ≡ length prefix
 
--- the bytes of each piece of a course are at its offset in the copy
-abbrev pub PiecesStandAtTheirOffsets : Type 0
-PiecesStandAtTheirOffsets = (copy : List ℕ) (c : Course) → IsCourse copy c
+-- under a profile, the bytes of each piece of a course are at its offset in the copy
+abbrev pub PiecesStandAtTheirOffsetsUnder : Profile → Type 0
+PiecesStandAtTheirOffsetsUnder profile = (copy : List ℕ) (c : Course) → IsCourseUnder profile copy c
     → AllByRecursion (λ piece. StandsAt copy piece.offset piece.bytes) (pieces c)
+
+-- the same under the strict profile
+abbrev pub PiecesStandAtTheirOffsets : Type 0
+PiecesStandAtTheirOffsets = PiecesStandAtTheirOffsetsUnder Strict
 
 -- whether a fault is one that a whole marker segment, or its length, can have. The others are of a code without a segment, a byte that
 -- begins no marker, a missing SOI, and an input that ends too early
@@ -49,9 +55,13 @@ pub data EndStands (copy : List ℕ) : End → Type 0 where
   no_marker_first : (byte : ℕ) → byte ≢ 0xFF → StandsAt copy 0 (byte ∷ []) → EndStands copy (Header fault.NoSoi 0)
   too_early : (offset : ℕ) → offset ≡ length copy → EndStands copy (Header fault.Ended offset)
 
--- what an end and its fault say is found at the end's offset
+-- under a profile, what an end and its fault say is found at the end's offset
+abbrev pub EndsStandAtTheirOffsetsUnder : Profile → Type 0
+EndsStandAtTheirOffsetsUnder profile = (copy : List ℕ) (c : Course) → IsCourseUnder profile copy c → EndStands copy c.end
+
+-- the same under the strict profile
 abbrev pub EndsStandAtTheirOffsets : Type 0
-EndsStandAtTheirOffsets = (copy : List ℕ) (c : Course) → IsCourse copy c → EndStands copy c.end
+EndsStandAtTheirOffsets = EndsStandAtTheirOffsetsUnder Strict
 
 -- the record of a piece that doesn't read: its scan, its number, the offset of its first byte, and why
 pub record IsRecordOf (p : FoundPiece) (r : PieceRecord) : Type 0 where
@@ -68,7 +78,11 @@ pub data AreRecordsOf : List FoundPiece → List PieceRecord → Type 0 where
   faulty : (p : FoundPiece) (ps : List FoundPiece) (r : PieceRecord) (rs : List PieceRecord) → IsRecordOf p r
       → AreRecordsOf ps rs → AreRecordsOf (p ∷ ps) (r ∷ rs)
 
--- each of the first 4,096 faulty pieces of a copy has a record, and the number is that of all faulty pieces
-abbrev pub RecordsAreOfFaultyPieces : Type 0
-RecordsAreOfFaultyPieces = (copy : List ℕ) (read : ReadCopy) → (h : CopyReads copy read)
+-- under a profile, each of the first 4,096 faulty pieces of a copy has a record, and the number is that of all faulty pieces
+abbrev pub RecordsAreOfFaultyPiecesUnder : Profile → Type 0
+RecordsAreOfFaultyPiecesUnder profile = (copy : List ℕ) (read : ReadCopy) → (h : CopyReadsUnder profile copy read)
     → (rs : List PieceRecord) × AreRecordsOf (pieces h.course) rs × (read.pieces ≡ take 4096 rs) × (read.piece_count ≡ length rs)
+
+-- the same under the strict profile
+abbrev pub RecordsAreOfFaultyPieces : Type 0
+RecordsAreOfFaultyPieces = RecordsAreOfFaultyPiecesUnder Strict

@@ -5,7 +5,8 @@ use Rattle.std.specs.List.{flat_map, AllByRecursion}
 use Rattle.jls_bits.specs.Bits.{is_whole}
 use Rattle.jls_copy.specs.ScanData.{fill_bytes, ClosedPiece, closed_bytes, IsClosedPiece, IsPiece, ends_scan_data}
 use Rattle.jls_copy.specs.Numbers.{PieceNumber, Interval, BeyondLast, number_after, given_last}
-use Rattle.jls_marker.specs.HeaderState.{HeaderState, no_headers}
+use Rattle.jls_marker.specs.declared.profile.Profile.{Profile}
+use Rattle.jls_marker.specs.HeaderState.{HeaderState, no_headers_under}
 use Rattle.jls_marker.specs.Scan.{Scan, intervals}
 use Rattle.jls_marker.specs.MarkerCodes.{has_segment}
 use Rattle.jls_marker.specs.Headers.{headers_after}
@@ -65,29 +66,30 @@ Follows following tail = following ≡ true
     → (n : ℕ) × (code : ℕ) × (more : List ℕ) × (tail ≡ fill_bytes n ++ (0xFF ∷ code ∷ more)) × (ends_scan_data code ≡ true)
 
 -- SOI and whole units: their bytes, the headers that they leave, the pieces that were found, and whether scan data was last
-pub data Passed : List ℕ → HeaderState → List CopyUnit → List FoundPiece → Bool → Type 0 where
-  passed_soi : (n : ℕ) (x : List ℕ) → x ≡ fill_bytes n ++ (0xFF ∷ 0xD8 ∷ []) → Passed x no_headers [] [] false
+pub data Passed (profile : Profile) : List ℕ → HeaderState → List CopyUnit → List FoundPiece → Bool → Type 0 where
+  passed_soi : (n : ℕ) (x : List ℕ) → x ≡ fill_bytes n ++ (0xFF ∷ 0xD8 ∷ []) → Passed profile x (no_headers_under profile) [] [] false
   passed_segment : (x : List ℕ) (h : HeaderState) (us : List CopyUnit) (ps : List FoundPiece) (following : Bool)
-      → Passed x h us ps following
+      → Passed profile x h us ps following
       → (n code : ℕ) (payload : List ℕ) (after : HeaderState) (y : List ℕ) → has_segment code ≡ true → length payload + 2 < 2 ^ 16
       → (following ≡ true → ends_scan_data code ≡ true) → headers_after h code payload ≡ Ok (after, None)
-      → y ≡ x ++ segment_unit_bytes n code payload → Passed y after (us ++ segment n code payload ∷ []) ps false
-  passed_scan : (x : List ℕ) (h : HeaderState) (us : List CopyUnit) (ps : List FoundPiece) (following : Bool) → Passed x h us ps following
+      → y ≡ x ++ segment_unit_bytes n code payload → Passed profile y after (us ++ segment n code payload ∷ []) ps false
+  passed_scan : (x : List ℕ) (h : HeaderState) (us : List CopyUnit) (ps : List FoundPiece) (following : Bool)
+      → Passed profile x h us ps following
       → (n code : ℕ) (payload : List ℕ) (after : HeaderState) (y : List ℕ) → has_segment code ≡ true → length payload + 2 < 2 ^ 16
       → (following ≡ true → ends_scan_data code ≡ true) → (s : Scan) → headers_after h code payload ≡ Ok (after, Some s)
       → (closed : List ClosedPiece) (last : List ℕ) (fs : List FoundPiece) → AllByRecursion IsClosedPiece closed → IsPiece last
       → AlikePieces fs
       (pieces_from (piece_begun h.scans s (Interval 0) (length x + length (segment_unit_bytes n code payload))) 0 closed last)
       → y ≡ x ++ unit_bytes (scan n code payload s closed last by_marker)
-      → Passed y after (us ++ scan n code payload s closed last by_marker ∷ []) (ps ++ fs) true
+      → Passed profile y after (us ++ scan n code payload s closed last by_marker ∷ []) (ps ++ fs) true
 
 -- after whole units and fill bytes stands the marker of a segment, and this much of it
-pub record AtSegment (marker code : ℕ) (h : HeaderState) (ps : List FoundPiece) (x tail : List ℕ) : Type 0 where
+pub record AtSegment (profile : Profile) (marker code : ℕ) (h : HeaderState) (ps : List FoundPiece) (x tail : List ℕ) : Type 0 where
   pub before : List ℕ
   pub fill : ℕ
   pub following : Bool
   pub units : List CopyUnit
-  pub passed : Passed before h units ps following
+  pub passed : Passed profile before h units ps following
   pub whole : x ≡ before ++ (fill_bytes fill ++ (0xFF ∷ code ∷ tail))
   pub marker_at : marker ≡ length before + fill
   pub known : has_segment code ≡ true
@@ -105,13 +107,13 @@ given_after n given [] = given
 given_after n given (c ∷ cs) = given_after n (given_last given (number_after n given c.mark)) cs
 
 -- the bytes so far end in scan data: whole units, the segment that begins the scan, the pieces that marks closed, and the open piece
-pub record InScanData (open_scan : OpenScan) (h : HeaderState) (ps : List FoundPiece) (x : List ℕ) : Type 0 where
+pub record InScanData (profile : Profile) (open_scan : OpenScan) (h : HeaderState) (ps : List FoundPiece) (x : List ℕ) : Type 0 where
   pub before : List ℕ
   pub old : HeaderState
   pub units : List CopyUnit
   pub earlier : List FoundPiece
   pub following : Bool
-  pub passed : Passed before old units earlier following
+  pub passed : Passed profile before old units earlier following
   pub fill : ℕ
   pub code : ℕ
   pub payload : List ℕ
@@ -139,24 +141,24 @@ pub record InScanData (open_scan : OpenScan) (h : HeaderState) (ps : List FoundP
   pub whole : x ≡ before ++ (segment_unit_bytes fill code payload ++ (flat_map closed_bytes closed ++ (piece ++ fill_bytes held)))
 
 -- the end stands at a marker place after whole units, or there was no SOI
-pub data EndedAt : End → HeaderState → List FoundPiece → List ℕ → Type 0 where
+pub data EndedAt (profile : Profile) : End → HeaderState → List FoundPiece → List ℕ → Type 0 where
   ended : (before : List ℕ) (h : HeaderState) (us : List CopyUnit) (ps : List FoundPiece) (following : Bool) (tail x : List ℕ) (e : End)
-      → Passed before h us ps following
-      → x ≡ before ++ tail → Follows following tail → EndsHere h (length before) tail e → EndedAt e h ps x
+      → Passed profile before h us ps following
+      → x ≡ before ++ tail → Follows following tail → EndsHere h (length before) tail e → EndedAt profile e h ps x
   without_soi : (n code : ℕ) (more x : List ℕ) → code ≢ 0xFF → code ≢ 0xD8 → x ≡ fill_bytes n ++ (0xFF ∷ code ∷ more)
-      → EndedAt (Header fault.NoSoi n) no_headers [] x
-  without_ff : (b : ℕ) (more x : List ℕ) → b ≢ 0xFF → x ≡ b ∷ more → EndedAt (Header fault.NoSoi 0) no_headers [] x
+      → EndedAt profile (Header fault.NoSoi n) (no_headers_under profile) [] x
+  without_ff : (b : ℕ) (more x : List ℕ) → b ≢ 0xFF → x ≡ b ∷ more → EndedAt profile (Header fault.NoSoi 0) (no_headers_under profile) [] x
 
 -- what a place says of the bytes so far, with the headers, the payload and the pieces that were closed
-abbrev pub Tells : CopyPosition → HeaderState → List ℕ → List FoundPiece → List ℕ → Type 0
-Tells (Start false) h payload ps x = (x ≡ []) × (h ≡ no_headers) × (ps ≡ [])
-Tells (Start true) h payload ps x = (n : ℕ) × (x ≡ fill_bytes (suc n)) × (h ≡ no_headers) × (ps ≡ [])
-Tells (AtMarker false) h payload ps x = (us : List CopyUnit) × Passed x h us ps false
-Tells (AtMarker true) h payload ps x = (n : ℕ) × (before : List ℕ) × (us : List CopyUnit) × Passed before h us ps false
+abbrev pub Tells : Profile → CopyPosition → HeaderState → List ℕ → List FoundPiece → List ℕ → Type 0
+Tells profile (Start false) h payload ps x = (x ≡ []) × (h ≡ no_headers_under profile) × (ps ≡ [])
+Tells profile (Start true) h payload ps x = (n : ℕ) × (x ≡ fill_bytes (suc n)) × (h ≡ no_headers_under profile) × (ps ≡ [])
+Tells profile (AtMarker false) h payload ps x = (us : List CopyUnit) × Passed profile x h us ps false
+Tells profile (AtMarker true) h payload ps x = (n : ℕ) × (before : List ℕ) × (us : List CopyUnit) × Passed profile before h us ps false
     × (x ≡ before ++ fill_bytes (suc n))
-Tells (AtLength marker code) h payload ps x = AtSegment marker code h ps x []
-Tells (InLength marker code high) h payload ps x = (high < 256) × AtSegment marker code h ps x (high ∷ [])
-Tells (InPayload marker code size) h payload ps x =
-    (length payload + 2 < size) × (size < 2 ^ 16) × AtSegment marker code h ps x (size / 256 ∷ size % 256 ∷ payload)
-Tells (InScan open_scan) h payload ps x = InScanData open_scan h ps x
-Tells (Done e) h payload ps x = EndedAt e h ps x
+Tells profile (AtLength marker code) h payload ps x = AtSegment profile marker code h ps x []
+Tells profile (InLength marker code high) h payload ps x = (high < 256) × AtSegment profile marker code h ps x (high ∷ [])
+Tells profile (InPayload marker code size) h payload ps x =
+    (length payload + 2 < size) × (size < 2 ^ 16) × AtSegment profile marker code h ps x (size / 256 ∷ size % 256 ∷ payload)
+Tells profile (InScan open_scan) h payload ps x = InScanData profile open_scan h ps x
+Tells profile (Done e) h payload ps x = EndedAt profile e h ps x

@@ -12,9 +12,10 @@ ghost use Rattle.jls_copy.specs.ReaderState.{piece_found};
 ghost use Rattle.jls_copy.specs.Sound.{IsOpenPiece};
 
 use crate::piece::{FedPiece, OpenPiece, PieceKind, PieceRecord};
-use jls_interval::{CutEnd, FinishedLines, PieceFault};
+use jls_interval::PieceFault;
 use jls_marker::ScanPlan;
 use jls_partial::{InsertFault, Partial};
+use jls_piece::{CutEnd, FinishedLines};
 use jls_values::{Merge, MergeFault, Shape};
 use std::alloc::{AllocError, Global};
 

@@ -6,11 +6,10 @@
 //! - `scan`, `piece`, `piece_decoder`: the current scan and piece. All bytes up to the next possible cut go to the decoder at once, which
 //!   stays on the heap
 //! - `piece_in_hand`: the piece in hand with its first lines, for a caller
-//! - `interval_shape`: the shape of an interval, as the decoder of a piece wants it
 //! - `fill`: counts fill bytes
 //! - `findings`: the readings and records so far
 //! - `end`: where a copy ends
-//! - `reader`: the public form
+//! - `profile_reader`, `reader`, `wide_reader`: the public form, under a profile, under the strict and the wide one
 //! - `course_laws`, `cut_laws`, `copy_laws`: the laws
 //!
 //! Definitions: `ScanData`, `Numbers`, `Course`, `IntervalOf`, `Pieces`, `CutPieces`, `ReadCopy`, `CopyReads`, `CutLaws`, `CourseLaws`,
@@ -26,7 +25,7 @@
 //!
 //! This follows a byte of a damaged JPEG-LS file from `CopyReader::feed` to a reading in a partial picture. The rules are those of ITU-T
 //! T.81, annex B, and T.87, annex C. What this project chose is marked *own*. Definitions are in `specs/`. Those of *decodes*, `long` and
-//! `broken` are in `specs/` of jls_interval.
+//! `broken` are in `specs/` of jls_piece.
 //!
 //! ## The course of a copy
 //!
@@ -115,14 +114,16 @@ mod end;
 mod ff_search;
 mod fill;
 mod findings;
-mod interval_shape;
 mod machine;
 mod piece;
 mod piece_decoder;
 mod piece_in_hand;
 mod place;
+mod profile_laws;
+mod profile_reader;
 mod reader;
 mod scan;
+mod wide_reader;
 
 pub use copy_laws::{
     bytes_decide, final_ends_stay, other_ends_change, prefixes_go_on, prefixes_keep_readings,
@@ -140,4 +141,13 @@ pub use cut_search::next_cut;
 pub use end::End;
 pub use piece::{PieceKind, PieceRecord};
 pub use piece_in_hand::PieceInHand;
+pub use profile_laws::{
+    bytes_decide_under, copies_have_one_course_under, ends_stand_at_their_offsets_under,
+    every_copy_has_a_course_under, final_ends_stay_under, other_ends_change_under,
+    pieces_stand_at_their_offsets_under, prefixes_go_on_under, prefixes_keep_readings_under,
+    prefixes_settle_pieces_under, prefixes_stay_broken_under, records_are_of_faulty_pieces_under,
+    strict_pieces_are_by_line,
+};
+pub use profile_reader::ProfileReader;
 pub use reader::{CopyFault, CopyRead, CopyReader};
+pub use wide_reader::WideReader;

@@ -7,9 +7,9 @@ ghost use Rattle.jls_copy.specs.Numbers.{numbered};
 ghost use Rattle.jls_copy.specs.ReaderState.{piece_opened};
 ghost use Rattle.jls_copy.specs.Sound.{IsOpenPiece};
 
-use crate::interval_shape::IntervalShape;
 use crate::piece_decoder::PieceDecoder;
 use jls_marker::ScanPlan;
+use jls_piece::PlannedPiece;
 use std::alloc::{AllocError, Global};
 
 /// Why a piece of scan data doesn't read as the lines of its interval.
@@ -75,13 +75,14 @@ impl OpenPiece {
         let (_, rows) = plan.rows(number);
         let params = plan.params();
         let _maxval = params.maxval();
-        let shape = IntervalShape {
+        let planned = PlannedPiece {
             params,
             width: plan.width(),
             components: plan.components().len() as u8,
             rows: u32::from(rows),
+            by_sample: plan.by_sample(),
         };
-        OpenPiece::Within(number, PieceDecoder::new(alloc, shape))
+        OpenPiece::Within(number, PieceDecoder::new(alloc, planned))
     }
 
     /// The piece as it was fed. What stays was fed nothing.

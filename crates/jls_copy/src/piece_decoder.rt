@@ -1,43 +1,29 @@
 //! The decoder of a piece, in a place that doesn't move.
 
 ghost use Rattle.std.specs.Prelude.{◌≡◌, ◌*◌, OnOk, IfOk, IfSome, IfNone, IsErr, true, MatchOption, MatchResult, Err, map};
-ghost use Rattle.jls_interval.specs.Reads.{ReadsNoMore};
-ghost use Rattle.jls_interval.specs.PieceFaults.{OutcomeIs};
-ghost use Rattle.jls_interval.specs.CutEnds.{CutEndIs};
+ghost use Rattle.jls_piece.specs.Reads.{ReadsNoMore};
+ghost use Rattle.jls_piece.specs.PieceFaults.{OutcomeIs};
+ghost use Rattle.jls_piece.specs.CutEnds.{CutEndIs};
 ghost use Rattle.jls_interval.specs.declared.decode_piece.PieceFault.TheVariants as PieceFault;
-ghost use Rattle.jls_interval.specs.IntervalBytes.{interval_asked};
+ghost use Rattle.jls_piece.specs.PieceBytes.{piece_asked, unfed};
 ghost use Rattle.jls_copy.specs.InHand.{AreFirst};
-ghost use Rattle.jls_copy.specs.PieceDecoder.{unfed};
 ghost use Rattle.jls_copy.specs.ReaderState.{with_bytes};
 
-use crate::interval_shape::IntervalShape;
-use jls_interval::{CutEnd, FinishedLines, IntervalDecoder, PieceFault};
+use jls_interval::PieceFault;
+use jls_piece::{CutEnd, FinishedLines, PlannedPiece};
 use std::alloc::{AllocError, Global};
 use std::marker::Model;
-
-/// A decoder that was fed nothing.
-fn unfed_decoder(alloc: Global, shape: IntervalShape) -> IntervalDecoder
-    ensures { result ≡ unfed shape }
-{
-    IntervalDecoder::new(
-        alloc,
-        &shape.params,
-        shape.width,
-        shape.components,
-        shape.rows,
-    )
-}
 
 /// A decoder on the heap that was fed these bytes.
 #[inline(never)]
 fn decoder_with(
     alloc: Global,
-    shape: IntervalShape,
+    planned: PlannedPiece,
     bytes: &[u8],
-) -> Result<Box<IntervalDecoder>, AllocError>
-    ensures { IfOk result (λ made. made.value ≡ with_bytes (unfed shape) bytes.now) }
+) -> Result<Box<jls_piece::PieceDecoder>, AllocError>
+    ensures { IfOk result (λ made. made.value ≡ with_bytes (unfed planned) bytes.now) }
 {
-    let mut made = Box::new(alloc, unfed_decoder(alloc, shape))?;
+    let mut made = Box::new(alloc, jls_piece::PieceDecoder::new(alloc, planned))?;
     made.push_all(bytes)?;
     Ok(made)
 }
@@ -47,28 +33,28 @@ fn decoder_with(
 #[derive(Drop)]
 pub(crate) struct PieceDecoder {
     alloc: Global,
-    shape: IntervalShape,
+    planned: PlannedPiece,
     /// None before the first byte.
-    made: Option<Box<IntervalDecoder>>,
+    made: Option<Box<jls_piece::PieceDecoder>>,
 }
 
 impl Model for PieceDecoder {
-    ghost use Rattle.jls_interval.specs.IntervalBytes.{IntervalBytes};
+    ghost use Rattle.jls_piece.specs.PieceBytes.{PieceBytes};
     ghost use Rattle.jls_copy.specs.PieceDecoder.{made_or_unfed};
 
-    ghost Value = { IntervalBytes };
+    ghost Value = { PieceBytes };
 
-    ghost view = { λ d. made_or_unfed d.made d.shape };
+    ghost view = { λ d. made_or_unfed d.made d.planned };
 }
 
 impl PieceDecoder {
     /// A decoder that was fed nothing. It takes no memory yet.
-    pub(crate) fn new(alloc: Global, shape: IntervalShape) -> PieceDecoder
-        ensures { result ≡ unfed shape }
+    pub(crate) fn new(alloc: Global, planned: PlannedPiece) -> PieceDecoder
+        ensures { result ≡ unfed planned }
     {
         PieceDecoder {
             alloc,
-            shape,
+            planned,
             made: None,
         }
     }
@@ -79,7 +65,7 @@ impl PieceDecoder {
     {
         PieceDecoder {
             alloc: self.alloc,
-            shape: self.shape,
+            planned: self.planned,
             made: self.made.take(),
         }
     }
@@ -94,7 +80,7 @@ impl PieceDecoder {
         };
         Ok(PieceDecoder {
             alloc: self.alloc,
-            shape: self.shape,
+            planned: self.planned,
             made,
         })
     }
@@ -107,7 +93,7 @@ impl PieceDecoder {
             Some(decoder) => decoder.push_all(bytes),
             None => {
                 if !bytes.is_empty() {
-                    self.made = Some(decoder_with(self.alloc, self.shape, bytes)?);
+                    self.made = Some(decoder_with(self.alloc, self.planned, bytes)?);
                 }
                 Ok(())
             }
@@ -117,7 +103,7 @@ impl PieceDecoder {
     /// Whether the piece is faulty whatever bytes follow. `false` says nothing.
     pub(crate) fn reads_no_more(&self) -> bool
         ensures { result ≡ true → IfSome self.now.bytes
-            (λ bytes. ReadsNoMore (interval_asked self.now) bytes) }
+            (λ bytes. ReadsNoMore (piece_asked self.now) bytes) }
     {
         match &self.made {
             Some(decoder) => decoder.reads_no_more(),
@@ -136,7 +122,7 @@ impl PieceDecoder {
     /// The lines of the piece, or why it has none.
     pub(crate) fn finish(self) -> Result<FinishedLines, PieceFault>
         ensures outcome { MatchOption self.bytes (result ≡ Err PieceFault.OutOfMemory)
-            (λ bytes. OutcomeIs (interval_asked self) bytes result) }
+            (λ bytes. OutcomeIs (piece_asked self) bytes result) }
     {
         match self.made {
             Some(decoder) => Box::into_inner(decoder).finish(),
@@ -144,22 +130,23 @@ impl PieceDecoder {
         }
     }
 
-    /// The lines of a piece that the input's end cuts off, or those that stand whole before the cut.
+    /// The lines of a piece that the input's end cuts off, or those that stand whole before the cut. Only by sample can memory be refused
+    /// here, if it was not before.
     pub(crate) fn finish_cut(self) -> Result<CutEnd, AllocError>
         ensures refused { IfNone self.bytes (IsErr result) }
         ensures cut_end { IfSome self.bytes (λ bytes. MatchResult result
-            (λ end. CutEndIs (interval_asked self) bytes end) (λ _. ⊥)) }
+            (λ end. CutEndIs (piece_asked self) bytes end) (λ _. self.by_sample ≡ true)) }
     {
         match self.made {
             Some(decoder) => Box::into_inner(decoder).finish_cut(),
-            None => unfed_decoder(self.alloc, self.shape).finish_cut(),
+            None => jls_piece::PieceDecoder::new(self.alloc, self.planned).finish_cut(),
         }
     }
 
     /// The lines of the piece, or those that stand whole before its end.
     pub(crate) fn first_lines(self) -> Result<Vec<Vec<u16>>, AllocError>
         ensures { IfSome self.bytes (λ bytes. IfOk result
-            (λ lines. AreFirst (interval_asked self) bytes (map (λ line. line.items) lines.items))) }
+            (λ lines. AreFirst (piece_asked self) bytes (map (λ line. line.items) lines.items))) }
     {
         match self.finish_cut()? {
             CutEnd::Whole(lines) => lines.into_vecs(),

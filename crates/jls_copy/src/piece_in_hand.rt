@@ -11,6 +11,6 @@ pub struct PieceInHand {
     pub interval: u32,
     /// The offset of its first byte.
     pub offset: u64,
-    /// The first lines of the interval, row by row and in a row by component. They may end inside a row.
+    /// The first lines of the interval, row by row and in a row by component. By line they may end inside a row.
     pub lines: Vec<Vec<u16>>,
 }

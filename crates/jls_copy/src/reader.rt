@@ -18,8 +18,8 @@ use crate::machine::Machine;
 use crate::piece::PieceRecord;
 use crate::piece_in_hand::PieceInHand;
 use crate::place::CopyPosition;
-use jls_bits::PushedBytes;
-use jls_marker::{Headers, MarkerFault};
+use crate::profile_reader::ProfileReader;
+use jls_marker::{MarkerFault, Profile};
 use jls_partial::Partial;
 use std::alloc::{AllocError, Global};
 use std::marker::Model;
@@ -108,23 +108,22 @@ impl CopyRead {
     }
 }
 
-/// Reads one copy as its bytes come, in slices of any size. A contract sees the bytes fed, or `None` after a refused `feed`.
+/// Reads one copy as its bytes come, in slices of any size, under the strict profile: a scan that is interleaved by sample ends the copy. A
+/// contract sees the bytes fed, or `None` after a refused `feed`.
 #[derive(Drop)]
 pub struct CopyReader {
-    bytes: PushedBytes,
-    machine: Machine,
-    failed: bool,
+    reader: ProfileReader,
 }
 
 impl Model for CopyReader {
-    ghost use Rattle.std.specs.Prelude.{ℕ, List, Option, Some, None, if◌then◌else◌};
-    ghost use Rattle.jls_copy.specs.Reader.{IsReader};
+    ghost use Rattle.std.specs.Prelude.{◌≡◌, ℕ, List, Option};
+    ghost use Rattle.jls_marker.specs.declared.profile.Profile.TheVariants.{Strict};
 
     ghost Value = { Option (List ℕ) };
 
-    ghost view = { λ r. if r.failed then None else Some r.bytes.list };
+    ghost view = { λ r. r.reader.bytes };
 
-    ghost invariant = { λ r. IsReader r.failed r.machine r.bytes.list };
+    ghost invariant = { λ r. r.reader.profile ≡ Strict };
 }
 
 impl CopyReader {
@@ -133,21 +132,7 @@ impl CopyReader {
         ensures { result ≡ Some [] }
     {
         CopyReader {
-            bytes: PushedBytes::new(),
-            machine: Machine {
-                alloc,
-                count: 0,
-                place: CopyPosition::Start(false),
-                headers: Headers::new(),
-                payload: Vec::new(alloc),
-                findings: Findings {
-                    partial: None,
-                    records: Vec::new(alloc),
-                    record_count: 0,
-                    samples: 0,
-                },
-            },
-            failed: false,
+            reader: ProfileReader::new(alloc, Profile::Strict),
         }
     }
 
@@ -156,31 +141,21 @@ impl CopyReader {
     pub fn try_clone(&self) -> Result<CopyReader, AllocError>
         ensures { IfOk result (λ clone. clone ≡ self.now) }
     {
-        if self.failed {
-            let mut refused = CopyReader::new(self.machine.alloc);
-            refused.failed = true;
-            return Ok(refused);
-        }
-        let machine = self.machine.try_clone()?;
-        Ok(CopyReader {
-            bytes: self.bytes.to_owned(),
-            machine,
-            failed: false,
-        })
+        let reader = self.reader.try_clone()?;
+        Ok(CopyReader { reader })
     }
 
     /// How many bytes were fed, also those after the copy's end. After a refused `feed` nothing is promised of the answer.
     pub fn fed(&self) -> u64
         ensures { IfSome self.now (λ bytes. result ≡ length bytes) }
     {
-        self.machine.count
+        self.reader.fed()
     }
 
     /// How many samples were read so far: those of the taken lines of finished pieces, and those of the piece in hand. This is for
     /// strategies that compare readers, and nothing is promised of the number. It takes no memory.
     pub fn samples_read(&self) -> u64 {
-        let in_hand = self.machine.place.samples_read();
-        self.machine.findings.samples.saturating_add(in_hand)
+        self.reader.samples_read()
     }
 
     /// Takes the next slice of the copy, which may be empty. All slices together may have 2^63 - 1 bytes at most. Bytes after the
@@ -192,21 +167,7 @@ impl CopyReader {
         ensures err { OnErr result (self.new ≡ None) }
         ensures not_refused { IsOk result → IsSome self.old }
     {
-        if self.failed {
-            return Err(AllocError);
-        }
-        let mut at = 0;
-        while at < slice.len() {
-            let rest = &slice[at..];
-            let Ok(count) = self.machine.take(rest) else {
-                self.failed = true;
-                return Err(AllocError);
-            };
-            self.machine.count += count as u64;
-            self.bytes.note_all(&rest[..count]);
-            at += count;
-        }
-        Ok(())
+        self.reader.feed(slice)
     }
 
     /// Whether EOI was met, or a fault of the headers other than `Ended`: then further bytes are counted, and otherwise ignored. After
@@ -214,7 +175,7 @@ impl CopyReader {
     pub fn is_done(&self) -> bool
         ensures { IfSome self.now (λ bytes. IsDone bytes result) }
     {
-        is_final(&self.machine.place)
+        self.reader.is_done()
     }
 
     /// Whether the piece in hand is known to be broken, whatever follows. If so, each list of bytes that begins with those fed so far has
@@ -222,10 +183,7 @@ impl CopyReader {
     pub fn is_piece_broken(&self) -> bool
         ensures { result ≡ true → IfSome self.now (λ bytes. IsPieceBroken bytes) }
     {
-        if self.failed {
-            return false;
-        }
-        self.machine.place.reads_no_more()
+        self.reader.is_piece_broken()
     }
 
     /// Whether a piece that a marker closed is faulty. If so, each list of bytes that begins with those fed so far has a faulty piece.
@@ -233,10 +191,7 @@ impl CopyReader {
     pub fn has_faulty_piece(&self) -> bool
         ensures { result ≡ true → IfSome self.now (λ bytes. StaysFaulty bytes) }
     {
-        if self.failed {
-            return false;
-        }
-        self.machine.findings.record_count != 0
+        self.reader.has_faulty_piece()
     }
 
     /// Whether the piece in hand begins at this offset, or after it. If so, no byte more changes what the pieces before the offset read as
@@ -244,10 +199,7 @@ impl CopyReader {
     pub fn is_past(&self, offset: u64) -> bool
         ensures { result ≡ true → IfSome self.now (λ bytes. IsPast offset bytes) }
     {
-        if self.failed {
-            return false;
-        }
-        self.machine.place.is_past(offset)
+        self.reader.is_past(offset)
     }
 
     /// The piece of scan data in hand, if its bytes so far begin with the code of one line at least of its interval. Each longer list of
@@ -257,10 +209,7 @@ impl CopyReader {
         ensures { IfOk result (λ found. IfSome found (λ p. IfSome self.now
             (λ bytes. IsInHand bytes p.plan p.interval p.offset (map (λ line. line.items) p.lines.items)))) }
     {
-        if self.failed {
-            return Ok(None);
-        }
-        self.machine.place.piece_in_hand()
+        self.reader.piece_in_hand()
     }
 
     /// What the copy gave, if the input ends here. `NoPicture` comes if no frame was taken. It has the fault that ended the copy, and its
@@ -271,23 +220,12 @@ impl CopyReader {
         ensures none { IfErr result (λ fault. IfSome self (λ bytes. CopyGivesNone bytes fault)) }
         ensures refused { IfNone self (IfErr result (λ fault. fault ≡ CopyFault.OutOfMemory) × IsErr result) }
     {
-        let Self {
-            bytes: _,
-            mut machine,
-            failed,
-        } = self;
-        if failed {
-            return Err(CopyFault::OutOfMemory);
-        }
-        match machine.finish() {
-            Err(AllocError) => Err(CopyFault::OutOfMemory),
-            Ok(ended) => conclude(machine, ended),
-        }
+        self.reader.finish()
     }
 }
 
 /// Whether no byte more changes anything.
-fn is_final(place: &CopyPosition) -> bool
+pub(crate) fn is_final(place: &CopyPosition) -> bool
     ensures { result ≡ reader.is_final place.now }
 {
     match place {
@@ -308,7 +246,7 @@ fn no_picture(ended: End) -> CopyFault
 }
 
 /// What a machine at its end holds.
-fn conclude(machine: Machine, ended: End) -> Result<CopyRead, CopyFault>
+pub(crate) fn conclude(machine: Machine, ended: End) -> Result<CopyRead, CopyFault>
     ensures read { IfOk result
         (λ read. (shape : PictureShape) × (machine.headers.frame ≡ Some shape) × (read.partial ≡ picture_of shape machine.findings.partial)
         × (read.pieces ≡ machine.findings.records.items) × (read.piece_count ≡ machine.findings.record_count) × (read.ended ≡ ended)) }

@@ -10,7 +10,9 @@ use Rattle.jls_marker.specs.HeaderState.{HeaderState, IsHeaderState, no_headers}
 use Rattle.jls_marker.specs.MarkerCodes.{sof55, sos, lse, dri, is_skipped, has_segment}
 use Rattle.jls_marker.specs.Scan.{Scan}
 use Rattle.jls_marker.specs.SegmentLaws.{AreBytes}
+use Rattle.jls_marker.specs.declared.profile.Profile.TheVariants.{Strict}
 use Rattle.jls_marker.proofs.HeadersKept.{headers_kept, no_headers_kept}
+use Rattle.jls_marker.proofs.ProfileSteps.{profiles_stay}
 use Rattle.jls_copy.specs.ScanData.{fill_bytes}
 use Rattle.jls_copy.specs.Course.{CopyUnit, segment, scan, segment_unit_bytes, scan_data_bytes, unit_bytes, IsUnit, AreUnits, Course}
 use Rattle.jls_copy.specs.Course.{IsCourse, with_soi, with_another_marker, with_no_marker, with_fill_alone}
@@ -50,14 +52,14 @@ pub scan_payload_bytes : (fill code : ℕ) (payload more : List ℕ) → AreByte
 scan_payload_bytes fill code payload more low =
     payload_bytes fill code payload (byte_parts (segment_unit_bytes fill code payload) more low).0
 
--- a unit of a course is one of a copy
-unit_of_course : (h : HeaderState) (u : CopyUnit) (after : HeaderState) (rest : List ℕ) → AreBytes (unit_bytes u) → IsUnit h u after rest
-    → IsCopyUnit h u after rest
-unit_of_course h (segment fill code payload) after rest low (whole, taken) =
-    (whole.1, headers_set h after code payload None (payload_bytes fill code payload low) taken)
-unit_of_course h (scan fill code payload s closed last closing) after rest low (whole, taken, each, piece, following) =
+-- a unit of a strict course is one of a copy
+unit_of_course : (h : HeaderState) (u : CopyUnit) (after : HeaderState) (rest : List ℕ) → h.profile ≡ Strict → AreBytes (unit_bytes u)
+    → IsUnit h u after rest → IsCopyUnit h u after rest
+unit_of_course h (segment fill code payload) after rest strict low (whole, taken) =
+    (whole.1, headers_set h after code payload None strict (payload_bytes fill code payload low) taken)
+unit_of_course h (scan fill code payload s closed last closing) after rest strict low (whole, taken, each, piece, following) =
     let in_segment = scan_payload_bytes fill code payload (scan_data_bytes closed last closing) low in
-    (whole.1, headers_set h after code payload (Some s) in_segment taken, each, piece, following)
+    (whole.1, headers_set h after code payload (Some s) strict in_segment taken, each, piece, following)
 
 -- a unit of a copy is one of a course
 pub unit_of_copy : (h : HeaderState) (u : CopyUnit) (after : HeaderState) (rest : List ℕ) → IsHeaderState h → AreBytes (unit_bytes u)
@@ -83,6 +85,13 @@ unit_keeps h (segment fill code payload) after rest state low (whole, taken) =
 unit_keeps h (scan fill code payload s closed last closing) after rest state low (whole, taken, each, piece, following) =
     headers_kept h after code payload (Some s) state (scan_payload_bytes fill code payload (scan_data_bytes closed last closing) low) taken
 
+-- and their profile stays
+unit_keeps_profile : (h : HeaderState) (u : CopyUnit) (after : HeaderState) (rest : List ℕ) → IsUnit h u after rest
+    → after.profile ≡ h.profile
+unit_keeps_profile h (segment fill code payload) after rest (whole, taken) = profiles_stay h after code payload None taken
+unit_keeps_profile h (scan fill code payload s closed last closing) after rest (whole, taken, each, piece, following) =
+    profiles_stay h after code payload (Some s) taken
+
 -- a unit that begins bytes consists of bytes, and so does what follows it
 pub unit_parts : (bytes rest : List ℕ) (u : CopyUnit) → AreBytes bytes → bytes ≡ unit_bytes u ++ rest
     → AreBytes (unit_bytes u) × AreBytes rest
@@ -90,21 +99,22 @@ unit_parts bytes rest u low e = byte_parts (unit_bytes u) rest (subst AreBytes e
 
 -- ---- units one after the other
 
--- the units of a course are those of a copy
-pub units_of_course : (h : HeaderState) (at : ℕ) (bytes : List ℕ) (units : List CopyUnit) (final : HeaderState) (e : End) → IsHeaderState h
-    → AreBytes bytes → AreUnits h at bytes units final e → AreCopyUnits h bytes units final
-units_of_course h at bytes [] final e state low (same, ends) = (
+-- the units of a strict course are those of a copy
+pub units_of_course : (h : HeaderState) (at : ℕ) (bytes : List ℕ) (units : List CopyUnit) (final : HeaderState) (e : End)
+    → h.profile ≡ Strict → IsHeaderState h → AreBytes bytes → AreUnits h at bytes units final e → AreCopyUnits h bytes units final
+units_of_course h at bytes [] final e strict state low (same, ends) = (
   same,
   λ u after rest is unit. (let parts = unit_parts bytes rest u low is in
       no_unit_at_end h at bytes e u after rest ends is (unit_of_copy h u after rest state parts.0 unit)),
 )
-units_of_course h at bytes (u ∷ units) final e state low (after, rest, is, unit, more) =
+units_of_course h at bytes (u ∷ units) final e strict state low (after, rest, is, unit, more) =
     let parts = unit_parts bytes rest u low is in (
       after,
       rest,
       is,
-      unit_of_course h u after rest parts.0 unit,
-      units_of_course after (at + length (unit_bytes u)) rest units final e (unit_keeps h u after rest state parts.0 unit) parts.1 more,
+      unit_of_course h u after rest strict parts.0 unit,
+      units_of_course after (at + length (unit_bytes u)) rest units final e (unit_keeps_profile h u after rest unit ∙ strict)
+          (unit_keeps h u after rest state parts.0 unit) parts.1 more,
     )
 
 -- two lists of units of the same bytes are one, and leave the same headers
@@ -166,7 +176,7 @@ course_has_scans _ _ shape low (with_soi n bytes units final e is) framed = reco
   copy_is = refl;
   units = units;
   headers = final;
-  are_units = units_of_course no_headers (n + 2) bytes units final e no_headers_kept (after_soi_bytes n bytes low) is;
+  are_units = units_of_course no_headers (n + 2) bytes units final e refl no_headers_kept (after_soi_bytes n bytes low) is;
   framed = framed;
   scans_are = refl;
 }
@@ -182,7 +192,7 @@ course_has_units _ _ shape scans (with_soi n bytes units final e is) h =
     let low = after_soi_bytes n bytes h.are_bytes in
     same_units no_headers bytes h.units units h.headers final no_headers_kept low
     (subst (λ x. AreCopyUnits no_headers x h.units h.headers) following h.are_units)
-    (units_of_course no_headers (n + 2) bytes units final e no_headers_kept low is)
+    (units_of_course no_headers (n + 2) bytes units final e refl no_headers_kept low is)
 course_has_units _ _ shape scans (with_another_marker n code bytes p q) h =
     absurd (q (same_marker n h.fill code soi bytes h.after_soi p soi_not_fill h.copy_is).0)
 course_has_units _ _ shape scans (with_no_marker b bytes p) h =

@@ -21,14 +21,17 @@ use Rattle.jls_interval.specs.Code.{event_bits, bits_of_events, code}
 use Rattle.jls_interval.specs.Lines.{IntervalShape, IsLine, interval_shape}
 use Rattle.jls_interval.specs.Laws.{IsCutCode}
 use Rattle.jls_interval.specs.Heads.{BeginsWithFirst, AreWholeLines, IsHeadOfPiece}
-use Rattle.jls_interval.specs.Reads.{Reads}
 use Rattle.jls_partial.specs.Reading.{Reading, reading_of}
 use Rattle.jls_marker.specs.Scan.{intervals, first_row}
+use Rattle.jls_piece.specs.Lines.{line_piece}
+use Rattle.jls_piece.specs.Reads.{Reads}
+use Rattle.jls_piece.proofs.LinePieces.{reads_from}
 use Rattle.jls_copy.specs.Numbers.{Interval, numbers_after}
 use Rattle.jls_copy.specs.IntervalOf.{interval_of}
 use Rattle.jls_copy.specs.Pieces.{FoundPiece, Lines, IsOutcome, placed}
 use Rattle.jls_copy_laws.specs.CopyScans.{ScanPiece, ScanWithData, HasScans}
-use Rattle.jls_copy_laws.specs.Gives.{GivesReading}
+use Rattle.jls_copy_laws.specs.Gives.{line_interval, GivesReading}
+use Rattle.jls_copy_laws.proofs.ByLine.{reads_by_line}
 use Rattle.jls_copy_laws.proofs.CopyScans.{course_has_scans}
 use Rattle.jls_copy_laws.proofs.Members.{bytes_of_test}
 use Rattle.jls_copy.proofs.TwoScanExamples as two
@@ -57,12 +60,13 @@ lines_of_test p width (line ∷ lines) e =
     let here = and_parts (length line == width) (list_all (λ x. nat_le x p.maxval) line) both.0 in
     ((eqb-true _ _ here.0, at_most_of_test p.maxval line here.1), lines_of_test p width lines both.1)
 
--- a piece reads as these lines if its data bits are their code and at most seven more
+-- a piece by line reads as these lines if its data bits are their code and at most seven more
 reads_of_test : (i : IntervalShape) (piece : List ℕ) (lines : List (List ℕ)) (unread : List Bool)
     → list_all (λ b. nat_lt b 256) piece ≡ true → length lines ≡ i.line_count
     → list_all (λ line. (length line == i.width) && list_all (λ x. nat_le x i.params.maxval) line) lines ≡ true
-    → is_whole piece ≡ true → bits_read piece ≡ code i.params i.width i.components lines ++ unread → length unread ≤ 7 → Reads i piece lines
-reads_of_test i piece lines unread bytes count each whole read few = record {
+    → is_whole piece ≡ true → bits_read piece ≡ code i.params i.width i.components lines ++ unread → length unread ≤ 7
+    → Reads (line_piece i) piece lines
+reads_of_test i piece lines unread bytes count each whole read few = reads_from i piece lines (record {
   unread = unread;
   begins = record {
     are_bytes = bytes_of_test piece bytes;
@@ -70,16 +74,16 @@ reads_of_test i piece lines unread bytes count each whole read few = record {
     data_bits = record { whole = whole; read = read };
   };
   at_most_seven = few;
-}
+})
 
 -- a line of a piece that reads is given
 gives : {copy : List ℕ} {shape : PictureShape} {scans : List ScanWithData} → HasScans copy shape scans → (d : ScanWithData)
     → Contains scans d → (piece : FoundPiece) (k : ℕ)
     → Contains (zip (Interval 0 ∷ numbers_after (intervals d.scan) 0 d.marks) d.pieces) (Interval k, whole_piece piece.bytes)
-    → (lines : List (List ℕ)) → Reads (interval_of d.scan k) piece.bytes lines
+    → d.scan.by_sample ≡ false → (lines : List (List ℕ)) → Reads (interval_of d.scan k) piece.bytes lines
     → (r : Reading) → Contains (placed d.scan.components (first_row d.scan k) 0 lines) r → GivesReading copy r
-gives has d among piece k numbered lines reads r here =
-    (_, _, has, d, among, (k, whole_piece piece.bytes, numbered, (lines, inl reads, here)))
+gives has d among piece k numbered line lines reads r here =
+    (_, _, has, d, among, (k, whole_piece piece.bytes, numbered, (lines, inl (reads_by_line d.scan k line piece.bytes lines reads), here)))
 
 -- Two scans in 12 bits -------------------------------------------------------------------------------------------
 
@@ -135,11 +139,13 @@ unfolding least_from bits width_after golomb quantized_gradient is_negative cont
     run_updated events_from events_after cell_before run_cell_before block_columns full_blocks blocks run_index_before event_bits
     bits_of_events code bits_read_after is_whole_after ends_data
 lines_read = record {
-  first = reads_of_test (interval_of two.first_scan 0) two.piece_0.bytes lines_0 (replicate 5 false) refl refl refl refl refl (lit≤ tt);
-  rows_0_and_1 = reads_of_test (interval_of two.second_scan 0) two.piece_1.bytes lines_1 [] refl refl refl refl refl (lit≤ tt);
-  row_2 = reads_of_test (interval_of two.second_scan 1) two.piece_2.bytes lines_2 (replicate 7 false) refl refl refl refl refl (lit≤ tt);
-  by_line = reads_of_test (interval_of three.plan 0) three.piece.bytes three.lines (replicate 6 false) refl refl refl refl refl (lit≤ tt);
-  paired = reads_of_test (interval_of pair.plan 0) pair.piece.bytes pair.lines (replicate 2 false) refl refl refl refl refl (lit≤ tt);
+  first = reads_of_test (interval_shape two.bits_12 2 1 3) two.piece_0.bytes lines_0 (replicate 5 false) refl refl refl refl refl (lit≤ tt);
+  rows_0_and_1 = reads_of_test (interval_shape two.bits_12 2 1 2) two.piece_1.bytes lines_1 [] refl refl refl refl refl (lit≤ tt);
+  row_2 = reads_of_test (interval_shape two.bits_12 2 1 1) two.piece_2.bytes lines_2 (replicate 7 false) refl refl refl refl refl (lit≤ tt);
+  by_line = reads_of_test (interval_shape three.bits_8 2 3 6) three.piece.bytes three.lines (replicate 6 false) refl refl refl refl refl
+      (lit≤ tt);
+  paired = reads_of_test (interval_shape pair.bits_8 2 2 4) pair.piece.bytes pair.lines (replicate 2 false) refl refl refl refl refl
+      (lit≤ tt);
 }
 
 -- and what they give
@@ -158,16 +164,16 @@ record LinesGiven : Type 0 where
 
 lines_given : LinesGiven
 lines_given = record {
-  of_the_first = gives has_two_scans two_first (0, lit< tt, refl) two.piece_0 0 (0, lit< tt, refl) lines_0 lines_read.first _
+  of_the_first = gives has_two_scans two_first (0, lit< tt, refl) two.piece_0 0 (0, lit< tt, refl) refl lines_0 lines_read.first _
       (1, lit< tt, refl);
-  row_1 = gives has_two_scans two_second (1, lit< tt, refl) two.piece_1 0 (0, lit< tt, refl) lines_1 lines_read.rows_0_and_1 _
+  row_1 = gives has_two_scans two_second (1, lit< tt, refl) two.piece_1 0 (0, lit< tt, refl) refl lines_1 lines_read.rows_0_and_1 _
       (1, lit< tt, refl);
-  row_2 = gives has_two_scans two_second (1, lit< tt, refl) two.piece_2 1 (1, lit< tt, refl) lines_2 lines_read.row_2 _ (0, lit< tt, refl);
-  fifth = gives has_one_scan three_data (0, lit< tt, refl) three.piece 0 (0, lit< tt, refl) three.lines lines_read.by_line _
+  row_2 = gives has_two_scans two_second (1, lit< tt, refl) two.piece_2 1 (1, lit< tt, refl) refl lines_2 lines_read.row_2 _ (0, lit< tt, refl);
+  fifth = gives has_one_scan three_data (0, lit< tt, refl) three.piece 0 (0, lit< tt, refl) refl three.lines lines_read.by_line _
       (4, lit< tt, refl);
-  third = gives has_a_paired_scan pair_data (0, lit< tt, refl) pair.piece 0 (0, lit< tt, refl) pair.lines lines_read.paired _
+  third = gives has_a_paired_scan pair_data (0, lit< tt, refl) pair.piece 0 (0, lit< tt, refl) refl pair.lines lines_read.paired _
       (2, lit< tt, refl);
-  fourth = gives has_a_paired_scan pair_data (0, lit< tt, refl) pair.piece 0 (0, lit< tt, refl) pair.lines lines_read.paired _
+  fourth = gives has_a_paired_scan pair_data (0, lit< tt, refl) pair.piece 0 (0, lit< tt, refl) refl pair.lines lines_read.paired _
       (3, lit< tt, refl);
 }
 
@@ -220,7 +226,7 @@ longest (x ∷ y ∷ []) b =
 longest (x ∷ y ∷ z ∷ zs) b = absurd (let n = ap length b.lines_are in omega (arith, n))
 
 -- so the head is the first line
-pub is_head : IsHeadOfPiece (interval_of cut.plan 0) (0x50 ∷ []) ((1 ∷ []) ∷ [])
+pub is_head : IsHeadOfPiece (line_interval cut.plan 0) (0x50 ∷ []) ((1 ∷ []) ∷ [])
 is_head =
     let own : AreWholeLines (interval_shape cut.bits_8 1 1 2) (bits_read (0x50 ∷ [])) both ((1 ∷ []) ∷ []) =
     record { begins = cut_off.begins; longest = longest } in

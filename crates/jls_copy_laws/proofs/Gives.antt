@@ -1,5 +1,6 @@
 -- The readings of a copy are those that its course gives.
 use Rattle.std.proofs.Common.{◌≡◌, ℕ, ◌+◌, Bool, true, false, List, [], ◌∷◌, ◌++◌, length, map, Some, refl, sym, ap, ◌∙◌, subst, inl, inr}
+use Rattle.std.specs.Prelude.{if◌then◌else◌}
 use Rattle.std.specs.List.{AllByRecursion, Contains, flat_map, zip}
 use Rattle.std.proofs.lemmas.List.Elements.{Contains-append_left, Contains-append_right, Contains-append_cases}
 use Rattle.std.proofs.lemmas.Bool.{false≢true}
@@ -11,17 +12,22 @@ use Rattle.jls_copy.specs.ScanData.{ClosedPiece, closed_bytes}
 use Rattle.jls_copy.specs.Numbers.{PieceNumber, Interval, BeyondLast, number_after, given_last, numbers_after}
 use Rattle.jls_copy.specs.Course.{LastClosed, by_input, by_marker, CopyUnit, segment, scan, segment_unit_bytes, unit_bytes}
 use Rattle.jls_copy.specs.Course.{Course, IsCourse}
-use Rattle.jls_copy.specs.Pieces.{FoundPiece, pieces_from, unit_pieces, scans_in, pieces_in, piece_begun}
-use Rattle.jls_copy.specs.CutPieces.{is_cut, last_piece, cut_pieces}
+use Rattle.jls_copy.specs.Pieces.{FoundPiece, pieces_from, unit_pieces, scans_in, pieces_in, pieces, piece_begun}
+use Rattle.jls_copy.specs.CutPieces.{is_cut, closed_by_input, last_piece, cut_pieces}
+use Rattle.jls_copy.proofs.ByLine.{strict_pieces_are_by_line}
 use Rattle.jls_copy_laws.specs.CopyScans.{ScanPiece, ScanWithData, scans_of_unit, is_by_input, HasScans}
 use Rattle.jls_copy_laws.specs.CopyLaws.{OneListOfScans, ReadingsAreOfTheCourse}
 use Rattle.jls_copy_laws.specs.CourseGives.{FoundPieceGives, FoundHeadGives, CourseGives}
 use Rattle.jls_copy_laws.specs.Gives.{PieceGives, ScanGives, GivesReading}
+use Rattle.jls_copy_laws.proofs.ByLine.{reads_by_line, reads_as_piece, head_by_line, head_as_piece}
 use Rattle.jls_copy_laws.proofs.CopyScans.{course_has_scans, one_list_of_scans}
 use Rattle.jls_copy_laws.proofs.CutOff.{all_cut, cut_stands, units_of}
 use Rattle.jls_copy_laws.proofs.Members.{is_first, in_rest, none_in, first_or_rest, only_member, all_at, in_flat_map, of_flat_map, all_from}
 
 -- One scan ---------------------------------------------------------------------------------------------------------
+
+abbrev IsByLine : FoundPiece → Type 0
+IsByLine p = p.plan.by_sample ≡ false
 
 -- the piece of this number, found at this offset
 abbrev found : ℕ → Scan → PieceNumber → ℕ → List ℕ → FoundPiece
@@ -157,15 +163,19 @@ cut_found index s number given at (c ∷ closed) last cut n piece m is =
 
 -- a piece that is found and gives the reading has the number of an interval, and gives it as a piece of the scan
 piece_gives : (index : ℕ) (s : Scan) (n : PieceNumber) (offset : ℕ) (piece : ScanPiece) (r : Reading)
-    → FoundPieceGives (found index s n offset piece.bytes) r → (k : ℕ) × (n ≡ Interval k) × PieceGives s k piece r
-piece_gives index s (Interval k) offset piece r g = (k, refl, (g.lines, inl g.reads, g.among))
-piece_gives index s (BeyondLast k) offset piece r g = absurd g.reads
+    → s.by_sample ≡ false → FoundPieceGives (found index s n offset piece.bytes) r
+    → (k : ℕ) × (n ≡ Interval k) × PieceGives s k piece r
+piece_gives index s (Interval k) offset piece r line g =
+    (k, refl, (g.lines, inl (reads_by_line s k line piece.bytes g.lines g.reads), g.among))
+piece_gives index s (BeyondLast k) offset piece r line g = absurd g.reads
 
 -- and so does one whose head gives it, where it is cut
 head_gives : (index : ℕ) (s : Scan) (n : PieceNumber) (offset : ℕ) (piece : ScanPiece) (r : Reading) → piece.ended_by_input ≡ true
-    → FoundHeadGives (found index s n offset piece.bytes) r → (k : ℕ) × (n ≡ Interval k) × PieceGives s k piece r
-head_gives index s (Interval k) offset piece r is g = (k, refl, (g.head, inr (is, g.is_head), g.among))
-head_gives index s (BeyondLast k) offset piece r is g = absurd (none_in r g.among)
+    → s.by_sample ≡ false → FoundHeadGives (found index s n offset piece.bytes) r
+    → (k : ℕ) × (n ≡ Interval k) × PieceGives s k piece r
+head_gives index s (Interval k) offset piece r is line g =
+    (k, refl, (g.head, inr (is, head_by_line s k line piece.bytes g.head g.is_head), g.among))
+head_gives index s (BeyondLast k) offset piece r is line g = absurd (none_in r g.among)
 
 -- Units ------------------------------------------------------------------------------------------------------------
 
@@ -178,14 +188,15 @@ scan_with s closed last closing = record {
 }
 
 -- a piece of the unit gives the reading as one of the unit's scan
-unit_gives : (index at : ℕ) (u : CopyUnit) (p : FoundPiece) (r : Reading) → Contains (unit_pieces index at u) p → FoundPieceGives p r
-    → (d : ScanWithData) × Contains (scans_of_unit u) d × ScanGives d r
-unit_gives index at (segment fill code payload) p r m g = absurd (none_in p m)
-unit_gives index at (scan fill code payload s closed last closing) p r m g =
+unit_gives : (index at : ℕ) (u : CopyUnit) (p : FoundPiece) (r : Reading) → IsByLine p → Contains (unit_pieces index at u) p
+    → FoundPieceGives p r → (d : ScanWithData) × Contains (scans_of_unit u) d × ScanGives d r
+unit_gives index at (segment fill code payload) p r line m g = absurd (none_in p m)
+unit_gives index at (scan fill code payload s closed last closing) p r line m g =
     let begin = at + length (segment_unit_bytes fill code payload) in
     let cut = is_by_input closing in
     let f = found_corresponds index s (Interval 0) 0 begin closed last cut p m in
-    let fed = piece_gives index s f.1.number f.1.offset f.0 r (subst (λ x. FoundPieceGives x r) f.1.same g) in (
+    let fed = piece_gives index s f.1.number f.1.offset f.0 r (subst IsByLine f.1.same line)
+    (subst (λ x. FoundPieceGives x r) f.1.same g) in (
       scan_with s closed last closing,
       is_first (scan_with s closed last closing) [],
       (
@@ -197,16 +208,16 @@ unit_gives index at (scan fill code payload s closed last closing) p r m g =
     )
 
 -- so does the head of its last piece, where the input's end closes it
-cut_unit_gives : (index at : ℕ) (u : CopyUnit) (p : FoundPiece) (r : Reading) → is_cut u ≡ true
+cut_unit_gives : (index at : ℕ) (u : CopyUnit) (p : FoundPiece) (r : Reading) → IsByLine p → is_cut u ≡ true
     → Contains (last_piece (unit_pieces index at u)) p → FoundHeadGives p r
     → (d : ScanWithData) × Contains (scans_of_unit u) d × ScanGives d r
-cut_unit_gives index at (segment fill code payload) p r is m g = absurd (none_in p m)
-cut_unit_gives index at (scan fill code payload s closed last by_marker) p r is m g = absurd cc
-cut_unit_gives index at (scan fill code payload s closed last (by_input n)) p r is m g =
+cut_unit_gives index at (segment fill code payload) p r line is m g = absurd (none_in p m)
+cut_unit_gives index at (scan fill code payload s closed last by_marker) p r line is m g = absurd cc
+cut_unit_gives index at (scan fill code payload s closed last (by_input n)) p r line is m g =
     let begin = at + length (segment_unit_bytes fill code payload) in
     let piece : ScanPiece = record { bytes = last; ended_by_input = true } in
     let f = last_corresponds index s (Interval 0) 0 begin closed last true p m in
-    let fed = head_gives index s f.number f.offset piece r refl (subst (λ x. FoundHeadGives x r) f.same g) in (
+    let fed = head_gives index s f.number f.offset piece r refl (subst IsByLine f.same line) (subst (λ x. FoundHeadGives x r) f.same g) in (
       scan_with s closed last (by_input n),
       is_first (scan_with s closed last (by_input n)) [],
       (
@@ -249,30 +260,44 @@ unit_stands (v ∷ us) index at u m =
 
 -- What a course gives ----------------------------------------------------------------------------------------------
 
+-- where all pieces are by line, so is the one that is cut
+cut_by_line : (c : Course) → AllByRecursion IsByLine (pieces c) → AllByRecursion IsByLine (cut_pieces c)
+cut_by_line c lines = by (closed_by_input c.units)
+  where
+    last_is : (ps : List FoundPiece) → AllByRecursion IsByLine ps → AllByRecursion IsByLine (last_piece ps)
+    last_is [] h = tt
+    last_is (p ∷ []) h = h
+    last_is (p ∷ q ∷ ps) h = last_is (q ∷ ps) h.1
+
+    by : (b : Bool) → AllByRecursion IsByLine (if b then last_piece (pieces c) else [])
+    by true = last_is (pieces c) lines
+    by false = tt
+
 -- some scan of these units gives the reading
 abbrev pub UnitsGive : List CopyUnit → Reading → Type 0
 UnitsGive us r = (d : ScanWithData) × Contains (flat_map scans_of_unit us) d × ScanGives d r
 
--- where the head of the piece gives the reading, a scan of these units does
+-- where the head of the piece gives the reading, and the piece is by line, a scan of these units gives it
 abbrev HeadTells : List CopyUnit → Reading → FoundPiece → Type 0
-HeadTells us r p = FoundHeadGives p r → UnitsGive us r
+HeadTells us r p = IsByLine p → FoundHeadGives p r → UnitsGive us r
 
 -- as the piece of a unit that is cut does
 cut_tells : (us : List CopyUnit) (r : Reading) (index at : ℕ) (u : CopyUnit) → Contains us u → is_cut u ≡ true
     → AllByRecursion (HeadTells us r) (last_piece (unit_pieces index at u))
 cut_tells us r index at u among is =
-    all_from (HeadTells us r) (last_piece (unit_pieces index at u)) (λ p there gives.
-    let fed = cut_unit_gives index at u p r is there gives in
+    all_from (HeadTells us r) (last_piece (unit_pieces index at u)) (λ p there line gives.
+    let fed = cut_unit_gives index at u p r line is there gives in
     (fed.0, in_flat_map scans_of_unit us u fed.0 among fed.1, fed.2))
 
--- what a course gives is given by a scan of its units
-pub units_give : (c : Course) (r : Reading) → CourseGives c r
+-- what a course gives whose pieces are by line is given by a scan of its units
+pub units_give : (c : Course) (r : Reading) → AllByRecursion IsByLine (pieces c) → CourseGives c r
     → (d : ScanWithData) × Contains (flat_map scans_of_unit c.units) d × ScanGives d r
-units_give c r (inl (p, m, g)) =
+units_give c r lines (inl (p, m, g)) =
     let i = in_some_unit c.units 0 c.begin p m in
-    let fed = unit_gives i.2 i.3 i.0 p r i.4 g in
+    let fed = unit_gives i.2 i.3 i.0 p r (all_at IsByLine (pieces c) p lines m) i.4 g in
     (fed.0, in_flat_map scans_of_unit c.units i.0 fed.0 i.1 fed.1, fed.2)
-units_give c r (inr (p, m, g)) = all_at (HeadTells c.units r) (cut_pieces c) p each m g
+units_give c r lines (inr (p, m, g)) =
+    all_at (HeadTells c.units r) (cut_pieces c) p each m (all_at IsByLine (cut_pieces c) p (cut_by_line c lines) m) g
   where
     each : AllByRecursion (HeadTells c.units r) (cut_pieces c)
     each =
@@ -289,6 +314,9 @@ by_unit_of copy c r is (scan fill code payload s closed last closing) among d he
     u : CopyUnit
     u = scan fill code payload s closed last closing
 
+    by_line : AllByRecursion IsByLine (pieces c)
+    by_line = strict_pieces_are_by_line copy c is
+
     closed_so : (by : LastClosed) → is_by_input by ≡ true → is_cut (scan fill code payload s closed last by) ≡ true
     closed_so (by_input n) e = refl
     closed_so by_marker e = absurd cc
@@ -299,7 +327,8 @@ by_unit_of copy c r is (scan fill code payload s closed last closing) among d he
         let begin = stands.1 + length (segment_unit_bytes fill code payload) in
         let f = number_found stands.0 s (Interval 0) 0 begin closed last (is_by_input closing) (Interval k) piece m in
         let p = found stands.0 s (Interval k) f.0 piece.bytes in
-        inl (p, stands.2 p f.1, record { lines = lines; reads = reads; among = line })
+        let own = all_at IsByLine (pieces c) p by_line (stands.2 p f.1) in
+        inl (p, stands.2 p f.1, record { lines = lines; reads = reads_as_piece s k own piece.bytes lines reads; among = line })
     by (k, piece, m, (lines, inr (cut, head), line)) =
         let units = units_of copy c u is among in
         let closes = (cut_found 0 s (Interval 0) 0 0 closed last (is_by_input closing) (Interval k) piece m cut).1 in
@@ -307,7 +336,8 @@ by_unit_of copy c r is (scan fill code payload s closed last closing) among d he
         let begin = stands.1 + length (segment_unit_bytes fill code payload) in
         let f = cut_found stands.0 s (Interval 0) 0 begin closed last (is_by_input closing) (Interval k) piece m cut in
         let p = found stands.0 s (Interval k) f.0 piece.bytes in
-        inr (p, stands.2 p f.2, record { head = lines; is_head = head; among = line })
+        let own = all_at IsByLine (cut_pieces c) p (cut_by_line c by_line) (stands.2 p f.2) in
+        inr (p, stands.2 p f.2, record { head = lines; is_head = head_as_piece s k own piece.bytes lines head; among = line })
 
 -- what a scan of the units of a copy's course gives is given by the course
 pub given_by_units : (copy : List ℕ) (c : Course) (r : Reading) → IsCourse copy c → (d : ScanWithData)
@@ -328,7 +358,7 @@ by_course has one copy c shape r low is framed = (there, back)
         given_by_units copy c r is d (subst (λ ds. Contains ds d) same m) g
 
     back : CourseGives c r → GivesReading copy r
-    back g = let fed = units_give c r g in (shape, flat_map scans_of_unit c.units, has copy c shape low is framed, fed.0, fed.1, fed.2)
+    back g = let fed = units_give c r (strict_pieces_are_by_line copy c is) g in (shape, flat_map scans_of_unit c.units, has copy c shape low is framed, fed.0, fed.1, fed.2)
 
 pub readings_are_of_the_course : ReadingsAreOfTheCourse
 readings_are_of_the_course = by_course course_has_scans one_list_of_scans

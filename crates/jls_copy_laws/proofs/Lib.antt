@@ -4,5 +4,6 @@ mod PayloadFields
 pub mod SegmentSets
 pub mod CutOff
 pub mod CopyScans
+mod ByLine
 pub mod Gives
 pub mod FileExamples

@@ -11,9 +11,12 @@ use Rattle.std.proofs.lemmas.Slice.Zip.{firsts-zip}
 use Rattle.jls_values.specs.Shape.{PictureShape}
 use Rattle.jls_marker.specs.Layouts.{FrameComponent, FrameHeader, HasFrameLayout, frame_component_bytes, frame_header_bytes, ScanComponent}
 use Rattle.jls_marker.specs.Layouts.{ScanHeader, HasScanLayout, scan_component_bytes, scan_header_bytes}
-use Rattle.jls_marker.specs.Payloads.{IsFrameHeaderOf, IsScanHeaderOf}
-use Rattle.jls_marker.specs.ScanSelection.{ScanSelection, IsScanSelection}
+use Rattle.jls_marker.specs.Payloads.{IsFrameHeaderOf, IsScanHeaderUnder}
+use Rattle.jls_marker.specs.Profiles.{IsOfProfile}
+use Rattle.jls_marker.specs.ScanSelection.{ScanSelection, IsScanSelection, selection, interleave_of}
 use Rattle.jls_marker.specs.SegmentLaws.{AreBytes}
+use Rattle.jls_marker.specs.declared.profile.Profile.{Profile}
+use Rattle.jls_marker.specs.declared.profile.Profile.TheVariants.{Strict, Wide}
 use Rattle.jls_copy_laws.specs.SegmentSets.{IsFramePayload, IsScanPayload}
 
 -- ---- the frame header
@@ -134,10 +137,12 @@ bytes_of_scan h none =
     ap (λ (n : ℕ). n ∷ flat_map scan_component_bytes h.components ++ tail) (sym (length-map h.components (λ (c : ScanComponent). c.id)))
     ∙ ap (λ (rest : List ℕ). length (map (λ c. c.id) h.components) ∷ rest ++ tail) (bytes_of_ids h.components none)
 
--- ILV of a selection is 1, or 0 for one component alone
-interleave_read : (s : ScanSelection) (interleave : ℕ) → IsScanSelection s → interleave ≡ (if s.line then 1 else 0)
+-- ILV of a selection that is not by sample is 1, or 0 for one component alone
+interleave_read : (s : ScanSelection) (interleave : ℕ) → IsScanSelection s → s.by_sample ≡ false → interleave ≡ interleave_of s
     → (interleave ≡ 1) ⊎ ((interleave ≡ 0) × (length s.ids ≡ 1))
-interleave_read s interleave is e = by_line s.line e is.interleaved
+interleave_read s interleave is not_sample e =
+    by_line s.line (e ∙ ap (λ (b : Bool). if b then 2 else if s.line then 1 else 0) not_sample)
+    (λ several. is.interleaved several not_sample)
   where
     by_line : (line : Bool) → interleave ≡ (if line then 1 else 0) → (1 < length s.ids → line ≡ true)
         → (interleave ≡ 1) ⊎ ((interleave ≡ 0) × (length s.ids ≡ 1))
@@ -147,8 +152,8 @@ interleave_read s interleave is e = by_line s.line e is.interleaved
       | inr le ↦ inr (e, let least = is.ids_at_least in omega (arith, le, least))
     ]
 
--- a payload that is read as a scan header is one
-pub scan_payload_read : (s : ScanSelection) (payload : List ℕ) (h : ScanHeader) → HasScanLayout payload h → IsScanHeaderOf s h
+-- a payload that is read as a strict scan header is one
+pub scan_payload_read : (s : ScanSelection) (payload : List ℕ) (h : ScanHeader) → HasScanLayout payload h → IsScanHeaderUnder Strict s h
     → IsScanPayload s.ids payload
 scan_payload_read s payload h layout is =
     let high = h.approximation / 16 in
@@ -158,7 +163,7 @@ scan_payload_read s payload h layout is =
       at_most_four = is.in_range.ids_at_most;
       ids_differ = is.in_range.ids_differ;
       interleave = h.interleave;
-      by_line = interleave_read s h.interleave is.in_range is.interleave;
+      by_line = interleave_read s h.interleave is.in_range is.of_profile is.interleave;
       high = high;
       layout =
           layout.bytes ∙ bytes_of_scan h is.tables
@@ -194,12 +199,17 @@ interleave_again ids interleave (inr (none, single)) = rw none (refl, λ several
 
 -- what the header of a scan selects
 abbrev pub selected : List ℕ → ℕ → ScanSelection
-selected ids interleave = record { ids = ids; line = interleave == 1 }
+selected ids interleave = selection ids (interleave == 1)
 
--- the payload of a scan header has the layout that is read
-pub scan_payload_laid : (ids payload : List ℕ) → AreBytes payload → (is : IsScanPayload ids payload)
-    → (h : ScanHeader) × HasScanLayout payload h × IsScanHeaderOf (selected ids is.interleave) h
-scan_payload_laid ids payload bytes is =
+-- it is a selection of each profile
+selected_of : (profile : Profile) (ids : List ℕ) (interleave : ℕ) → IsOfProfile profile (selected ids interleave)
+selected_of Strict ids interleave = refl
+selected_of Wide ids interleave = tt
+
+-- the payload of a scan header has the layout that is read under each profile
+pub scan_payload_laid : (profile : Profile) (ids payload : List ℕ) → AreBytes payload → (is : IsScanPayload ids payload)
+    → (h : ScanHeader) × HasScanLayout payload h × IsScanHeaderUnder profile (selected ids is.interleave) h
+scan_payload_laid profile ids payload bytes is =
     let h : ScanHeader =
     record { components = map scan_component ids; near = 0; interleave = is.interleave; approximation = 16 * is.high } in
     let tail = 0 ∷ is.interleave ∷ 16 * is.high ∷ [] in
@@ -214,7 +224,7 @@ scan_payload_laid ids payload bytes is =
       components_at_least = omega (arith, count, least);
       components_at_most = omega (arith, count, most);
     } in
-    let fields : IsScanHeaderOf (selected ids is.interleave) h = record {
+    let fields : IsScanHeaderUnder profile (selected ids is.interleave) h = record {
       ids = scan_ids_again ids;
       tables = without_tables ids;
       near = refl;
@@ -225,7 +235,10 @@ scan_payload_laid ids payload bytes is =
         ids_at_most = most;
         ids_are_bytes = ids_are_bytes ids tail (subst AreBytes is.layout bytes).1;
         ids_differ = is.ids_differ;
-        interleaved = again.1;
+        interleaved = λ several e. again.1 several;
+        not_both = λ e. absurd cc;
+        several = λ e. absurd cc;
       };
+      of_profile = selected_of profile ids is.interleave;
     } in
     (h, laid, fields)

@@ -12,8 +12,8 @@ use Rattle.jls_values.specs.Shape.{PictureShape, has_repeat}
 use Rattle.jls_marker.specs.ComponentIndex.{index_of}
 use Rattle.jls_marker.specs.HeaderState.{HeaderState, IsHeaderState}
 use Rattle.jls_marker.specs.Headers.{begin_tests, scan_in, scan_judged, scan_under}
-use Rattle.jls_marker.specs.Scan.{Scan, row_count}
-use Rattle.jls_marker.specs.ScanSelection.{ScanSelection}
+use Rattle.jls_marker.specs.Scan.{Scan, scan_by, row_count}
+use Rattle.jls_marker.specs.ScanSelection.{ScanSelection, selection as selected}
 use Rattle.jls_marker.proofs.Beginning.{are_known, indices_below, begins, ok_scan}
 use Rattle.jls_marker.proofs.FirstFailing.{all_pass}
 use Rattle.jls_marker.proofs.ParamRanges.{params_ok, no_param_fault}
@@ -67,16 +67,16 @@ params_again precision given i =
 -- ---- the scan
 
 -- a scan whose tests pass begins as the relation says
-pub scan_begins : (h : HeaderState) (selection : ScanSelection) (shape : PictureShape) (s : Scan) → h.frame ≡ Some shape
-    → scan_judged shape h.preset h.restart_interval h.scans selection ≡ Ok s → BeginsScan h selection.ids s
-scan_begins h selection shape s framed judged =
+pub scan_begins : (h : HeaderState) (selection : ScanSelection) (shape : PictureShape) (s : Scan) → selection.by_sample ≡ false
+    → h.frame ≡ Some shape → scan_judged shape h.preset h.restart_interval h.scans selection ≡ Ok s → BeginsScan h selection.ids s
+scan_begins h selection shape s not_sample framed judged =
     let made = scan_in shape h.preset h.restart_interval selection in
     let tests = all_pass (begin_tests shape h.preset h.restart_interval h.scans selection) made s judged in
     let below = indices_below shape.ids selection.ids tests.0.0 in
     let begins_made : BeginsScan h selection.ids made = record {
       shape = shape;
       framed = framed;
-      scan_is = refl;
+      scan_is = ap (λ (b : Bool). scan_by b shape made.components made.params h.restart_interval) not_sample;
       in_frame = below;
       ids_are = ids_again shape.ids selection.ids below;
       in_range = params_ok shape.precision h.preset tests.0.1.0;
@@ -87,10 +87,10 @@ scan_begins h selection shape s framed judged =
 
 -- and where the relation lets a scan begin, its tests pass
 pub scan_passes : (h : HeaderState) (ids : List ℕ) (line : Bool) (s : Scan) → IsHeaderState h → BeginsScan h ids s
-    → scan_under h (record { ids = ids; line = line }) h.frame ≡ Ok s
+    → scan_under h (selected ids line) h.frame ≡ Ok s
 scan_passes h ids line s is b =
     let shape = b.shape in
-    let selection : ScanSelection = record { ids = ids; line = line } in
+    let selection : ScanSelection = selected ids line in
     let differ = (is.frame shape b.framed).ids_differ in
     let params = in_force shape.precision h.preset in
     let known = ap (are_known shape.ids) b.ids_are ∙ known_again shape.ids differ s.components b.in_frame in

@@ -1,6 +1,6 @@
 -- What marker segments set is what the headers take of them.
 use Rattle.std.proofs.Common.{◌≡◌, ℕ, ◌+◌, ◌-◌, ◌^◌, ◌<◌, ◌≤◌, true, List, [], ◌∷◌, ◌++◌, length, replicate, Option, Some, None, Result, Ok}
-use Rattle.std.proofs.Common.{Err, ◌⊎◌, refl, sym, ◌∙◌, ap, subst, arith, inl, inr}
+use Rattle.std.proofs.Common.{Err, ◌⊎◌, false, refl, sym, ◌∙◌, ap, subst, arith, inl, inr}
 use Rattle.std.specs.Prelude.{is_none}
 use Rattle.std.specs.List.{AllByRecursion}
 use Rattle.std.specs.Int.{from_be_bytes, w32}
@@ -11,13 +11,15 @@ use Rattle.jls_marker.specs.HeaderState.{HeaderState, IsHeaderState}
 use Rattle.jls_marker.specs.Headers.{accepted, begun, headers_after, scan_under, taking}
 use Rattle.jls_marker.specs.Layouts.{HasRestartLayout, preset_bytes, restart_interval}
 use Rattle.jls_marker.specs.MarkerCodes.{sof55, sos, lse, dri, is_skipped}
-use Rattle.jls_marker.specs.Payloads.{HasLseId, IsPayload}
+use Rattle.jls_marker.specs.Payloads.{HasLseId, IsPayload, IsPayloadUnder}
 use Rattle.jls_marker.specs.Scan.{Scan}
 use Rattle.jls_marker.specs.ScanSelection.{ScanSelection}
 use Rattle.jls_marker.specs.SegmentLaws.{AreBytes}
-use Rattle.jls_marker.specs.Segments.{segment_of}
+use Rattle.jls_marker.specs.Segments.{segment_of, segment_under}
 use Rattle.jls_marker.specs.declared.fault.MarkerFault.{MarkerFault}
 use Rattle.jls_marker.specs.declared.fault.MarkerFault.TheVariants as fault
+use Rattle.jls_marker.specs.declared.profile.Profile.{Profile}
+use Rattle.jls_marker.specs.declared.profile.Profile.TheVariants.{Strict}
 use Rattle.jls_marker.specs.declared.segment.Segment.{Segment}
 use Rattle.jls_marker.specs.declared.segment.Segment.TheVariants as segment
 use Rattle.jls_marker.proofs.FirstFailing.{all_pass, fine_is}
@@ -79,10 +81,10 @@ frame_sets h after code payload scan shape p e =
     (named h code payload sof55 payload x.0 x.1 p.0 refl (sets.frame h shape payload (no_frame h.frame t.0.0) is))
 
 -- a scan that is judged to begin begins under a frame
-judged_begins : (h : HeaderState) (selection : ScanSelection) (s : Scan) (o : Option PictureShape) → h.frame ≡ o
-    → scan_under h selection o ≡ Ok s → BeginsScan h selection.ids s
-judged_begins h selection s None framed e = absurd cc
-judged_begins h selection s (Some shape) framed e = scan_begins h selection shape s framed e
+judged_begins : (h : HeaderState) (selection : ScanSelection) (s : Scan) (o : Option PictureShape) → selection.by_sample ≡ false
+    → h.frame ≡ o → scan_under h selection o ≡ Ok s → BeginsScan h selection.ids s
+judged_begins h selection s None not_sample framed e = absurd cc
+judged_begins h selection s (Some shape) not_sample framed e = scan_begins h selection shape s not_sample framed e
 
 -- a scan that is taken begins
 scan_sets : (h after : HeaderState) (code : ℕ) (payload : List ℕ) (scan : Option Scan) (selection : ScanSelection)
@@ -90,7 +92,7 @@ scan_sets : (h after : HeaderState) (code : ℕ) (payload : List ℕ) (scan : Op
     → Sets h code payload after scan
 scan_sets h after code payload scan selection p e =
     let b = began h after scan (scan_under h selection h.frame) e in
-    let begins = judged_begins h selection b.0 h.frame refl b.1 in
+    let begins = judged_begins h selection b.0 h.frame p.1.2.of_profile refl b.1 in
     let is = scan_payload_read selection payload p.1.0 p.1.1 p.1.2 in
     let x : After = (record h { scans = h.scans + 1 }, Some b.0) in
     let left : x ≡ (after, scan) = ap (λ (a : HeaderState). (a, Some b.0)) (sym b.2) ∙ ap (λ (o : Option Scan). (after, o)) (sym b.3) in
@@ -145,23 +147,24 @@ accepted_sets h after code payload scan (segment.Skipped c) p e =
 -- a segment that is taken sets what it leaves
 taken_sets : (h after : HeaderState) (code : ℕ) (payload : List ℕ) (scan : Option Scan) → AreBytes payload
     → (r : Result Segment MarkerFault) → segment_of code payload ≡ r → taking h r ≡ Ok (after, scan) → Sets h code payload after scan
-taken_sets h after code payload scan bytes (Ok s) is e = accepted_sets h after code payload scan s (is_payload code payload s bytes is) e
+taken_sets h after code payload scan bytes (Ok s) is e =
+    accepted_sets h after code payload scan s (is_payload Strict code payload s bytes is) e
 taken_sets h after code payload scan bytes (Err f) is e = absurd cc
 
 -- ---- what is set is taken
 
 -- a payload of a segment is taken as the segment is
-payload_taken : (h after : HeaderState) (code : ℕ) (payload : List ℕ) (scan : Option Scan) (s : Segment) → IsPayload code payload s
-    → accepted h s ≡ Ok (after, scan) → headers_after h code payload ≡ Ok (after, scan)
+payload_taken : (h after : HeaderState) (code : ℕ) (payload : List ℕ) (scan : Option Scan) (s : Segment)
+    → IsPayloadUnder h.profile code payload s → accepted h s ≡ Ok (after, scan) → headers_after h code payload ≡ Ok (after, scan)
 unfolding headers_after
-payload_taken h after code payload scan s is e = ap (taking h) (is_read code payload s is) ∙ e
+payload_taken h after code payload scan s is e = ap (taking h) (is_read h.profile code payload s is) ∙ e
 
 -- a first frame is accepted
 frame_taken : (h : HeaderState) (shape : PictureShape) → h.frame ≡ None
     → accepted h (segment.Frame shape) ≡ Ok (record h { frame = Some shape }, None)
 frame_taken h shape none = let test : is_none h.frame ≡ true = ap is_none none in rw test refl
 
--- what a segment sets is what the headers take of it
+-- what a segment sets is what the headers take of it, under each profile
 pub sets_taken : (h : HeaderState) (code : ℕ) (payload : List ℕ) (after : HeaderState) (scan : Option Scan)
     → IsHeaderState h → AreBytes payload → Sets h code payload after scan → headers_after h code payload ≡ Ok (after, scan)
 sets_taken _ _ _ _ _ state bytes (sets.frame h shape payload none is) =
@@ -169,7 +172,7 @@ sets_taken _ _ _ _ _ state bytes (sets.frame h shape payload none is) =
     (frame_taken h shape none)
 sets_taken _ _ _ _ _ state bytes (sets.scan h ids payload s is begins) =
     let selection = selected ids is.interleave in
-    payload_taken h _ sos payload (Some s) (segment.Scan selection) (refl, scan_payload_laid ids payload bytes is)
+    payload_taken h _ sos payload (Some s) (segment.Scan selection) (refl, scan_payload_laid h.profile ids payload bytes is)
     (ap (begun h) (scan_passes h ids selection.line s state begins))
 sets_taken _ _ _ _ _ state bytes (sets.presets h p below) =
     let range : ArePresetParameters p = record {
@@ -193,13 +196,15 @@ sets_taken _ _ _ _ _ state bytes (sets.restart h payload least most) =
 sets_taken _ _ _ _ _ state bytes (sets.skipped h code payload e) =
     payload_taken h h code payload None (segment.Skipped code) (refl, inl e) refl
 
--- what the headers take of a segment is what it sets
-pub headers_set : (h after : HeaderState) (code : ℕ) (payload : List ℕ) (scan : Option Scan) → AreBytes payload
+-- what strict headers take of a segment is what it sets
+pub headers_set : (h after : HeaderState) (code : ℕ) (payload : List ℕ) (scan : Option Scan) → h.profile ≡ Strict → AreBytes payload
     → headers_after h code payload ≡ Ok (after, scan) → Sets h code payload after scan
 unfolding headers_after
-headers_set h after code payload scan bytes e = taken_sets h after code payload scan bytes (segment_of code payload) refl e
+headers_set h after code payload scan strict bytes e =
+    taken_sets h after code payload scan bytes (segment_of code payload) refl
+    (ap (λ (profile : Profile). taking h (segment_under profile code payload)) (sym strict) ∙ e)
 
--- the law: headers in their ranges take a segment exactly where it sets something, and that is what it sets
+-- the law: strict headers in their ranges take a segment exactly where it sets something, and that is what it sets
 pub segments_set_the_headers : SegmentsSetTheHeaders
-segments_set_the_headers h after code payload scan state bytes =
-    (headers_set h after code payload scan bytes, sets_taken h code payload after scan state bytes)
+segments_set_the_headers h after code payload scan strict state bytes =
+    (headers_set h after code payload scan strict bytes, sets_taken h code payload after scan state bytes)

@@ -1,5 +1,5 @@
 -- The scans of a copy (T.81 B.1.1, B.2.1; T.87 C.2.1). A copy is SOI, then units: a marker segment, or an SOS with its scan data. It ends
--- where no unit begins: at EOI, at a fault, or with the input. That a fault ends it is this profile's choice.
+-- where no unit begins: at EOI, at a fault, or with the input. That a fault ends it is this project's choice.
 use Rattle.std.specs.Prelude.{◌≡◌, ℕ, ◌+◌, ◌<◌, ◌^◌, Bool, true, false, List, [], ◌∷◌, ◌++◌, length, map, Some, None}
 use Rattle.std.specs.List.{AllByRecursion, flat_map}
 use Rattle.jls_values.specs.Shape.{PictureShape}

@@ -1,4 +1,5 @@
--- What a marker segment without fault sets: a relation between the headers before it and after it (T.81 B.2; T.87 C.2).
+-- What a marker segment without fault sets under the strict profile: a relation between the headers before it and after it (T.81 B.2;
+-- T.87 C.2).
 use Rattle.std.specs.Prelude.{◌≡◌, ℕ, ◌*◌, ◌-◌, ◌<◌, ◌≤◌, ◌^◌, ◌+◌, true, false, List, [], ◌∷◌, ◌++◌, length, map, get_or, Option, Some}
 use Rattle.std.specs.Prelude.{None, ◌⊎◌, replicate}
 use Rattle.std.specs.List.{AllByRecursion, flat_map, zip}
@@ -13,7 +14,7 @@ use Rattle.jls_marker.specs.MarkerCodes.{sof55, sos, lse, dri, is_skipped}
 use Rattle.jls_marker.specs.Scan.{Scan, scan_with, row_count}
 
 -- SOF55 for a picture of this shape: P, Y, X, Nf, and for each component Ci, Hi and Vi of 1, and Tqi (T.81 B.2.2; T.87 C.2.2). That Tqi is
--- free, and that Y isn't 0, is this profile's choice
+-- free, and that Y isn't 0, is this project's choice
 pub record IsFramePayload (shape : PictureShape) (payload : List ℕ) : Type 0 where
   pub is_shape : IsShape shape
   pub tables : List ℕ
@@ -22,7 +23,7 @@ pub record IsFramePayload (shape : PictureShape) (payload : List ℕ) : Type 0 w
       ++ length shape.ids ∷ flat_map (λ c. c.0 ∷ 0x11 ∷ c.1 ∷ []) (zip shape.ids tables)
 
 -- SOS for these components: Ns, and for each component Csj and no mapping table; NEAR of 0; ILV; Ah, and Al of 0 (T.81 B.2.3; T.87 C.2.3).
--- ILV is 1, or for one component 0. That it may be 1 for one component, and that Ah is free, is this profile's choice
+-- ILV is 1, or for one component 0. That it may be 1 for one component, and that Ah is free, is this project's choice
 pub record IsScanPayload (ids payload : List ℕ) : Type 0 where
   pub at_least_one : 1 ≤ length ids
   pub at_most_four : length ids ≤ 4
@@ -33,7 +34,7 @@ pub record IsScanPayload (ids payload : List ℕ) : Type 0 where
   pub layout : payload ≡ length ids ∷ flat_map (λ id. id ∷ 0 ∷ []) ids ++ 0 ∷ interleave ∷ 16 * high ∷ []
 
 -- The scan that an SOS with these identifiers begins (T.81 B.2.3; T.87 C.2.4.1.1). Its components are in the frame, and its parameters are
--- in the ranges of T.87, table C.1. Three things are this profile's choice: the components may stand in any order; no restart interval has
+-- in the ranges of T.87, table C.1. Three things are this project's choice: the components may stand in any order; no restart interval has
 -- more than 2^28 samples, of which the first is the longest; and there are at most sixteen scans
 pub record BeginsScan (h : HeaderState) (ids : List ℕ) (s : Scan) : Type 0 where
   pub shape : PictureShape

@@ -5,7 +5,7 @@ ghost use Rattle.jls_copy_laws.specs.CopyLaws.{ScansAreOfTheCourse, OneListOfSca
 
 use jls_copy::every_copy_has_a_course;
 
-/// A law: headers in their ranges take a marker segment exactly where it is without fault, and it leaves and begins what `Sets` says.
+/// A law: strict headers in their ranges take a marker segment exactly where it is without fault. It leaves and begins what `Sets` says.
 pub fn segments_set_the_headers()
     ensures { SegmentsSetTheHeaders }
 {}

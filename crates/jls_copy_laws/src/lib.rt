@@ -1,4 +1,5 @@
-//! What a copy gives, as relations in the terms of the standards: what its marker segments set, which scans it has, and which readings.
+//! What a copy gives under the strict profile, as relations in the terms of the standards: what its marker segments set, which scans it
+//! has, and which readings.
 //! Each law is a function that changes nothing and whose contract is the law. They say that the reader of copies gives just that.
 //!
 //! Definitions and laws, and no other code. The definitions say in relations what a copy gives, for a reader who knows the standards:

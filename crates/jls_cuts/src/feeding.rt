@@ -3,7 +3,7 @@
 ghost use Rattle.std.specs.Prelude.{◌≡◌, ◌+◌, ◌-◌, ◌^◌, ◌≤◌, length, IfSome};
 ghost use Rattle.jls_diff.specs.PartsOf.{parts_of};
 
-use jls_copy::CopyReader;
+use jls_copy::WideReader;
 use jls_diff::Parts;
 use std::alloc::AllocError;
 
@@ -26,7 +26,7 @@ pub(crate) struct Life {
 }
 
 /// Feeds a reader. `Err` comes where memory is refused, and where it would be fed too much.
-pub(crate) fn feed(reader: &mut CopyReader, bytes: &[u8]) -> Result<(), AllocError> {
+pub(crate) fn feed(reader: &mut WideReader, bytes: &[u8]) -> Result<(), AllocError> {
     let fed = reader.fed();
     if fed > MOST_BYTES || bytes.len() as u64 > MOST_BYTES - fed {
         return Err(AllocError);
@@ -35,7 +35,7 @@ pub(crate) fn feed(reader: &mut CopyReader, bytes: &[u8]) -> Result<(), AllocErr
 }
 
 /// Whether it is known that no file without a fault begins with the bytes fed.
-pub(crate) fn is_dead(reader: &CopyReader) -> bool {
+pub(crate) fn is_dead(reader: &WideReader) -> bool {
     reader.has_faulty_piece() || reader.is_piece_broken()
 }
 
@@ -51,7 +51,7 @@ impl Life {
     /// Feeds a reader until it is dead.
     pub(crate) fn go_on(
         &mut self,
-        reader: &mut CopyReader,
+        reader: &mut WideReader,
         bytes: &[u8],
     ) -> Result<(), AllocError> {
         let mut rest = bytes;
@@ -72,7 +72,7 @@ impl Life {
     /// Feeds a reader what all copies have from a part on, up to the next in which they differ, until it is dead.
     pub(crate) fn go_through(
         &mut self,
-        reader: &mut CopyReader,
+        reader: &mut WideReader,
         parts: &Parts<'_>,
         from: usize,
     ) -> Result<(), AllocError> {

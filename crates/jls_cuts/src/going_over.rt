@@ -4,7 +4,7 @@ ghost use Rattle.std.specs.Prelude.{◌≡◌, ◌<◌, ◌≤◌, length};
 ghost use Rattle.jls_diff.specs.PartsOf.{part_of, parts_of};
 
 use crate::feeding::{Life, feed, is_dead};
-use jls_copy::CopyReader;
+use jls_copy::WideReader;
 use jls_diff::Parts;
 use std::alloc::{AllocError, Global};
 
@@ -45,13 +45,13 @@ pub(crate) struct Stretch<'p, 'a> {
 struct Stop {
     /// How many bytes of the stretch it was fed.
     at: usize,
-    reader: CopyReader,
+    reader: WideReader,
 }
 
 /// A reader that was fed a stretch, and what all copies have after it.
 #[derive(Drop)]
 pub(crate) struct Through {
-    pub(crate) reader: CopyReader,
+    pub(crate) reader: WideReader,
     /// Where it went over, as an offset in the first copy.
     pub(crate) cut: usize,
 }
@@ -99,7 +99,7 @@ impl<'p, 'a> Stretch<'p, 'a> {
     /// Feeds a reader a copy's bytes from a byte on, and what follows the stretch, until it is dead.
     fn feed_rest(
         self,
-        reader: &mut CopyReader,
+        reader: &mut WideReader,
         copy: usize,
         at: usize,
     ) -> Result<Life, AllocError> {
@@ -116,7 +116,7 @@ impl<'p, 'a> Stretch<'p, 'a> {
     }
 
     /// The last clones of a reader that is fed a copy's bytes until it is dead, in their order.
-    fn stops(self, alloc: Global, from: &CopyReader, copy: usize) -> Result<Vec<Stop>, AllocError> {
+    fn stops(self, alloc: Global, from: &WideReader, copy: usize) -> Result<Vec<Stop>, AllocError> {
         let mut reader = from.try_clone()?;
         let mut stops = Vec::new(alloc);
         let mut next = 0usize;
@@ -186,7 +186,7 @@ impl Search {
     fn try_at(
         &mut self,
         stretch: Stretch<'_, '_>,
-        from: &CopyReader,
+        from: &WideReader,
         at: usize,
         copy: usize,
     ) -> Result<(), AllocError> {
@@ -234,7 +234,7 @@ impl Search {
     pub(crate) fn through(
         &mut self,
         stretch: Stretch<'_, '_>,
-        from: &CopyReader,
+        from: &WideReader,
         copy: usize,
     ) -> Result<Vec<Through>, AllocError> {
         let stops = stretch.stops(self.alloc, from, copy)?;

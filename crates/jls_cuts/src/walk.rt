@@ -5,7 +5,7 @@ ghost use Rattle.jls_diff.specs.PartsOf.{part_of, parts_of};
 
 use crate::feeding::Life;
 use crate::going_over::{Search, Stretch, Through};
-use jls_copy::CopyReader;
+use jls_copy::WideReader;
 use jls_diff::{Part, Parts};
 use std::alloc::{AllocError, Global};
 
@@ -19,7 +19,7 @@ const SHORT: usize = 16;
 #[derive(Drop)]
 struct Path {
     /// A reader that was fed its bytes.
-    reader: CopyReader,
+    reader: WideReader,
     /// Where it goes over, as offsets in the first copy.
     cuts: Vec<usize>,
 }
@@ -145,7 +145,7 @@ fn go_over(
 
 /// The paths of no part but those that all copies have alike at the start.
 fn begin(alloc: Global, parts: &Parts<'_>) -> Result<Vec<Path>, AllocError> {
-    let mut reader = CopyReader::new(alloc);
+    let mut reader = WideReader::new(alloc);
     let mut life = Life::new();
     life.go_through(&mut reader, parts, 0)?;
     let mut living = Vec::new(alloc);

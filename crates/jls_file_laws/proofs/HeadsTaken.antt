@@ -16,16 +16,17 @@ use Rattle.jls_context.proofs.Sizes.{maxval_small}
 use Rattle.jls_marker.specs.MarkerCodes.{has_segment}
 use Rattle.jls_marker.specs.ComponentIndex.{index_of}
 use Rattle.jls_values.specs.PresetParameters.{PresetParameters, no_presets}
-use Rattle.jls_marker.specs.ScanSelection.{ScanSelection, IsScanSelection}
+use Rattle.jls_marker.specs.ScanSelection.{ScanSelection, IsScanSelection, selection, interleave_of}
 use Rattle.jls_marker.specs.HeaderState.{HeaderState, no_headers}
 use Rattle.jls_marker.specs.Headers.{headers_after, accepted, taking, begun, scan_judged, scan_in, begin_tests}
 use Rattle.jls_marker.specs.Scan.{Scan, scan_with, row_count}
 use Rattle.jls_marker.specs.Written as written
+use Rattle.jls_marker.specs.declared.profile.Profile.TheVariants.{Strict}
 use Rattle.jls_marker.specs.declared.segment.Segment.{Segment}
 use Rattle.jls_marker.specs.declared.segment.Segment.TheVariants as segment
 use Rattle.jls_marker.proofs.FirstFailing.{none_fails}
 use Rattle.jls_marker.proofs.ParamRanges.{params_there, no_param_fault}
-use Rattle.jls_marker.proofs.SegmentLaws.{written_reads_back}
+use Rattle.jls_marker.proofs.SegmentLaws.{written_reads_back_under}
 use Rattle.jls_marker.proofs.Indices.{index_again}
 use Rattle.jls_write.specs.Picture.{WholePicture}
 use Rattle.jls_write.specs.Options.{WriteOptions, components_of_scan, rows_of_interval}
@@ -109,7 +110,7 @@ pairs_length (x ∷ ids) = let e = pairs_length ids in omega (arith, e)
 
 scan_short : (s : ScanSelection) → length s.ids ≤ 4 → length (written.scan_payload s) + 2 < 2 ^ 16
 scan_short s few =
-    let p = pairs_length s.ids in let t = tail_length (flat_map (λ id. id ∷ 0 ∷ []) s.ids) (if s.line then 1 else 0) in
+    let p = pairs_length s.ids in let t = tail_length (flat_map (λ id. id ∷ 0 ∷ []) s.ids) (interleave_of s) in
     omega (arith, p, t, few)
 
 frame_short : (s : PictureShape) → length s.ids ≤ 4 → length (written.frame_payload s) + 2 < 2 ^ 16
@@ -184,10 +185,10 @@ dri_code : has_segment 0xDD ≡ true
 unfolding has_segment
 dri_code = refl
 
-step : (h : HeaderState) (s : Segment) → written.IsSegment s → written.CanBeWritten s
+step : (h : HeaderState) (s : Segment) → written.IsSegmentUnder h.profile s → written.CanBeWritten s
     → headers_after h (written.code_of s) (written.payload_of s) ≡ accepted h s
 unfolding headers_after
-step h s is can = ap (taking h) (written_reads_back s is can)
+step h s is can = ap (taking h) (written_reads_back_under h.profile s is can)
 
 rows_zero : (h r : ℕ) → (if r == 0 then h else min r (h - 0 * r)) ≡ (if r == 0 then h else min r h)
 rows_zero h zero = refl
@@ -196,7 +197,7 @@ rows_zero h (suc r) =
 
 module _ (pic : WholePicture) (o : WriteOptions) (can : IsWritable pic o) where
   abbrev taken_so : PresetParameters → ℕ → ℕ → HeaderState
-  taken_so pr r i = record { frame = Some pic.shape; preset = pr; restart_interval = r; scans = i }
+  taken_so pr r i = record { profile = Strict; frame = Some pic.shape; preset = pr; restart_interval = r; scans = i }
 
   restart_steps : (pr : PresetParameters) → Steps (taken_so pr 0 0) (restart_segments o.restart_interval) (taken_so pr o.restart_interval 0)
   restart_steps pr =
@@ -238,11 +239,11 @@ module _ (pic : WholePicture) (o : WriteOptions) (can : IsWritable pic o) where
     abbrev now : ℕ → HeaderState
     now i = taken_so pr o.restart_interval i
 
-    abbrev selection : List ℕ → ScanSelection
-    selection cs = record { ids = ids_at pic.shape.ids cs; line = nat_lt 1 (length cs) }
+    abbrev scan_selection : List ℕ → ScanSelection
+    scan_selection cs = selection (ids_at pic.shape.ids cs) (nat_lt 1 (length cs))
 
     selected : (cs : List ℕ) → IsScanOf (length pic.shape.ids) cs → has_repeat (ids_at pic.shape.ids cs) ≡ false
-        → IsScanSelection (selection cs)
+        → IsScanSelection (scan_selection cs)
     selected cs are differ =
         let size = length-map cs (λ c. get_or pic.shape.ids c 0) in
         let few = can.whole.shape.ids_at_most in
@@ -251,7 +252,9 @@ module _ (pic : WholePicture) (o : WriteOptions) (can : IsWritable pic o) where
           ids_at_most = omega (arith, size, are.1, few);
           ids_are_bytes = bytes_at pic.shape.ids cs can.whole.shape.ids_are_bytes are.2;
           ids_differ = differ;
-          interleaved = λ many. lt-ltb 1 (length cs) (omega (arith, size, many));
+          interleaved = λ many by_line. lt-ltb 1 (length cs) (omega (arith, size, many));
+          not_both = λ (e : false ≡ true). absurd cc;
+          several = λ (e : false ≡ true). absurd cc;
         }
 
     small_enough : (cs : List ℕ) → length cs ≡ components_of_scan pic.shape o
@@ -263,11 +266,12 @@ module _ (pic : WholePicture) (o : WriteOptions) (can : IsWritable pic o) where
         rw (size, rows) can.fit.interval
 
     judged : (cs : List ℕ) (i : ℕ) → i < 16 → IsScanOf (length pic.shape.ids) cs → length cs ≡ components_of_scan pic.shape o
-        → scan_judged pic.shape pr o.restart_interval i (selection cs) ≡ Ok (scan_of pic o cs)
+        → scan_judged pic.shape pr o.restart_interval i (scan_selection cs) ≡ Ok (scan_of pic o cs)
     judged cs i few are sized =
         let differ = can.whole.shape.ids_differ in
         let under : in_force pic.shape.precision pr ≡ o.params = sym (params_there pic.shape.precision pr o.params asks_them).0 in
-        none_fails (begin_tests pic.shape pr o.restart_interval i (selection cs)) (scan_in pic.shape pr o.restart_interval (selection cs))
+        none_fails (begin_tests pic.shape pr o.restart_interval i (scan_selection cs))
+        (scan_in pic.shape pr o.restart_interval (scan_selection cs))
         (known pic.shape.ids differ cs are.2, (ap is_ok asks_them, (le-leb _ _ (small_enough cs sized), (lt-ltb i 16 few, tt))))
         ∙ ap (λ (s : Scan). Ok s)
         (ap (λ (xs : List ℕ). scan_with pic.shape xs (in_force pic.shape.precision pr) o.restart_interval)
@@ -278,7 +282,7 @@ module _ (pic : WholePicture) (o : WriteOptions) (can : IsWritable pic o) where
         → length cs ≡ components_of_scan pic.shape o
         → headers_after (now i) 0xDA (written.payload_of (scan_segment pic cs)) ≡ Ok (now (i + 1), Some (scan_of pic o cs))
     scan_step cs i few are differ sized =
-        step (now i) (segment.Scan (selection cs)) (selected cs are differ) tt ∙ ap (begun (now i)) (judged cs i few are sized)
+        step (now i) (segment.Scan (scan_selection cs)) (selected cs are differ, refl) tt ∙ ap (begun (now i)) (judged cs i few are sized)
 
     scan_steps : (scans : List (List ℕ)) (i : ℕ) → i + length scans ≤ 16 → AllByRecursion (IsScanOf (length pic.shape.ids)) scans
         → AllByRecursion (λ cs. has_repeat (ids_at pic.shape.ids cs) ≡ false) scans
@@ -288,7 +292,7 @@ module _ (pic : WholePicture) (o : WriteOptions) (can : IsWritable pic o) where
     scan_steps (cs ∷ scans) i few are differ sized =
         let e : i + 1 + length scans ≡ i + suc (length scans) = omega arith in (
           now (i + 1),
-          (sos_code, scan_short (selection cs) (selected cs are.0 differ.0).ids_at_most),
+          (sos_code, scan_short (scan_selection cs) (selected cs are.0 differ.0).ids_at_most),
           scan_step cs i (omega (arith, few)) are.0 differ.0 sized.0,
           rw e at (scan_steps scans (i + 1) (omega (arith, few)) are.1 differ.1 sized.1),
         )

@@ -1,6 +1,6 @@
 -- A written file consists of bytes.
 use Rattle.std.proofs.Common.{ℕ, zero, suc, ◌+◌, ◌-◌, ◌<◌, ◌≤◌, Bool, true, false, cond, List, [], ◌∷◌, ◌++◌, map, length, arith}
-use Rattle.std.specs.Prelude.{◌==◌, get_or, drop, if◌then◌else◌}
+use Rattle.std.specs.Prelude.{◌==◌, nat_lt, get_or, drop, if◌then◌else◌}
 use Rattle.std.specs.Int.{Width, w16, w32, to_be_bytes, byte_len, byte_at, bytes_high_first}
 use Rattle.std.specs.List.{flat_map, AllByRecursion, range_with_len}
 use Rattle.std.proofs.Math.Nat.{mod-lt}
@@ -12,7 +12,7 @@ use Rattle.jls_bits.proofs.Padding.{pad_is_pad}
 use Rattle.jls_bits.proofs.Appending.{bytes_append}
 use Rattle.jls_interval.specs.Code.{code}
 use Rattle.jls_marker.specs.Scan.{Scan, intervals}
-use Rattle.jls_marker.specs.ScanSelection.{ScanSelection}
+use Rattle.jls_marker.specs.ScanSelection.{ScanSelection, selection, interleave_of}
 use Rattle.jls_marker.specs.Written.{code_of, payload_of, unneeded_bytes}
 use Rattle.jls_marker.specs.declared.segment.Segment.{Segment}
 use Rattle.jls_marker.specs.declared.segment.Segment.TheVariants as segment
@@ -78,9 +78,10 @@ scan_components ids h =
     (all_weaker (λ id. id < 256) (λ id. AreBytes (id ∷ 0 ∷ [])) ids (λ id small. (small, (omega arith, tt))) h)
 
 -- ILV is a byte
-interleave_small : (line : Bool) → (if line then 1 else 0) < 256
-interleave_small true = omega arith
-interleave_small false = omega arith
+interleave_small : (by_sample line : Bool) → (if by_sample then 2 else if line then 1 else 0) < 256
+interleave_small true line = omega arith
+interleave_small false true = omega arith
+interleave_small false false = omega arith
 
 -- marker, length and payload are bytes where the code and the payload are
 segment_joined : (s : Segment) → code_of s < 256 → AreBytes (payload_of s) → AreBytes (bytes_of s)
@@ -106,8 +107,8 @@ frame_bytes s is =
 -- SOS of few components consists of bytes
 selection_bytes : (s : ScanSelection) → length s.ids ≤ 4 → AreBytes s.ids → AreBytes (bytes_of (segment.Scan s))
 selection_bytes s few are =
-    let end : List ℕ = 0 ∷ (if s.line then 1 else 0) ∷ 0 ∷ [] in
-    let small : AreBytes end = (omega arith, (interleave_small s.line, (omega arith, tt))) in
+    let end : List ℕ = 0 ∷ interleave_of s ∷ 0 ∷ [] in
+    let small : AreBytes end = (omega arith, (interleave_small s.by_sample s.line, (omega arith, tt))) in
     let components = flat_map (λ id. id ∷ 0 ∷ []) s.ids in
     segment_joined (segment.Scan s) (omega arith) (omega (arith, few), bytes_append components end (scan_components s.ids are) small)
 
@@ -165,7 +166,8 @@ module _ (pic : WholePicture) (is : IsShape pic.shape) (s : Scan) (few : length 
   sos_bytes : AreBytes (bytes_of (scan_segment pic s.components))
   sos_bytes =
       let size = length-map s.components (λ c. get_or pic.shape.ids c 0) in
-      selection_bytes _ (omega (arith, size, few)) (ids_are_bytes pic.shape.ids s.components is.ids_are_bytes)
+      let head : ScanSelection = selection (map (λ c. get_or pic.shape.ids c 0) s.components) (nat_lt 1 (length s.components)) in
+      selection_bytes head (omega (arith, size, few)) (ids_are_bytes pic.shape.ids s.components is.ids_are_bytes)
 
   -- a restart marker consists of bytes
   restart_marker_bytes : (k : ℕ) → AreBytes (restart_marker k)

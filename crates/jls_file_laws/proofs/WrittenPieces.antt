@@ -13,13 +13,15 @@ use Rattle.jls_bits.specs.Pad.{IsPad}
 use Rattle.jls_bits.proofs.Markers.{below_markers}
 use Rattle.jls_bits.proofs.Padding.{pad_is_pad}
 use Rattle.jls_interval.specs.Code.{code}
-use Rattle.jls_interval.specs.Lines.{IsLine, AreLines}
+use Rattle.jls_interval.specs.Lines.{IsLine, AreLines, interval_shape}
 use Rattle.jls_interval.specs.Reads.{packed}
 use Rattle.jls_interval.proofs.PackedLines.{packed_reads}
-use Rattle.jls_interval.proofs.PiecesReadOnce.{reads_once, read_not_long}
+use Rattle.jls_piece.proofs.LinePieces.{reads_from}
+use Rattle.jls_piece.proofs.PieceReads.{reads_once, read_not_long}
 use Rattle.jls_copy.specs.ScanData.{IsPiece, closes_piece}
 use Rattle.jls_marker.specs.Scan.{Scan, row_count, first_row}
 use Rattle.jls_copy.specs.Numbers.{Interval}
+use Rattle.jls_copy.specs.IntervalOf.{interval_of}
 use Rattle.jls_copy.specs.Pieces.{PieceOutcome, Lines, Fault, IsOutcomeAt}
 use Rattle.jls_copy.specs.declared.piece.PieceKind.TheVariants as kind
 use Rattle.jls_write.specs.Picture.{WholePicture, line_of}
@@ -89,17 +91,18 @@ module _ (pic : WholePicture) (o : WriteOptions) (can : IsWritable pic o) (compo
 
   pub reads_lines : IsOutcomeAt plan (Interval k) (interval_code pic plan k) (Lines (interval_lines pic plan k))
   reads_lines =
-      packed_reads o.params pic.shape.width (length components) (row_count plan k * length components)
-      (interval_lines pic plan k) intervals_fit
+      let count = row_count plan k * length components in
+      reads_from (interval_shape o.params pic.shape.width (length components) count) (interval_code pic plan k) (interval_lines pic plan k)
+      (packed_reads o.params pic.shape.width (length components) count (interval_lines pic plan k) intervals_fit)
 
   pub only_lines : (out : PieceOutcome) → IsOutcomeAt plan (Interval k) (interval_code pic plan k) out
       → out ≡ Lines (interval_lines pic plan k)
   only_lines (Lines lines) h =
       ap Lines
-      (reads_once o.params can.params pic.shape.width (length components) (row_count plan k * length components)
-      can.whole.shape.width_at_least (interval_code pic plan k) lines (interval_lines pic plan k) h reads_lines)
+      (reads_once (interval_of plan k) can.params can.whole.shape.width_at_least (interval_code pic plan k) lines
+      (interval_lines pic plan k) h reads_lines)
   only_lines (Fault kind.Long) h =
-      absurd (read_not_long o.params can.params pic.shape.width (length components) (row_count plan k * length components)
-      can.whole.shape.width_at_least (interval_code pic plan k) (interval_lines pic plan k) reads_lines h)
+      absurd (read_not_long (interval_of plan k) can.params can.whole.shape.width_at_least (interval_code pic plan k)
+      (interval_lines pic plan k) reads_lines h)
   only_lines (Fault kind.Broken) h = absurd (h.not_read (interval_lines pic plan k) reads_lines)
   only_lines (Fault kind.Beyond) h = absurd h

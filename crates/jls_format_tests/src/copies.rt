@@ -102,7 +102,7 @@ pub fn reported(alloc: Global, read: Result<CopyRead, CopyFault>) -> Result<Stri
 }
 
 /// Makes sure that a copy gives this, in slices of every size.
-fn check_copy(rt: &impl Abort, alloc: Global, bytes: &[u8], wanted: &str) -> Result<(), Fail> {
+pub fn check_copy(rt: &impl Abort, alloc: Global, bytes: &[u8], wanted: &str) -> Result<(), Fail> {
     for size in SIZES {
         let read = read_in_pieces(alloc, bytes, size);
         assert!(rt;

@@ -5,6 +5,7 @@
 //! - `headers`, `reading`, `writing`: marker segments
 //! - `partial`, `texts`, `merged_texts`: partial pictures
 //! - `clones`, `copies`, `cuts`, `known`: what whole copies give, and where scan data can be cut, on known values
+//! - `profiles`: what whole copies give under each profile
 #![tactic(auto)]
 
 #[cfg(test)]
@@ -27,6 +28,8 @@ mod known;
 mod merged_texts;
 #[cfg(test)]
 mod partial;
+#[cfg(test)]
+mod profiles;
 #[cfg(test)]
 mod reading;
 #[cfg(test)]

@@ -54,6 +54,41 @@ fn scans_are_judged_in_order(rt: HostRuntime) {
     }
 }
 
+/// The number of the fault of a scan header under a profile, or 0.
+fn scan_fault_under(profile: Profile, payload: &[u8]) -> u8 {
+    match read_segment_under(profile, 0xDA, payload) {
+        Ok(_) => 0,
+        Err(fault) => fault.number(),
+    }
+}
+
+/// A scan header, and the numbers of its faults under the strict profile and under the wide one.
+#[test]
+fn scans_are_judged_under_both_profiles(rt: HostRuntime) {
+    let rows: [(&[u8], u8, u8); 10] = [
+        (&[2, 1, 0, 2, 0, 0, 1, 0], 0, 0),
+        (&[2, 1, 0, 2, 0, 0, 2, 0], 7, 0),
+        (&[4, 1, 0, 2, 0, 3, 0, 4, 0, 0, 2, 0x20], 7, 0),
+        (&[2, 1, 0, 2, 0, 0, 0, 0], 7, 7),
+        (&[2, 1, 0, 2, 0, 0, 3, 0], 7, 7),
+        (&[1, 1, 0, 0, 2, 0], 7, 7),
+        (&[2, 1, 0, 2, 0, 0, 2, 1], 7, 9),
+        (&[2, 1, 0, 2, 0, 1, 2, 0], 6, 6),
+        (&[2, 1, 0, 2, 7, 1, 2, 0], 8, 8),
+        (&[2, 1, 0, 1, 0, 0, 2, 0], 11, 11),
+    ];
+    for (payload, strict, wide) in rows {
+        assert!(rt;
+            scan_fault_under(Profile::Strict, payload) == strict,
+            "{payload:?}"
+        );
+        assert!(rt;
+            scan_fault_under(Profile::Wide, payload) == wide,
+            "{payload:?}"
+        );
+    }
+}
+
 #[test]
 fn other_segments_are_judged_in_order(rt: HostRuntime) {
     let rows: [(u8, &[u8], u8); 15] = [
@@ -119,5 +154,19 @@ fn selections_are_refused_in_order(rt: HostRuntime) {
     ];
     for (ids, line, fault) in rows {
         assert!(rt; ScanHead::new(ids, line).err() == fault, "{ids:?}");
+    }
+}
+
+#[test]
+fn selections_by_sample_are_refused_in_order(rt: HostRuntime) {
+    let rows: [(&[u8], Option<MarkerFault>); 5] = [
+        (&[], Some(MarkerFault::Length)),
+        (&[1, 1, 1, 1, 1], Some(MarkerFault::Length)),
+        (&[1, 2, 1], Some(MarkerFault::RepeatedComponent)),
+        (&[1], Some(MarkerFault::Interleave)),
+        (&[1, 2, 3, 4], None),
+    ];
+    for (ids, fault) in rows {
+        assert!(rt; ScanHead::new_by_sample(ids).err() == fault, "{ids:?}");
     }
 }

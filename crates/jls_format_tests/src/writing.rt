@@ -1,5 +1,5 @@
 //! Segments that are written, against bytes that were made by hand and by CharLS 2.4.1, which `interop/charls` calls: its files of
-//! pictures of 4x2 with one component, of 2x2 with three by line, and of 3x1 of 12 bits with RESET 32.
+//! pictures of 4x2 with one component, of 2x2 with three by line, of 4x3 with three by sample, and of 3x1 of 12 bits with RESET 32.
 
 ghost use Rattle.jls_marker.specs.Written as written;
 
@@ -80,6 +80,16 @@ fn charls_writes_three_components_alike(rt: HostRuntime) -> Result<(), Fail> {
     assert!(rt; bytes_of(rt.alloc(), &scan)?.get(4..) == Some(scan_payload.as_slice()));
     assert!(rt; read_segment(0xF7, &frame_payload) == Ok(frame));
     assert!(rt; read_segment(0xDA, &scan_payload) == Ok(scan));
+    Ok(())
+}
+
+#[test]
+fn charls_writes_a_scan_by_sample_alike(rt: HostRuntime) -> Result<(), Fail> {
+    let scan = Segment::Scan(ScanHead::new_by_sample(&[1, 2, 3])?);
+    let payload = [3, 1, 0, 2, 0, 3, 0, 0, 2, 0];
+    assert!(rt; bytes_of(rt.alloc(), &scan)?.get(4..) == Some(payload.as_slice()));
+    assert!(rt; read_segment(0xDA, &payload) == Err(MarkerFault::Interleave));
+    assert!(rt; read_segment_under(Profile::Wide, 0xDA, &payload) == Ok(scan));
     Ok(())
 }
 

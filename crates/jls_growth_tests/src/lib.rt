@@ -6,7 +6,7 @@
 //! - `ten`, `four`, `coded`: pictures of known lines, and their files
 //! - `room`: a writer that grows nothing
 //! - `readings`: pictures of equal samples, and their texts
-//! - `sets`, `partial`, `bits`, `interval`, `copies`, `writing`: the tests of single calls
+//! - `sets`, `partial`, `bits`, `interval`, `copies`, `by_sample`, `writing`: the tests of single calls
 //! - `files`, `pairs`: files in memory, and damaged copies
 //! - `searching`, `running`, `splicing`: the tests of the searches, and of whole runs of both programs
 //! - `mending`: the test of copies in memory that a call mends
@@ -14,6 +14,8 @@
 
 #[cfg(test)]
 mod bits;
+#[cfg(test)]
+mod by_sample;
 #[cfg(test)]
 mod coded;
 #[cfg(test)]

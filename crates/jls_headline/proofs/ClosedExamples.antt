@@ -1,11 +1,9 @@
 -- What a reader gives of each of the two copies, as values. So the examples that ask for what was read of them stand with nothing assumed.
-use Rattle.std.proofs.Common.{ℕ, List, [], ◌∷◌, ◌++◌, length, take, None, refl, lit≤}
+use Rattle.std.proofs.Common.{ℕ, false, List, [], ◌∷◌, ◌++◌, length, take, None, refl, lit<}
 use Rattle.jls_values.specs.OrderedSet as set
-use Rattle.jls_interval.specs.Lines.{interval_shape}
-use Rattle.jls_interval.specs.Reads.{IsBroken}
-use Rattle.jls_interval.specs.declared.line_reader.OpenEvent.TheVariants.{NotBegun}
-use Rattle.jls_interval.proofs.Decoding.{working_start, working_ends}
-use Rattle.jls_interval.proofs.Finishing.{broken_bits}
+use Rattle.jls_piece.specs.Lines.{piece_shape}
+use Rattle.jls_piece.specs.Reads.{IsBroken}
+use Rattle.jls_piece.proofs.PieceReads.{empty_is_broken}
 use Rattle.jls_partial.specs.Partial.{PartialPicture, without_sources, nothing_known, union, with_source}
 use Rattle.jls_partial.specs.Reading.{reading_of, reading_cmp}
 use Rattle.jls_copy.specs.CopyReads.{CopyReads}
@@ -24,8 +22,8 @@ use Rattle.jls_headline.specs.Sources.{SourcedCopy, sourced_copy}
 use Rattle.jls_headline.proofs.CollectedExamples.{with_both, collected_both, writes_both, held_and_marked}
 use Rattle.jls_headline.proofs.FileExamples.{options, file_comes_back}
 use Rattle.jls_headline.proofs.PremiseExamples.{ran_out_over_first}
-use Rattle.jls_headline.proofs.TwoLineCopies.{shape, pic, bits_8, parameters_8, first, second, course_with, lost_first, first_course}
-use Rattle.jls_headline.proofs.TwoLineCopies.{second_course, pieces_read}
+use Rattle.jls_headline.proofs.TwoLineCopies.{shape, pic, bits_8, first, second, course_with, lost_first, first_course}
+use Rattle.jls_headline.proofs.TwoLineCopies.{second_course, outcomes_read}
 
 -- Readers --------------------------------------------------------------------------------------------------------
 
@@ -68,7 +66,7 @@ first_read = record {
 }
 
 pub first_reads : CopyReads first first_read
-first_reads = reads_with [] (0x80 ∷ []) 32 (Lines ((0 ∷ []) ∷ []) ∷ []) first first_course (pieces_read.zero_read, tt)
+first_reads = reads_with [] (0x80 ∷ []) 32 (Lines ((0 ∷ []) ∷ []) ∷ []) first first_course (outcomes_read.zero_read, tt)
 
 -- of the second: line 1, and the record of the first piece, which has no byte
 abbrev pub second_read : ReadCopy
@@ -80,15 +78,13 @@ second_read = record {
 }
 
 -- no byte is the code of a line
-no_byte_is_broken : IsBroken (interval_shape bits_8 1 1 1) []
-no_byte_is_broken =
-    let start = working_start bits_8 1 1 1 (lit≤ tt) (lit≤ tt) _ [] refl (λ component. refl) in
-    broken_bits bits_8 1 1 1 [] (working_ends bits_8 parameters_8 1 1 1 (lit≤ tt) _ [] [] _ [] NotBegun start)
+no_byte_is_broken : IsBroken (piece_shape bits_8 1 1 1 false) []
+no_byte_is_broken = empty_is_broken (piece_shape bits_8 1 1 1 false) (lit< tt) (lit< tt) (lit< tt)
 
 pub second_reads : CopyReads second second_read
 second_reads =
     reads_with (lost_first ∷ []) (0x40 ∷ []) 34 (Fault kind.Broken ∷ Lines ((255 ∷ []) ∷ []) ∷ []) second second_course
-    (no_byte_is_broken, (pieces_read.largest_read, tt))
+    (no_byte_is_broken, (outcomes_read.largest_read, tt))
 
 -- Both copies ----------------------------------------------------------------------------------------------------
 

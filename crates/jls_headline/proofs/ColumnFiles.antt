@@ -1,6 +1,7 @@
 -- Files of a column of 8-bit samples with a restart interval for each line: their courses, and what their one scan and its pieces give.
 -- Such a file is SOI, SOF55, DRI, SOS, and scan data; EOI or the input's end closes it.
-use Rattle.std.proofs.Common.{◌≡◌, ℕ, ◌+◌, ◌<◌, ◌≢◌, Bool, true, List, [], ◌∷◌, ◌++◌, length, map, Some, None, refl, subst, lit<, arith}
+use Rattle.std.proofs.Common.{◌≡◌, ℕ, ◌+◌, ◌<◌, ◌≢◌, Bool, true, false, List, [], ◌∷◌, ◌++◌, length, map, Some, None, refl, subst, lit<}
+use Rattle.std.proofs.Common.{arith}
 use Rattle.std.specs.Prelude.{is_some, nat_le, nat_lt, Ok}
 use Rattle.std.specs.List.{AllByRecursion, list_all}
 use Rattle.std.proofs.lemmas.Bool.{and_parts, leb-true}
@@ -80,7 +81,14 @@ module _ (height : ℕ) where
 
   -- one scan, with a restart interval for each line
   abbrev pub column_plan : Scan
-  column_plan = record { components = 0 ∷ []; params = bits_8; width = 1; height = height; restart_interval = 1 }
+  column_plan = record {
+    components = 0 ∷ [];
+    params = bits_8;
+    width = 1;
+    height = height;
+    restart_interval = 1;
+    by_sample = false;
+  }
 
   -- the payload of SOF55
   abbrev pub column_frame : List ℕ

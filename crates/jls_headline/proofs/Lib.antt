@@ -6,10 +6,11 @@ mod Trims
 pub mod Held
 mod CopyGives
 pub mod SameCopies
-mod Unions
+pub mod Unions
 pub mod Stations
 pub mod SourcedStations
 pub mod Collected
+pub mod TookFiles
 pub mod KnownReadings
 mod CutTexts
 pub mod Pictures

@@ -17,7 +17,6 @@ use Rattle.jls_partial.specs.PartialLaws.{partial_laws, shape_itself}
 use Rattle.jls_partial.specs.Reading.{reading_cmp}
 use Rattle.jls_marker.specs.Scan.{Scan}
 use Rattle.jls_copy.specs.CopyReads.{CopyReads}
-use Rattle.jls_copy.specs.IntervalOf.{interval_of}
 use Rattle.jls_copy.specs.ReadCopy.{ReadCopy}
 use Rattle.jls_write.specs.Picture.{WholePicture, line_of, settled_line, picture_of}
 use Rattle.jls_headline.specs.Damaged.{HasPictureLines, picture_reading}
@@ -25,6 +24,7 @@ use Rattle.jls_headline.specs.Stations.{HoldsExactly}
 use Rattle.jls_headline.specs.Sources.{sourced_copy}
 use Rattle.jls_headline.specs.Collected.{no_knowledge, Collected, new_station, reader_finished, partial_ran_out, CollectedFrom}
 use Rattle.jls_headline.specs.ReadsAs.{GivesPicture, ReadsAs}
+use Rattle.jls_copy_laws.specs.Gives.{line_interval}
 use Rattle.jls_copy_laws.proofs.FileExamples.{is_head}
 use Rattle.jls_copy_laws.proofs.Members.{none_in, bytes_of_test}
 use Rattle.jls_headline.proofs.CopyGives.{copy_gives}
@@ -117,10 +117,10 @@ holds_more p held h = (let from = (h.readings (picture_reading pic 0 0)).0 held 
 
 -- both lines in one interval
 abbrev pub both_lines : Scan
-both_lines = record { components = 0 ∷ []; params = bits_8; width = 1; height = 2; restart_interval = 0 }
+both_lines = record { components = 0 ∷ []; params = bits_8; width = 1; height = 2; restart_interval = 0; by_sample = false }
 
 -- 0x50 is the sample 1, and then what the code of a 9 below it begins with. So its head is another line than the picture's
-pub another_head : IsHeadOfPiece (interval_of both_lines 0) (0x50 ∷ []) ((1 ∷ []) ∷ [])
+pub another_head : IsHeadOfPiece (line_interval both_lines 0) (0x50 ∷ []) ((1 ∷ []) ∷ [])
 another_head = is_head
 
 no_lines_of_the_picture : HasPictureLines pic both_lines (0, record { bytes = 0x50 ∷ []; ended_by_input = true }) → ⊥
@@ -129,7 +129,7 @@ no_lines_of_the_picture h =
     omega (arith, e))
 
 -- though it reads as no lines
-reads_as_none : (lines : List (List ℕ)) → Reads (interval_of both_lines 0) (0x50 ∷ []) lines → ⊥
+reads_as_none : (lines : List (List ℕ)) → Reads (line_interval both_lines 0) (0x50 ∷ []) lines → ⊥
 reads_as_none lines reads =
     (let e = ap length (read_has_none bits_8 1 1 2 parameters_8 (lit< tt) (0x50 ∷ []) lines ((1 ∷ []) ∷ []) reads another_head) in
     omega (arith, e))
@@ -143,7 +143,7 @@ none_if_not_cut lines (inr (cut, head)) = absurd cc
 
 -- MAXVAL is 15, where the picture was written with 255
 abbrev changed : Scan
-changed = record { components = 0 ∷ []; params = small_samples; width = 1; height = 2; restart_interval = 1 }
+changed = record { components = 0 ∷ []; params = small_samples; width = 1; height = 2; restart_interval = 1; by_sample = false }
 
 -- so 0x40, which nothing has damaged, reads as the sample 15, which is no line of the picture
 another_line_read : HasPictureLines pic changed (1, piece_of (0x40 ∷ [])) → ⊥

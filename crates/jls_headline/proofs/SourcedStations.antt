@@ -67,10 +67,6 @@ marks_of_readings source rs m = (there, back)
         reported.1 (subst (λ (n : ℕ). Contains (map (with_number source) (set.items rs)) (m.0, n)) e
         (in_map (with_number source) (set.items rs) m.0 ((set_holds_items reading_total reading_exact rs m.0).0 h)))
 
--- what was read of a copy has no source of its own
-unmarked : (copy : List ℕ) (read : ReadCopy) → CopyReads copy read → read.partial.marks ≡ set.empty
-unmarked copy read reads = ap (λ (p : PartialPicture). p.marks) reads.partial_is
-
 -- marks, with those of readings under this source
 abbrev MarkSet : Type 0
 MarkSet = set.OrderedSet (mark_cmp reading_cmp)
@@ -78,29 +74,35 @@ MarkSet = set.OrderedSet (mark_cmp reading_cmp)
 abbrev with_those : ℕ → set.OrderedSet reading_cmp → MarkSet → MarkSet
 with_those source rs marks = set.insert_all marks (map (with_number source) (set.items rs))
 
+-- what has readings and no source of its own, with this source
+module _ (p : PartialPicture) (unmarked : p.marks ≡ set.empty) (Gives : Reading → Type 0)
+    (gives : (r : Reading) → (set.contains p.readings r ≡ true) ↔ Gives r) where
+  pub marks_given : (source : Option ℕ) (m : Mark) → (is_marked (marked source p) m ≡ true) ↔ ((source ≡ Some m.1) × Gives m.0)
+  marks_given None m = (
+    λ h.
+        (let none : false ≡ true = sym (contains-empty (mark_cmp reading_cmp) m)
+        ∙ subst (λ (ms : set.OrderedSet (mark_cmp reading_cmp)). set.contains ms m ≡ true) unmarked h in absurd cc),
+    λ g. (let none = g.0 in absurd cc),
+  )
+  marks_given (Some source) m = (there, back)
+    where
+      there : set.contains (with_those source p.readings p.marks) m ≡ true → (Some source ≡ Some m.1) × Gives m.0
+      there h =
+          let own = subst (λ ms. set.contains (with_those source p.readings ms) m ≡ true) unmarked h in
+          let t = (marks_of_readings source p.readings m).0 own in
+          (ap (λ (n : ℕ). Some n) t.0, (gives m.0).0 t.1)
+
+      back : (Some source ≡ Some m.1) × Gives m.0 → set.contains (with_those source p.readings p.marks) m ≡ true
+      back (e, g) =
+          let same : source ≡ m.1 = cc in
+          subst (λ ms. set.contains (with_those source p.readings ms) m ≡ true) (sym unmarked)
+          ((marks_of_readings source p.readings m).1 (same, (gives m.0).1 g))
+
 marks_of_copy : (source : Option ℕ) (bytes : List ℕ) (read : ReadCopy) → AllByRecursion (λ b. b < 256) bytes → CopyReads bytes read
     → (m : Mark) → (is_marked (marked source read.partial) m ≡ true) ↔ ((source ≡ Some m.1) × GivesReading bytes m.0)
-marks_of_copy None bytes read low reads m = (
-  λ h.
-      (let none : false ≡ true = sym (contains-empty (mark_cmp reading_cmp) m)
-      ∙ subst (λ (ms : set.OrderedSet (mark_cmp reading_cmp)). set.contains ms m ≡ true) (unmarked bytes read reads) h in absurd cc),
-  λ g. (let none = g.0 in absurd cc),
-)
-marks_of_copy (Some source) bytes read low reads m = (there, back)
-  where
-    there : set.contains (with_those source read.partial.readings read.partial.marks) m ≡ true
-        → (Some source ≡ Some m.1) × GivesReading bytes m.0
-    there h =
-        let own = subst (λ ms. set.contains (with_those source read.partial.readings ms) m ≡ true) (unmarked bytes read reads) h in
-        let t = (marks_of_readings source read.partial.readings m).0 own in
-        (ap (λ (n : ℕ). Some n) t.0, (copy_gives bytes low read reads m.0).0 t.1)
-
-    back : (Some source ≡ Some m.1) × GivesReading bytes m.0
-        → set.contains (with_those source read.partial.readings read.partial.marks) m ≡ true
-    back (e, g) =
-        let same : source ≡ m.1 = cc in
-        subst (λ ms. set.contains (with_those source read.partial.readings ms) m ≡ true) (sym (unmarked bytes read reads))
-        ((marks_of_readings source read.partial.readings m).1 (same, (copy_gives bytes low read reads m.0).1 g))
+marks_of_copy source bytes read low reads m =
+    marks_given read.partial (ap (λ (p : PartialPicture). p.marks) reads.partial_is) (GivesReading bytes) (copy_gives bytes low read reads)
+    source m
 
 pub copy_holds_under : (copy : SourcedCopy) (read : ReadCopy) → AllByRecursion (λ b. b < 256) copy.bytes → CopyReads copy.bytes read
     → HoldsExactlyUnder (marked copy.source read.partial) (copy ∷ [])

@@ -19,11 +19,12 @@ use Rattle.jls_interval.specs.Events.{events_from, events_after}
 use Rattle.jls_interval.specs.Cells.{cell_before, run_cell_before}
 use Rattle.jls_interval.specs.Runs.{block_columns, full_blocks, blocks, run_index_before}
 use Rattle.jls_interval.specs.Code.{event_bits, bits_of_events, code}
+use Rattle.jls_piece.specs.Lines.{piece_shape}
 use Rattle.jls_interval.specs.Lines.{interval_shape}
-use Rattle.jls_interval.specs.Reads.{Reads, IsBroken}
-use Rattle.jls_interval.specs.declared.line_reader.OpenEvent.TheVariants.{NotBegun}
-use Rattle.jls_interval.proofs.Decoding.{working_start, working_ends}
-use Rattle.jls_interval.proofs.Finishing.{broken_bits}
+use Rattle.jls_interval.specs.Reads as line_reading
+use Rattle.jls_piece.specs.Reads.{IsBroken}
+use Rattle.jls_piece.proofs.LinePieces.{reads_from}
+use Rattle.jls_piece.proofs.PieceReads.{empty_is_broken}
 use Rattle.jls_marker.specs.ComponentIndex.{index_of}
 use Rattle.jls_marker.specs.HeaderState.{HeaderState, no_headers}
 use Rattle.jls_marker.specs.Headers.{headers_after}
@@ -51,7 +52,7 @@ use Rattle.jls_headline.specs.Trimmed.{whole, prefix, TrimmedCopy}
 use Rattle.jls_headline.proofs.CollectedPictures.{same_copies_hold_the_same, damaged_copies_write_the_picture}
 use Rattle.jls_headline.proofs.ColumnFiles.{byte_is_piece}
 use Rattle.jls_headline.proofs.Trims.{trimmed_copies_are_damaged}
-use Rattle.jls_headline.proofs.TwoLineCopies.{bits_8, parameters_8, piece_of, lost_first, pieces_read}
+use Rattle.jls_headline.proofs.TwoLineCopies.{bits_8, piece_of, lost_first, pieces_read, outcomes_read}
 
 -- The picture ----------------------------------------------------------------------------------------------------
 
@@ -114,10 +115,11 @@ by_plane = headers_and (0xFF ∷ 0xDA ∷ 0 ∷ 8 ∷ 1 ∷ 1 ∷ 0 ∷ 0 ∷ 0 
 -- Their courses --------------------------------------------------------------------------------------------------
 
 abbrev lines : Scan
-lines = record { components = 0 ∷ 1 ∷ []; params = bits_8; width = 1; height = 2; restart_interval = 1 }
+lines = record { components = 0 ∷ 1 ∷ []; params = bits_8; width = 1; height = 2; restart_interval = 1; by_sample = false }
 
 abbrev plane : ℕ → Scan
-plane component = record { components = component ∷ []; params = bits_8; width = 1; height = 2; restart_interval = 1 }
+plane component =
+    record { components = component ∷ []; params = bits_8; width = 1; height = 2; restart_interval = 1; by_sample = false }
 
 abbrev framed : HeaderState
 framed = record no_headers { frame = Some shape }
@@ -236,9 +238,9 @@ plane_scans = course_has_scans by_plane plane_course shape (bytes_of_test by_pla
 
 record RowsRead : Type 0 where
   -- 0 and 255 by line, the code of the interval that is lost
-  row_0 : Reads (interval_shape bits_8 1 2 2) (0xA0 ∷ []) ((0 ∷ []) ∷ (255 ∷ []) ∷ [])
+  row_0 : line_reading.Reads (interval_shape bits_8 1 2 2) (0xA0 ∷ []) ((0 ∷ []) ∷ (255 ∷ []) ∷ [])
   -- 1 and 9 by line
-  row_1 : Reads (interval_shape bits_8 1 2 2) (0x50 ∷ 0x50 ∷ []) ((1 ∷ []) ∷ (9 ∷ []) ∷ [])
+  row_1 : line_reading.Reads (interval_shape bits_8 1 2 2) (0x50 ∷ 0x50 ∷ []) ((1 ∷ []) ∷ (9 ∷ []) ∷ [])
 
 rows_read : RowsRead
 unfolding least_from bits width_after golomb quantized_gradient is_negative context modulo_reduced corrected_prediction golomb_k updated
@@ -394,10 +396,8 @@ abbrev plane_read : ReadCopy
 plane_read = read_of plane_course (Lines ((0 ∷ []) ∷ []) ∷ Lines ((255 ∷ []) ∷ []) ∷ [])
 
 -- no byte is the code of two lines
-no_byte_is_broken : IsBroken (interval_shape bits_8 1 2 2) []
-no_byte_is_broken =
-    let start = working_start bits_8 1 2 2 (lit≤ tt) (lit≤ tt) _ [] refl (λ component. refl) in
-    broken_bits bits_8 1 2 2 [] (working_ends bits_8 parameters_8 1 2 2 (lit≤ tt) _ [] [] _ [] NotBegun start)
+no_byte_is_broken : IsBroken (piece_shape bits_8 1 2 2 false) []
+no_byte_is_broken = empty_is_broken (piece_shape bits_8 1 2 2 false) (lit< tt) (lit< tt) (lit< tt)
 
 line_reads : CopyReads by_line line_read
 line_reads = record {
@@ -406,7 +406,10 @@ line_reads = record {
   shape = shape;
   framed = refl;
   outcomes = Fault kind.Broken ∷ Lines ((1 ∷ []) ∷ (9 ∷ []) ∷ []) ∷ [];
-  each = (no_byte_is_broken, (rows_read.row_1, tt));
+  each = (
+    no_byte_is_broken,
+    (reads_from (interval_shape bits_8 1 2 2) (0x50 ∷ 0x50 ∷ []) ((1 ∷ []) ∷ (9 ∷ []) ∷ []) rows_read.row_1, tt),
+  );
   head = [];
   head_is = refl;
   partial_is = refl;
@@ -422,7 +425,7 @@ plane_reads = record {
   shape = shape;
   framed = refl;
   outcomes = Lines ((0 ∷ []) ∷ []) ∷ Lines ((255 ∷ []) ∷ []) ∷ [];
-  each = (pieces_read.zero_read, (pieces_read.largest_read, tt));
+  each = (outcomes_read.zero_read, (outcomes_read.largest_read, tt));
   head = [];
   head_is = refl;
   partial_is = refl;

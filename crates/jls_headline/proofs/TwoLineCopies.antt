@@ -15,6 +15,9 @@ use Rattle.jls_interval.specs.Runs.{block_columns, full_blocks, blocks, run_inde
 use Rattle.jls_interval.specs.Code.{event_bits, bits_of_events, code}
 use Rattle.jls_interval.specs.Reads.{Reads}
 use Rattle.jls_interval.specs.Lines.{interval_shape}
+use Rattle.jls_piece.specs.Lines.{piece_shape}
+use Rattle.jls_piece.specs.Reads as of_piece
+use Rattle.jls_piece.proofs.LinePieces.{reads_from}
 use Rattle.jls_marker.specs.ComponentIndex.{index_of}
 use Rattle.jls_marker.specs.Headers.{headers_after}
 use Rattle.jls_marker.specs.Scan.{Scan}
@@ -170,4 +173,15 @@ pieces_read = record {
       column_read bits_8 (0x50 ∷ 0x80 ∷ []) (1 ∷ 9 ∷ []) (replicate 5 false) refl refl refl (record { whole = refl; read = refl });
   fifteen_read =
       column_read small_samples (0x40 ∷ []) (15 ∷ []) (replicate 5 false) refl refl refl (record { whole = refl; read = refl });
+}
+
+-- The same as outcomes of pieces of a course, which may be by line or by sample
+pub record OutcomesRead : Type 0 where
+  pub zero_read : of_piece.Reads (piece_shape bits_8 1 1 1 false) (0x80 ∷ []) ((0 ∷ []) ∷ [])
+  pub largest_read : of_piece.Reads (piece_shape bits_8 1 1 1 false) (0x40 ∷ []) ((255 ∷ []) ∷ [])
+
+pub outcomes_read : OutcomesRead
+outcomes_read = record {
+  zero_read = reads_from (interval_shape bits_8 1 1 1) (0x80 ∷ []) ((0 ∷ []) ∷ []) pieces_read.zero_read;
+  largest_read = reads_from (interval_shape bits_8 1 1 1) (0x40 ∷ []) ((255 ∷ []) ∷ []) pieces_read.largest_read;
 }

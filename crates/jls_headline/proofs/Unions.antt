@@ -1,5 +1,5 @@
 -- What stations hold that are built by unions: exactly what copies give, be it readings or readings with their sources.
-use Rattle.std.proofs.Common.{◌≡◌, Bool, true, List, [], ◌∷◌, ◌++◌, sym, ◌∙◌, subst, ◌⊎◌, inl, inr}
+use Rattle.std.proofs.Common.{◌≡◌, Bool, true, false, List, [], ◌∷◌, ◌++◌, sym, ◌∙◌, subst, ◌⊎◌, inl, inr}
 use Rattle.std.specs.Prelude.{◌||◌, ◌↔◌}
 use Rattle.std.specs.List.{Contains}
 use Rattle.std.proofs.lemmas.List.Elements.{Contains-append_left, Contains-append_right, Contains-append_cases}
@@ -52,6 +52,16 @@ module _ {C M : Type 0} (Gives : C → M → Type 0) (contains : PartialPicture 
       of_this : GivenBy (copy ∷ []) m → Gives copy m
       of_this (other, c, g) =
           elim (first_or_rest other copy [] c) [ inl e ↦ subst (λ x. Gives x m) (sym e) g | inr later ↦ absurd (none_in other later) ]
+
+  -- what no copy gives, and what both give
+  pub none_exactly : (p : PartialPicture) → ((m : M) → contains p m ≡ false) → Exactly p []
+  none_exactly p empty m = (λ h. (let none : false ≡ true = sym (empty m) ∙ h in absurd cc), λ g. absurd (none_in g.0 g.1))
+
+  pub both_exactly : (p q : PartialPicture) (copies more : List C) → Exactly p copies → Exactly q more → Exactly (union p q) (copies ++ more)
+  both_exactly p q copies more h k m = (
+    one_has (GivenBy (copies ++ more) m) p q m (λ x. of_first copies more m ((h m).0 x)) (λ x. of_second copies more m ((k m).0 x)),
+    of_one (has (union p q) m) copies more m (λ g. left_has p q m ((h m).1 g)) (λ g. right_has p q m ((k m).1 g)),
+  )
 
   -- what holds after each call: all that these copies give is held, and nothing else but what those can have left
   abbrev pub Holds : PartialPicture → List C → List C → Type 0

@@ -8,5 +8,6 @@ pub mod ReadsAs
 pub mod HeadlineLaws
 pub mod Collected
 pub mod CollectedLaws
+pub mod TookFiles
 pub mod Headline
 pub mod LineLaws

@@ -6,13 +6,12 @@ use Rattle.jls_interval.specs.Heads.{IsHeadOfPiece, AreWholeLines}
 use Rattle.jls_interval.specs.Reads.{Reads}
 use Rattle.jls_partial.specs.Reading.{Reading}
 use Rattle.jls_marker.specs.Scan.{Scan, IsScan, intervals}
-use Rattle.jls_copy.specs.IntervalOf.{interval_of}
 use Rattle.jls_copy.specs.Numbers.{Interval, numbers_after}
 use Rattle.jls_write.specs.Picture.{WholePicture}
 use Rattle.jls_write.specs.WrittenFile.{interval_lines}
 use Rattle.jls_file_laws.specs.Covering.{IsLineOf}
 use Rattle.jls_copy_laws.specs.CopyScans.{ScanPiece, ScanWithData, HasScans}
-use Rattle.jls_copy_laws.specs.Gives.{PieceGives, ScanGives, GivesReading}
+use Rattle.jls_copy_laws.specs.Gives.{line_interval, PieceGives, ScanGives, GivesReading}
 use Rattle.jls_headline.specs.Damaged.{AreNumbers, numbered_pieces, HasPictureLines, DamagedScan, Damaged, SurvivesInScan, picture_reading}
 use Rattle.jls_headline.specs.Damaged.{Survives}
 use Rattle.jls_headline.specs.Trimmed.{IsTrimmed, LacksABit, TrimmedCopy}
@@ -55,14 +54,14 @@ SurvivingLinesAreGiven =
 abbrev pub TrimmedPiecesAreHarmless : Type 0
 TrimmedPiecesAreHarmless =
     (pic : WholePicture) (s : Scan) (k : ℕ) (piece : List ℕ) → IsScan s → IsTrimmed pic s k piece
-    → (lines : List (List ℕ)) → Reads (interval_of s k) piece lines → lines ≡ interval_lines pic s k
+    → (lines : List (List ℕ)) → Reads (line_interval s k) piece lines → lines ≡ interval_lines pic s k
 
 -- if it lacks a bit of the code, its head is those of the picture's lines that are complete. Else its head is empty
 abbrev pub TrimmedPiecesHaveHeads : Type 0
 TrimmedPiecesHaveHeads =
     (pic : WholePicture) (s : Scan) (k : ℕ) (piece : List ℕ) → IsScan s → IsTrimmed pic s k piece
-    → (head : List (List ℕ)) → IsHeadOfPiece (interval_of s k) piece head
-    → (LacksABit pic s k piece → AreWholeLines (interval_of s k) (bits_read piece) (interval_lines pic s k) head)
+    → (head : List (List ℕ)) → IsHeadOfPiece (line_interval s k) piece head
+    → (LacksABit pic s k piece → AreWholeLines (line_interval s k) (bits_read piece) (interval_lines pic s k) head)
     × ((LacksABit pic s k piece → ⊥) → head ≡ [])
 
 -- a trimmed piece has no lines but the picture's first ones of its interval

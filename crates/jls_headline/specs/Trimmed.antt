@@ -5,10 +5,10 @@ use Rattle.jls_bits.specs.Bits.{bits_read}
 use Rattle.jls_interval.specs.Code.{code}
 use Rattle.jls_interval.specs.Reads.{Reads}
 use Rattle.jls_marker.specs.Scan.{Scan}
-use Rattle.jls_copy.specs.IntervalOf.{interval_of}
 use Rattle.jls_write.specs.Picture.{WholePicture}
 use Rattle.jls_write.specs.WrittenFile.{interval_lines}
 use Rattle.jls_copy_laws.specs.CopyScans.{ScanPiece, ScanWithData, HasScans}
+use Rattle.jls_copy_laws.specs.Gives.{line_interval}
 use Rattle.jls_headline.specs.Damaged.{AreNumbers, numbered_pieces}
 
 -- the whole of the bytes, so many of them from the start on, or all of them and at least one more
@@ -20,7 +20,7 @@ pub data Trimmed : List ℕ → List ℕ → Type 0 where
 -- a piece trimmed from one that reads as the picture's lines of interval k
 pub record IsTrimmed (pic : WholePicture) (s : Scan) (k : ℕ) (piece : List ℕ) : Type 0 where
   pub bytes : List ℕ
-  pub reads : Reads (interval_of s k) bytes (interval_lines pic s k)
+  pub reads : Reads (line_interval s k) bytes (interval_lines pic s k)
   pub trimmed : Trimmed bytes piece
 
 -- the bytes lack a bit of the code of the picture's lines of interval k, and have no bit that isn't of it

@@ -2,6 +2,7 @@
 
 ghost use Rattle.jls_headline.specs.CollectedLaws.{CollectedHoldsExactly, CollectedHoldsExactlyUnder, CutTextsAreHeld};
 ghost use Rattle.jls_headline.specs.CollectedLaws.{MarksKeepTheCopies, MarksReadAgain, InsertsKeepTheCopies};
+ghost use Rattle.jls_headline.specs.TookFiles.{StrictFilesAreCollected};
 
 /// A law: whatever public calls made of copies holds exactly the readings that these copies give. Each reading has exactly the sources
 /// under which a copy was read that gives it. The calls are those of `Collected`, in any number and order. A copy for which memory ran out
@@ -23,4 +24,10 @@ pub fn marked_copies_are_held()
 /// refuses a text that was cut short gains nothing but what the whole text holds, and its history goes on (`text_cut_short`).
 pub fn cut_texts_are_held()
     ensures { CutTextsAreHeld }
+{}
+
+/// A law: a station that took files which were read under the strict profile is one that public calls made of copies. So all that is said
+/// of such calls holds of it.
+pub fn strict_files_are_collected()
+    ensures { StrictFilesAreCollected }
 {}

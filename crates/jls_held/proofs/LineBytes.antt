@@ -1,18 +1,21 @@
 -- Which bytes of a piece carry bits of a line, by the places where its code and that of the lines before it end.
-use Rattle.std.proofs.Common.{◌≡◌, ℕ, zero, suc, ◌+◌, ◌<◌, ◌≤◌, Bool, true, List, [], ◌∷◌, ◌++◌, length, ap, ◌∙◌}
-use Rattle.std.proofs.Common.{arith, inl, inr, take, length-append}
+use Rattle.std.proofs.Common.{◌≡◌, ℕ, zero, suc, ◌+◌, ◌<◌, ◌≤◌, Bool, true, false, List, [], ◌∷◌, ◌++◌, length, sym, ap, ◌∙◌}
+use Rattle.std.proofs.Common.{subst, arith, inl, inr, take, length-append}
 use Rattle.std.proofs.lemmas.List.{take_at}
 use Rattle.std.proofs.lemmas.Bool.{cases_lt, cases_Bool}
-use Rattle.jls_bits.specs.Bits.{width_after, ends_data, bits_read, bits_read_after, is_whole_after}
+use Rattle.jls_bits.specs.Bits.{AreDataBits, width_after, ends_data, bits_read, bits_read_after, is_whole_after}
 use Rattle.jls_bits.specs.Appending.{last_after}
 use Rattle.jls_bits.specs.Front.{EndsAt}
 use Rattle.jls_bits.specs.declared.writer.BitPlace.{BitPlace}
 use Rattle.jls_bits.proofs.DataBits.{data_end, data_stop, length_more}
 use Rattle.jls_bits.proofs.Appending.{whole_parts}
-use Rattle.jls_interval.specs.Lines.{IntervalShape}
+use Rattle.jls_interval.specs.Lines.{IntervalShape, interval_shape}
 use Rattle.jls_interval.specs.Code.{code}
-use Rattle.jls_interval.specs.Reads.{BeginsWithCode}
+use Rattle.jls_interval.specs.Reads as line
 use Rattle.jls_interval.specs.Fronts.{FrontsBeginPieces}
+use Rattle.jls_piece.specs.Lines.{PieceShape, AreOfWholeRows}
+use Rattle.jls_piece.specs.Reads.{BeginsWithCode}
+use Rattle.jls_piece.proofs.PieceCodes.{line_code}
 use Rattle.jls_held.specs.LineCode.{code_length, bits_before}
 
 -- more bytes carry no fewer bits
@@ -44,16 +47,36 @@ one_more before (x ∷ xs) (suc n) w l =
     let a = length_more before x (take (suc n) xs) p.0 in let b = length_more before x (take n xs) p.0 in
     let r = one_more x xs n p.1 (omega (arith, l)) in omega (arith, a, b, r)
 
+-- Pieces by line --------------------------------------------------------------------------------------
+
+-- by line, lines may end inside a row
+pub any_rows : (i : PieceShape) → i.by_sample ≡ false → (lines : List (List ℕ)) → AreOfWholeRows i lines
+any_rows i by_line lines = λ h. absurd (let e : false ≡ true = sym by_line ∙ h in cc)
+
+-- the interval that a piece by line is
+abbrev interval_of_piece : PieceShape → IntervalShape
+interval_of_piece i = interval_shape i.params i.width i.components i.line_count
+
+begins_as_interval : (i : PieceShape) (piece : List ℕ) (lines : List (List ℕ)) (unread : List Bool) → i.by_sample ≡ false
+    → BeginsWithCode i piece lines unread → line.BeginsWithCode (interval_of_piece i) piece lines unread
+begins_as_interval i piece lines unread by_line b = record {
+  are_bytes = b.are_bytes;
+  are_lines = b.are_lines;
+  data_bits = subst (λ z. AreDataBits piece (z ++ unread)) (line_code i lines by_line) b.data_bits;
+}
+
 -- where bits end at a place, and the piece begins with them
 pub record Ends (piece : List ℕ) (size : ℕ) (place : BitPlace) : Type 0 where
   pub size_is : size ≡ bits_before piece place.bytes + place.bits
   pub few : place.bits < width_after (last_after 0 (take place.bytes piece))
 
-pub ends_of : FrontsBeginPieces → (i : IntervalShape) (piece : List ℕ) (first others : List (List ℕ)) (unread : List Bool)
-    (place : BitPlace) → BeginsWithCode i piece (first ++ others) unread → EndsAt (code i.params i.width i.components first) place
-    → Ends piece (code_length i first) place
-ends_of law i piece first others unread place b e =
-    let begins = law i piece first others unread e.bytes b e.front in
+pub ends_of : FrontsBeginPieces → (i : PieceShape) (piece : List ℕ) (first others : List (List ℕ)) (unread : List Bool)
+    (place : BitPlace) → i.by_sample ≡ false → BeginsWithCode i piece (first ++ others) unread
+    → EndsAt (code i.params i.width i.components first) place → Ends piece (code_length i first) place
+ends_of law i piece first others unread place by_line b e =
+    let begins = law (interval_of_piece i) piece first others unread e.bytes
+    (begins_as_interval i piece (first ++ others) unread by_line b) e.front in
+    let coded = ap length (line_code i first by_line) in
     let own : take place.bytes piece ≡ e.bytes =
     ap (take place.bytes) begins.1 ∙ take_at e.bytes begins.0 place.bytes e.bytes_are in
     let size = ap length e.front.given_is ∙ length-append (bits_read e.bytes) e.front.over in
@@ -62,7 +85,7 @@ ends_of law i piece first others unread place b e =
     let few = e.front.few in
     let width : width_after (last_after 0 (take place.bytes piece)) ≡ width_after (last_after 0 e.bytes) =
     ap (λ z. width_after (last_after 0 z)) own in
-    record { size_is = omega (arith, size, bits, count); few = omega (arith, few, bits, width) }
+    record { size_is = omega (arith, coded, size, bits, count); few = omega (arith, few, bits, width) }
 
 -- a byte that carries a bit after so many stands at their end or after it
 pub from_start : (piece : List ℕ) (size : ℕ) (start : BitPlace) (place : ℕ) → Ends piece size start

@@ -5,18 +5,21 @@ use Rattle.std.specs.Prelude.{if◌then◌else◌, ◌==◌}
 use Rattle.std.specs.List.{Contains}
 use Rattle.std.proofs.lemmas.List.{take_at, length-map, map-append, get_or_append_left, get_or_push, get_or_read, length_push}
 use Rattle.std.proofs.lemmas.Bool.{cases_lt}
-use Rattle.jls_values.proofs.Lists.{of_map}
+use Rattle.jls_values.proofs.Lists.{of_map, all_at}
 use Rattle.jls_bits.specs.declared.writer.BitPlace.{BitPlace}
 use Rattle.jls_bits.specs.Front.{EndsAt}
-use Rattle.jls_interval.specs.Lines.{IntervalShape}
 use Rattle.jls_interval.specs.Code.{code}
-use Rattle.jls_interval.specs.Reads.{BeginsWithCode}
 use Rattle.jls_interval.specs.Fronts.{FrontsBeginPieces, LinesEndAt, nowhere}
-use Rattle.jls_interval.proofs.HeadLines.{code_parts, prefix_lines}
+use Rattle.jls_interval.proofs.HeadLines.{prefix_lines}
+use Rattle.jls_piece.specs.Lines.{PieceShape, AreOfWholeRows}
+use Rattle.jls_piece.specs.Code.{piece_code}
+use Rattle.jls_piece.specs.Reads.{BeginsWithCode}
+use Rattle.jls_piece.proofs.PieceCodes.{code_parts}
 use Rattle.jls_marker.specs.Scan.{Scan, first_row}
 use Rattle.jls_partial.specs.Reading.{Reading, reading_of}
 use Rattle.jls_copy.specs.IntervalOf.{interval_of}
-use Rattle.jls_copy.specs.Pieces.{placed}
+use Rattle.jls_copy.specs.Pieces.{FoundPiece, pieces, placed}
+use Rattle.jls_copy.specs.CourseLaws.{StrictPiecesAreByLine}
 use Rattle.jls_held.specs.declared.chain.ChainLine.{ChainLine}
 use Rattle.jls_copy.specs.declared.piece_in_hand.PieceInHand.{PieceInHand}
 use Rattle.jls_held.specs.MendedFiles.{MendedFile, IsHeldByte}
@@ -25,14 +28,21 @@ use Rattle.jls_held.specs.LineCode.{code_length, IsByteOf, bits_before}
 use Rattle.jls_held.specs.HeldLines.{IsHeld, in_piece}
 use Rattle.jls_held.specs.FilePieces.{lines_of, IsPieceOf}
 use Rattle.jls_held.specs.Chains.{AreHeldBetween, reading_in, IsChain}
-use Rattle.jls_held.proofs.LineBytes.{Ends, ends_of, from_start, to_end}
+use Rattle.jls_held.proofs.LineBytes.{any_rows, Ends, ends_of, from_start, to_end}
 
--- a piece that begins with the code of lines begins with that of the first of them
-pub begins_with_first : (i : IntervalShape) (piece : List ℕ) (xs ys : List (List ℕ)) → BeginsWithLines i piece (xs ++ ys)
-    → BeginsWithLines i piece xs
-begins_with_first i piece xs ys b =
+-- a piece of a strict file is by line
+pub piece_by_line : StrictPiecesAreByLine → (f : MendedFile) (p : PieceInHand) → IsPieceOf f p → p.plan.by_sample ≡ false
+piece_by_line law f p is =
+    let q = is.found in
+    ap (λ (s : Scan). s.by_sample) (sym is.plan_is)
+    ∙ all_at (λ (piece : FoundPiece). piece.plan.by_sample ≡ false) (pieces q.course) q.piece (law f.bytes q.course q.is_course) q.among
+
+-- a piece that begins with the code of lines begins with that of the first of them. By sample these are to be of whole rows
+pub begins_with_first : (i : PieceShape) (piece : List ℕ) (xs ys : List (List ℕ)) → AreOfWholeRows i xs
+    → BeginsWithLines i piece (xs ++ ys) → BeginsWithLines i piece xs
+begins_with_first i piece xs ys rows b =
     let n = length-append xs ys in let most = b.at_most in
-    let own = code_parts i.params i.width i.components xs ys in
+    let own = code_parts i xs ys rows in
     let read = b.begins.data_bits.read in
     record {
       at_most = omega (arith, n, most);
@@ -40,21 +50,22 @@ begins_with_first i piece xs ys b =
       begins = record {
         are_bytes = b.begins.are_bytes;
         are_lines = prefix_lines i.params i.width (length (xs ++ ys)) (xs ++ ys) xs ys b.begins.are_lines refl;
+        whole_rows = rows;
         data_bits = record {
           whole = b.begins.data_bits.whole;
-          read = read ∙ ap (λ z. z ++ b.unread) own.1 ∙ append_assoc (code i.params i.width i.components xs) own.0 b.unread;
+          read = read ∙ ap (λ z. z ++ b.unread) own.1 ∙ append_assoc (piece_code i xs) own.0 b.unread;
         };
       };
     }
 
--- a line of a piece is held if the bytes of its code are, and the lines before it
+-- a line of a piece by line is held if the bytes of its code are, and the lines before it
 pub line_held : (files : List MendedFile) (f : MendedFile) (p : PieceInHand) → Contains files f → (is : IsPieceOf f p)
-    → (before : List (List ℕ)) (line : List ℕ) (later : List (List ℕ)) → lines_of p ≡ before ++ line ∷ later
+    → p.plan.by_sample ≡ false → (before : List (List ℕ)) (line : List ℕ) (later : List (List ℕ)) → lines_of p ≡ before ++ line ∷ later
     → ((place : ℕ) → IsByteOf (interval_of p.plan p.interval) is.found.piece.bytes before line place → IsHeldByte f (p.offset + place))
     → (earlier : List Reading) (r : Reading)
     → placed p.plan.components (first_row p.plan p.interval) 0 (before ++ line ∷ []) ≡ earlier ++ r ∷ []
     → ((s : Reading) → Contains earlier s → IsHeld files s) → IsHeld files r
-line_held files f p among is before line later lines own earlier r placed_are known =
+line_held files f p among is by_line before line later lines own earlier r placed_are known =
     let q = is.found in let all = before ++ line ∷ [] in
     let interval : interval_of q.piece.plan q.number ≡ interval_of p.plan p.interval =
     ap (λ (s : Scan). interval_of s q.number) is.plan_is ∙ ap (interval_of p.plan) is.number_is in
@@ -63,6 +74,7 @@ line_held files f p among is before line later lines own earlier r placed_are kn
     ap (λ (s : Scan). placed s.components (first_row s q.number) 0 all) is.plan_is
     ∙ ap (λ n. placed p.plan.components (first_row p.plan n) 0 all) is.number_is in
     let begins = begins_with_first (interval_of p.plan p.interval) q.piece.bytes all later
+    (any_rows (interval_of p.plan p.interval) by_line all)
     (subst (λ z. BeginsWithLines (interval_of p.plan p.interval) q.piece.bytes z)
     (lines ∙ sym (append_assoc before (line ∷ []) later)) is.begins) in
     in_piece f among q before line (subst (λ i. BeginsWithLines i q.piece.bytes all) (sym interval) begins)
@@ -86,9 +98,9 @@ abbrev pub start_of : List BitPlace → ℕ → BitPlace
 start_of ends zero = nowhere
 start_of ends (suc n) = get_or ends n nowhere
 
-module _ (law : FrontsBeginPieces) (f : MendedFile) (p : PieceInHand) (is : IsPieceOf f p) (ends : List BitPlace)
-    (at : LinesEndAt p.plan.params p.plan.width (length p.plan.components) (lines_of p) ends) where
-  abbrev interval : IntervalShape
+module _ (law : FrontsBeginPieces) (strict : StrictPiecesAreByLine) (f : MendedFile) (p : PieceInHand) (is : IsPieceOf f p)
+    (ends : List BitPlace) (at : LinesEndAt p.plan.params p.plan.width (length p.plan.components) (lines_of p) ends) where
+  abbrev interval : PieceShape
   interval = interval_of p.plan p.interval
 
   abbrev bytes : List ℕ
@@ -102,6 +114,7 @@ module _ (law : FrontsBeginPieces) (f : MendedFile) (p : PieceInHand) (is : IsPi
       let one : take (n + 1) (lines_of p) ≡ first =
       ap (take (n + 1)) lines ∙ take_at first others (n + 1) (omega (arith, count)) in
       ends_of law (first_lines interval (length (lines_of p))) bytes first others is.begins.unread (get_or ends n nowhere)
+      (piece_by_line strict f p is)
       (subst (λ z. BeginsWithCode (first_lines interval (length (lines_of p))) bytes z is.begins.unread) lines is.begins.begins)
       (subst (λ z. EndsAt (code p.plan.params p.plan.width (length p.plan.components) z) (get_or ends n nowhere)) one
       (at.each n (omega (arith, whole, count))))
@@ -153,7 +166,7 @@ module _ (law : FrontsBeginPieces) (f : MendedFile) (p : PieceInHand) (is : IsPi
             let held = code (ap (λ (z : ChainLine). z.is_code_held) (sym same) ∙ known) in
             let readings = so.readings_are (samples_in l ∷ []) in
             subst (λ z. IsHeld files (reading_in z)) (sym same)
-            (line_held files f p among is before (samples_in l) rest so.lines_are
+            (line_held files f p among is (piece_by_line strict f p is) before (samples_in l) rest so.lines_are
             (bytes_held before (samples_in l) rest so.lines_are
             (subst (λ m. AreHeldBetween f.held p.offset (start_of ends m) (get_or ends m nowhere)) (sym count) held))
             (map reading_in chain) (reading_in l)

@@ -1,7 +1,8 @@
--- Lines that the bytes of mended files hold: all bytes of a line's code are held, and so are all lines before it in its interval.
+-- Lines that the bytes of mended files hold: all bytes of a line's code are held, and so are all lines before it in its interval. The files
+-- are read under the strict profile, so that all their pieces are by line.
 use Rattle.std.specs.Prelude.{◌≡◌, ℕ, ◌+◌, List, [], ◌∷◌, ◌++◌}
 use Rattle.std.specs.List.{Contains}
-use Rattle.jls_interval.specs.Lines.{IntervalShape}
+use Rattle.jls_piece.specs.Lines.{PieceShape}
 use Rattle.jls_partial.specs.Reading.{Reading}
 use Rattle.jls_marker.specs.Scan.{first_row}
 use Rattle.jls_copy.specs.Course.{Course, IsCourse}
@@ -22,7 +23,7 @@ pub record PieceOf (f : MendedFile) : Type 0 where
   pub number_is : piece.number ≡ Interval number
 
 -- the interval whose number the piece has
-abbrev pub interval_at : (f : MendedFile) → PieceOf f → IntervalShape
+abbrev pub interval_at : (f : MendedFile) → PieceOf f → PieceShape
 interval_at f p = interval_of p.piece.plan p.number
 
 -- lines of this interval, from the first on, as readings

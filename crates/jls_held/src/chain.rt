@@ -9,7 +9,7 @@ ghost use Rattle.jls_held.specs.Chains.{AreHeldBetween, IsChain};
 
 use crate::mending::MendedCopy;
 use jls_bits::BitPlace;
-use jls_copy::PieceInHand;
+use jls_copy::{PieceInHand, strict_pieces_are_by_line};
 use jls_interval::{Front, encode_front, fronts_begin_pieces};
 use std::alloc::{AllocError, Global};
 
@@ -80,6 +80,7 @@ pub(crate) fn chain_of(
         return Ok(chain);
     }
     fronts_begin_pieces();
+    strict_pieces_are_by_line();
     let ends = line_ends(alloc, &piece)?;
     let PieceInHand {
         plan,

@@ -17,9 +17,12 @@
 //! of several copies), `LineCode` (which bytes carry a line), `HeldLines`, `HeldPictures`, `Mending` and `FilePieces` (what the functions
 //! speak of). `Chains` is needed inside the crate only.
 //!
-//! The proofs, bottom up: `MendedCopies`, `HeldMarks` (which bytes two copies have together), `EditedCopies` (one copy more of a file);
-//! `LineBytes` (the bytes between two ends of code are those of a line), `PieceChains` (lines of a piece follow each other), `FoundPieces`
-//! (what was in hand stands in the whole file), `HeldReadings`.
+//! The proofs, bottom up:
+//!
+//! - `MendedCopies`; `HeldMarks`: which bytes two copies have together; `EditedCopies`: one copy more of a file
+//! - `LineBytes`: the bytes between two ends of code are those of a line
+//! - `PieceChains`: lines of a piece follow each other
+//! - `FoundPieces`: what was in hand stands in the whole file; `HeldReadings`
 //!
 //! `jls-splice` judges by this crate what copies of several codings give each other. Not proved:
 //!

@@ -5,7 +5,7 @@ use Rattle.jls_values.specs.Params.{CodingParameters}
 use Rattle.jls_interval.specs.Lines.{IsLine}
 
 -- whole rows of 1 to 4 components, at least one row, in lines of the width with samples of at most MAXVAL; together at most 2^28
--- samples, which is this profile's bound
+-- samples, which is this project's bound
 pub record FitsInterval (p : CodingParameters) (width components : ℕ) (lines : List (List ℕ)) : Type 0 where
   pub width_at_least : 1 ≤ width
   pub components_at_least : 1 ≤ components

@@ -26,7 +26,7 @@ pub enum PieceFault {
 
 /// Reads the bytes of an interval as its lines, row by row, and within a row by component. Each has `width` samples of at most MAXVAL.
 /// `rows` is the number of lines of each component. The whole piece is judged, also after its last line. At most seven bits may follow
-/// the code, of any value, which is this profile's choice. A byte of 0x80 or more after 0xFF makes the piece broken, wherever it is
+/// the code, of any value, which is this project's choice. A byte of 0x80 or more after 0xFF makes the piece broken, wherever it is
 /// (ITU-T T.87, A.1).
 pub fn decode_interval(
     alloc: Global,

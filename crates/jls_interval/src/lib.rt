@@ -67,7 +67,7 @@
 //! 7. Code (`code`). These are the bits of all events in order.
 //! 8. Reading (`Reads`). A piece of scan data reads as lines of the interval's number and width if its data bits are the code of the lines,
 //!    then at most seven bits of any value. It is too long if more follow. It is broken if no lines' code begins it, or a byte of 0x80 or
-//!    more follows 0xFF. The seven bits of any value are a choice of this profile.
+//!    more follows 0xFF. The seven bits of any value are a choice of this project.
 //! 9. Packed lines (`packed`). The shortest bytes, not ending in 0xFF, whose data bits are the code and then zeros: what this project
 //!    writes. The definition computes them (`pad`). The law `bits_have_one_pad` says that they are the shortest, and the only ones.
 //!

@@ -11,7 +11,7 @@ use Rattle.jls_values.specs.declared.params.ParamFault.{ParamFault}
 use Rattle.jls_marker.specs.ComponentIndex.{index_of}
 use Rattle.jls_marker.specs.Headers.{scan_judged, scan_in}
 use Rattle.jls_values.specs.PresetParameters.{PresetParameters}
-use Rattle.jls_marker.specs.Scan.{Scan, scan_with, row_count}
+use Rattle.jls_marker.specs.Scan.{Scan, scan_by, row_count}
 use Rattle.jls_marker.specs.ScanSelection.{ScanSelection}
 use Rattle.jls_marker.proofs.ParamRanges.{params_there}
 use Rattle.jls_marker.specs.declared.fault.MarkerFault.{MarkerFault}
@@ -73,12 +73,12 @@ ok_scan x = Ok x
 pub begins : (f : PictureShape) (p : PresetParameters) (r n : ℕ) (s : ScanSelection) (cs : List ℕ) (params : CodingParameters)
     → are_known f.ids s.ids ≡ true → cs ≡ map (index_of f.ids) s.ids → params_of f.precision p ≡ Ok params → samples f p r s ≤ 2 ^ 28 → n
     < 16
-    → scan_judged f p r n s ≡ Ok (scan_with f cs params r)
+    → scan_judged f p r n s ≡ Ok (scan_by s.by_sample f cs params r)
 begins f p r n s cs params known indices there small few =
     let made = params_there f.precision p params there in
     let fine : is_ok (params_of f.precision p) ≡ true = ap is_ok there in
     let e : nat_le (samples f p r s) (2 ^ 28) ≡ true = le-leb _ _ small in
     let g : nat_lt n 16 ≡ true = lt-ltb _ _ few in
     let judged : scan_judged f p r n s ≡ Ok (scan_in f p r s) = rw (known, fine, e, g) refl in
-    judged ∙ ap (λ (x : List ℕ). ok_scan (scan_with f x (in_force f.precision p) r)) (sym indices)
-    ∙ ap (λ (x : CodingParameters). ok_scan (scan_with f cs x r)) (sym made.0)
+    judged ∙ ap (λ (x : List ℕ). ok_scan (scan_by s.by_sample f x (in_force f.precision p) r)) (sym indices)
+    ∙ ap (λ (x : CodingParameters). ok_scan (scan_by s.by_sample f cs x r)) (sym made.0)

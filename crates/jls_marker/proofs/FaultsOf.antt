@@ -1,6 +1,6 @@
 -- Which faults a segment and the headers can have.
 use Rattle.std.proofs.Common.{◌≡◌, ℕ, Bool, true, false, cond, eqb, List, [], ◌∷◌, Option, Some, None, Result, Ok, Err, refl, sym, ap, ◌∙◌}
-use Rattle.std.specs.Prelude.{◌||◌, ◌==◌, ◌↔◌, is_none}
+use Rattle.std.specs.Prelude.{◌||◌, ◌==◌, is_none}
 use Rattle.std.proofs.lemmas.Bool.{or_parts, or_from}
 use Rattle.jls_values.specs.Shape.{PictureShape}
 use Rattle.jls_marker.specs.Faults.{first_failing}
@@ -12,10 +12,13 @@ use Rattle.jls_values.specs.PresetParameters.{PresetParameters}
 use Rattle.jls_marker.specs.Scan.{Scan}
 use Rattle.jls_marker.specs.ScanSelection.{ScanSelection}
 use Rattle.jls_marker.specs.Segments.{frame_tests, frame_of, shape_in, scan_tests, scan_of, selection_in, preset_of, lse_of, restart_of}
-use Rattle.jls_marker.specs.Segments.{segment_of}
+use Rattle.jls_marker.specs.SegmentLaws.{UnknownCodes, UnknownCodesUnder}
+use Rattle.jls_marker.specs.Segments.{segment_under}
 use Rattle.jls_marker.specs.declared.fault.MarkerFault.{MarkerFault}
 use Rattle.jls_marker.specs.declared.fault.MarkerFault.TheVariants.{UnknownMarker, Ended}
 use Rattle.jls_marker.specs.declared.fault.MarkerFault.TheVariants as fault
+use Rattle.jls_marker.specs.declared.profile.Profile.{Profile}
+use Rattle.jls_marker.specs.declared.profile.Profile.TheVariants.{Strict}
 use Rattle.jls_marker.specs.declared.segment.Segment.{Segment}
 use Rattle.jls_marker.specs.declared.segment.Segment.TheVariants as segment
 use Rattle.jls_marker.proofs.FirstFailing.{a_listed_fault}
@@ -36,9 +39,9 @@ frame_fault : (o : Option FrameHeader) (f : MarkerFault) → frame_of o ≡ Err 
 frame_fault None f e = ap is_other (sym (refused_is fault.Length f e))
 frame_fault (Some h) f e = a_listed_fault is_other (frame_tests h) (segment.Frame (shape_in h)) f refl e
 
-scan_fault : (o : Option ScanHeader) (f : MarkerFault) → scan_of o ≡ Err f → is_other f ≡ true
-scan_fault None f e = ap is_other (sym (refused_is fault.Length f e))
-scan_fault (Some h) f e = a_listed_fault is_other (scan_tests h) (segment.Scan (selection_in h)) f refl e
+scan_fault : (profile : Profile) (o : Option ScanHeader) (f : MarkerFault) → scan_of profile o ≡ Err f → is_other f ≡ true
+scan_fault profile None f e = ap is_other (sym (refused_is fault.Length f e))
+scan_fault profile (Some h) f e = a_listed_fault is_other (scan_tests profile h) (segment.Scan (selection_in h)) f refl e
 
 preset_fault : (o : Option PresetParameters) (f : MarkerFault) → preset_of o ≡ Err f → is_other f ≡ true
 preset_fault None f e = ap is_other (sym (refused_is fault.Length f e))
@@ -60,7 +63,7 @@ restart_fault None f e = ap is_other (sym (refused_is fault.Length f e))
 restart_fault (Some n) f e = absurd cc
 
 -- so an unknown code is reported of a code without a segment alone
-module _ (code : ℕ) (payload : List ℕ) where
+module _ (profile : Profile) (code : ℕ) (payload : List ℕ) where
   abbrev from_skipped : Result Segment MarkerFault
   from_skipped = cond (is_skipped code) (Ok (segment.Skipped code)) (Err UnknownMarker)
 
@@ -71,9 +74,9 @@ module _ (code : ℕ) (payload : List ℕ) where
   from_lse = cond (eqb code lse) (lse_of payload) from_dri
 
   abbrev from_sos : Result Segment MarkerFault
-  from_sos = cond (eqb code sos) (scan_of (scan_header payload)) from_lse
+  from_sos = cond (eqb code sos) (scan_of profile (scan_header payload)) from_lse
 
-  unknown : segment_of code payload ≡ Err UnknownMarker → has_segment code ≡ false
+  unknown : segment_under profile code payload ≡ Err UnknownMarker → has_segment code ≡ false
   unfolding has_segment
   unknown e = at_frame (eqb code sof55) refl e
     where
@@ -95,9 +98,10 @@ module _ (code : ℕ) (payload : List ℕ) where
       at_lse a b true e h = absurd (other (lse_fault payload UnknownMarker h))
       at_lse a b false e h = at_dri a b e (eqb code dri) refl h
 
-      at_sos : eqb code sof55 ≡ false → (t : Bool) → eqb code sos ≡ t → cond t (scan_of (scan_header payload)) from_lse ≡ Err UnknownMarker
+      at_sos : eqb code sof55 ≡ false → (t : Bool) → eqb code sos ≡ t
+          → cond t (scan_of profile (scan_header payload)) from_lse ≡ Err UnknownMarker
           → has_segment code ≡ false
-      at_sos a true e h = absurd (other (scan_fault (scan_header payload) UnknownMarker h))
+      at_sos a true e h = absurd (other (scan_fault profile (scan_header payload) UnknownMarker h))
       at_sos a false e h = at_lse a e (eqb code lse) refl h
 
       at_frame : (t : Bool) → eqb code sof55 ≡ t → cond t (frame_of (frame_header payload)) from_sos ≡ Err UnknownMarker
@@ -105,7 +109,7 @@ module _ (code : ℕ) (payload : List ℕ) where
       at_frame true e h = absurd (other (frame_fault (frame_header payload) UnknownMarker h))
       at_frame false e h = at_sos e (eqb code sos) refl h
 
-  known_not : has_segment code ≡ false → segment_of code payload ≡ Err UnknownMarker
+  known_not : has_segment code ≡ false → segment_under profile code payload ≡ Err UnknownMarker
   unfolding has_segment
   known_not e =
       let a = or_parts (eqb code sof55) _ e in
@@ -114,8 +118,11 @@ module _ (code : ℕ) (payload : List ℕ) where
       let d = or_parts (eqb code dri) (is_skipped code) c.1 in
       rw (a.0, b.0, c.0, d.0, d.1) refl
 
-pub unknown_codes : (code : ℕ) (payload : List ℕ) → (segment_of code payload ≡ Err UnknownMarker) ↔ (has_segment code ≡ false)
-unknown_codes code payload = (unknown code payload, known_not code payload)
+pub unknown_codes_under : (profile : Profile) → UnknownCodesUnder profile
+unknown_codes_under profile code payload = (unknown profile code payload, known_not profile code payload)
+
+pub unknown_codes : UnknownCodes
+unknown_codes = unknown_codes_under Strict
 
 -- ---- and the end of the input is no fault of a whole segment
 
@@ -126,8 +133,8 @@ is_not_end _ = true
 not_end : (f : MarkerFault) → is_other f ≡ true → f ≡ Ended → ⊥
 not_end f e same = let g : false ≡ true = sym (ap is_other same) ∙ e in absurd cc
 
-segment_not_ended : (code : ℕ) (payload : List ℕ) → segment_of code payload ≡ Err Ended → ⊥
-segment_not_ended code payload e = at_frame (eqb code sof55) e
+segment_not_ended : (profile : Profile) (code : ℕ) (payload : List ℕ) → segment_under profile code payload ≡ Err Ended → ⊥
+segment_not_ended profile code payload e = at_frame (eqb code sof55) e
   where
     other : is_other Ended ≡ true → ⊥
     other e = absurd cc
@@ -136,19 +143,19 @@ segment_not_ended code payload e = at_frame (eqb code sof55) e
     at_skipped true h = absurd cc
     at_skipped false h = absurd cc
 
-    at_dri : (t : Bool) → cond t (restart_of (restart_interval payload)) (from_skipped code payload) ≡ Err Ended → ⊥
+    at_dri : (t : Bool) → cond t (restart_of (restart_interval payload)) (from_skipped profile code payload) ≡ Err Ended → ⊥
     at_dri true h = other (restart_fault (restart_interval payload) Ended h)
     at_dri false h = at_skipped (is_skipped code) h
 
-    at_lse : (t : Bool) → cond t (lse_of payload) (from_dri code payload) ≡ Err Ended → ⊥
+    at_lse : (t : Bool) → cond t (lse_of payload) (from_dri profile code payload) ≡ Err Ended → ⊥
     at_lse true h = other (lse_fault payload Ended h)
     at_lse false h = at_dri (eqb code dri) h
 
-    at_sos : (t : Bool) → cond t (scan_of (scan_header payload)) (from_lse code payload) ≡ Err Ended → ⊥
-    at_sos true h = other (scan_fault (scan_header payload) Ended h)
+    at_sos : (t : Bool) → cond t (scan_of profile (scan_header payload)) (from_lse profile code payload) ≡ Err Ended → ⊥
+    at_sos true h = other (scan_fault profile (scan_header payload) Ended h)
     at_sos false h = at_lse (eqb code lse) h
 
-    at_frame : (t : Bool) → cond t (frame_of (frame_header payload)) (from_sos code payload) ≡ Err Ended → ⊥
+    at_frame : (t : Bool) → cond t (frame_of (frame_header payload)) (from_sos profile code payload) ≡ Err Ended → ⊥
     at_frame true h = other (frame_fault (frame_header payload) Ended h)
     at_frame false h = at_sos (eqb code sos) h
 
@@ -180,10 +187,11 @@ accepted_not_ended h (segment.Preset a b c d f) e = absurd cc
 accepted_not_ended h (segment.Restart n) e = absurd cc
 accepted_not_ended h (segment.Skipped c) e = absurd cc
 
-taking_not_ended : (h : HeaderState) (code : ℕ) (payload : List ℕ) (r : Result Segment MarkerFault) → segment_of code payload ≡ r
+taking_not_ended : (h : HeaderState) (code : ℕ) (payload : List ℕ) (r : Result Segment MarkerFault)
+    → segment_under h.profile code payload ≡ r
     → taking h r ≡ Err Ended → ⊥
 taking_not_ended h code payload (Ok s) e g = accepted_not_ended h s g
-taking_not_ended h code payload (Err f) e g = segment_not_ended code payload (e ∙ same f g)
+taking_not_ended h code payload (Err f) e g = segment_not_ended h.profile code payload (e ∙ same f g)
   where
     same : (f : MarkerFault) → taking h (Err f) ≡ Err Ended → refused f ≡ Err Ended
     same f g = ap refused (fault_of f g)
@@ -193,4 +201,4 @@ taking_not_ended h code payload (Err f) e g = segment_not_ended code payload (e 
 
 pub never_ended : (h : HeaderState) (code : ℕ) (payload : List ℕ) → headers_after h code payload ≡ Err Ended → ⊥
 unfolding headers_after
-never_ended h code payload e = taking_not_ended h code payload (segment_of code payload) refl e
+never_ended h code payload e = taking_not_ended h code payload (segment_under h.profile code payload) refl e

@@ -12,7 +12,7 @@ use Rattle.jls_marker.specs.Headers.{begin_tests, scan_in, scan_under, scan_judg
 use Rattle.jls_marker.specs.Scan.{Scan, IsScan, IsScanOf, row_count}
 use Rattle.jls_marker.specs.ScanSelection.{ScanSelection, IsScanSelection}
 use Rattle.jls_marker.specs.SegmentLaws.{AreBytes}
-use Rattle.jls_marker.specs.Segments.{segment_of}
+use Rattle.jls_marker.specs.Segments.{segment_under}
 use Rattle.jls_marker.specs.declared.fault.MarkerFault.{MarkerFault}
 use Rattle.jls_marker.specs.declared.fault.MarkerFault.TheVariants as fault
 use Rattle.jls_marker.specs.declared.segment.Segment.{Segment}
@@ -71,7 +71,7 @@ taking_stays h after scan f (Err g) e framed = absurd cc
 pub frame_stays : (h after : HeaderState) (code : ℕ) (payload : List ℕ) (scan : Option Scan) (f : PictureShape)
     → headers_after h code payload ≡ Ok (after, scan) → h.frame ≡ Some f → after.frame ≡ Some f
 unfolding headers_after
-frame_stays h after code payload scan f e framed = taking_stays h after scan f (segment_of code payload) e framed
+frame_stays h after code payload scan f e framed = taking_stays h after scan f (segment_under h.profile code payload) e framed
 
 -- ---- a scan begins under a frame
 
@@ -123,7 +123,7 @@ pub scans_begin : (h after : HeaderState) (code : ℕ) (payload : List ℕ) (sca
     → Begins h after scan
 unfolding headers_after
 scans_begin h after code payload scan e =
-    let t = from_taken h after scan (segment_of code payload) e in
+    let t = from_taken h after scan (segment_under h.profile code payload) e in
     let k = scan_of_frame t.2.frame h t.0 scan t.2.judged in
     record { frame = t.2.frame; framed = t.2.framed; counted = t.2.counted; is_of_frame = k.0; restart_interval = k.1 }
 
@@ -146,8 +146,8 @@ pub scans_are_in_range : (h after : HeaderState) (code : ℕ) (payload : List �
     → headers_after h code payload ≡ Ok (after, Some scan) → IsScan scan
 unfolding headers_after
 scans_are_in_range h after code payload scan is bytes e =
-    let t = from_taken h after scan (segment_of code payload) e in
-    let sel = is_payload code payload (segment.Scan t.0) bytes t.1 in
+    let t = from_taken h after scan (segment_under h.profile code payload) e in
+    let sel = is_payload h.profile code payload (segment.Scan t.0) bytes t.1 in
     in_range t.2.frame h t.0 scan (is.frame t.2.frame t.2.framed) sel.1.2.in_range t.2.judged
 
 -- ---- other segments count no scan
@@ -171,4 +171,4 @@ taking_counts_none h after (Err g) e = absurd cc
 pub others_count_none : (h after : HeaderState) (code : ℕ) (payload : List ℕ) → headers_after h code payload ≡ Ok (after, None)
     → after.scans ≡ h.scans
 unfolding headers_after
-others_count_none h after code payload e = taking_counts_none h after (segment_of code payload) e
+others_count_none h after code payload e = taking_counts_none h after (segment_under h.profile code payload) e

@@ -3,16 +3,18 @@ use Rattle.std.proofs.Common.{◌≡◌, ℕ, ◌+◌, ◌^◌, ◌<◌, ◌≤�
 use Rattle.std.proofs.Common.{inl, inr}
 use Rattle.std.proofs.lemmas.Bool.{cases_eq, ltb-true}
 use Rattle.jls_values.specs.Shape.{PictureShape, IsShape}
-use Rattle.jls_marker.specs.HeaderState.{HeaderState, IsHeaderState, no_headers}
+use Rattle.jls_marker.specs.HeaderState.{HeaderState, IsHeaderState, no_headers, no_headers_under}
 use Rattle.jls_marker.specs.Headers.{headers_after, accepted, begun, scan_under, scan_judged, begin_tests, scan_in, taking}
-use Rattle.jls_marker.specs.Payloads.{IsPayload}
+use Rattle.jls_marker.specs.Payloads.{IsPayloadUnder}
 use Rattle.jls_values.specs.PresetParameters.{PresetParameters, ArePresetParameters}
 use Rattle.jls_marker.specs.Scan.{Scan}
 use Rattle.jls_marker.specs.ScanSelection.{ScanSelection}
 use Rattle.jls_marker.specs.SegmentLaws.{AreBytes}
-use Rattle.jls_marker.specs.Segments.{segment_of}
+use Rattle.jls_marker.specs.Segments.{segment_under}
 use Rattle.jls_marker.specs.declared.fault.MarkerFault.{MarkerFault}
 use Rattle.jls_marker.specs.declared.fault.MarkerFault.TheVariants as fault
+use Rattle.jls_marker.specs.declared.profile.Profile.{Profile}
+use Rattle.jls_marker.specs.declared.profile.Profile.TheVariants.{Strict}
 use Rattle.jls_marker.specs.declared.segment.Segment.{Segment}
 use Rattle.jls_marker.specs.declared.segment.Segment.TheVariants as segment
 use Rattle.jls_marker.proofs.FirstFailing.{fine, fine_is, all_pass}
@@ -42,12 +44,12 @@ four_bytes l n least most h = elim (cases_eq l 2) [
   ]
 ]
 
-in_range : (code : ℕ) (payload : List ℕ) (s : Segment) → IsPayload code payload s → InRange s
-in_range code payload (segment.Frame f) h = h.1.2.in_range
-in_range code payload (segment.Scan s) h = tt
-in_range code payload (segment.Preset a b c d r) h = h.1.2.in_range
-in_range code payload (segment.Restart n) h = four_bytes (length payload) n h.1.length_at_least h.1.length_at_most h.1.below
-in_range code payload (segment.Skipped c) h = tt
+in_range : (profile : Profile) (code : ℕ) (payload : List ℕ) (s : Segment) → IsPayloadUnder profile code payload s → InRange s
+in_range profile code payload (segment.Frame f) h = h.1.2.in_range
+in_range profile code payload (segment.Scan s) h = tt
+in_range profile code payload (segment.Preset a b c d r) h = h.1.2.in_range
+in_range profile code payload (segment.Restart n) h = four_bytes (length payload) n h.1.length_at_least h.1.length_at_most h.1.below
+in_range profile code payload (segment.Skipped c) h = tt
 
 framed : (h : HeaderState) (g : PictureShape) → IsHeaderState h → IsShape g → IsHeaderState (record h { frame = Some g })
 framed h g is shape = record {
@@ -102,11 +104,12 @@ pub headers_kept : (h after : HeaderState) (code : ℕ) (payload : List ℕ) (sc
     → headers_after h code payload ≡ Ok (after, scan) → IsHeaderState after
 unfolding headers_after
 headers_kept h after code payload scan is bytes e =
-    taking_kept h after scan (segment_of code payload) (λ s q. in_range code payload s (is_payload code payload s bytes q)) is e
+    taking_kept h after scan (segment_under h.profile code payload) (λ s q. in_range h.profile code payload s
+    (is_payload h.profile code payload s bytes q)) is e
 
 -- those before the first segment are
-pub no_headers_kept : IsHeaderState no_headers
-no_headers_kept = record {
+pub new_headers_kept : (profile : Profile) → IsHeaderState (no_headers_under profile)
+new_headers_kept profile = record {
   frame = λ f e. absurd (nothing f e);
   preset = record {
     maxval_below = omega arith;
@@ -122,3 +125,6 @@ no_headers_kept = record {
   where
     nothing : (f : PictureShape) → None ≡ Some f → ⊥
     nothing f e = cc
+
+pub no_headers_kept : IsHeaderState no_headers
+no_headers_kept = new_headers_kept Strict

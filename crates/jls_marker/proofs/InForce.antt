@@ -10,7 +10,7 @@ use Rattle.jls_marker.specs.HeaderState.{HeaderState}
 use Rattle.jls_marker.specs.Headers.{begin_tests, scan_in, scan_under, scan_judged, accepted, taking, headers_after}
 use Rattle.jls_marker.specs.Scan.{Scan}
 use Rattle.jls_marker.specs.ScanSelection.{ScanSelection}
-use Rattle.jls_marker.specs.Segments.{segment_of}
+use Rattle.jls_marker.specs.Segments.{segment_under}
 use Rattle.jls_marker.specs.declared.fault.MarkerFault.TheVariants as fault
 use Rattle.jls_marker.specs.declared.segment.Segment.{Segment}
 use Rattle.jls_marker.specs.declared.segment.Segment.TheVariants as segment
@@ -53,7 +53,7 @@ sets h after scan (segment.Skipped code) e =
     other_sets h h after (segment.Skipped code) refl refl refl refl (parts (h, None) (after, scan) e).0
 
 pub segments_set_their_own : (h after : HeaderState) (code : ℕ) (payload : List ℕ) (scan : Option Scan) (s : Segment)
-    → segment_of code payload ≡ Ok s → headers_after h code payload ≡ Ok (after, scan) → SetsItsOwn h after s
+    → segment_under h.profile code payload ≡ Ok s → headers_after h code payload ≡ Ok (after, scan) → SetsItsOwn h after s
 unfolding headers_after
 segments_set_their_own h after code payload scan s is e = sets h after scan s (sym (ap (taking h) is) ∙ e)
 
@@ -75,6 +75,7 @@ has h f s scan e =
       params = none_broken (in_force f.precision h.preset) (param_fault (in_force f.precision h.preset)) t.0.1.0
           ∙ ap (λ (x : Scan). done x.params) t.1;
       restart_interval = ap (λ (x : Scan). x.restart_interval) (sym t.1);
+      by_sample = ap (λ (x : Scan). x.by_sample) (sym t.1);
     }
 
 abbrev some : PictureShape → Option PictureShape
@@ -85,11 +86,11 @@ some_same f g e = cc
 
 pub scans_have_what_is_in_force : (h after : HeaderState) (code : ℕ) (payload : List ℕ) (scan : Scan) → headers_after h code payload
     ≡ Ok (after, Some scan)
-    → (s : ScanSelection) × (segment_of code payload ≡ Ok (segment.Scan s))
+    → (s : ScanSelection) × (segment_under h.profile code payload ≡ Ok (segment.Scan s))
     × ((frame : PictureShape) → h.frame ≡ Some frame → HasWhatIsInForce h frame s scan)
 unfolding headers_after
 scans_have_what_is_in_force h after code payload scan e =
-    let t = from_taken h after scan (segment_of code payload) e in (
+    let t = from_taken h after scan (segment_under h.profile code payload) e in (
       t.0,
       t.1,
       λ frame framed. has h frame t.0 scan

@@ -6,9 +6,12 @@ pub mod HeaderSteps
 pub mod HeadersKept
 pub mod InForce
 pub mod Indices
+pub mod Interleaving
 pub mod Intervals
 pub mod Layouts
 pub mod ParamRanges
+pub mod ProfileExamples
+pub mod ProfileSteps
 pub mod ReadsBack
 pub mod SegmentLaws
 pub mod SegmentsRead

@@ -1,11 +1,8 @@
 -- What is written of a frame and of a scan is read as the same.
-use Rattle.std.proofs.Common.{◌≡◌, ℕ, ◌<◌, Bool, true, false, List, [], ◌∷◌, ◌++◌, length, map, Result, Ok, refl, sym, ap, ◌∙◌, arith, inl}
-use Rattle.std.proofs.Common.{inr}
-use Rattle.std.specs.Prelude.{◌&&◌, ◌||◌, ◌==◌, not, nat_le, is_ok, if◌then◌else◌}
+use Rattle.std.proofs.Common.{◌≡◌, ℕ, Bool, true, List, [], ◌∷◌, ◌++◌, length, map, Result, Ok, refl, sym, ap, ◌∙◌, arith}
+use Rattle.std.specs.Prelude.{◌&&◌, ◌==◌, not, is_ok}
 use Rattle.std.specs.List.{flat_map, list_all}
 use Rattle.std.specs.Int.{w16, to_be_bytes}
-use Rattle.std.proofs.lemmas.Bool.{le-leb, cases_lt}
-use Rattle.std.proofs.Math.Bool.{or-true}
 use Rattle.std.proofs.lemmas.List.{length-map}
 use Rattle.std.proofs.lemmas.List.Folds.{flat_map-map}
 use Rattle.jls_values.specs.Shape.{PictureShape, IsShape, has_repeat}
@@ -13,14 +10,18 @@ use Rattle.jls_values.specs.ShapeOf.{shape_of}
 use Rattle.jls_marker.specs.MarkerCodes.{sof55, sos}
 use Rattle.jls_marker.specs.Layouts.{FrameComponent, FrameHeader, frame_component_bytes, frame_header_bytes, frame_header, ScanComponent}
 use Rattle.jls_marker.specs.Layouts.{ScanHeader, scan_component_bytes, scan_header_bytes, scan_header}
-use Rattle.jls_marker.specs.ScanSelection.{ScanSelection, IsScanSelection}
-use Rattle.jls_marker.specs.Segments.{frame_tests, frame_of, shape_in, frame_ids, scan_tests, scan_of, selection_in, scan_ids, segment_of}
+use Rattle.jls_marker.specs.Profiles.{IsOfProfile}
+use Rattle.jls_marker.specs.ScanSelection.{ScanSelection, IsScanSelection, interleave_of}
+use Rattle.jls_marker.specs.Segments.{frame_tests, frame_of, shape_in, frame_ids, scan_tests, scan_of, selection_in, scan_ids}
+use Rattle.jls_marker.specs.Segments.{segment_under}
 use Rattle.jls_marker.specs.Written.{frame_payload, scan_payload}
 use Rattle.jls_marker.specs.declared.fault.MarkerFault.{MarkerFault}
+use Rattle.jls_marker.specs.declared.profile.Profile.{Profile}
 use Rattle.jls_marker.specs.declared.segment.Segment.{Segment}
 use Rattle.jls_marker.specs.declared.segment.Segment.TheVariants.{Frame, Scan}
 use Rattle.jls_marker.proofs.FirstFailing.{none_fails}
 use Rattle.jls_marker.proofs.ComponentLayouts.{frame_header_again, scan_header_again}
+use Rattle.jls_marker.proofs.Interleaving.{is_taken, line_again, sample_again}
 use Rattle.jls_marker.proofs.Shapes.{shape_there}
 
 -- ---- components that are made of identifiers
@@ -53,8 +54,8 @@ frame_bytes s =
 abbrev framed : PictureShape → List ℕ → Result Segment MarkerFault
 framed s ids = Ok (Frame (record { precision = s.precision; width = s.width; height = s.height; ids = ids }))
 
-pub frame_reads_back : (s : PictureShape) → IsShape s → segment_of sof55 (frame_payload s) ≡ Ok (Frame s)
-frame_reads_back s is =
+pub frame_reads_back : (profile : Profile) (s : PictureShape) → IsShape s → segment_under profile sof55 (frame_payload s) ≡ Ok (Frame s)
+frame_reads_back profile s is =
     let h = written_frame s in
     let again = ids_again frame_component (λ c. c.id) (λ id. refl) s.ids in
     let shape : is_ok (shape_of s.precision s.width s.height (frame_ids h)) ≡ true =
@@ -71,41 +72,32 @@ abbrev scan_component : ℕ → ScanComponent
 scan_component id = record { id = id; table = 0 }
 
 abbrev written_scan : ScanSelection → ScanHeader
-written_scan s = record { components = map scan_component s.ids; near = 0; interleave = if s.line then 1 else 0; approximation = 0 }
+written_scan s = record { components = map scan_component s.ids; near = 0; interleave = interleave_of s; approximation = 0 }
 
 scan_bytes : (s : ScanSelection) → scan_payload s ≡ scan_header_bytes (written_scan s)
 scan_bytes s =
-    let tail = 0 ∷ (if s.line then 1 else 0) ∷ 0 ∷ [] in
+    let tail = 0 ∷ interleave_of s ∷ 0 ∷ [] in
     ap (λ (n : ℕ). n ∷ (flat_map (λ id. id ∷ 0 ∷ []) s.ids ++ tail)) (sym (length-map s.ids scan_component))
     ∙ ap (λ (t : List ℕ). length (map scan_component s.ids) ∷ (t ++ tail)) (sym (flat_map-map scan_component_bytes scan_component s.ids))
 
-pub interleaved : (n : ℕ) (line : Bool) → (1 < n → line ≡ true)
-    → (nat_le (if line then 1 else 0) 1 && (nat_le n 1 || ((if line then 1 else 0) == 1))) ≡ true
-interleaved n true h = or-true (nat_le n 1)
-interleaved n false h =
-    elim (cases_lt 1 n) [
-      | inl lt ↦ let e : false ≡ true = h lt in absurd cc
-      | inr le ↦ let e : nat_le n 1 ≡ true = le-leb n 1 le in rw e refl
-    ]
+abbrev selected : List ℕ → Bool → Bool → Result Segment MarkerFault
+selected ids line by_sample = Ok (Scan (record { ids = ids; line = line; by_sample = by_sample }))
 
-pub line_again : (line : Bool) → ((if line then 1 else 0) == 1) ≡ line
-line_again true = refl
-line_again false = refl
-
-abbrev selected : List ℕ → Bool → Result Segment MarkerFault
-selected ids line = Ok (Scan (record { ids = ids; line = line }))
-
-pub scan_reads_back : (s : ScanSelection) → IsScanSelection s → segment_of sos (scan_payload s) ≡ Ok (Scan s)
-scan_reads_back s is =
+pub scan_reads_back : (profile : Profile) (s : ScanSelection) → IsScanSelection s → IsOfProfile profile s
+    → segment_under profile sos (scan_payload s) ≡ Ok (Scan s)
+scan_reads_back profile s is of_profile =
     let h = written_scan s in
+    let k = interleave_of s in
     let again = ids_again scan_component (λ c. c.id) (λ id. refl) s.ids in
     let count : length h.components ≡ length s.ids = length-map s.ids scan_component in
     let differ : not (has_repeat (scan_ids h)) ≡ true = ap (λ (ids : List ℕ). not (has_repeat ids)) again ∙ ap not is.ids_differ in
-    let by_line = interleaved (length h.components) s.line (λ lt. is.interleaved (let m = lt in omega (arith, count, m))) in
-    ap (λ (t : List ℕ). scan_of (scan_header t)) (scan_bytes s)
-    ∙ ap scan_of (scan_header_again h (let a = is.ids_at_least in omega (arith, count, a))
+    let taken = is_taken profile (length h.components) s.ids s.line s.by_sample
+    (λ lt. is.interleaved (let m = lt in omega (arith, count, m))) (λ e. let m = is.several e in omega (arith, count, m)) of_profile in
+    ap (λ (t : List ℕ). scan_of profile (scan_header t)) (scan_bytes s)
+    ∙ ap (scan_of profile) (scan_header_again h (let a = is.ids_at_least in omega (arith, count, a))
     (let a = is.ids_at_most in omega (arith, count, a)))
-    ∙ none_fails (scan_tests h) (Scan (selection_in h))
-    (differ, (each_passes scan_component (λ c. c.table == 0) (λ id. refl) s.ids, (refl, (by_line, (refl, tt)))))
-    ∙ ap (λ (ids : List ℕ). selected ids ((if s.line then 1 else 0) == 1)) again
-    ∙ ap (selected s.ids) (line_again s.line)
+    ∙ none_fails (scan_tests profile h) (Scan (selection_in h))
+    (differ, (each_passes scan_component (λ c. c.table == 0) (λ id. refl) s.ids, (refl, (taken, (refl, tt)))))
+    ∙ ap (λ (ids : List ℕ). selected ids (k == 1) (k == 2)) again
+    ∙ ap (λ (line : Bool). selected s.ids line (k == 2)) (line_again s.line s.by_sample is.not_both)
+    ∙ ap (selected s.ids s.line) (sample_again s.line s.by_sample)

@@ -1,5 +1,8 @@
 -- The laws of segments, whole.
-use Rattle.jls_marker.specs.SegmentLaws.{LayoutsAreRead, PayloadsAreRead, WrittenReadsBack}
+use Rattle.jls_marker.specs.SegmentLaws.{LayoutsAreRead, PayloadsAreRead, PayloadsAreReadUnder, WrittenReadsBack}
+use Rattle.jls_marker.specs.SegmentLaws.{WrittenReadsBackUnder}
+use Rattle.jls_marker.specs.declared.profile.Profile.{Profile}
+use Rattle.jls_marker.specs.declared.profile.Profile.TheVariants.{Strict}
 use Rattle.jls_marker.specs.declared.segment.Segment.TheVariants.{Frame, Scan, Preset, Restart, Skipped}
 use Rattle.jls_marker.proofs.ComponentLayouts.{frame_header_there, frame_header_of, scan_header_there, scan_header_of}
 use Rattle.jls_marker.proofs.Layouts.{preset_there, preset_of_layout, restart_there, restart_of_layout}
@@ -15,12 +18,19 @@ layouts_are_read = record {
   restart = λ payload n b. (λ e. restart_there payload n b e, λ l. restart_of_layout payload n l);
 }
 
+pub payloads_are_read_under : (profile : Profile) → PayloadsAreReadUnder profile
+payloads_are_read_under profile code payload s b =
+    (λ e. is_payload profile code payload s b e, λ p. is_read profile code payload s p)
+
 pub payloads_are_read : PayloadsAreRead
-payloads_are_read code payload s b = (λ e. is_payload code payload s b e, λ p. is_read code payload s p)
+payloads_are_read = payloads_are_read_under Strict
+
+pub written_reads_back_under : (profile : Profile) → WrittenReadsBackUnder profile
+written_reads_back_under profile (Frame s) is can = frame_reads_back profile s is
+written_reads_back_under profile (Scan s) is can = scan_reads_back profile s is.0 is.1
+written_reads_back_under profile (Preset maxval t1 t2 t3 reset) is can = preset_reads_back maxval t1 t2 t3 reset is
+written_reads_back_under profile (Restart n) is can = restart_reads_back n is
+written_reads_back_under profile (Skipped code) is can = absurd can
 
 pub written_reads_back : WrittenReadsBack
-written_reads_back (Frame s) is can = frame_reads_back s is
-written_reads_back (Scan s) is can = scan_reads_back s is
-written_reads_back (Preset maxval t1 t2 t3 reset) is can = preset_reads_back maxval t1 t2 t3 reset is
-written_reads_back (Restart n) is can = restart_reads_back n is
-written_reads_back (Skipped code) is can = absurd can
+written_reads_back = written_reads_back_under Strict

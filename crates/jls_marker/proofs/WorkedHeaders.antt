@@ -1,5 +1,5 @@
 -- The headers after several segments, and which codes have a segment, worked out by hand.
-use Rattle.std.proofs.Common.{◌≡◌, ℕ, List, [], ◌∷◌, Option, Some, None, Result, Ok, Err, refl}
+use Rattle.std.proofs.Common.{◌≡◌, ℕ, false, List, [], ◌∷◌, Option, Some, None, Result, Ok, Err, refl}
 use Rattle.std.specs.List.{filter, range_with_len}
 use Rattle.jls_marker.specs.ComponentIndex.{index_of}
 use Rattle.jls_marker.specs.HeaderState.{HeaderState, no_headers}
@@ -10,6 +10,7 @@ use Rattle.jls_marker.specs.Scan.{Scan}
 use Rattle.jls_marker.specs.Segments.{segment_of}
 use Rattle.jls_marker.specs.Written.{payload_of}
 use Rattle.jls_marker.specs.declared.fault.MarkerFault.{MarkerFault}
+use Rattle.jls_marker.specs.declared.profile.Profile.TheVariants.{Strict}
 use Rattle.jls_marker.specs.declared.segment.Segment.TheVariants as segment
 
 -- these segments one after another, each a code and a payload; what the last one gives
@@ -49,14 +50,20 @@ presets = record { maxval = 200; t1 = 4; t2 = 8; t3 = 22; reset = 32 }
 -- the headers with these presets, and the scan with its parameters
 abbrev given : PresetParameters → ℕ → ℕ → ℕ → ℕ → ℕ → ℕ → Result (HeaderState × Option Scan) MarkerFault
 given p maxval t1 t2 t3 reset rows = Ok (
-  record { frame = Some (record { precision = 8; width = 1; height = 10; ids = 1 ∷ [] }); preset = p; restart_interval = rows; scans = 1 },
+  record {
+    profile = Strict;
+    frame = Some (record { precision = 8; width = 1; height = 10; ids = 1 ∷ [] });
+    preset = p;
+    restart_interval = rows;
+    scans = 1;
+  },
   Some (record {
     components = 0 ∷ [];
     params = record { precision = 8; maxval = maxval; t1 = t1; t2 = t2; t3 = t3; reset = reset };
-    width =
-        1;
+    width = 1;
     height = 10;
     restart_interval = rows;
+    by_sample = false;
   }),
 )
 
@@ -103,6 +110,7 @@ taken_away = refl
 sixteenth : following (sos ∷ [])
     (Ok (
       record {
+        profile = Strict;
         frame = Some (record { precision = 8; width = 1; height = 10; ids = 1 ∷ [] });
         preset = no_presets;
         restart_interval = 0;
@@ -112,6 +120,7 @@ sixteenth : following (sos ∷ [])
     ))
     ≡ Ok (
       record {
+        profile = Strict;
         frame = Some (record { precision = 8; width = 1; height = 10; ids = 1 ∷ [] });
         preset = no_presets;
         restart_interval = 0;
@@ -123,6 +132,7 @@ sixteenth : following (sos ∷ [])
         width = 1;
         height = 10;
         restart_interval = 0;
+        by_sample = false;
       }),
     )
 unfolding index_of

@@ -2,7 +2,7 @@
 use Rattle.std.proofs.Common.{◌≡◌, ℕ, true, false, [], ◌∷◌, Some, Ok, Err, refl}
 use Rattle.jls_values.specs.Shape.{PictureShape}
 use Rattle.jls_values.specs.Params.{CodingParameters}
-use Rattle.jls_marker.specs.ScanSelection.{selection_of}
+use Rattle.jls_marker.specs.ScanSelection.{selection, selection_of}
 use Rattle.jls_marker.specs.Scan.{Scan, intervals, first_row, row_count}
 use Rattle.jls_marker.specs.Segments.{segment_of}
 use Rattle.jls_marker.specs.Written.{payload_of, segment_bytes, code_of}
@@ -38,13 +38,13 @@ length_first : segment_of 0xF7 (1 ∷ 0 ∷ 1 ∷ 0 ∷ 1 ∷ 2 ∷ 1 ∷ 0x21 �
 length_first = refl
 
 -- scans of one and of two components
-one : segment_of 0xDA (1 ∷ 1 ∷ 0 ∷ 0 ∷ 0 ∷ 0 ∷ []) ≡ Ok (segment.Scan (record { ids = 1 ∷ []; line = false }))
+one : segment_of 0xDA (1 ∷ 1 ∷ 0 ∷ 0 ∷ 0 ∷ 0 ∷ []) ≡ Ok (segment.Scan (selection (1 ∷ []) false))
 one = refl
 
-by_line : segment_of 0xDA (2 ∷ 1 ∷ 0 ∷ 2 ∷ 0 ∷ 0 ∷ 1 ∷ 0 ∷ []) ≡ Ok (segment.Scan (record { ids = 1 ∷ 2 ∷ []; line = true }))
+by_line : segment_of 0xDA (2 ∷ 1 ∷ 0 ∷ 2 ∷ 0 ∷ 0 ∷ 1 ∷ 0 ∷ []) ≡ Ok (segment.Scan (selection (1 ∷ 2 ∷ []) true))
 by_line = refl
 
-written_scan : segment_bytes 0xDA (payload_of (segment.Scan (record { ids = 1 ∷ 2 ∷ []; line = true }))) ≡ 0xFF ∷ 0xDA ∷ 0 ∷ 0x0A ∷ 2 ∷ 1
+written_scan : segment_bytes 0xDA (payload_of (segment.Scan (selection (1 ∷ 2 ∷ []) true))) ≡ 0xFF ∷ 0xDA ∷ 0 ∷ 0x0A ∷ 2 ∷ 1
     ∷ 0 ∷ 2 ∷ 0 ∷ 0 ∷ 1 ∷ 0 ∷ []
 written_scan = refl
 
@@ -67,7 +67,7 @@ not_interleaved = refl
 point_transform : segment_of 0xDA (2 ∷ 1 ∷ 0 ∷ 2 ∷ 0 ∷ 0 ∷ 1 ∷ 0x21 ∷ []) ≡ Err fault.PointTransform
 point_transform = refl
 
-free : segment_of 0xDA (2 ∷ 1 ∷ 0 ∷ 2 ∷ 0 ∷ 0 ∷ 1 ∷ 0x20 ∷ []) ≡ Ok (segment.Scan (record { ids = 1 ∷ 2 ∷ []; line = true }))
+free : segment_of 0xDA (2 ∷ 1 ∷ 0 ∷ 2 ∷ 0 ∷ 0 ∷ 1 ∷ 0x20 ∷ []) ≡ Ok (segment.Scan (selection (1 ∷ 2 ∷ []) true))
 free = refl
 
 -- LSE
@@ -128,7 +128,7 @@ abbrev large : ℕ → HeaderState
 large rows = record no_headers
     { frame = Some (record { precision = 8; width = 65535; height = 65535; ids = 1 ∷ [] }); restart_interval = rows }
 
-too_large : accepted (large 0) (segment.Scan (record { ids = 1 ∷ []; line = false })) ≡ Err fault.IntervalTooLarge
+too_large : accepted (large 0) (segment.Scan (selection (1 ∷ []) false)) ≡ Err fault.IntervalTooLarge
 unfolding index_of
 too_large = refl
 
@@ -136,9 +136,10 @@ abbrev defaults : CodingParameters
 defaults = record { precision = 8; maxval = 255; t1 = 3; t2 = 7; t3 = 21; reset = 64 }
 
 abbrev large_scan : Scan
-large_scan = record { components = 0 ∷ []; params = defaults; width = 65535; height = 65535; restart_interval = 4096 }
+large_scan =
+    record { components = 0 ∷ []; params = defaults; width = 65535; height = 65535; restart_interval = 4096; by_sample = false }
 
-not_too_large : accepted (large 4096) (segment.Scan (record { ids = 1 ∷ []; line = false }))
+not_too_large : accepted (large 4096) (segment.Scan (selection (1 ∷ []) false))
     ≡ Ok (record (large 4096) { scans = 1 }, Some large_scan)
 unfolding index_of
 not_too_large = refl
@@ -150,21 +151,21 @@ the_last : (first_row large_scan 15 ≡ 61440) × (row_count large_scan 15 ≡ 4
 the_last = (refl, refl)
 
 -- before the frame; a second frame; a component that is not in the frame; the preset of 12 bits at 8; a seventeenth scan
-no_frame : accepted no_headers (segment.Scan (record { ids = 1 ∷ []; line = false })) ≡ Err fault.NoFrame
+no_frame : accepted no_headers (segment.Scan (selection (1 ∷ []) false)) ≡ Err fault.NoFrame
 no_frame = refl
 
 second_frame : accepted (large 0) (segment.Frame column) ≡ Err fault.SecondFrame
 second_frame = refl
 
-unknown : accepted (large 0) (segment.Scan (record { ids = 2 ∷ []; line = false })) ≡ Err fault.UnknownComponent
+unknown : accepted (large 0) (segment.Scan (selection (2 ∷ []) false)) ≡ Err fault.UnknownComponent
 unfolding index_of
 unknown = refl
 
 bad_params : accepted (record (large 0) { preset = record { maxval = 4095; t1 = 0; t2 = 0; t3 = 0; reset = 0 } })
-    (segment.Scan (record { ids = 1 ∷ []; line = false })) ≡ Err fault.BadParams
+    (segment.Scan (selection (1 ∷ []) false)) ≡ Err fault.BadParams
 unfolding index_of
 bad_params = refl
 
-seventeenth : accepted (record (large 4096) { scans = 16 }) (segment.Scan (record { ids = 1 ∷ []; line = false })) ≡ Err fault.TooManyScans
+seventeenth : accepted (record (large 4096) { scans = 16 }) (segment.Scan (selection (1 ∷ []) false)) ≡ Err fault.TooManyScans
 unfolding index_of
 seventeenth = refl

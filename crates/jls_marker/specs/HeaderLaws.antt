@@ -9,7 +9,7 @@ use Rattle.jls_marker.specs.Headers.{headers_after}
 use Rattle.jls_values.specs.PresetParameters.{PresetParameters}
 use Rattle.jls_marker.specs.ScanSelection.{ScanSelection}
 use Rattle.jls_marker.specs.SegmentLaws.{AreBytes}
-use Rattle.jls_marker.specs.Segments.{segment_of}
+use Rattle.jls_marker.specs.Segments.{segment_under}
 use Rattle.jls_marker.specs.declared.fault.MarkerFault.TheVariants.{Ended}
 use Rattle.jls_marker.specs.declared.segment.Segment.{Segment}
 use Rattle.jls_marker.specs.declared.segment.Segment.TheVariants as segment
@@ -89,17 +89,19 @@ pub record SetsItsOwn (h after : HeaderState) (s : Segment) : Type 0 where
 -- a segment that is taken sets its own value, and leaves the others
 abbrev pub SegmentsSetTheirOwn : Type 0
 SegmentsSetTheirOwn = (h after : HeaderState) (code : ℕ) (payload : List ℕ) (scan : Option Scan) (s : Segment)
-    → segment_of code payload ≡ Ok s → headers_after h code payload ≡ Ok (after, scan) → SetsItsOwn h after s
+    → segment_under h.profile code payload ≡ Ok s → headers_after h code payload ≡ Ok (after, scan) → SetsItsOwn h after s
 
 -- a scan has the components that its header names, by their places in the frame. Its parameters are those of the frame and the preset
--- values in force. Its restart interval is the one in force (T.87 C.2.3, C.2.4.1.1; T.81 B.2.4.4)
+-- values in force. Its restart interval is the one in force. It is interleaved as its header says (T.87 C.2.3, C.2.4.1.1; T.81 B.2.4.4)
 pub record HasWhatIsInForce (h : HeaderState) (frame : PictureShape) (s : ScanSelection) (scan : Scan) : Type 0 where
   pub components : scan.components ≡ map (index_of frame.ids) s.ids
   pub params : params_of frame.precision h.preset ≡ Ok scan.params
   pub restart_interval : scan.restart_interval ≡ h.restart_interval
+  pub by_sample : scan.by_sample ≡ s.by_sample
 
 -- a scan that begins has what is in force
 abbrev pub ScansHaveWhatIsInForce : Type 0
 ScansHaveWhatIsInForce = (h after : HeaderState) (code : ℕ) (payload : List ℕ) (scan : Scan)
-    → headers_after h code payload ≡ Ok (after, Some scan) → (s : ScanSelection) × (segment_of code payload ≡ Ok (segment.Scan s))
+    → headers_after h code payload ≡ Ok (after, Some scan)
+    → (s : ScanSelection) × (segment_under h.profile code payload ≡ Ok (segment.Scan s))
     × ((frame : PictureShape) → h.frame ≡ Some frame → HasWhatIsInForce h frame s scan)

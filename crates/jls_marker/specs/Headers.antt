@@ -9,8 +9,8 @@ use Rattle.jls_marker.specs.Faults.{first_failing}
 use Rattle.jls_values.specs.PresetParameters.{PresetParameters}
 use Rattle.jls_marker.specs.HeaderState.{HeaderState}
 use Rattle.jls_marker.specs.ScanSelection.{ScanSelection}
-use Rattle.jls_marker.specs.Scan.{Scan, scan_with, row_count}
-use Rattle.jls_marker.specs.Segments.{segment_of}
+use Rattle.jls_marker.specs.Scan.{Scan, scan_by, row_count}
+use Rattle.jls_marker.specs.Segments.{segment_under}
 use Rattle.jls_marker.specs.declared.fault.MarkerFault.{MarkerFault}
 use Rattle.jls_marker.specs.declared.fault.MarkerFault.TheVariants as fault
 use Rattle.jls_marker.specs.declared.segment.Segment.{Segment}
@@ -18,7 +18,8 @@ use Rattle.jls_marker.specs.declared.segment.Segment.TheVariants as segment
 
 -- the scan of these components of the frame, with the parameters in force at its precision (T.87 C.2.3)
 abbrev pub scan_in : PictureShape → PresetParameters → ℕ → ScanSelection → Scan
-scan_in f preset restart_interval s = scan_with f (map (index_of f.ids) s.ids) (in_force f.precision preset) restart_interval
+scan_in f preset restart_interval s =
+    scan_by s.by_sample f (map (index_of f.ids) s.ids) (in_force f.precision preset) restart_interval
 
 -- the tests of a scan that begins after so many others, in their order. No interval is longer than the first (T.87 C.2)
 abbrev pub begin_tests : PictureShape → PresetParameters → ℕ → ℕ → ScanSelection → List (Bool × MarkerFault)
@@ -58,6 +59,6 @@ abbrev pub taking : HeaderState → Result Segment MarkerFault → Result (Heade
 taking h (Ok s) = accepted h s
 taking h (Err e) = Err e
 
--- the same of a whole segment, by its code and its payload (T.87 C.2)
+-- the same of a whole segment, by its code and its payload, read under the profile of the headers (T.87 C.2)
 unfoldable pub headers_after : HeaderState → ℕ → List ℕ → Result (HeaderState × Option Scan) MarkerFault
-headers_after h code payload = taking h (segment_of code payload)
+headers_after h code payload = taking h (segment_under h.profile code payload)

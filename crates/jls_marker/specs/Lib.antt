@@ -5,6 +5,8 @@ pub mod Headers
 pub mod Layouts
 pub mod MarkerCodes
 pub mod Payloads
+pub mod ProfileLaws
+pub mod Profiles
 pub mod Scan
 pub mod ScanSelection
 pub mod Segments

@@ -21,6 +21,6 @@ dri = 0xDD
 abbrev pub is_skipped : ℕ → Bool
 is_skipped code = (code == 0xFE) || (nat_le 0xE0 code && nat_le code 0xEF)
 
--- the codes that a segment of this profile follows (T.81 table B.1; T.87 C.1.1)
+-- the codes that a segment of this project follows (T.81 table B.1; T.87 C.1.1)
 unfoldable pub has_segment : ℕ → Bool
 has_segment code = (code == sof55) || ((code == sos) || ((code == lse) || ((code == dri) || is_skipped code)))

@@ -1,22 +1,35 @@
--- A scan and its restart intervals. That an interval has at most 2^28 samples is this profile's choice.
-use Rattle.std.specs.Prelude.{◌≡◌, ℕ, ◌+◌, ◌-◌, ◌*◌, ◌/◌, ◌<◌, ◌≤◌, ◌^◌, min, ◌==◌, List, length, if◌then◌else◌}
+-- A scan and its restart intervals. That an interval has at most 2^28 samples is this project's choice.
+use Rattle.std.specs.Prelude.{◌≡◌, ℕ, ◌+◌, ◌-◌, ◌*◌, ◌/◌, ◌<◌, ◌≤◌, ◌^◌, min, ◌==◌, Bool, false, List, length}
+use Rattle.std.specs.Prelude.{if◌then◌else◌}
 use Rattle.std.specs.List.{AllByRecursion}
 use Rattle.jls_values.specs.Shape.{PictureShape}
 use Rattle.jls_values.specs.Params.{CodingParameters, AreCodingParameters}
 
 -- a scan: its components by their indices in the frame, in the order in which they take turns; the parameters in force; the columns and
--- lines of the frame; and Ri, the rows of an interval, or 0 if there is one interval. A row is a line of each component (T.87 C.2.3)
+-- lines of the frame; Ri, the rows of an interval, or 0 if there is one interval; and whether its components are interleaved by sample. A
+-- row is a line of each component (T.87 C.2.3)
 pub record Scan : Type 0 where
   pub components : List ℕ
   pub params : CodingParameters
   pub width : ℕ
   pub height : ℕ
   pub restart_interval : ℕ
+  pub by_sample : Bool
 
--- a scan of a frame (T.87 C.2.3)
+-- a scan of a frame, interleaved by sample or not (T.87 C.2.3)
+abbrev pub scan_by : Bool → PictureShape → List ℕ → CodingParameters → ℕ → Scan
+scan_by by_sample f components params restart_interval = record {
+  components = components;
+  params = params;
+  width = f.width;
+  height = f.height;
+  restart_interval = restart_interval;
+  by_sample = by_sample;
+}
+
+-- a scan of a frame that is not interleaved by sample (T.87 C.2.3)
 abbrev pub scan_with : PictureShape → List ℕ → CodingParameters → ℕ → Scan
-scan_with f components params restart_interval =
-    record { components = components; params = params; width = f.width; height = f.height; restart_interval = restart_interval }
+scan_with f components params restart_interval = scan_by false f components params restart_interval
 
 -- how many intervals a scan has: the height by Ri, rounded up; one, if Ri is 0 (T.81 B.2.4.4; T.87 C.2.5)
 abbrev pub intervals : Scan → ℕ

@@ -1,5 +1,5 @@
 -- The segment that a payload is, or its first fault.
-use Rattle.std.specs.Prelude.{ℕ, ◌%◌, Bool, ◌&&◌, ◌||◌, ◌==◌, not, nat_le, List, [], ◌∷◌, length, map, is_ok, Option, Some, None, Result}
+use Rattle.std.specs.Prelude.{ℕ, ◌%◌, Bool, ◌||◌, ◌==◌, not, List, [], ◌∷◌, length, map, is_ok, Option, Some, None, Result}
 use Rattle.std.specs.Prelude.{Ok, Err, if◌then◌else◌}
 use Rattle.std.specs.List.{list_all}
 use Rattle.jls_values.specs.Shape.{PictureShape, has_repeat}
@@ -7,10 +7,13 @@ use Rattle.jls_values.specs.ShapeOf.{shape_of}
 use Rattle.jls_marker.specs.MarkerCodes.{sof55, sos, lse, dri, is_skipped}
 use Rattle.jls_marker.specs.Faults.{first_failing}
 use Rattle.jls_values.specs.PresetParameters.{PresetParameters}
+use Rattle.jls_marker.specs.Profiles.{takes_interleave}
 use Rattle.jls_marker.specs.ScanSelection.{ScanSelection}
 use Rattle.jls_marker.specs.Layouts.{FrameHeader, frame_header, ScanHeader, scan_header, preset_parameters, restart_interval}
 use Rattle.jls_marker.specs.declared.fault.MarkerFault.{MarkerFault}
 use Rattle.jls_marker.specs.declared.fault.MarkerFault.TheVariants as fault
+use Rattle.jls_marker.specs.declared.profile.Profile.{Profile}
+use Rattle.jls_marker.specs.declared.profile.Profile.TheVariants.{Strict}
 use Rattle.jls_marker.specs.declared.segment.Segment.{Segment}
 use Rattle.jls_marker.specs.declared.segment.Segment.TheVariants as segment
 
@@ -40,22 +43,22 @@ scan_ids h = map (λ c. c.id) h.components
 
 -- the selection that a scan header gives
 abbrev pub selection_in : ScanHeader → ScanSelection
-selection_in h = record { ids = scan_ids h; line = h.interleave == 1 }
+selection_in h = record { ids = scan_ids h; line = h.interleave == 1; by_sample = h.interleave == 2 }
 
--- the tests of a scan header, each with its fault, in order: identifiers, mapping tables, NEAR, ILV and Al. Ah is free
-abbrev pub scan_tests : ScanHeader → List (Bool × MarkerFault)
-scan_tests h =
+-- the tests of a scan header under a profile, each with its fault, in order: identifiers, mapping tables, NEAR, ILV and Al. Ah is free
+abbrev pub scan_tests : Profile → ScanHeader → List (Bool × MarkerFault)
+scan_tests profile h =
     (not (has_repeat (scan_ids h)), fault.RepeatedComponent)
     ∷ (list_all (λ c. c.table == 0) h.components, fault.MappingTable)
     ∷ (h.near == 0, fault.Lossy)
-    ∷ (nat_le h.interleave 1 && (nat_le (length h.components) 1 || (h.interleave == 1)), fault.Interleave)
+    ∷ (takes_interleave profile (length h.components) h.interleave, fault.Interleave)
     ∷ (h.approximation % 16 == 0, fault.PointTransform)
     ∷ []
 
--- the scan segment of a scan header, or its first fault
-abbrev pub scan_of : Option ScanHeader → Result Segment MarkerFault
-scan_of None = Err fault.Length
-scan_of (Some h) = first_failing (scan_tests h) (segment.Scan (selection_in h))
+-- the scan segment of a scan header under a profile, or its first fault
+abbrev pub scan_of : Profile → Option ScanHeader → Result Segment MarkerFault
+scan_of profile None = Err fault.Length
+scan_of profile (Some h) = first_failing (scan_tests profile h) (segment.Scan (selection_in h))
 
 -- the segment of the five values of an LSE of ID 1, or its fault (T.87 C.2.4.1)
 abbrev pub preset_of : Option PresetParameters → Result Segment MarkerFault
@@ -74,12 +77,16 @@ abbrev pub restart_of : Option ℕ → Result Segment MarkerFault
 restart_of None = Err fault.Length
 restart_of (Some n) = Ok (segment.Restart n)
 
--- the segment of a code and a payload
-abbrev pub segment_of : ℕ → List ℕ → Result Segment MarkerFault
-segment_of code payload =
+-- the segment of a code and a payload under a profile
+abbrev pub segment_under : Profile → ℕ → List ℕ → Result Segment MarkerFault
+segment_under profile code payload =
     if code == sof55 then frame_of (frame_header payload)
-    else if code == sos then scan_of (scan_header payload)
+    else if code == sos then scan_of profile (scan_header payload)
     else if code == lse then lse_of payload
     else if code == dri then restart_of (restart_interval payload)
     else if is_skipped code then Ok (segment.Skipped code)
     else Err fault.UnknownMarker
+
+-- the segment of a code and a payload under the strict profile
+abbrev pub segment_of : ℕ → List ℕ → Result Segment MarkerFault
+segment_of code payload = segment_under Strict code payload

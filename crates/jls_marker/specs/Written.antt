@@ -1,13 +1,16 @@
 -- What is written of a segment: the marker, the length, and one payload. That Tq and Ah are 0, and Ri has the fewest bytes, is this
--- profile's choice.
+-- project's choice.
 use Rattle.std.specs.Prelude.{ℕ, ◌+◌, ◌^◌, ◌<◌, nat_lt, List, [], ◌∷◌, ◌++◌, length, drop, if◌then◌else◌}
 use Rattle.std.specs.List.{flat_map}
 use Rattle.std.specs.Int.{w16, w32, to_be_bytes}
 use Rattle.jls_values.specs.Shape.{PictureShape, IsShape}
 use Rattle.jls_marker.specs.MarkerCodes.{sof55, sos, lse, dri}
 use Rattle.jls_values.specs.PresetParameters.{ArePresetParameters}
-use Rattle.jls_marker.specs.ScanSelection.{ScanSelection, IsScanSelection}
+use Rattle.jls_marker.specs.Profiles.{IsOfProfile}
+use Rattle.jls_marker.specs.ScanSelection.{ScanSelection, IsScanSelection, interleave_of}
 use Rattle.jls_marker.specs.Layouts.{preset_bytes}
+use Rattle.jls_marker.specs.declared.profile.Profile.{Profile}
+use Rattle.jls_marker.specs.declared.profile.Profile.TheVariants.{Strict}
 use Rattle.jls_marker.specs.declared.segment.Segment.{Segment}
 use Rattle.jls_marker.specs.declared.segment.Segment.TheVariants.{Frame, Scan, Preset, Restart, Skipped}
 
@@ -18,7 +21,7 @@ frame_payload s =
 
 -- the payload of a scan header that is written: no mapping table, NEAR 0, no point transform (T.87 C.2.3)
 abbrev pub scan_payload : ScanSelection → List ℕ
-scan_payload s = length s.ids ∷ (flat_map (λ id. id ∷ 0 ∷ []) s.ids ++ (0 ∷ (if s.line then 1 else 0) ∷ 0 ∷ []))
+scan_payload s = length s.ids ∷ (flat_map (λ id. id ∷ 0 ∷ []) s.ids ++ (0 ∷ interleave_of s ∷ 0 ∷ []))
 
 -- how many of the four bytes of a number are not written: two, one or none (T.87 C.2.5)
 abbrev pub unneeded_bytes : ℕ → ℕ
@@ -56,10 +59,20 @@ CanBeWritten (Preset maxval t1 t2 t3 reset) = Unit {0}
 CanBeWritten (Restart n) = Unit {0}
 CanBeWritten (Skipped code) = ⊥
 
--- the ranges that every segment keeps
+-- a segment of a profile: a scan is one of the profile, and the others are of both
+abbrev pub IsSegmentOfProfile : Profile → Segment → Type 0
+IsSegmentOfProfile profile (Scan s) = IsOfProfile profile s
+IsSegmentOfProfile profile _ = Unit {0}
+
+-- the ranges that every segment of a profile keeps
+abbrev pub IsSegmentUnder : Profile → Segment → Type 0
+IsSegmentUnder profile (Frame s) = IsShape s
+IsSegmentUnder profile (Scan s) = IsScanSelection s × IsOfProfile profile s
+IsSegmentUnder profile (Preset maxval t1 t2 t3 reset) =
+    ArePresetParameters (record { maxval = maxval; t1 = t1; t2 = t2; t3 = t3; reset = reset })
+IsSegmentUnder profile (Restart n) = n < 2 ^ 32
+IsSegmentUnder profile (Skipped code) = code < 2 ^ 8
+
+-- the ranges that every segment of the strict profile keeps
 abbrev pub IsSegment : Segment → Type 0
-IsSegment (Frame s) = IsShape s
-IsSegment (Scan s) = IsScanSelection s
-IsSegment (Preset maxval t1 t2 t3 reset) = ArePresetParameters (record { maxval = maxval; t1 = t1; t2 = t2; t3 = t3; reset = reset })
-IsSegment (Restart n) = n < 2 ^ 32
-IsSegment (Skipped code) = code < 2 ^ 8
+IsSegment s = IsSegmentUnder Strict s

@@ -36,7 +36,7 @@ pub const LSE: u8 = 0xF8;
 /// Comment.
 pub const COM: u8 = 0xFE;
 
-/// Whether a segment of this profile follows the marker with this code.
+/// Whether a segment of this project follows the marker with this code.
 #[tactic(auto, unfolding(crate::specs::MarkerCodes::has_segment))]
 pub fn has_segment(code: u8) -> bool
     ensures { result ≡ codes.has_segment code }

@@ -24,7 +24,7 @@ pub enum MarkerFault {
     /// NEAR isn't 0.
     #[error("not lossless")]
     Lossy,
-    /// ILV is above 1, or 0 with more than one component.
+    /// ILV is 0 with more than one component, or above 1. Under the wide profile it may be 2 with more than one component.
     #[error("interleave mode not supported")]
     Interleave,
     /// A component of the scan has a mapping table.
@@ -45,7 +45,7 @@ pub enum MarkerFault {
     /// An LSE segment of an ID other than 1, 2 and 3.
     #[error("unknown kind of preset parameters")]
     LseId,
-    /// The code of a marker that is not EOI and has no segment in this profile. A second SOI is one, and so is a restart marker outside of
+    /// The code of a marker that is not EOI and has no segment in this project. A second SOI is one, and so is a restart marker outside of
     /// scan data.
     #[error("unknown marker")]
     UnknownMarker,

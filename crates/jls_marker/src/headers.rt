@@ -6,7 +6,8 @@ ghost use Rattle.jls_values.specs.ParamsOf.{params_of};
 
 use crate::component_index::indices_of;
 use crate::fault::MarkerFault;
-use crate::read::read_segment;
+use crate::profile::Profile;
+use crate::read::read_segment_under;
 use crate::scan_head::ScanHead;
 use crate::scan_plan::ScanPlan;
 use crate::segment::Segment;
@@ -87,13 +88,20 @@ fn begin(
     if scans >= MOST_SCANS {
         return Err(MarkerFault::TooManyScans);
     }
-    Ok(ScanPlan::new(frame, components, params, restart_interval))
+    Ok(ScanPlan::new(
+        frame,
+        components,
+        params,
+        restart_interval,
+        head.by_sample(),
+    ))
 }
 
 /// What the segments of a copy have set so far. These are the frame, the preset parameters and the restart interval in force, and how many
-/// scans have begun.
+/// scans have begun. The profile, which is set at the start, says which scans are read.
 #[derive(Drop)]
 pub struct Headers {
+    profile: Profile,
     frame: Option<Shape>,
     preset: PresetValues,
     restart_interval: u32,
@@ -107,6 +115,7 @@ impl Model for Headers {
     ghost Value = { HeaderState };
 
     ghost view = { λ h. record {
+      profile = h.profile;
       frame = h.frame;
       preset = record {
         maxval = h.preset.maxval;
@@ -124,14 +133,22 @@ impl Model for Headers {
 
 impl Headers {
     ghost use Rattle.std.specs.Prelude.{◌≡◌, ◌≤◌, IfOk, IfErr, OnErr, IfSome, IfNone, None, Ok, Err};
-    ghost use Rattle.jls_marker.specs.HeaderState.{no_headers};
+    ghost use Rattle.jls_marker.specs.HeaderState.{no_headers, no_headers_under};
     ghost use Rattle.jls_marker.specs.Headers as headers;
 
-    /// Headers before the first segment.
+    /// Headers before the first segment, which are strict: a scan that is interleaved by sample is refused.
     pub fn new() -> Headers
         ensures { result ≡ no_headers }
     {
+        Headers::under(Profile::Strict)
+    }
+
+    /// Headers before the first segment, which take the scans of this profile.
+    pub fn under(profile: Profile) -> Headers
+        ensures { result ≡ no_headers_under profile }
+    {
         Headers {
+            profile,
             frame: None,
             preset: PresetValues {
                 maxval: 0,
@@ -154,11 +171,19 @@ impl Headers {
             Some(shape) => Some(shape.to_owned()),
         };
         Headers {
+            profile: self.profile,
             frame,
             preset: self.preset,
             restart_interval: self.restart_interval,
             scans: self.scans,
         }
+    }
+
+    /// Which scans are read.
+    pub fn profile(&self) -> Profile
+        ensures { result ≡ self.now.profile }
+    {
+        self.profile
     }
 
     /// The frame that was accepted.
@@ -181,7 +206,7 @@ impl Headers {
     /// headers as they were. A frame after the frame is `SecondFrame`. A scan can have these refusals, in this order. `NoFrame` comes
     /// before a frame, and `UnknownComponent` for an identifier that isn't in the frame. `BadParams` comes if the values of the last LSE
     /// of ID 1 are out of range at the frame's precision. `IntervalTooLarge` comes for a restart interval of more than 2^28 samples, and
-    /// `TooManyScans` for the seventeenth scan. It takes no memory.
+    /// `TooManyScans` for the seventeenth scan. It takes no memory. The profile doesn't count here: it says what `take` reads.
     pub fn accept(&mut self, segment: &Segment) -> Result<Option<ScanPlan>, MarkerFault>
         ensures accepted { IfOk result (λ scan. headers.accepted self.old segment.now ≡ Ok (self.new, scan)) }
         ensures refused { IfErr result (λ fault. headers.accepted self.old segment.now ≡ Err fault) }
@@ -225,14 +250,15 @@ impl Headers {
         }
     }
 
-    /// Takes a whole segment by the code of its marker and its payload: `read_segment`, and then `accept`.
+    /// Takes a whole segment by the code of its marker and its payload: `read_segment_under` the profile of the headers, and then
+    /// `accept`.
     #[tactic(auto, unfolding(crate::specs::Headers::headers_after))]
     pub fn take(&mut self, code: u8, payload: &[u8]) -> Result<Option<ScanPlan>, MarkerFault>
         ensures accepted { IfOk result (λ scan. headers.headers_after self.old code payload.now ≡ Ok (self.new, scan)) }
         ensures refused { IfErr result (λ fault. headers.headers_after self.old code payload.now ≡ Err fault) }
         ensures unchanged { OnErr result (self.new ≡ self.old) }
     {
-        let segment = read_segment(code, payload)?;
+        let segment = read_segment_under(self.profile, code, payload)?;
         self.accept(&segment)
     }
 }

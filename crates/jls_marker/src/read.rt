@@ -4,10 +4,12 @@ ghost use Rattle.std.specs.Prelude.{◌≡◌, ◌≤◌, ◌==◌, length, map,
 ghost use Rattle.std.specs.List.{list_all};
 ghost use Rattle.jls_marker.specs.Layouts.{frame_components, frame_header, scan_components, scan_header, preset_parameters};
 ghost use Rattle.jls_marker.specs.Layouts.{restart_interval};
-ghost use Rattle.jls_marker.specs.Segments.{frame_of, scan_of, preset_of, lse_of, restart_of, segment_of};
+ghost use Rattle.jls_marker.specs.Segments.{frame_of, scan_of, preset_of, lse_of, restart_of, segment_of, segment_under};
+ghost use Rattle.jls_marker.specs.Profiles as profiles;
 
 use crate::codes::{APP0, APP15, COM, DRI, LSE, SOF55, SOS};
 use crate::fault::MarkerFault;
+use crate::profile::Profile;
 use crate::scan_head::{ScanHead, has_repeat};
 use crate::segment::Segment;
 use arrayvec::ArrayVec;
@@ -92,8 +94,20 @@ fn are_without_table(components: &[u8]) -> bool
     true
 }
 
+/// Whether a scan of so many components may have this value of ILV.
+fn takes_interleave(profile: Profile, count: usize, interleave: u8) -> bool
+    ensures { result ≡ profiles.takes_interleave profile count interleave }
+{
+    let strict = interleave <= 1 && (count <= 1 || interleave == 1);
+    match profile {
+        Profile::Strict => strict,
+        Profile::Wide => strict || (count > 1 && interleave == 2),
+    }
+}
+
 /// Judges the fields of a scan header of one to four components.
 fn judge_scan(
+    profile: Profile,
     components: &[u8],
     near: u8,
     interleave: u8,
@@ -101,7 +115,7 @@ fn judge_scan(
 ) -> Result<Segment, MarkerFault>
     requires at_least { 1 ≤ length (scan_components components.now) }
     requires at_most { length components.now ≤ 8 }
-    ensures { result ≡ scan_of (Some (record {
+    ensures { result ≡ scan_of profile (Some (record {
       components = scan_components components.now;
       near = near;
       interleave = interleave;
@@ -118,17 +132,17 @@ fn judge_scan(
     if near != 0 {
         return Err(MarkerFault::Lossy);
     }
-    if interleave > 1 || (ids.len() > 1 && interleave == 0) {
+    if !takes_interleave(profile, ids.len(), interleave) {
         return Err(MarkerFault::Interleave);
     }
     if approximation % 16 != 0 {
         return Err(MarkerFault::PointTransform);
     }
-    Ok(Segment::Scan(ScanHead::of(&ids, interleave == 1)))
+    Ok(Segment::Scan(ScanHead::of(&ids, interleave == 1, interleave == 2)))
 }
 
-fn read_scan(payload: &[u8]) -> Result<Segment, MarkerFault>
-    ensures { result ≡ scan_of (scan_header payload.now) }
+fn read_scan(profile: Profile, payload: &[u8]) -> Result<Segment, MarkerFault>
+    ensures { result ≡ scan_of profile (scan_header payload.now) }
 {
     let [count, body @ ..] = payload else {
         return Err(MarkerFault::Length);
@@ -137,7 +151,13 @@ fn read_scan(payload: &[u8]) -> Result<Segment, MarkerFault>
     if *count < 1 || *count > 4 || body.len() != size + 3 {
         return Err(MarkerFault::Length);
     }
-    judge_scan(&body[..size], body[size], body[size + 1], body[size + 2])
+    judge_scan(
+        profile,
+        &body[..size],
+        body[size],
+        body[size + 1],
+        body[size + 2],
+    )
 }
 
 fn read_preset(values: &[u8]) -> Result<Segment, MarkerFault>
@@ -177,16 +197,27 @@ fn read_restart(payload: &[u8]) -> Result<Segment, MarkerFault>
     }
 }
 
-/// The segment of the marker with this code, where `payload` is what follows its length. Each segment is judged whole, and the first fault
-/// in this order is answered. Of SOF55: `Length`, `BadShape`, `Sampling`. Of SOS: `Length`, `RepeatedComponent`, `MappingTable`, `Lossy`,
-/// `Interleave`, `PointTransform`. Of LSE: `Length` where it has no ID, `LseId`, and for ID 1 `Length`. Of DRI: `Length`. Any other code
-/// that has no segment is `UnknownMarker`. It takes no memory.
+/// The segment of the marker with this code under the strict profile, where `payload` is what follows its length. Each segment is judged
+/// whole, and the first fault in this order is answered. Of SOF55: `Length`, `BadShape`, `Sampling`. Of SOS: `Length`,
+/// `RepeatedComponent`, `MappingTable`, `Lossy`, `Interleave`, `PointTransform`. Of LSE: `Length` where it has no ID, `LseId`, and for
+/// ID 1 `Length`. Of DRI: `Length`. Any other code that has no segment is `UnknownMarker`. It takes no memory.
 pub fn read_segment(code: u8, payload: &[u8]) -> Result<Segment, MarkerFault>
     ensures { result ≡ segment_of code payload.now }
 {
+    read_segment_under(Profile::Strict, code, payload)
+}
+
+/// The same under a profile. Only a scan that is interleaved by sample is judged otherwise under the wide one.
+pub fn read_segment_under(
+    profile: Profile,
+    code: u8,
+    payload: &[u8],
+) -> Result<Segment, MarkerFault>
+    ensures { result ≡ segment_under profile code payload.now }
+{
     match code {
         SOF55 => read_frame(payload),
-        SOS => read_scan(payload),
+        SOS => read_scan(profile, payload),
         LSE => read_lse(payload),
         DRI => read_restart(payload),
         COM | APP0..=APP15 => Ok(Segment::Skipped(code)),

@@ -13,6 +13,7 @@ pub struct ScanPlan {
     width: u16,
     height: u16,
     restart_interval: u32,
+    by_sample: bool,
 }
 
 impl Model for ScanPlan {
@@ -26,6 +27,7 @@ impl Model for ScanPlan {
       width = s.width;
       height = s.height;
       restart_interval = s.restart_interval;
+      by_sample = s.by_sample;
     } };
 
     ghost invariant = { λ s. IsScan (record {
@@ -34,6 +36,7 @@ impl Model for ScanPlan {
       width = s.width;
       height = s.height;
       restart_interval = s.restart_interval;
+      by_sample = s.by_sample;
     }) };
 }
 
@@ -41,23 +44,24 @@ impl ScanPlan {
     ghost use Rattle.std.specs.Prelude.{◌≡◌, ◌<◌, ◌≤◌, ◌*◌, ◌^◌, length};
     ghost use Rattle.std.specs.List.{AllByRecursion};
     ghost use Rattle.jls_values.specs.Params.{AreCodingParameters};
-    ghost use Rattle.jls_marker.specs.Scan.{IsScan, first_row, row_count, intervals, scan_with};
+    ghost use Rattle.jls_marker.specs.Scan.{IsScan, first_row, row_count, intervals, scan_by};
 
     /// The scan of these components of a frame, none of whose intervals has more than 2^28 samples. The restart interval is in rows; with 0
-    /// the scan is one interval (T.87 C.2.5).
+    /// the scan is one interval (T.87 C.2.5). `by_sample` says whether the components are interleaved by sample.
     pub(crate) fn new(
         frame: &Shape,
         components: ArrayVec<u8, 4>,
         params: Params,
         restart_interval: u32,
+        by_sample: bool,
     ) -> ScanPlan
         requires params { AreCodingParameters params }
         requires at_least { 1 ≤ length components.items }
         requires at_most { length components.items ≤ 4 }
         requires bytes { AllByRecursion (λ c. c < 256) components.items }
         requires samples { frame.now.width * length components.items
-            * row_count (scan_with frame.now components.items params restart_interval) 0 ≤ 2 ^ 28 }
-        ensures { result ≡ scan_with frame.now components.items params restart_interval }
+            * row_count (scan_by by_sample frame.now components.items params restart_interval) 0 ≤ 2 ^ 28 }
+        ensures { result ≡ scan_by by_sample frame.now components.items params restart_interval }
     {
         ScanPlan {
             components,
@@ -65,6 +69,7 @@ impl ScanPlan {
             width: frame.width(),
             height: frame.height(),
             restart_interval,
+            by_sample,
         }
     }
 
@@ -78,6 +83,7 @@ impl ScanPlan {
             width: self.width,
             height: self.height,
             restart_interval: self.restart_interval,
+            by_sample: self.by_sample,
         }
     }
 
@@ -103,6 +109,14 @@ impl ScanPlan {
         ensures ranges { IsScan self.now }
     {
         self.width
+    }
+
+    /// Whether the components are interleaved by sample (ILV 2).
+    pub fn by_sample(&self) -> bool
+        ensures value { result ≡ self.now.by_sample }
+        ensures ranges { IsScan self.now }
+    {
+        self.by_sample
     }
 
     /// How many restart intervals the scan has, from 1 to 65,535.

@@ -4,8 +4,9 @@ ghost use Rattle.std.specs.Prelude.{◌≡◌, ◌≤◌, ◌+◌, ◌∷◌, �
 ghost use Rattle.jls_values.specs.Shape.{IsShape};
 ghost use Rattle.jls_marker.specs.Layouts.{preset_bytes};
 ghost use Rattle.jls_marker.specs.ScanSelection.{IsScanSelection};
-ghost use Rattle.jls_marker.specs.Segments.{segment_of};
+ghost use Rattle.jls_marker.specs.Segments.{segment_under};
 ghost use Rattle.jls_marker.specs.Written as written;
+ghost use Rattle.jls_marker.specs.declared.profile.Profile.{Profile};
 
 use crate::codes::{DRI, LSE, SOF55, SOS};
 use crate::scan_head::ScanHead;
@@ -47,7 +48,13 @@ fn scan_payload(head: &ScanHead) -> Payload
         payload.try_extend_from_slice(&[*id, 0]).unwrap();
         rest = more;
     }
-    let interleave = if head.line() { 1 } else { 0 };
+    let interleave = if head.by_sample() {
+        2
+    } else if head.line() {
+        1
+    } else {
+        0
+    };
     payload.try_extend_from_slice(&[0, interleave, 0]).unwrap();
     payload
 }
@@ -92,14 +99,15 @@ fn put(out: &mut Vec<u8>, code: u8, payload: &[u8]) -> Result<(), AllocError>
     out.extend_from_slice(&bytes)
 }
 
-/// Appends a segment: its marker, the length, and a payload that `read_segment` reads as this segment. Tq and Ah are 0, and Ri takes as few
-/// of two, three and four bytes as it needs. It can't be one that was skipped, of which nothing was kept. Where memory is refused
-/// nothing is appended.
+/// Appends a segment: its marker, the length, and a payload that is read as this segment under each profile that reads such scans. Tq and
+/// Ah are 0, and Ri takes as few of two, three and four bytes as it needs. It can't be one that was skipped, of which nothing was kept.
+/// Where memory is refused nothing is appended.
 pub fn write_segment(out: &mut Vec<u8>, segment: &Segment) -> Result<(), AllocError>
     requires { written.CanBeWritten segment.now }
     ensures written { OnOk result (out.new.items ≡ out.old.items
         ++ written.segment_bytes (written.code_of segment.now) (written.payload_of segment.now)) }
-    ensures reads_back { segment_of (written.code_of segment.now) (written.payload_of segment.now) ≡ Ok segment.now }
+    ensures reads_back { (profile : Profile) → written.IsSegmentOfProfile profile segment.now
+        → segment_under profile (written.code_of segment.now) (written.payload_of segment.now) ≡ Ok segment.now }
     ensures unchanged { OnErr result (out.new.items ≡ out.old.items) }
 {
     match segment {

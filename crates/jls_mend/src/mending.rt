@@ -68,7 +68,8 @@ fn last_bytes(alloc: Global, mut outputs: Vec<Output>) -> Vec<u8>
 }
 
 /// Mends copies of one file as `jls-splice --file FILE OUT 1 2 ..` does, and with `--files ALL` if these are asked for. The names of the
-/// copies are their numbers, from 1 on. Lists of bad places are given as by `--bad N:BAD-1 --bad N:BAD-2 ..`. With a list one copy is enough.
+/// copies are their numbers, from 1 on. Lists of bad places are given as by `--bad N:BAD-1 --bad N:BAD-2 ..`. With a list one copy is
+/// enough.
 ///
 /// It is the program's own run over inputs in memory.
 pub fn mend(

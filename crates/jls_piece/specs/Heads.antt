@@ -1,5 +1,5 @@
 -- Heads: the lines that stand whole at the start of bits that break off inside the code of some lines. That they are to count as
--- readings where the input ends is this profile's choice. By sample a head ends at a whole row.
+-- readings where the input ends is this project's choice. By sample a head ends at a whole row.
 use Rattle.std.specs.Prelude.{◌≡◌, ℕ, ◌<◌, ◌≤◌, true, false, ◌⊎◌, Bool, List, [], ◌++◌, length}
 use Rattle.jls_values.specs.Params.{AreCodingParameters}
 use Rattle.jls_bits.specs.Bits.{bits_read, is_whole}

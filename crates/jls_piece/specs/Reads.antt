@@ -1,5 +1,5 @@
 -- When bytes of scan data read as a piece's lines, and what else they are (T.87 A.1; that at most seven bits may follow, of any value, is
--- this profile's choice).
+-- this project's choice).
 use Rattle.std.specs.Prelude.{ℕ, ◌≤◌, ◌<◌, Bool, List, ◌++◌, length}
 use Rattle.std.specs.List.{AllByRecursion}
 use Rattle.jls_bits.specs.Bits.{AreDataBits}

@@ -200,7 +200,7 @@ impl PieceDecoder {
 
     /// The lines that the bytes read as, or why there are none. If a push was refused the answer is out of memory. Otherwise it is so only
     /// by sample, where the last samples are read and the lines are made now. The whole piece is judged, also after its last line. At most
-    /// seven bits may follow the code, of any value, which is this profile's choice. A byte of 0x80 or more after 0xFF makes the piece
+    /// seven bits may follow the code, of any value, which is this project's choice. A byte of 0x80 or more after 0xFF makes the piece
     /// broken, wherever it is (ITU-T T.87, A.1).
     pub fn finish(self) -> Result<FinishedLines, PieceFault>
         ensures outcome { MatchOption self.bytes (result ≡ Err PieceFault.OutOfMemory)

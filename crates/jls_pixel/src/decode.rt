@@ -26,7 +26,7 @@ pub enum PixelFault {
 }
 
 /// Reads the bytes of an interval as its rows of pixels. Each has `width` pixels of `components` samples, and no sample is above MAXVAL.
-/// The whole piece is judged, also after its last row. At most seven bits may follow the code, of any value, which is this profile's
+/// The whole piece is judged, also after its last row. At most seven bits may follow the code, of any value, which is this project's
 /// choice. A byte of 0x80 or more after 0xFF makes the piece broken, wherever it is (ITU-T T.87, A.1).
 pub fn decode_pixels(
     alloc: Global,

@@ -1,5 +1,5 @@
 //! One interval of scan data that is interleaved by sample: the code of its rows of pixels, what reads as it, and the laws of both.
-//! No other crate uses it yet.
+//! The crate `jls_piece` stands on it.
 //!
 //! - `pixel`, `place`: a pixel. A row with the two rows above, and the samples round its next pixel
 //! - `coder`, `code_lengths`: what is carried from sample to sample: the contexts, and the lengths of codes

@@ -175,7 +175,7 @@ impl PixelDecoder {
 
     /// The rows that the bytes read as, or why there are none. If a push was refused the answer is out of memory. The events that wait
     /// are read now, so that memory can be refused here too: then nothing is said of the bytes. The whole piece is judged, also after its
-    /// last row. At most seven bits may follow the code, of any value, which is this profile's choice. A byte of 0x80 or more after 0xFF
+    /// last row. At most seven bits may follow the code, of any value, which is this project's choice. A byte of 0x80 or more after 0xFF
     /// makes the piece broken, wherever it is (ITU-T T.87, A.1).
     pub fn finish(self) -> Result<FinishedRows, PixelFault>
         ensures refused { IfNone self.bytes (result ≡ Err PixelFault.OutOfMemory) }

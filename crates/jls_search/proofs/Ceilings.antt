@@ -11,12 +11,13 @@ use Rattle.jls_partial.specs.ReadingOrder.{same_reading}
 use Rattle.jls_partial.proofs.BareEntries.{line_of_fit}
 use Rattle.jls_partial.proofs.Marked.{got_held}
 use Rattle.jls_partial.proofs.Unions.{either, in_its_line}
-use Rattle.jls_copy.specs.CopyReads.{CopyReads}
-use Rattle.jls_copy.specs.Prefixes.{CourseHasReading, PrefixesKeepReadings}
+use Rattle.jls_copy.specs.CopyReads.{CopyReadsUnder}
+use Rattle.jls_copy.specs.Prefixes.{CourseHasReading, PrefixesKeepReadingsUnder}
 use Rattle.jls_copy.specs.ReadCopy.{ReadCopy}
 use Rattle.jls_copy.proofs.OneCourse.{one_course}
 use Rattle.jls_search.specs.Faultless.{IsWithin, IsSought, IsPictureWithin, IsReadWithin}
 use Rattle.jls_copy.proofs.ReadGives.{held_is_given, given_is_held}
+use Rattle.jls_marker.specs.declared.profile.Profile.TheVariants.{Wide}
 
 -- A picture --------------------------------------------------------------------------------------------------------
 
@@ -53,7 +54,7 @@ module _ (p : PartialPicture) (ceiling : ℕ) where
 
 -- What was read ----------------------------------------------------------------------------------------------------
 
-module _ (file : List ℕ) (read : ReadCopy) (h : CopyReads file read) where
+module _ (file : List ℕ) (read : ReadCopy) (h : CopyReadsUnder Wide file read) where
   pub read_within : (ceiling : Option ℕ) → IsFitting read.partial → IsReadWithin ceiling read.partial → IsWithin ceiling file
   read_within None fits within = tt
   read_within (Some ceiling) fits within = λ low course is r given.
@@ -66,7 +67,7 @@ module _ (file : List ℕ) (read : ReadCopy) (h : CopyReads file read) where
       picture_within read.partial ceiling (λ r held. within low h.course h.is_course r (held_is_given file read h r held))
 
   -- what a prefix gives, a file that is sought gives too
-  pub prefix_within : PrefixesKeepReadings → (ceiling : Option ℕ) (more : List ℕ) → AllByRecursion (λ b. b < 256) (file ++ more)
+  pub prefix_within : PrefixesKeepReadingsUnder Wide → (ceiling : Option ℕ) (more : List ℕ) → AllByRecursion (λ b. b < 256) (file ++ more)
       → IsSought ceiling (file ++ more) → IsReadWithin ceiling read.partial
   prefix_within keep None more low sought = tt
   prefix_within keep (Some ceiling) more low sought =

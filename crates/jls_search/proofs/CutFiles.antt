@@ -3,8 +3,9 @@ use Rattle.std.proofs.Common.{◌≡◌, ℕ, List, [], ◌∷◌, ◌++◌, Opt
 use Rattle.std.specs.List.{Contains}
 use Rattle.jls_values.specs.Shape.{PictureShape}
 use Rattle.jls_partial.specs.Partial.{PartialPicture, nothing_known}
-use Rattle.jls_copy.specs.CopyReads.{CopyReads}
+use Rattle.jls_copy.specs.CopyReads.{CopyReadsUnder}
 use Rattle.jls_copy.specs.ReadCopy.{ReadCopy}
+use Rattle.jls_marker.specs.declared.profile.Profile.TheVariants.{Wide}
 use Rattle.jls_search.specs.Cuts.{TakesNoCut}
 use Rattle.jls_search.specs.Seen.{AreSeen}
 use Rattle.jls_search.specs.Shapes.{HasFrameOfShape}
@@ -18,7 +19,7 @@ use Rattle.jls_search.proofs.TakenFiles.{shape_kept, takes_more}
 -- a station of its shape took the files, and then it
 pub cut_taken : (source : Option ℕ) (files : List (List ℕ)) (cut : List ℕ) (read : ReadCopy) (shape : PictureShape)
     (before after : PartialPicture)
-    → CopyReads cut read → shape ≡ read.partial.shape → TakesFiles source files (nothing_known shape) before
+    → CopyReadsUnder Wide cut read → shape ≡ read.partial.shape → TakesFiles source files (nothing_known shape) before
     → TakesFiles source (cut ∷ []) before after
     → HasFrameOfShape after.shape cut × TakesFiles source (files ++ cut ∷ []) (nothing_known after.shape) after
 cut_taken source files cut read shape before after reads is taken takes =

@@ -6,10 +6,10 @@ use Rattle.std.specs.Prelude.{get_or, IfNone, IfOk, IfSome, ◌==◌}
 use Rattle.std.specs.List.{AllByRecursion, Contains}
 use Rattle.std.proofs.lemmas.Bool.{cases_Bool, eqb-true}
 use Rattle.std.proofs.lemmas.List.{append-nil, take_all}
-use Rattle.jls_copy.specs.Course.{Course, IsCourse}
-use Rattle.jls_copy.specs.CourseLaws.{SomeCourse}
+use Rattle.jls_copy.specs.Course.{Course, IsCourseUnder}
+use Rattle.jls_copy.specs.CourseLaws.{SomeCourseUnder}
 use Rattle.jls_copy.specs.Pieces.{FoundPiece, pieces}
-use Rattle.jls_copy.specs.Prefixes.{AgreeBefore, AreAlsoIn, HasLines, IsPast, PrefixesSettlePieces}
+use Rattle.jls_copy.specs.Prefixes.{AgreeBefore, AreAlsoIn, HasLines, IsPastUnder, PrefixesSettlePiecesUnder}
 use Rattle.jls_copy.specs.ReadCopy.{after}
 use Rattle.jls_copy.specs.declared.end.End.{End}
 use Rattle.jls_copy.specs.declared.end.End.TheVariants.{Eoi, Input, Header}
@@ -19,6 +19,7 @@ use Rattle.jls_search.specs.Faultless.{IsDead, IsFaultless}
 use Rattle.jls_search.specs.ReadsBetween.{IsOffsetBetween, Reaches, ReadsBetween}
 use Rattle.jls_search.specs.Search.{IsFedUntil}
 use Rattle.jls_copy.specs.Prefixes.{offset_of_end}
+use Rattle.jls_marker.specs.declared.profile.Profile.TheVariants.{Wide}
 use Rattle.jls_values.proofs.Lists.{in_rest, is_first, all_at, all_prefix}
 use Rattle.jls_search.proofs.KeptReaders.{one_fed_on, prefix_and_rest}
 use Rattle.jls_search.proofs.Prefixes.{after_then, dead_longer, prefix_more}
@@ -167,14 +168,14 @@ each_between from to at c d low also each =
     p.2.reads.1 (all_at (λ x. IsOffsetBetween from (Some to) x.offset → HasLines x) (pieces c) p.0 each p.1 (subst (IsOffsetBetween from
     (Some to)) p.2.offset here)))
 
-module _ (law : PrefixesSettlePieces) (some : SomeCourse) (from to at : ℕ) (from_low : from ≤ at) (to_low : to ≤ at) (file : List ℕ)
-    (low : AllByRecursion (λ b. b < 256) file) where
-  settled : (begin rest : List ℕ) → file ≡ begin ++ rest → IsPast at begin → (c d : Course) → IsCourse begin c → IsCourse file d
-      → AgreeBefore at c d
+module _ (law : PrefixesSettlePiecesUnder Wide) (some : SomeCourseUnder Wide) (from to at : ℕ) (from_low : from ≤ at) (to_low : to ≤ at)
+    (file : List ℕ) (low : AllByRecursion (λ b. b < 256) file) where
+  settled : (begin rest : List ℕ) → file ≡ begin ++ rest → IsPastUnder Wide at begin → (c d : Course)
+      → IsCourseUnder Wide begin c → IsCourseUnder Wide file d → AgreeBefore at c d
   settled begin rest e past c d is_c is_d =
-      law at begin rest (subst (AllByRecursion (λ b. b < 256)) e low) past c d is_c (subst (λ xs. IsCourse xs d) e is_d)
+      law at begin rest (subst (AllByRecursion (λ b. b < 256)) e low) past c d is_c (subst (λ xs. IsCourseUnder Wide xs d) e is_d)
 
-  reads_then : (begin rest : List ℕ) → file ≡ begin ++ rest → IsPast at begin → ReadsBetween from (Some to) begin
+  reads_then : (begin rest : List ℕ) → file ≡ begin ++ rest → IsPastUnder Wide at begin → ReadsBetween from (Some to) begin
       → ReadsBetween from (Some to) file
   reads_then begin rest e past between =
       let d = some file low in
@@ -189,7 +190,7 @@ module _ (law : PrefixesSettlePieces) (some : SomeCourse) (from to at : ℕ) (fr
         each = each_between from to at between.course d.0 to_low a.second_in_first between.each;
       }
 
-  reads_before : (begin rest : List ℕ) → file ≡ begin ++ rest → IsPast at begin → ReadsBetween from (Some to) file
+  reads_before : (begin rest : List ℕ) → file ≡ begin ++ rest → IsPastUnder Wide at begin → ReadsBetween from (Some to) file
       → ReadsBetween from (Some to) begin
   reads_before begin rest e past between =
       let a = settled begin rest e past past.course between.course past.is_course between.is_course in
@@ -203,7 +204,7 @@ module _ (law : PrefixesSettlePieces) (some : SomeCourse) (from to at : ℕ) (fr
         each = each_between from to at between.course past.course to_low a.first_in_second between.each;
       }
 
-  module _ (reader : Option (List ℕ)) (past : Bool) (u : IsFedUntil (IsPast at) file (Some []) reader past) where
+  module _ (reader : Option (List ℕ)) (past : Bool) (u : IsFedUntil (IsPastUnder Wide at) file (Some []) reader past) where
     begin_bytes : AllByRecursion (λ b. b < 256) u.begin
     begin_bytes = all_prefix (λ b. b < 256) u.begin u.rest (subst (AllByRecursion (λ b. b < 256)) u.way_is low)
 
@@ -211,8 +212,8 @@ module _ (law : PrefixesSettlePieces) (some : SomeCourse) (from to at : ℕ) (fr
     read_early h =
         let begun : ReadsBetween from (Some to) u.begin = subst (λ o. IfSome o (λ begin. ReadsBetween from (Some to) begin)) u.fed h in
         elim (cases_Bool past) [
-          | inl e ↦ reads_then u.begin u.rest u.way_is (enough_here (IsPast at) file reader past u e) begun
-          | inr e ↦ subst (ReadsBetween from (Some to)) (all_here (IsPast at) file reader past u e) begun
+          | inl e ↦ reads_then u.begin u.rest u.way_is (enough_here (IsPastUnder Wide at) file reader past u e) begun
+          | inr e ↦ subst (ReadsBetween from (Some to)) (all_here (IsPastUnder Wide at) file reader past u e) begun
         ]
 
     pub unread_early : IfSome reader (λ begin. AllByRecursion (λ b. b < 256) begin → ReadsBetween from (Some to) begin → ⊥)
@@ -221,6 +222,6 @@ module _ (law : PrefixesSettlePieces) (some : SomeCourse) (from to at : ℕ) (fr
         let not : AllByRecursion (λ b. b < 256) u.begin → ReadsBetween from (Some to) u.begin → ⊥ =
         subst (λ o. IfSome o (λ begin. AllByRecursion (λ b. b < 256) begin → ReadsBetween from (Some to) begin → ⊥)) u.fed h in
         not begin_bytes (elim (cases_Bool past) [
-          | inl e ↦ reads_before u.begin u.rest u.way_is (enough_here (IsPast at) file reader past u e) between
-          | inr e ↦ subst (ReadsBetween from (Some to)) (sym (all_here (IsPast at) file reader past u e)) between
+          | inl e ↦ reads_before u.begin u.rest u.way_is (enough_here (IsPastUnder Wide at) file reader past u e) between
+          | inr e ↦ subst (ReadsBetween from (Some to)) (sym (all_here (IsPastUnder Wide at) file reader past u e)) between
         ])

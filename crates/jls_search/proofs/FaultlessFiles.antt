@@ -4,13 +4,13 @@ use Rattle.std.proofs.Common.{ap, ◌∙◌, subst, arith}
 use Rattle.std.specs.Prelude.{IfSome, IfOk}
 use Rattle.std.specs.declared.alloc.AllocError.{AllocError}
 use Rattle.std.specs.List.{AllByRecursion}
-use Rattle.jls_copy.specs.Course.{Course, IsCourse}
+use Rattle.jls_copy.specs.Course.{Course, IsCourseUnder}
 use Rattle.jls_copy.specs.Pieces.{FoundPiece, Lines, Fault, IsOutcome, pieces}
 use Rattle.jls_copy.specs.ReadCopy.{ReadCopy}
-use Rattle.jls_copy.specs.CopyReads.{CopyReads, CopyGivesNone, IsDone}
-use Rattle.jls_copy.specs.CopyLaws.{FinalEndsStay}
-use Rattle.jls_copy.specs.TellingLaws.{AreRecordsOf, of_none, reads, faulty, RecordsAreOfFaultyPieces}
-use Rattle.jls_copy.specs.Prefixes.{HasLines, IsPieceBroken, PrefixesStayBroken, StaysFaulty}
+use Rattle.jls_copy.specs.CopyReads.{CopyReadsUnder, CopyGivesNoneUnder, IsDoneUnder}
+use Rattle.jls_copy.specs.CopyLaws.{FinalEndsStayUnder}
+use Rattle.jls_copy.specs.TellingLaws.{AreRecordsOf, of_none, reads, faulty, RecordsAreOfFaultyPiecesUnder}
+use Rattle.jls_copy.specs.Prefixes.{HasLines, IsPieceBrokenUnder, PrefixesStayBrokenUnder, StaysFaultyUnder}
 use Rattle.jls_copy.specs.declared.piece.PieceKind.{PieceKind}
 use Rattle.jls_copy.specs.declared.piece.PieceRecord.{PieceRecord}
 use Rattle.jls_copy.specs.declared.reader.CopyFault.TheVariants.{NoPicture, OutOfMemory}
@@ -19,6 +19,7 @@ use Rattle.jls_marker.specs.declared.fault.MarkerFault.{MarkerFault}
 use Rattle.jls_copy.proofs.OneCourse.{one_course}
 use Rattle.jls_copy.proofs.BytesDecide.{one_outcome}
 use Rattle.jls_copy.proofs.ScansOfCourse.{HasScan, course_has}
+use Rattle.jls_marker.specs.declared.profile.Profile.TheVariants.{Wide}
 use Rattle.jls_values.specs.Shape.{PictureShape}
 use Rattle.jls_values.proofs.Lists.{all_at, all_prefix}
 use Rattle.jls_search.specs.Faultless.{GivesEachLine, EndsWell, IsFaultless, IsSought, IsDead, IsEachLineRead, IsAnswerWithoutFrame}
@@ -45,7 +46,7 @@ none_faulty _ _ scans all (faulty p ps r rs is rest) = absurd (lines_or_fault p 
 
 -- What was read ----------------------------------------------------------------------------------------------------
 
-module _ (law : RecordsAreOfFaultyPieces) (bytes : List ℕ) (read : ReadCopy) (h : CopyReads bytes read) where
+module _ (law : RecordsAreOfFaultyPiecesUnder Wide) (bytes : List ℕ) (read : ReadCopy) (h : CopyReadsUnder Wide bytes read) where
   pub read_faultless : read.piece_count ≡ 0 → EndsWell read.ended → IsEachLineRead read.partial → IsFaultless bytes
   read_faultless none ends lines =
       let r = law bytes read h in
@@ -74,7 +75,8 @@ module _ (law : RecordsAreOfFaultyPieces) (bytes : List ℕ) (read : ReadCopy) (
             (subst (GivesEachLine f.shape) e f.whole)),
       )
 
-pub faulty_without_frame : (fed : Option (List ℕ)) (f : MarkerFault) (n : ℕ) → IfSome fed (λ bytes. CopyGivesNone bytes (NoPicture f n))
+pub faulty_without_frame : (fed : Option (List ℕ)) (f : MarkerFault) (n : ℕ)
+    → IfSome fed (λ bytes. CopyGivesNoneUnder Wide bytes (NoPicture f n))
     → IfSome fed (λ bytes. AllByRecursion (λ b. b < 256) bytes → IsFaultless bytes → ⊥)
 faulty_without_frame None f n h = tt
 faulty_without_frame (Some bytes) f n h = λ low faultless.
@@ -84,14 +86,15 @@ faulty_without_frame (Some bytes) f n h = λ low faultless.
 
 -- Prefixes -----------------------------------------------------------------------------------------------------------
 
-pub dead_if_broken : PrefixesStayBroken → (fed : Option (List ℕ)) → IfSome fed (λ bytes. IsPieceBroken bytes)
+pub dead_if_broken : PrefixesStayBrokenUnder Wide → (fed : Option (List ℕ)) → IfSome fed (λ bytes. IsPieceBrokenUnder Wide bytes)
     → IfSome fed (λ bytes. IsDead IsFaultless bytes)
 dead_if_broken stay None h = tt
 dead_if_broken stay (Some prefix) h = λ more low f.
     let p = stay prefix more low h f.course f.is_course in
     let reads = all_at HasLines (pieces f.course) p.0 f.each p.1 in p.5 reads.0 reads.1
 
-pub dead_if_faulty : (fed : Option (List ℕ)) → IfSome fed (λ bytes. StaysFaulty bytes) → IfSome fed (λ bytes. IsDead IsFaultless bytes)
+pub dead_if_faulty : (fed : Option (List ℕ)) → IfSome fed (λ bytes. StaysFaultyUnder Wide bytes)
+    → IfSome fed (λ bytes. IsDead IsFaultless bytes)
 dead_if_faulty None h = tt
 dead_if_faulty (Some prefix) h = λ more low f.
     let p = h more low f.course f.is_course in
@@ -99,11 +102,12 @@ dead_if_faulty (Some prefix) h = λ more low f.
     let scan = all_at HasScan (pieces f.course) p.0 (course_has (prefix ++ more) f.course low f.is_course) p.1 in
     lines_or_fault p.0 reads.0 p.2 scan reads.1 p.3
 
-pub dead_if_done : FinalEndsStay → (fed : Option (List ℕ)) (done : Bool) → done ≡ true → IfSome fed (λ bytes. IsDone bytes done)
+pub dead_if_done : FinalEndsStayUnder Wide → (fed : Option (List ℕ)) (done : Bool) → done ≡ true
+    → IfSome fed (λ bytes. IsDoneUnder Wide bytes done)
     → IfSome fed (λ bytes. AllByRecursion (λ b. b < 256) bytes → IsFaultless bytes → ⊥) → IfSome fed (λ bytes. IsDead IsFaultless bytes)
 dead_if_done stay None done t h has_fault = tt
 dead_if_done stay (Some prefix) done t h has_fault = λ more low f.
-    let longer : IsCourse (prefix ++ more) h.0 = stay prefix more h.0 h.1 (sym h.2 ∙ t) in
+    let longer : IsCourseUnder Wide (prefix ++ more) h.0 = stay prefix more h.0 h.1 (sym h.2 ∙ t) in
     let e : f.course ≡ h.0 = one_course (prefix ++ more) f.course h.0 f.is_course longer in
     has_fault (all_prefix (λ b. b < 256) prefix more low) (record {
       course = h.0;
@@ -126,14 +130,14 @@ never_faultless fed fault (Err e) h = tt
 
 pub ever_faulty : (fed : Option (List ℕ)) (fault : CopyFault) (r : Result Bool AllocError)
     → IfOk r (λ answer. IsAnswerWithoutFrame fault answer)
-    → IfSome fed (λ bytes. CopyGivesNone bytes fault)
+    → IfSome fed (λ bytes. CopyGivesNoneUnder Wide bytes fault)
     → IfOk r (λ answer. answer ≡ false → IfSome fed (λ bytes. AllByRecursion (λ b. b < 256) bytes → IsFaultless bytes → ⊥))
 ever_faulty fed (NoPicture f n) (Ok answer) h none = λ _. faulty_without_frame fed f n none
 ever_faulty fed OutOfMemory (Ok answer) h none = absurd h
 ever_faulty fed fault (Err e) h none = tt
 
 pub ever_unsought : (ceiling : Option ℕ) (fed : Option (List ℕ)) (fault : CopyFault) (r : Result Bool AllocError)
-    → IfOk r (λ answer. IsAnswerWithoutFrame fault answer) → IfSome fed (λ bytes. CopyGivesNone bytes fault)
+    → IfOk r (λ answer. IsAnswerWithoutFrame fault answer) → IfSome fed (λ bytes. CopyGivesNoneUnder Wide bytes fault)
     → IfOk r (λ answer. answer ≡ false → IfSome fed (λ bytes. AllByRecursion (λ b. b < 256) bytes → IsSought ceiling bytes → ⊥))
 ever_unsought ceiling fed (NoPicture f n) (Ok answer) h none = λ _.
     some_then fed (λ bytes. AllByRecursion (λ b. b < 256) bytes → IsFaultless bytes → ⊥)
@@ -142,7 +146,8 @@ ever_unsought ceiling fed (NoPicture f n) (Ok answer) h none = λ _.
 ever_unsought ceiling fed OutOfMemory (Ok answer) h none = absurd h
 ever_unsought ceiling fed fault (Err e) h none = tt
 
-pub dead_when_done : FinalEndsStay → (fed : Option (List ℕ)) (done : Bool) → done ≡ true → IfSome fed (λ bytes. IsDone bytes done)
+pub dead_when_done : FinalEndsStayUnder Wide → (fed : Option (List ℕ)) (done : Bool) → done ≡ true
+    → IfSome fed (λ bytes. IsDoneUnder Wide bytes done)
     → (r : Result Bool AllocError)
     → IfOk r (λ answer. answer ≡ true → IfSome fed (λ bytes. AllByRecursion (λ b. b < 256) bytes → IsFaultless bytes → ⊥))
     → IfOk r (λ dead. dead ≡ true → IfSome fed (λ bytes. IsDead IsFaultless bytes))

@@ -8,10 +8,11 @@ use Rattle.jls_partial.specs.Partial.{PartialPicture, readings_at}
 use Rattle.jls_partial.specs.Reading.{Reading, reading_of, reading_cmp}
 use Rattle.jls_partial.proofs.Marked.{got_held}
 use Rattle.jls_partial.proofs.Unions.{in_its_line}
-use Rattle.jls_copy.specs.CopyReads.{CopyReads}
+use Rattle.jls_copy.specs.CopyReads.{CopyReadsUnder}
 use Rattle.jls_copy.specs.Pieces.{readings}
 use Rattle.jls_copy.specs.ReadCopy.{ReadCopy}
 use Rattle.jls_copy.proofs.ReadGives.{held_is_given, given_is_held}
+use Rattle.jls_marker.specs.declared.profile.Profile.TheVariants.{Wide}
 use Rattle.jls_search.specs.Faultless.{GivesEachLine, IsEachLineRead}
 
 -- Lines that have readings -------------------------------------------------------------------------------------------
@@ -35,7 +36,7 @@ has_some p r h = by (readings_at p r.component r.line) (in_its_line p r h)
 
 -- What was read ----------------------------------------------------------------------------------------------------
 
-module _ (file : List ℕ) (read : ReadCopy) (h : CopyReads file read) where
+module _ (file : List ℕ) (read : ReadCopy) (h : CopyReadsUnder Wide file read) where
   shape_is : read.partial.shape ≡ h.shape
   shape_is = ap (λ (p : PartialPicture). p.shape) h.partial_is
 

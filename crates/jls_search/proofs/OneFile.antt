@@ -3,9 +3,10 @@ use Rattle.std.proofs.Common.{◌≡◌, ℕ, List, Some, None, sym, ap, ◌∙�
 use Rattle.jls_values.specs.Shape.{PictureShape}
 use Rattle.jls_partial.specs.Partial.{PartialPicture}
 use Rattle.jls_copy.specs.Course.{Course}
-use Rattle.jls_copy.specs.CopyReads.{CopyReads}
+use Rattle.jls_copy.specs.CopyReads.{CopyReadsUnder}
 use Rattle.jls_copy.specs.ReadCopy.{ReadCopy}
 use Rattle.jls_copy.proofs.OneCourse.{one_course}
+use Rattle.jls_marker.specs.declared.profile.Profile.TheVariants.{Wide}
 use Rattle.jls_search.specs.Faultless.{IsFaultless}
 use Rattle.jls_search.specs.Shapes.{HasFrameOfShape, HasNoFrame}
 
@@ -26,6 +27,6 @@ pub faultless_shape : (file : List ℕ) (f : IsFaultless file) → HasFrameOfSha
 faultless_shape file f = (f.course, f.is_course, f.framed)
 
 -- what was read of a file has the shape of its frame
-pub shape_read : (file : List ℕ) (read : ReadCopy) → CopyReads file read → HasFrameOfShape read.partial.shape file
+pub shape_read : (file : List ℕ) (read : ReadCopy) → CopyReadsUnder Wide file read → HasFrameOfShape read.partial.shape file
 shape_read file read reads =
     (reads.course, reads.is_course, reads.framed ∙ ap Some (sym (ap (λ (p : PartialPicture). p.shape) reads.partial_is)))

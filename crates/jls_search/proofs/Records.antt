@@ -6,16 +6,17 @@ use Rattle.std.proofs.lemmas.List.{take_all}
 use Rattle.jls_copy.specs.Pieces.{FoundPiece, pieces}
 use Rattle.jls_copy.specs.ReadCopy.{ReadCopy}
 use Rattle.jls_copy.specs.Course.{Course}
-use Rattle.jls_copy.specs.CopyReads.{CopyReads, CopyGivesNone}
+use Rattle.jls_copy.specs.CopyReads.{CopyReadsUnder, CopyGivesNoneUnder}
 use Rattle.jls_copy.specs.declared.reader.CopyFault.{CopyFault}
 use Rattle.jls_copy.specs.declared.reader.CopyFault.TheVariants.{NoPicture}
 use Rattle.std.specs.Prelude.{IfSome}
 use Rattle.jls_marker.specs.declared.fault.MarkerFault.{MarkerFault}
 use Rattle.jls_copy.proofs.OneCourse.{one_course}
 use Rattle.jls_copy.proofs.ScansOfCourse.{HasScan, course_has}
-use Rattle.jls_copy.specs.TellingLaws.{AreRecordsOf, IsRecordOf, of_none, reads, faulty, RecordsAreOfFaultyPieces}
+use Rattle.jls_copy.specs.TellingLaws.{AreRecordsOf, IsRecordOf, of_none, reads, faulty, RecordsAreOfFaultyPiecesUnder}
 use Rattle.jls_copy.specs.declared.piece.PieceRecord.{PieceRecord}
 use Rattle.jls_copy.specs.Prefixes.{HasLines}
+use Rattle.jls_marker.specs.declared.profile.Profile.TheVariants.{Wide}
 use Rattle.jls_search.specs.OfGroups.{HasManyFaults}
 use Rattle.jls_search.specs.ReadsBetween.{IsOffsetBetween, Reaches, ReadsBetween}
 use Rattle.jls_search.proofs.FaultlessFiles.{lines_or_fault}
@@ -41,7 +42,8 @@ take_at_most (suc n) (r ∷ rs) = let l = take_at_most n rs in omega (arith, l)
 all_reported : (n : ℕ) (rs reported : List PieceRecord) → reported ≡ take n rs → length rs ≡ length reported → reported ≡ rs
 all_reported n rs reported e l = e ∙ take_all n rs (let t = take_at_most n rs in let a = ap length e in omega (arith, t, a, l))
 
-module _ (law : RecordsAreOfFaultyPieces) (from : ℕ) (to : Option ℕ) (file : List ℕ) (read : ReadCopy) (h : CopyReads file read) where
+module _ (law : RecordsAreOfFaultyPiecesUnder Wide) (from : ℕ) (to : Option ℕ) (file : List ℕ) (read : ReadCopy)
+    (h : CopyReadsUnder Wide file read) where
   pub read_between : read.piece_count ≡ length read.pieces → NoneBetween from to read.pieces → Reaches from to read.ended
       → ReadsBetween from to file
   read_between count none reaches =
@@ -74,7 +76,7 @@ piece_of _ _ r (faulty p ps r' rs is rest) (suc k, l, e) =
     let q = piece_of ps rs r rest (k, omega (arith, l), e) in (q.0, in_rest q.0 p ps q.1, q.2)
 
 -- a file has many faults, of which not all are reported
-pub many_faults : RecordsAreOfFaultyPieces → (file : List ℕ) (read : ReadCopy) → CopyReads file read
+pub many_faults : RecordsAreOfFaultyPiecesUnder Wide → (file : List ℕ) (read : ReadCopy) → CopyReadsUnder Wide file read
     → (read.piece_count ≡ length read.pieces → ⊥)
     → HasManyFaults file
 many_faults law file read h not =
@@ -87,8 +89,8 @@ many_faults law file read h not =
           )
     ]
 
-module _ (law : RecordsAreOfFaultyPieces) (from : ℕ) (to : Option ℕ) (file : List ℕ) (read : ReadCopy) (h : CopyReads file read)
-    (low : AllByRecursion (λ b. b < 256) file) (between : ReadsBetween from to file) where
+module _ (law : RecordsAreOfFaultyPiecesUnder Wide) (from : ℕ) (to : Option ℕ) (file : List ℕ) (read : ReadCopy)
+    (h : CopyReadsUnder Wide file read) (low : AllByRecursion (λ b. b < 256) file) (between : ReadsBetween from to file) where
   one : between.course ≡ h.course
   one = one_course file between.course h.course between.is_course h.is_course
 
@@ -107,7 +109,7 @@ module _ (law : RecordsAreOfFaultyPieces) (from : ℕ) (to : Option ℕ) (file :
   does_reach = subst (Reaches from to) (sym h.ended_is) (subst (λ (c : Course). Reaches from to c.end) one between.reaches)
 
 -- a file that has no frame reads nowhere
-pub framed_between : (from : ℕ) (to : Option ℕ) (file : List ℕ) (f : MarkerFault) (n : ℕ) → CopyGivesNone file (NoPicture f n)
+pub framed_between : (from : ℕ) (to : Option ℕ) (file : List ℕ) (f : MarkerFault) (n : ℕ) → CopyGivesNoneUnder Wide file (NoPicture f n)
     → ReadsBetween from to file → ⊥
 framed_between from to file f n h between =
     let e : h.0 ≡ between.course = one_course file h.0 between.course h.1 between.is_course in
@@ -116,8 +118,8 @@ framed_between from to file f n h between =
 
 pub unread_without_frame : (from : ℕ) (to : Option ℕ) (fed : Option (List ℕ)) (fault : CopyFault) (f : MarkerFault) (n : ℕ) → fault
     ≡ NoPicture f n
-    → IfSome fed (λ bytes. CopyGivesNone bytes fault)
+    → IfSome fed (λ bytes. CopyGivesNoneUnder Wide bytes fault)
     → IfSome fed (λ file. AllByRecursion (λ b. b < 256) file → ReadsBetween from to file → ⊥)
 unread_without_frame from to None fault f n e h = tt
 unread_without_frame from to (Some file) fault f n e h =
-    λ low between. framed_between from to file f n (subst (CopyGivesNone file) e h) between
+    λ low between. framed_between from to file f n (subst (CopyGivesNoneUnder Wide file) e h) between

@@ -7,12 +7,13 @@ use Rattle.jls_values.specs.Shape.{PictureShape}
 use Rattle.jls_values.specs.SameShape.{same_shape}
 use Rattle.jls_partial.specs.Partial.{PartialPicture, union, has_same_shape}
 use Rattle.jls_partial.specs.PartialLaws.{one_shape, shape_itself}
-use Rattle.jls_copy.specs.CopyReads.{CopyReads, CopyGivesNone}
+use Rattle.jls_copy.specs.CopyReads.{CopyReadsUnder, CopyGivesNoneUnder}
 use Rattle.jls_copy.specs.ReadCopy.{ReadCopy}
 use Rattle.jls_copy.specs.declared.reader.CopyFault.TheVariants.{NoPicture}
 use Rattle.jls_marker.specs.declared.fault.MarkerFault.{MarkerFault}
 use Rattle.jls_station.specs.Given.{marked}
 use Rattle.jls_marker.specs.SegmentLaws.{AreBytes}
+use Rattle.jls_marker.specs.declared.profile.Profile.TheVariants.{Wide}
 use Rattle.jls_station.proofs.Marked.{marked_shape}
 use Rattle.jls_search.specs.Shapes.{HasFrameOfShape}
 use Rattle.jls_search.specs.Stations.{Give, no_file, gives, gives_nothing, TakesFiles}
@@ -78,7 +79,8 @@ module _ (source : Option ℕ) (old : PartialPicture) where
   pub passed_over : (file : List ℕ) → (HasFrameOfShape old.shape file → ⊥) → TakesFiles source (file ∷ []) old old
   passed_over file not = record { given = []; give = gives_nothing file [] [] not no_file; union_is = refl }
 
-  pub without_frame : (reader : Option (List ℕ)) (f : MarkerFault) (n : ℕ) → IfSome reader (λ file. CopyGivesNone file (NoPicture f n))
+  pub without_frame : (reader : Option (List ℕ)) (f : MarkerFault) (n : ℕ)
+      → IfSome reader (λ file. CopyGivesNoneUnder Wide file (NoPicture f n))
       → IfSome reader (λ file. AreBytes file → TakesFiles source (file ∷ []) old old)
   without_frame None f n none = tt
   without_frame (Some file) f n none = λ _. passed_over file (no_shape old.shape file (none.0, none.1, none.2))
@@ -88,7 +90,7 @@ module _ (source : Option ℕ) (old : PartialPicture) where
     shape_is = ap (λ (p : PartialPicture). p.shape) is ∙ marked_shape source read.partial
 
     pub taken_in : has_same_shape old partial ≡ true → new ≡ union old partial
-        → (file : List ℕ) → AreBytes file → CopyReads file read → TakesFiles source (file ∷ []) old new
+        → (file : List ℕ) → AreBytes file → CopyReadsUnder Wide file read → TakesFiles source (file ∷ []) old new
     taken_in same becomes file low reads = record {
       given = marked source read.partial ∷ [];
       give = gives file read [] [] low reads (sym shape_is ∙ sym (one_shape old.shape partial.shape same)) no_file;
@@ -96,7 +98,7 @@ module _ (source : Option ℕ) (old : PartialPicture) where
     }
 
     pub other_shape : has_same_shape old partial ≡ false → new ≡ old
-        → (file : List ℕ) → AreBytes file → CopyReads file read → TakesFiles source (file ∷ []) old new
+        → (file : List ℕ) → AreBytes file → CopyReadsUnder Wide file read → TakesFiles source (file ∷ []) old new
     other_shape differs stays file low reads =
         subst (λ (p : PartialPicture). TakesFiles source (file ∷ []) old p) (sym stays) (passed_over file not)
       where

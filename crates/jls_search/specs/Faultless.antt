@@ -1,16 +1,18 @@
--- Files without a fault, and prefixes that no such file begins with.
+-- Files without a fault, and prefixes that no such file begins with. Files are read under the wide profile here, and wherever this crate
+-- speaks of them: scans by line and by sample.
 use Rattle.std.specs.Prelude.{◌≡◌, ℕ, ◌<◌, ◌≤◌, Bool, false, List, [], ◌++◌, length, get_or, Option, Some, None}
 use Rattle.std.specs.List.{AllByRecursion}
 use Rattle.jls_values.specs.Shape.{PictureShape}
 use Rattle.jls_partial.specs.Partial.{PartialPicture, readings_at}
 use Rattle.jls_partial.specs.Reading.{Reading, reading_of}
-use Rattle.jls_copy.specs.Course.{Course, IsCourse}
+use Rattle.jls_copy.specs.Course.{Course, IsCourseUnder}
 use Rattle.jls_copy.specs.Prefixes.{HasLines, CourseHasReading}
 use Rattle.jls_copy.specs.Pieces.{pieces}
 use Rattle.jls_copy.specs.declared.reader.CopyFault.{CopyFault}
 use Rattle.jls_copy.specs.declared.reader.CopyFault.TheVariants.{NoPicture, OutOfMemory}
 use Rattle.jls_copy.specs.declared.end.End.{End}
 use Rattle.jls_copy.specs.declared.end.End.TheVariants.{Eoi, Input, Header}
+use Rattle.jls_marker.specs.declared.profile.Profile.TheVariants.{Wide}
 
 -- no fault of the headers ended a file
 abbrev pub EndsWell : End → Type 0
@@ -26,7 +28,7 @@ GivesEachLine shape c = (component line : ℕ) → component < length shape.ids 
 -- a file has a frame, no fault of its headers ended it, each piece can be decoded, and each line of its frame has a reading
 pub record IsFaultless (file : List ℕ) : Type 0 where
   pub course : Course
-  pub is_course : IsCourse file course
+  pub is_course : IsCourseUnder Wide file course
   pub shape : PictureShape
   pub framed : course.headers.frame ≡ Some shape
   pub ends : EndsWell course.end
@@ -37,7 +39,7 @@ pub record IsFaultless (file : List ℕ) : Type 0 where
 abbrev pub IsWithin : Option ℕ → List ℕ → Type 0
 IsWithin None file = Unit {0}
 IsWithin (Some ceiling) file =
-    AllByRecursion (λ b. b < 256) file → (c : Course) → IsCourse file c → (r : Reading) → CourseHasReading c r
+    AllByRecursion (λ b. b < 256) file → (c : Course) → IsCourseUnder Wide file c → (r : Reading) → CourseHasReading c r
     → AllByRecursion (λ sample. sample ≤ ceiling) r.samples
 
 -- a file without a fault, whose samples are at most the ceiling, if there is one: such files are sought

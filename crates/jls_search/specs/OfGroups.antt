@@ -1,14 +1,15 @@
--- What a search by groups comes to.
+-- What a search by groups comes to. Files are read under the wide profile.
 use Rattle.std.specs.Prelude.{◌≡◌, ℕ, ◌<◌, ◌≤◌, true, List, [], ◌∷◌, ◌++◌, length, get_or, take, Some, None, ◌⊎◌}
 use Rattle.std.specs.List.{AllByRecursion, Contains}
 use Rattle.jls_diff.specs.Parts.{Part, Same, Differ, way}
 use Rattle.jls_search.specs.Choices.{IsPath, IsWhole, prefix_of}
-use Rattle.jls_copy.specs.Course.{Course, IsCourse}
-use Rattle.jls_copy.specs.CopyReads.{IsDone}
-use Rattle.jls_copy.specs.Prefixes.{IsPieceBroken}
+use Rattle.jls_copy.specs.Course.{Course, IsCourseUnder}
+use Rattle.jls_copy.specs.CopyReads.{IsDoneUnder}
+use Rattle.jls_copy.specs.Prefixes.{IsPieceBrokenUnder}
 use Rattle.jls_copy.specs.Pieces.{pieces}
 use Rattle.jls_copy.specs.TellingLaws.{AreRecordsOf}
 use Rattle.jls_copy.specs.declared.piece.PieceRecord.{PieceRecord}
+use Rattle.jls_marker.specs.declared.profile.Profile.TheVariants.{Wide}
 use Rattle.jls_diff.specs.Groups.{IsGroup, IsInside}
 use Rattle.jls_search.specs.Places.{offset_of, end_offset_of}
 use Rattle.jls_search.specs.ReadsBetween.{ReadsBetween}
@@ -28,14 +29,14 @@ ReadsInGroup parts group choices =
 
 -- the file has more than 4,096 faulty pieces
 abbrev pub HasManyFaults : List ℕ → Type 0
-HasManyFaults file = (c : Course) × IsCourse file c × (rs : List PieceRecord) × AreRecordsOf (pieces c) rs × (4096 < length rs)
+HasManyFaults file = (c : Course) × IsCourseUnder Wide file c × (rs : List PieceRecord) × AreRecordsOf (pieces c) rs × (4096 < length rs)
 
 -- no file is tried that begins with what the path makes: the file has ended there, before the group; or the path goes into the group, and
 -- the piece in hand is broken, or the file has ended there and doesn't read from the group's begin on, or has too many faulty pieces
 pub data IsGivenUp (parts : List Part) (group : Group) (path : List ℕ) : Type 0 where
-  ended_before : length path ≤ group.begin.part → IsDone (prefix_of parts path) true → IsGivenUp parts group path
-  broken : group.begin.part < length path → IsPieceBroken (prefix_of parts path) → IsGivenUp parts group path
-  ended_within : group.begin.part < length path → IsDone (prefix_of parts path) true
+  ended_before : length path ≤ group.begin.part → IsDoneUnder Wide (prefix_of parts path) true → IsGivenUp parts group path
+  broken : group.begin.part < length path → IsPieceBrokenUnder Wide (prefix_of parts path) → IsGivenUp parts group path
+  ended_within : group.begin.part < length path → IsDoneUnder Wide (prefix_of parts path) true
       → (ReadsBetween (offset_of parts path group.begin) None (prefix_of parts path) → HasManyFaults (prefix_of parts path))
       → IsGivenUp parts group path
 

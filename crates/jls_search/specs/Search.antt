@@ -5,8 +5,9 @@ use Rattle.std.specs.Prelude.{IfSome, ◌⊎◌}
 use Rattle.std.specs.List.{AllByRecursion, Contains}
 use Rattle.std.specs.declared.vec.Vec.{Vec}
 use Rattle.std.specs.declared.alloc.Global.{Global}
-use Rattle.jls_copy.specs.Prefixes.{IsPast}
+use Rattle.jls_copy.specs.Prefixes.{IsPastUnder}
 use Rattle.jls_copy.specs.ReadCopy.{after}
+use Rattle.jls_marker.specs.declared.profile.Profile.TheVariants.{Wide}
 use Rattle.jls_diff.specs.Parts.{Part, HasWays, IsSplice}
 use Rattle.jls_search.specs.Choices.{IsPath, IsWhole, prefix_of}
 use Rattle.jls_search.specs.Faultless.{IsDead, IsFaultless, IsSought}
@@ -147,7 +148,7 @@ IsBegunOn parts path begun = (begun.choices ≤ length path) × (begun.reader �
 -- fed to the end, nothing is enough
 abbrev pub IsFedEnough : Until → List ℕ → Type 0
 IsFedEnough UntilDead = IsDead IsFaultless
-IsFedEnough (UntilPast offset) = IsPast offset
+IsFedEnough (UntilPast offset) = IsPastUnder Wide offset
 IsFedEnough UntilEnd = λ prefix. ⊥
 
 -- of more bytes so many were fed to a reader: all, or those up to some with which what it was fed is enough

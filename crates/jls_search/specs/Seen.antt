@@ -2,8 +2,9 @@
 use Rattle.std.specs.Prelude.{◌≡◌, ℕ, Bool, true, false, List, [], ◌∷◌, slice_get, take, IsSomeAnd, ◌⊎◌}
 use Rattle.std.specs.List.{AllByRecursion, Contains}
 use Rattle.jls_values.specs.Shape.{PictureShape}
-use Rattle.jls_copy.specs.CopyReads.{CopyGivesNone}
+use Rattle.jls_copy.specs.CopyReads.{CopyGivesNoneUnder}
 use Rattle.jls_copy.specs.declared.reader.CopyFault.TheVariants.{NoPicture}
+use Rattle.jls_marker.specs.declared.profile.Profile.TheVariants.{Wide}
 use Rattle.jls_search.specs.Faultless.{IsFaultless}
 use Rattle.jls_search.specs.Shapes.{HasFrameOfShape}
 use Rattle.jls_search.specs.declared.shape_found.ShapeFound.{ShapeFound}
@@ -15,7 +16,7 @@ use Rattle.jls_search.specs.declared.seen.Seen.TheVariants.{Faultless, Faulty, N
 abbrev pub IsSeen : List ℕ → Seen → Type 0
 IsSeen file (Faultless shape) = HasFrameOfShape shape file × IsFaultless file
 IsSeen file (Faulty shape) = HasFrameOfShape shape file × (IsFaultless file → ⊥)
-IsSeen file (NoFrame fault offset) = CopyGivesNone file (NoPicture fault offset)
+IsSeen file (NoFrame fault offset) = CopyGivesNoneUnder Wide file (NoPicture fault offset)
 
 -- and these are, of each file in turn
 abbrev pub AreSeen : List (List ℕ) → List Seen → Type 0

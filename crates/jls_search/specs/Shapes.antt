@@ -1,10 +1,11 @@
--- The shape of the files taken.
+-- The shape of the files taken, which are read under the wide profile.
 use Rattle.std.specs.Prelude.{◌≡◌, ℕ, ◌<◌, List, [], ◌∷◌, ◌++◌, length, get_or, Some, None, ◌⊎◌}
 use Rattle.std.specs.List.{AllByRecursion, Contains}
 use Rattle.jls_values.specs.Shape.{PictureShape}
-use Rattle.jls_copy.specs.Course.{Course, IsCourse}
-use Rattle.jls_copy.specs.CopyReads.{CopyGivesNone}
+use Rattle.jls_copy.specs.Course.{Course, IsCourseUnder}
+use Rattle.jls_copy.specs.CopyReads.{CopyGivesNoneUnder}
 use Rattle.jls_copy.specs.declared.reader.CopyFault.TheVariants.{NoPicture}
+use Rattle.jls_marker.specs.declared.profile.Profile.TheVariants.{Wide}
 use Rattle.jls_search.specs.Faultless.{IsFaultless}
 use Rattle.jls_search.specs.declared.shape_found.ShapeFound.{ShapeFound}
 use Rattle.jls_search.specs.declared.shape_found.ShapeFound.TheVariants.{Taken, Differ, NoFrame}
@@ -13,7 +14,7 @@ use Rattle.jls_search.specs.declared.shape_found.ShapeFound.TheVariants.{Taken, 
 
 -- the file has a frame of this shape
 abbrev pub HasFrameOfShape : PictureShape → List ℕ → Type 0
-HasFrameOfShape shape file = (c : Course) × IsCourse file c × (c.headers.frame ≡ Some shape)
+HasFrameOfShape shape file = (c : Course) × IsCourseUnder Wide file c × (c.headers.frame ≡ Some shape)
 
 -- the file has a frame of another shape
 abbrev pub HasFrameOfOtherShape : PictureShape → List ℕ → Type 0
@@ -21,7 +22,7 @@ HasFrameOfOtherShape shape file = (other : PictureShape) × HasFrameOfShape othe
 
 -- the file has no frame
 abbrev pub HasNoFrame : List ℕ → Type 0
-HasNoFrame file = (c : Course) × IsCourse file c × (c.headers.frame ≡ None)
+HasNoFrame file = (c : Course) × IsCourseUnder Wide file c × (c.headers.frame ≡ None)
 
 -- Files ------------------------------------------------------------------------------------------------------------
 
@@ -79,4 +80,5 @@ abbrev pub IsShapeFound : List (List ℕ) → List (List ℕ) → ShapeFound →
 IsShapeFound copies found (Taken shape) = IsShapeTaken copies found shape
 IsShapeFound copies found (Differ copy) = ShapesDiffer (copies ++ found) × IsCopyNamed copies copy
 IsShapeFound copies found (NoFrame fault offset) =
-    NoneIsFaultless (copies ++ found) × AllByRecursion HasNoFrame copies × CopyGivesNone (get_or copies 0 []) (NoPicture fault offset)
+    NoneIsFaultless (copies ++ found) × AllByRecursion HasNoFrame copies
+    × CopyGivesNoneUnder Wide (get_or copies 0 []) (NoPicture fault offset)

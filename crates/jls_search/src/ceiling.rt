@@ -5,7 +5,7 @@ ghost use Rattle.std.specs.List.{AllByRecursion};
 ghost use Rattle.jls_partial.specs.Partial.{readings_at};
 ghost use Rattle.jls_search.specs.Faultless.{IsComponentWithin, IsDead, IsLineWithin, IsPictureWithin, IsReadWithin, IsSought};
 
-use jls_copy::{CopyFault, CopyReader, prefixes_keep_readings};
+use jls_copy::{CopyFault, WideReader, prefixes_keep_readings_under};
 use jls_partial::Partial;
 use std::alloc::AllocError;
 
@@ -81,10 +81,10 @@ pub(crate) fn is_read_within(ceiling: Option<u16>, partial: &Partial) -> bool
 
 /// Whether what was fed gives a sample above the ceiling already. Then no file that is sought begins with it. The only refusal is out of
 /// memory.
-pub(crate) fn is_above(ceiling: Option<u16>, reader: &CopyReader) -> Result<bool, AllocError>
+pub(crate) fn is_above(ceiling: Option<u16>, reader: &WideReader) -> Result<bool, AllocError>
     ensures { IfOk result (λ above. above ≡ true → IfSome reader.now (λ prefix. IsDead (IsSought ceiling) prefix)) }
 {
-    prefixes_keep_readings();
+    prefixes_keep_readings_under();
     if ceiling.is_none() {
         return Ok(false);
     }

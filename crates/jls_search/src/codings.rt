@@ -8,7 +8,7 @@
 use crate::first_lines::are_two_codings;
 use jls_diff::Parts;
 use jls_marker::codes::{DRI, LSE, SOS, has_segment};
-use jls_marker::{Headers, ScanPlan};
+use jls_marker::{Headers, Profile, ScanPlan};
 use std::alloc::{AllocError, Global};
 
 /// How many bytes are compared at a time.
@@ -69,7 +69,7 @@ fn segment_at(bytes: &[u8], at: usize, is_data: bool) -> Option<(u8, &[u8])> {
 
 /// What the headers of a copy say. What can't stand there is passed over.
 fn coding_of(alloc: Global, bytes: &[u8]) -> Result<Coding, AllocError> {
-    let mut headers = Headers::new();
+    let mut headers = Headers::under(Profile::Wide);
     let mut scans = Vec::new(alloc);
     let mut data = 0usize;
     let mut next = 0usize;
@@ -97,13 +97,14 @@ fn coding_of(alloc: Global, bytes: &[u8]) -> Result<Coding, AllocError> {
     })
 }
 
-/// Whether two scans are of the same components, under the same parameters, with the same restart intervals.
+/// Whether two scans are of the same components, interleaved alike, under the same parameters, with the same restart intervals.
 fn are_same_scans(first: &ScanPlan, second: &ScanPlan) -> bool {
     let count = first.intervals();
     if count == 0 || second.intervals() != count {
         return false;
     }
     *first.components() == *second.components()
+        && first.by_sample() == second.by_sample()
         && first.params() == second.params()
         && first.rows(0) == second.rows(0)
 }

@@ -3,7 +3,7 @@
 ghost use Rattle.std.specs.Prelude.{◌≡◌, ◌<◌, ◌≤◌, ◌-◌, ◌^◌, ◌∷◌, ◌++◌, [], length, Some, IfOk, IfSome, IfNone};
 ghost use Rattle.std.specs.List.{AllByRecursion};
 ghost use Rattle.jls_partial.specs.Partial.{nothing_known};
-ghost use Rattle.jls_copy.specs.CopyReads.{CopyReads};
+ghost use Rattle.jls_copy.specs.CopyReads.{CopyReadsUnder};
 ghost use Rattle.jls_diff.specs.PartsOf.{bytes_of, parts_of};
 ghost use Rattle.jls_search.specs.Choices.{IsPath, IsWhole, prefix_of};
 ghost use Rattle.jls_search.specs.Search.{IsKeptReader, IsShort, lists_of};
@@ -13,6 +13,7 @@ ghost use Rattle.jls_search.specs.Shapes.{HasNoFrame, HasFrameOfShape};
 ghost use Rattle.jls_search.specs.Stations.{TakesFiles};
 ghost use Rattle.jls_search.specs.Cuts.{TakesCut, TakesNoCut};
 ghost use Rattle.jls_marker.specs.SegmentLaws.{AreBytes};
+ghost use Rattle.jls_marker.specs.declared.profile.Profile.TheVariants.{Wide};
 
 use crate::feeding::feed_prefix;
 use crate::file::take_read;
@@ -21,7 +22,7 @@ use crate::reading_files::{FilesRead, read_files};
 use crate::seen::verdicts_of;
 use crate::settling::{HeldFiles, station_of};
 use crate::shape_rule::first_faultless;
-use jls_copy::{CopyFault, CopyRead, CopyReader};
+use jls_copy::{CopyFault, CopyRead, WideReader};
 use jls_diff::Parts;
 use jls_station::Station;
 use std::alloc::{AllocError, Global};
@@ -31,10 +32,10 @@ fn read_cut(alloc: Global, parts: &Parts<'_>, cut: &[usize]) -> Result<Option<Co
     requires path { IsPath parts.now cut.now }
     requires few { length (prefix_of parts.now cut.now) ≤ 2 ^ 63 - 1 }
     ensures bytes { IfOk result (λ _. AreBytes (prefix_of parts.now cut.now)) }
-    ensures some { IfOk result (λ found. IfSome found (λ read. CopyReads (prefix_of parts.now cut.now) read)) }
+    ensures some { IfOk result (λ found. IfSome found (λ read. CopyReadsUnder Wide (prefix_of parts.now cut.now) read)) }
     ensures none { IfOk result (λ found. IfNone found (HasNoFrame (prefix_of parts.now cut.now))) }
 {
-    let mut reader = CopyReader::new(alloc);
+    let mut reader = WideReader::new(alloc);
     feed_prefix(&mut reader, parts, cut)?;
     match reader.finish() {
         Ok(read) => Ok(Some(read)),

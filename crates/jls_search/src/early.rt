@@ -6,7 +6,7 @@ ghost use Rattle.jls_search.specs.Choices.{IsPath, prefix_of};
 ghost use Rattle.jls_search.specs.Search.{IsFedEnough, IsFedUntil};
 
 use crate::faultless::is_broken;
-use jls_copy::CopyReader;
+use jls_copy::WideReader;
 use jls_diff::Parts;
 use std::alloc::AllocError;
 
@@ -25,7 +25,7 @@ pub(crate) enum Until {
 }
 
 /// Whether what the reader was fed is enough.
-fn is_enough(reader: &CopyReader, until: Until) -> bool
+fn is_enough(reader: &WideReader, until: Until) -> bool
     ensures { result ≡ true → IfSome reader.now (IsFedEnough until) }
 {
     match until {
@@ -36,7 +36,7 @@ fn is_enough(reader: &CopyReader, until: Until) -> bool
 }
 
 /// Feeds what a choice takes of a part, until what was fed is enough. Then the answer is `true`.
-fn feed_until(reader: &mut CopyReader, way: &[u8], until: Until) -> Result<bool, AllocError>
+fn feed_until(reader: &mut WideReader, way: &[u8], until: Until) -> Result<bool, AllocError>
     requires { IfSome reader.old (λ before. length before + length way.now ≤ 2 ^ 63 - 1) }
     ensures { IfOk result (λ enough. IsFedUntil (IsFedEnough until) way.now reader.old reader.new enough) }
 {
@@ -54,7 +54,7 @@ fn feed_until(reader: &mut CopyReader, way: &[u8], until: Until) -> Result<bool,
 
 /// Feeds what the choices of the path take from this place on, until what was fed is enough. Then the answer is `true`.
 pub(crate) fn feed_path_until(
-    reader: &mut CopyReader,
+    reader: &mut WideReader,
     parts: &Parts<'_>,
     path: &[usize],
     place: usize,

@@ -2,14 +2,15 @@
 
 ghost use Rattle.std.specs.Prelude.{◌≡◌, ℕ, List, ◌<◌, ◌↔◌, true, false, IsTrue, IfOk, IfSome};
 ghost use Rattle.std.specs.List.{AllByRecursion};
-ghost use Rattle.jls_copy.specs.CopyReads.{CopyReads};
+ghost use Rattle.jls_copy.specs.CopyReads.{CopyReadsUnder};
+ghost use Rattle.jls_marker.specs.declared.profile.Profile.TheVariants.{Wide};
 ghost use Rattle.jls_search.specs.Faultless.{EndsWell, IsFaultless, IsSought, IsDead, IsAnswerWithoutFrame};
 
 use crate::ceiling::is_read_within;
 use crate::lines::is_each_line_read;
 use jls_copy::{
-    CopyFault, CopyRead, CopyReader, End, final_ends_stay, prefixes_stay_broken,
-    records_are_of_faulty_pieces,
+    CopyFault, CopyRead, End, WideReader, final_ends_stay_under, prefixes_stay_broken_under,
+    records_are_of_faulty_pieces_under,
 };
 use std::alloc::AllocError;
 
@@ -27,11 +28,11 @@ fn ends_well(end: End) -> bool
 /// Whether what was read is a file without a fault: no fault of the headers ended it, no piece of it is faulty, and each line of its frame
 /// is read.
 pub fn is_read_faultless(read: &CopyRead) -> bool
-    ensures faultless { result ≡ true → (file : List ℕ) → CopyReads file read.now → IsFaultless file }
+    ensures faultless { result ≡ true → (file : List ℕ) → CopyReadsUnder Wide file read.now → IsFaultless file }
     ensures faulty { result ≡ false
-        → (file : List ℕ) → CopyReads file read.now → AllByRecursion (λ b. b < 256) file → IsFaultless file → ⊥ }
+        → (file : List ℕ) → CopyReadsUnder Wide file read.now → AllByRecursion (λ b. b < 256) file → IsFaultless file → ⊥ }
 {
-    records_are_of_faulty_pieces();
+    records_are_of_faulty_pieces_under();
     if read.piece_count() != 0 {
         return false;
     }
@@ -53,7 +54,7 @@ fn without_frame(fault: CopyFault) -> Result<bool, AllocError>
 }
 
 /// Whether what was fed is a file without a fault, if it ends here. The only refusal is out of memory.
-pub fn is_faultless(reader: CopyReader) -> Result<bool, AllocError>
+pub fn is_faultless(reader: WideReader) -> Result<bool, AllocError>
     ensures faultless { IfOk result (λ answer. answer ≡ true → IfSome reader (λ bytes. IsFaultless bytes)) }
     ensures faulty { IfOk result
         (λ answer. answer ≡ false → IfSome reader (λ bytes. AllByRecursion (λ b. b < 256) bytes → IsFaultless bytes → ⊥)) }
@@ -66,9 +67,9 @@ pub fn is_faultless(reader: CopyReader) -> Result<bool, AllocError>
 
 /// Whether what was read is a file without a fault, whose samples are at most the ceiling, if there is one.
 fn is_read_sought(ceiling: Option<u16>, read: &CopyRead) -> bool
-    ensures sought { result ≡ true → (file : List ℕ) → CopyReads file read.now → IsSought ceiling file }
+    ensures sought { result ≡ true → (file : List ℕ) → CopyReadsUnder Wide file read.now → IsSought ceiling file }
     ensures unsought { result ≡ false
-        → (file : List ℕ) → CopyReads file read.now → AllByRecursion (λ b. b < 256) file → IsSought ceiling file → ⊥ }
+        → (file : List ℕ) → CopyReadsUnder Wide file read.now → AllByRecursion (λ b. b < 256) file → IsSought ceiling file → ⊥ }
 {
     let _shape = read.partial().shape();
     let faultless = is_read_faultless(read);
@@ -80,7 +81,7 @@ fn is_read_sought(ceiling: Option<u16>, read: &CopyRead) -> bool
 
 /// Whether what was fed is a file that is sought, if it ends here: one without a fault, whose samples are at most the ceiling, if there is
 /// one. The only refusal is out of memory.
-pub fn is_sought(ceiling: Option<u16>, reader: CopyReader) -> Result<bool, AllocError>
+pub fn is_sought(ceiling: Option<u16>, reader: WideReader) -> Result<bool, AllocError>
     ensures sought { IfOk result (λ answer. answer ≡ true → IfSome reader (λ bytes. IsSought ceiling bytes)) }
     ensures unsought { IfOk result
         (λ answer. answer ≡ false → IfSome reader (λ bytes. AllByRecursion (λ b. b < 256) bytes → IsSought ceiling bytes → ⊥)) }
@@ -92,7 +93,7 @@ pub fn is_sought(ceiling: Option<u16>, reader: CopyReader) -> Result<bool, Alloc
 }
 
 /// Whether it is a file with a fault.
-fn has_fault(reader: CopyReader) -> Result<bool, AllocError>
+fn has_fault(reader: WideReader) -> Result<bool, AllocError>
     ensures { IfOk result
         (λ answer. answer ≡ true → IfSome reader (λ bytes. AllByRecursion (λ b. b < 256) bytes → IsFaultless bytes → ⊥)) }
 {
@@ -105,10 +106,10 @@ fn has_fault(reader: CopyReader) -> Result<bool, AllocError>
 
 /// Whether it is known that no file without a fault begins with the bytes fed, whatever comes: a piece that a marker closed is faulty, or
 /// the piece in hand is broken. `false` says nothing.
-pub(crate) fn is_broken(reader: &CopyReader) -> bool
+pub(crate) fn is_broken(reader: &WideReader) -> bool
     ensures { result ≡ true → IfSome reader.now (λ prefix. IsDead IsFaultless prefix) }
 {
-    prefixes_stay_broken();
+    prefixes_stay_broken_under();
     let faulty = reader.has_faulty_piece();
     if faulty {
         return true;
@@ -122,10 +123,10 @@ pub(crate) fn is_broken(reader: &CopyReader) -> bool
 
 /// Whether it is known that no file without a fault begins with the bytes fed. A piece that a marker closed is faulty, or the piece in hand
 /// is broken, or the copy has ended and has a fault. `false` says nothing. The only refusal is out of memory.
-pub fn is_dead(reader: CopyReader) -> Result<bool, AllocError>
+pub fn is_dead(reader: WideReader) -> Result<bool, AllocError>
     ensures { IfOk result (λ dead. dead ≡ true → IfSome reader (λ prefix. IsDead IsFaultless prefix)) }
 {
-    final_ends_stay();
+    final_ends_stay_under();
     let already = is_broken(&reader);
     if already {
         return Ok(true);
@@ -138,7 +139,7 @@ pub fn is_dead(reader: CopyReader) -> Result<bool, AllocError>
 }
 
 /// The same, of a reader that goes on.
-pub(crate) fn is_found_dead(reader: &CopyReader) -> Result<bool, AllocError>
+pub(crate) fn is_found_dead(reader: &WideReader) -> Result<bool, AllocError>
     ensures { IfOk result (λ dead. dead ≡ true → IfSome reader.now (λ prefix. IsDead IsFaultless prefix)) }
 {
     if !reader.is_done() {

@@ -7,12 +7,12 @@ ghost use Rattle.jls_diff.specs.PartsOf.{part_of, parts_of};
 ghost use Rattle.jls_diff.specs.Parts.{Same, way};
 ghost use Rattle.jls_search.specs.Choices.{IsFirstWay, IsPath, prefix_of};
 
-use jls_copy::CopyReader;
+use jls_copy::WideReader;
 use jls_diff::Parts;
 use std::alloc::{AllocError, Global};
 
 /// Feeds what a choice takes of a part.
-pub(crate) fn feed_way(reader: &mut CopyReader, way: &[u8]) -> Result<(), AllocError>
+pub(crate) fn feed_way(reader: &mut WideReader, way: &[u8]) -> Result<(), AllocError>
     requires { IfSome reader.old (λ before. length before + length way.now ≤ 2 ^ 63 - 1) }
     ensures fed { OnOk result (reader.new ≡ after reader.old way.now) }
     ensures bytes { OnOk result (AllByRecursion (λ b. b < 256) way.now) }
@@ -23,7 +23,7 @@ pub(crate) fn feed_way(reader: &mut CopyReader, way: &[u8]) -> Result<(), AllocE
 /// Feeds what the choices make of the first parts, part by part, as slices of the copies. If there is a choice for each part, that is a
 /// whole splice. No memory is taken for it. Where the reader refuses memory, it refuses all further bytes.
 pub fn feed_prefix(
-    reader: &mut CopyReader,
+    reader: &mut WideReader,
     parts: &Parts<'_>,
     choices: &[usize],
 ) -> Result<(), AllocError>
@@ -40,12 +40,12 @@ pub fn feed_prefix(
 }
 
 /// A reader that was fed what the path makes.
-pub fn reader_of(alloc: Global, parts: &Parts<'_>, path: &[usize]) -> Result<CopyReader, AllocError>
+pub fn reader_of(alloc: Global, parts: &Parts<'_>, path: &[usize]) -> Result<WideReader, AllocError>
     requires path { IsPath parts.now path.now }
     requires few { length (prefix_of parts.now path.now) ≤ 2 ^ 63 - 1 }
     ensures { IfOk result (λ reader. reader ≡ Some (prefix_of parts.now path.now)) }
 {
-    let mut reader = CopyReader::new(alloc);
+    let mut reader = WideReader::new(alloc);
     feed_prefix(&mut reader, parts, path)?;
     Ok(reader)
 }

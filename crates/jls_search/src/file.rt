@@ -1,15 +1,16 @@
 //! One file, taken by a station.
 
 ghost use Rattle.std.specs.Prelude.{◌≡◌, ◌-◌, ◌^◌, ◌≤◌, ◌∷◌, [], ℕ, List, length, OnOk, IfSome};
-ghost use Rattle.jls_copy.specs.CopyReads.{CopyReads};
+ghost use Rattle.jls_copy.specs.CopyReads.{CopyReadsUnder};
 ghost use Rattle.jls_diff.specs.PartsOf.{parts_of};
 ghost use Rattle.jls_search.specs.Choices.{IsPath, prefix_of};
 ghost use Rattle.jls_station.specs.Given.{marked};
 ghost use Rattle.jls_marker.specs.SegmentLaws.{AreBytes};
+ghost use Rattle.jls_marker.specs.declared.profile.Profile.TheVariants.{Wide};
 ghost use Rattle.jls_search.specs.Stations.{TakesFiles};
 
 use crate::feeding::feed_prefix;
-use jls_copy::{CopyFault, CopyRead, CopyReader};
+use jls_copy::{CopyFault, CopyRead, WideReader};
 use jls_diff::Parts;
 use jls_partial::Partial;
 use jls_station::Station;
@@ -32,7 +33,7 @@ pub(crate) fn take_read(
     source: Option<u32>,
     read: CopyRead,
 ) -> Result<(), AllocError>
-    ensures { OnOk result ((file : List ℕ) → AreBytes file → CopyReads file read
+    ensures { OnOk result ((file : List ℕ) → AreBytes file → CopyReadsUnder Wide file read
         → TakesFiles source (file ∷ []) station.old station.new) }
 {
     let mut partial = read.into_partial();
@@ -48,7 +49,7 @@ pub(crate) fn take_read(
 fn take_fed(
     station: &mut Station,
     source: Option<u32>,
-    reader: CopyReader,
+    reader: WideReader,
 ) -> Result<(), AllocError>
     ensures { OnOk result (IfSome reader (λ file. AreBytes file → TakesFiles source (file ∷ []) station.old station.new)) }
 {
@@ -68,7 +69,7 @@ pub(crate) fn take_copy(
 ) -> Result<(), AllocError>
     ensures { OnOk result (TakesFiles source (copy.now ∷ []) station.old station.new) }
 {
-    let mut reader = CopyReader::new(alloc);
+    let mut reader = WideReader::new(alloc);
     reader.feed(copy)?;
     take_fed(station, source, reader)
 }
@@ -85,7 +86,7 @@ pub(crate) fn take_splice(
     requires few { length (prefix_of parts.now choices.now) ≤ 2 ^ 63 - 1 }
     ensures { OnOk result (TakesFiles source (prefix_of parts.now choices.now ∷ []) station.old station.new) }
 {
-    let mut reader = CopyReader::new(alloc);
+    let mut reader = WideReader::new(alloc);
     feed_prefix(&mut reader, parts, choices)?;
     take_fed(station, source, reader)
 }

@@ -3,7 +3,7 @@
 //! From some byte on their scan data differ. If the rows behind that byte are the same nevertheless, they were coded in two ways. Damage of
 //! one coding would change them.
 
-use jls_copy::{CopyReader, PieceInHand};
+use jls_copy::{PieceInHand, WideReader};
 use std::alloc::{AllocError, Global};
 
 /// How many rows have to be the same.
@@ -38,11 +38,11 @@ fn reader_after(
     alloc: Global,
     bytes: &[u8],
     count: usize,
-) -> Result<Option<CopyReader>, AllocError> {
+) -> Result<Option<WideReader>, AllocError> {
     let Some(begin) = bytes.get(..count) else {
         return Ok(None);
     };
-    let mut reader = CopyReader::new(alloc);
+    let mut reader = WideReader::new(alloc);
     reader.feed(begin)?;
     if reader.is_done() || reader.has_faulty_piece() || reader.is_piece_broken() {
         return Ok(None);

@@ -8,7 +8,7 @@ ghost use Rattle.jls_search.specs.Search.{AreKept, IsBegunOn, IsKeptReader, Keep
 
 use crate::early::{Until, feed_path_until};
 use crate::setting::Goal;
-use jls_copy::CopyReader;
+use jls_copy::WideReader;
 use jls_diff::Parts;
 use std::alloc::{AllocError, Global};
 
@@ -16,7 +16,7 @@ use std::alloc::{AllocError, Global};
 #[derive(Drop)]
 pub struct KeptReader {
     /// The reader. It was fed what the choices make.
-    pub reader: CopyReader,
+    pub reader: WideReader,
     /// A choice for each of the first parts.
     pub choices: Vec<usize>,
 }
@@ -39,7 +39,7 @@ pub struct Judge {
 #[derive(Drop)]
 pub(crate) struct BegunReader {
     /// The reader.
-    pub(crate) reader: CopyReader,
+    pub(crate) reader: WideReader,
     /// How many choices these are.
     pub(crate) choices: usize,
 }
@@ -58,7 +58,7 @@ pub(crate) fn begun_from(
         return Ok(BegunReader { reader, choices });
     }
     Ok(BegunReader {
-        reader: CopyReader::new(alloc),
+        reader: WideReader::new(alloc),
         choices: 0,
     })
 }
@@ -79,7 +79,7 @@ pub(crate) fn begun_on(
         }
     }
     Ok(BegunReader {
-        reader: CopyReader::new(alloc),
+        reader: WideReader::new(alloc),
         choices: 0,
     })
 }
@@ -89,7 +89,7 @@ pub(crate) fn fed_on(
     begun: BegunReader,
     parts: &Parts<'_>,
     path: &[usize],
-) -> Result<CopyReader, AllocError>
+) -> Result<WideReader, AllocError>
     requires begun { IsBegunOn parts.now path.now begun }
     requires path { IsPath parts.now path.now }
     requires few { length (prefix_of parts.now path.now) ≤ 2 ^ 63 - 1 }
@@ -109,7 +109,7 @@ pub(crate) fn reader_on(
     parts: &Parts<'_>,
     kept: &Option<KeptReader>,
     path: &[usize],
-) -> Result<CopyReader, AllocError>
+) -> Result<WideReader, AllocError>
     requires kept { IfSome kept.now (IsKeptReader parts.now) }
     requires path { IsPath parts.now path.now }
     requires few { length (prefix_of parts.now path.now) ≤ 2 ^ 63 - 1 }
@@ -122,7 +122,7 @@ pub(crate) fn reader_on(
 /// A reader with the path that it was fed.
 pub(crate) fn kept_reader(
     alloc: Global,
-    reader: CopyReader,
+    reader: WideReader,
     path: &[usize],
 ) -> Result<KeptReader, AllocError>
     ensures { IfOk result (λ kept. (kept.reader ≡ reader) × (kept.choices.items ≡ path.now)) }
@@ -135,7 +135,7 @@ pub(crate) fn kept_reader(
 pub(crate) fn keep(
     alloc: Global,
     kept: &mut Option<KeptReader>,
-    reader: Option<CopyReader>,
+    reader: Option<WideReader>,
     path: &[usize],
 ) -> Result<(), AllocError>
     ensures { OnOk result (Keeps kept.old reader path.now kept.new) }
@@ -163,7 +163,7 @@ pub(crate) fn keep_open(
     alloc: Global,
     judge: &mut Judge,
     goal: Goal,
-    reader: Option<CopyReader>,
+    reader: Option<WideReader>,
     path: &[usize],
 ) -> Result<(), AllocError>
     ensures kept { (parts : List Part) → AreKept parts judge.old

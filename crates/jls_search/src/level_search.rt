@@ -16,7 +16,7 @@ use crate::next_level::{
 };
 use crate::saving::first_saving;
 use crate::whole_search::Searched;
-use jls_copy::CopyReader;
+use jls_copy::WideReader;
 use jls_diff::Parts;
 use std::alloc::{AllocError, Global};
 
@@ -55,7 +55,7 @@ fn no_path(alloc: Global, lets_go: bool) -> LivingPath
 {
     LivingPath {
         kept: KeptReader {
-            reader: CopyReader::new(alloc),
+            reader: WideReader::new(alloc),
             choices: Vec::new(alloc),
         },
         backing: 0,

@@ -1,10 +1,10 @@
 //! Splices of copies: files each of whose stretches is what one of the copies has there. The search for those without a fault, of whole
-//! files and by groups, and the station of the files taken.
+//! files and by groups, and the station of the files taken. Files are read under the wide profile: scans by line and by sample.
 //!
 //! - `short`: whether copies are short enough for a search
 //! - `choosing`: choices at a part; `path`: goes through choices of parts in depth-first order
 //! - `setting`: what a search is after: whole files, or a group and the copy that the rest of the file is taken from
-//! - `feeding`: feeds what they make to a `CopyReader`
+//! - `feeding`: feeds what they make to a `WideReader`
 //! - `faultless`: judges it: a file without a fault, or a prefix that none begins with
 //! - `lines`: whether each line of a picture was read
 //! - `ceiling`: whether samples are at most the greatest that a file may have that is sought
@@ -13,9 +13,10 @@
 //! - `looking`: what is seen of a path
 //! - `searching`: the search, as a value that goes on as far as its caller wants; `adding`: the choices that it finds
 //! - `whole_search`: the search of whole files
-//! - `level_search`: the search of whole files level by level, as a value that goes on one level at a time; `next_level`: what the paths of
-//!   a level go on to; `backing`: what speaks for a path; `saving`: how many bits its lines would save in a code that learns, which is
-//!   `learning_code`. No contract speaks of these three
+//! - `level_search`: the search of whole files level by level, as a value that goes on one level at a time
+//! - `next_level`: what the paths of a level go on to
+//! - `backing`: what speaks for a path; `saving`: how many bits its lines would save in a code that learns, `learning_code`. No contract
+//!   speaks of these three
 //! - `levels`: the levels of the search for the cut file, and the last one at which exactly one path lives
 //! - `codings`: which copies are of one coding, as far as can be told; `first_lines`: whether two surely aren't. No contract speaks of
 //!   these two

@@ -8,7 +8,7 @@ ghost use Rattle.jls_search.specs.Search.{IsBegunOn, IsKeptReader};
 
 use crate::early::{Until, feed_path_until};
 use crate::kept::{BegunReader, KeptReader, begun_on};
-use jls_copy::CopyReader;
+use jls_copy::WideReader;
 use jls_diff::Parts;
 use std::alloc::{AllocError, Global};
 
@@ -18,7 +18,7 @@ pub(crate) fn living_from(
     begun: BegunReader,
     parts: &Parts<'_>,
     path: &[usize],
-) -> Result<Option<CopyReader>, AllocError>
+) -> Result<Option<WideReader>, AllocError>
     requires begun { IsBegunOn parts.now path.now begun }
     requires path { IsPath parts.now path.now }
     requires few { length (prefix_of parts.now path.now) ≤ 2 ^ 63 - 1 }
@@ -43,7 +43,7 @@ pub(crate) fn living_on(
     parts: &Parts<'_>,
     kept: &Option<KeptReader>,
     path: &[usize],
-) -> Result<Option<CopyReader>, AllocError>
+) -> Result<Option<WideReader>, AllocError>
     requires kept { IfSome kept.now (IsKeptReader parts.now) }
     requires path { IsPath parts.now path.now }
     requires few { length (prefix_of parts.now path.now) ≤ 2 ^ 63 - 1 }

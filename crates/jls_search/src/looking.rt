@@ -17,7 +17,7 @@ use crate::offsets::border_offset;
 use crate::reading_between::is_read_between;
 use crate::reading_group::reads_in_group;
 use crate::setting::{Goal, Setting};
-use jls_copy::CopyReader;
+use jls_copy::WideReader;
 use jls_diff::Parts;
 use std::alloc::{AllocError, Global};
 
@@ -27,13 +27,13 @@ pub(crate) enum PathVerdict {
     /// No choices that begin so are tried: none of them makes a file that is sought, or those that do are passed by.
     Dead,
     /// Such choices may come. The reader was fed what the path makes. There is none where its copy has ended.
-    Open(Option<CopyReader>),
+    Open(Option<WideReader>),
     /// The path has a choice for each part, and makes a file that is sought. The first whole file comes with a reader that was fed it.
-    Found(Option<CopyReader>),
+    Found(Option<WideReader>),
 }
 
 /// A clone of the reader, if no reader is kept of a file that was found before.
-fn clone_first(judge: &Judge, reader: &CopyReader) -> Result<Option<CopyReader>, AllocError>
+fn clone_first(judge: &Judge, reader: &WideReader) -> Result<Option<WideReader>, AllocError>
     ensures { IfOk result (λ found. IfSome found (λ clone. clone ≡ reader.now)) }
 {
     if judge.found.is_some() {
@@ -44,7 +44,7 @@ fn clone_first(judge: &Judge, reader: &CopyReader) -> Result<Option<CopyReader>,
 }
 
 /// What a search of whole files sees of a path that has a choice for each part. The reader was fed what it makes.
-fn look_at_file(judge: &Judge, reader: CopyReader) -> Result<PathVerdict, AllocError>
+fn look_at_file(judge: &Judge, reader: WideReader) -> Result<PathVerdict, AllocError>
     ensures { (parts : List SpecPart) (path : List ℕ) → length path ≡ length parts → reader ≡ Some (prefix_of parts path)
         → IfOk result (λ sight. IsSeenFor judge.now.ceiling parts Whole path sight) }
 {
@@ -57,7 +57,7 @@ fn look_at_file(judge: &Judge, reader: CopyReader) -> Result<PathVerdict, AllocE
 }
 
 /// What it sees of a shorter one.
-fn look_at_prefix(judge: &Judge, reader: CopyReader) -> Result<PathVerdict, AllocError>
+fn look_at_prefix(judge: &Judge, reader: WideReader) -> Result<PathVerdict, AllocError>
     ensures { (parts : List SpecPart) (path : List ℕ) → IsPath parts path → length path < length parts
         → reader ≡ Some (prefix_of parts path) → IfOk result (λ sight. IsSeenFor judge.now.ceiling parts Whole path sight) }
 {
@@ -105,7 +105,7 @@ fn look_at_prefix_in_group(
     parts: &Parts<'_>,
     setting: Setting,
     path: &[usize],
-    reader: CopyReader,
+    reader: WideReader,
 ) -> Result<PathVerdict, AllocError>
     requires setting { IsSetting parts.now setting }
     requires path { IsPath parts.now path.now }

@@ -20,7 +20,7 @@ use crate::living::living_from;
 use crate::path::follow;
 use crate::saving::{Saving, saving_on};
 use crate::setting::Goal;
-use jls_copy::CopyReader;
+use jls_copy::WideReader;
 use jls_diff::Parts;
 use std::alloc::{AllocError, Global};
 
@@ -108,7 +108,7 @@ fn living_reader(
     ceiling: Option<u16>,
     from: &KeptReader,
     path: &[usize],
-) -> Result<Option<CopyReader>, AllocError>
+) -> Result<Option<WideReader>, AllocError>
     requires kept { IsKeptReader parts.now from.now }
     requires path { IsPath parts.now path.now }
     requires few { length (prefix_of parts.now path.now) ≤ 2 ^ 63 - 1 }

@@ -2,12 +2,15 @@
 
 ghost use Rattle.std.specs.Prelude.{◌≡◌, ◌<◌, ℕ, List, ◌↔◌, true, false, Some, None, IsTrue, IfOk, IfSome};
 ghost use Rattle.std.specs.List.{AllByRecursion, Contains};
-ghost use Rattle.jls_copy.specs.CopyReads.{CopyReads};
+ghost use Rattle.jls_copy.specs.CopyReads.{CopyReadsUnder};
 ghost use Rattle.jls_copy.specs.declared.piece.PieceRecord.{PieceRecord as Record};
+ghost use Rattle.jls_marker.specs.declared.profile.Profile.TheVariants.{Wide};
 ghost use Rattle.jls_search.specs.OfGroups.{HasManyFaults};
 ghost use Rattle.jls_search.specs.ReadsBetween.{IsOffsetBetween, Reaches, ReadsBetween};
 
-use jls_copy::{CopyFault, CopyRead, CopyReader, End, PieceRecord, records_are_of_faulty_pieces};
+use jls_copy::{
+    CopyFault, CopyRead, End, PieceRecord, WideReader, records_are_of_faulty_pieces_under,
+};
 use std::alloc::AllocError;
 
 /// Whether an offset is the first of these or after it, and before the second, if there is one.
@@ -49,12 +52,12 @@ fn reaches(from: u64, to: Option<u64>, end: End) -> bool
 
 /// Whether what was read is a file that reads between two offsets. `None` comes where it has more than 4,096 faulty pieces.
 fn told_between(read: &CopyRead, from: u64, to: Option<u64>) -> Option<bool>
-    ensures reads { result ≡ Some true → (file : List ℕ) → CopyReads file read.now → ReadsBetween from to file }
-    ensures unread { result ≡ Some false → (file : List ℕ) → CopyReads file read.now → AllByRecursion (λ b. b < 256) file
+    ensures reads { result ≡ Some true → (file : List ℕ) → CopyReadsUnder Wide file read.now → ReadsBetween from to file }
+    ensures unread { result ≡ Some false → (file : List ℕ) → CopyReadsUnder Wide file read.now → AllByRecursion (λ b. b < 256) file
         → ReadsBetween from to file → ⊥ }
-    ensures many { result ≡ None → (file : List ℕ) → CopyReads file read.now → HasManyFaults file }
+    ensures many { result ≡ None → (file : List ℕ) → CopyReadsUnder Wide file read.now → HasManyFaults file }
 {
-    records_are_of_faulty_pieces();
+    records_are_of_faulty_pieces_under();
     let records = read.pieces();
     if read.piece_count() != records.len() as u64 {
         return None;
@@ -68,8 +71,8 @@ fn told_between(read: &CopyRead, from: u64, to: Option<u64>) -> Option<bool>
 /// Whether what was read is a file that reads between two offsets: no piece that begins at the first or after it, and before the second,
 /// is faulty. Without a second one it goes to the file's end. `false` comes too where the file has more than 4,096 faulty pieces.
 pub fn reads_between(read: &CopyRead, from: u64, to: Option<u64>) -> bool
-    ensures reads { result ≡ true → (file : List ℕ) → CopyReads file read.now → ReadsBetween from to file }
-    ensures unread { result ≡ false → (file : List ℕ) → CopyReads file read.now → AllByRecursion (λ b. b < 256) file
+    ensures reads { result ≡ true → (file : List ℕ) → CopyReadsUnder Wide file read.now → ReadsBetween from to file }
+    ensures unread { result ≡ false → (file : List ℕ) → CopyReadsUnder Wide file read.now → AllByRecursion (λ b. b < 256) file
         → ReadsBetween from to file → HasManyFaults file }
 {
     match told_between(read, from, to) {
@@ -81,7 +84,7 @@ pub fn reads_between(read: &CopyRead, from: u64, to: Option<u64>) -> bool
 /// Whether what was fed reads there, if it ends here. `None` comes where it has more than 4,096 faulty pieces. The only refusal is out of
 /// memory.
 pub(crate) fn told_by(
-    reader: CopyReader,
+    reader: WideReader,
     from: u64,
     to: Option<u64>,
 ) -> Result<Option<bool>, AllocError>
@@ -99,7 +102,7 @@ pub(crate) fn told_by(
 
 /// The same; `false` comes too where it has more than 4,096 faulty pieces.
 pub(crate) fn is_read_between(
-    reader: CopyReader,
+    reader: WideReader,
     from: u64,
     to: Option<u64>,
 ) -> Result<bool, AllocError>

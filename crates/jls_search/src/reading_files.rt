@@ -13,7 +13,7 @@ use crate::file::take_read;
 use crate::files::Files;
 use crate::reading_splices::read_splices;
 use crate::seen::{Seen, see};
-use jls_copy::{CopyFault, CopyRead, CopyReader};
+use jls_copy::{CopyFault, CopyRead, WideReader};
 use jls_station::Station;
 use std::alloc::{AllocError, Global};
 
@@ -41,7 +41,7 @@ pub(crate) fn read_file(
     alloc: Global,
     source: Option<u32>,
     before: FilesRead,
-    reader: CopyReader,
+    reader: WideReader,
 ) -> Result<FilesRead, AllocError>
     ensures { IfOk result (λ read. IfSome reader (λ file. AreBytes file → ReadsMore source (file ∷ []) before read)) }
 {
@@ -73,7 +73,7 @@ fn read_copy(
 ) -> Result<FilesRead, AllocError>
     ensures { IfOk result (λ read. ReadsMore source (copy.now ∷ []) before read) }
 {
-    let mut reader = CopyReader::new(alloc);
+    let mut reader = WideReader::new(alloc);
     reader.feed(copy)?;
     read_file(alloc, source, before, reader)
 }

@@ -13,7 +13,7 @@ use crate::early::{Until, feed_path_until};
 use crate::kept::{BegunReader, KeptReader, begun_on, reader_on};
 use crate::offsets::{border_offset, end_offset};
 use crate::reading_between::{is_read_between, told_by};
-use jls_copy::{every_copy_has_a_course, prefixes_settle_pieces};
+use jls_copy::{every_copy_has_a_course_under, prefixes_settle_pieces_under};
 use jls_diff::{Group, Parts};
 use std::alloc::{AllocError, Global};
 
@@ -49,8 +49,8 @@ fn told_early(
     ensures reads { IfOk result (λ told. told ≡ Some true → ReadsBetween from (Some to) (prefix_of parts.now path.now)) }
     ensures unread { IfOk result (λ told. told ≡ Some false → ReadsBetween from (Some to) (prefix_of parts.now path.now) → ⊥) }
 {
-    prefixes_settle_pieces();
-    every_copy_has_a_course();
+    prefixes_settle_pieces_under();
+    every_copy_has_a_course_under();
     makes_bytes(parts, path);
     let BegunReader {
         mut reader,

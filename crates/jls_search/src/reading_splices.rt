@@ -13,7 +13,7 @@ use crate::files::Files;
 use crate::kept::{BegunReader, KeptReader, fed_on, kept_reader};
 use crate::reading_files::{FilesRead, read_file};
 use crate::reading_group::makes_bytes;
-use jls_copy::CopyReader;
+use jls_copy::WideReader;
 use jls_diff::Parts;
 use std::alloc::{AllocError, Global};
 
@@ -83,7 +83,7 @@ fn take_begun(
         kept.push(first)?;
     }
     Ok(BegunReader {
-        reader: CopyReader::new(alloc),
+        reader: WideReader::new(alloc),
         choices: 0,
     })
 }
@@ -103,7 +103,7 @@ fn make_room(kept: &mut Vec<KeptReader>)
 fn keep_more(
     alloc: Global,
     kept: &mut Vec<KeptReader>,
-    reader: CopyReader,
+    reader: WideReader,
     path: &[usize],
 ) -> Result<(), AllocError>
     ensures { (parts : List Part) → AllByRecursion (IsKeptReader parts) kept.old.items → reader ≡ Some (prefix_of parts path.now)
@@ -123,7 +123,7 @@ fn read_on(
     path: &[usize],
     shared: usize,
     kept: &mut Vec<KeptReader>,
-) -> Result<CopyReader, AllocError>
+) -> Result<WideReader, AllocError>
     requires path { IsPath parts.now path.now }
     requires few { length (prefix_of parts.now path.now) ≤ 2 ^ 63 - 1 }
     requires shared { shared ≤ length path.now }

@@ -1,7 +1,8 @@
 //! How many bits fewer the lines of a path would cost in a code that learns, so far as they were read. No contract speaks of it.
 
 use crate::learning_code::{LearningCode, PARTS_OF_BIT};
-use jls_copy::{CopyReader, PieceInHand};
+use jls_copy::{PieceInHand, WideReader};
+use jls_marker::ScanPlan;
 use std::alloc::AllocError;
 
 /// How many bits a byte has.
@@ -19,7 +20,7 @@ pub struct Saving {
     piece: u64,
     /// How many of its lines were counted.
     lines: usize,
-    /// How many samples were read up to the end of the last whole line.
+    /// How many samples were read up to the end of the last whole line, or by sample of the last whole row.
     samples: u64,
     /// About how many bits they took, in parts of a bit.
     bits: u64,
@@ -46,6 +47,15 @@ fn share_of(bits: u64, samples: u64) -> u64 {
 /// The parts of a bit that so many samples have.
 fn bits_of(share: u64, samples: u64) -> u64 {
     share.saturating_mul(samples) / FINER
+}
+
+/// How many samples lines are read by: those of a line, or by sample those of a row.
+fn samples_at_once(plan: &ScanPlan) -> u64 {
+    let width = u64::from(plan.width());
+    if plan.by_sample() {
+        return width.saturating_mul(plan.components().len() as u64);
+    }
+    width
 }
 
 /// A number with a sign.
@@ -93,7 +103,7 @@ impl Saving {
         };
         let cost = self.cost_from(&piece.lines, from, piece.plan.components().len());
         let counted = (piece.lines.len().saturating_sub(from) as u64).saturating_mul(width);
-        let begun = read.checked_rem(width).unwrap_or(0);
+        let begun = read.checked_rem(samples_at_once(&piece.plan)).unwrap_or(0);
         let whole = read.saturating_sub(begun);
         let bits = fed
             .saturating_mul(BITS_OF_BYTE)
@@ -125,7 +135,7 @@ pub(crate) fn first_saving(lets_go: bool) -> Option<Saving> {
 /// What is saved on a path whose reader this is, if it is counted. It goes on from another path. The only refusal is out of memory.
 pub(crate) fn saving_on(
     from: &Option<Saving>,
-    reader: &CopyReader,
+    reader: &WideReader,
 ) -> Result<Option<Saving>, AllocError> {
     let Some(saving) = from else {
         return Ok(None);

@@ -1,8 +1,9 @@
 //! What is seen of a file before a shape is taken, and the verdict on each file.
 
 ghost use Rattle.std.specs.Prelude.{◌≡◌, List, ℕ, map, IfOk};
-ghost use Rattle.jls_copy.specs.CopyReads.{CopyReads};
+ghost use Rattle.jls_copy.specs.CopyReads.{CopyReadsUnder};
 ghost use Rattle.jls_marker.specs.SegmentLaws.{AreBytes};
+ghost use Rattle.jls_marker.specs.declared.profile.Profile.TheVariants.{Wide};
 ghost use Rattle.jls_search.specs.Seen.{IsSeen, verdict_of};
 
 use crate::faultless::is_read_faultless;
@@ -24,7 +25,7 @@ pub(crate) enum Seen {
 
 /// What is seen of a file that has a frame, by what was read of it.
 pub(crate) fn see(read: &CopyRead) -> Seen
-    ensures { (file : List ℕ) → AreBytes file → CopyReads file read.now → IsSeen file result }
+    ensures { (file : List ℕ) → AreBytes file → CopyReadsUnder Wide file read.now → IsSeen file result }
 {
     let shape = read.partial().shape().to_owned();
     if is_read_faultless(read) {

@@ -18,7 +18,8 @@ use Rattle.jls_partial.specs.Text.{text}
 use Rattle.jls_partial.proofs.Marked.{got_held}
 use Rattle.jls_io.specs.Event.{Event, opened, gave, created}
 use Rattle.jls_copy.specs.Course.{IsCourse, segment, with_soi, for_good, at_eoi}
-use Rattle.jls_copy.specs.CopyReads.{CopyReads}
+use Rattle.jls_marker.specs.declared.profile.Profile.TheVariants.{Wide}
+use Rattle.jls_copy.specs.CopyReads.{CopyReads, CopyReadsUnder}
 use Rattle.jls_copy.specs.Numbers.{Interval}
 use Rattle.jls_copy.specs.Pieces.{pieces, readings, records}
 use Rattle.jls_copy.specs.ReadCopy.{ReadCopy}
@@ -43,7 +44,7 @@ use Rattle.jls_search.specs.Stations.{TakesFiles, gives, no_file}
 use Rattle.jls_headline.proofs.ColumnFiles.{column_frame, framed}
 use Rattle.jls_headline.proofs.FileExamples.{file}
 use Rattle.jls_headline.proofs.Held.{one_reading}
-use Rattle.jls_headline.proofs.TwoLineCopies.{shape, pic, plan, pieces_read}
+use Rattle.jls_headline.proofs.TwoLineCopies.{shape, pic, plan, outcomes_read}
 use Rattle.jls_headline.specs.Damaged.{picture_reading}
 use Rattle.jls_splice_run.specs.Carrying.{Carried, IsCarried}
 use Rattle.jls_splice_run.specs.Handing.{HandsAll, none_handed}
@@ -52,6 +53,7 @@ use Rattle.jls_splice_run.specs.ReadsAs.{EachReadsAs}
 use Rattle.jls_cli.specs.Outcomes.{finished}
 use Rattle.jls_splice_run.specs.BadLists.{AreInputs}
 use Rattle.jls_splice_run.specs.Runs.{Performs, Run, came_of, done, performed, texts}
+use Rattle.jls_splice_run.proofs.StrictCourses.{wide, wide_course, wide_reading}
 use Rattle.jls_splice_laws.specs.CarryLaws.{AreCodingsOf, PromisesHeld}
 use Rattle.jls_splice_laws.specs.RunLaws.{DidMake}
 use Rattle.jls_splice_laws.proofs.FaultlessExamples.{bare, file_is_faultless, no_line_is_read}
@@ -175,19 +177,22 @@ reads = record {
   ended_is = refl;
 }
 
+reads_so : CopyReadsUnder Wide damaged read
+reads_so = wide_reading damaged read reads tt
+
 abbrev given : PartialPicture
 given = union (union (nothing_known shape) read.partial) read.partial
 
 takes : TakesFiles None copies (nothing_known shape) given
 takes = record {
   given = read.partial ∷ read.partial ∷ [];
-  give = gives damaged read (damaged ∷ []) (read.partial ∷ []) damaged_bytes reads refl
-      (gives damaged read [] [] damaged_bytes reads refl no_file);
+  give = gives damaged read (damaged ∷ []) (read.partial ∷ []) damaged_bytes reads_so refl
+      (gives damaged read [] [] damaged_bytes reads_so refl no_file);
   union_is = refl;
 }
 
 has_shape : HasFrameOfShape shape damaged
-has_shape = (bare, is_bare, refl)
+has_shape = (wide bare, wide_course damaged bare is_bare tt, refl)
 
 shape_is : IsShapeTaken copies [] shape
 shape_is = record {
@@ -258,11 +263,11 @@ line_held : (component line : ℕ) → component < 1 → line < 2 → IsHeld fil
 unfolding in_first in_second
 line_held zero zero k l =
     in_piece mended (0, lit< tt, refl) in_first [] (0 ∷ [])
-    (record { at_most = lit≤ tt; unread = pieces_read.zero_read.unread; begins = pieces_read.zero_read.begins })
+    (record { at_most = lit≤ tt; unread = outcomes_read.zero_read.unread; begins = outcomes_read.zero_read.begins })
     (λ place b. held_at_31 place b.within) [] (picture_reading pic 0 0) refl (λ s among. absurd (none_in s among))
 line_held zero (suc zero) k l =
     in_piece mended (0, lit< tt, refl) in_second [] (255 ∷ [])
-    (record { at_most = lit≤ tt; unread = pieces_read.largest_read.unread; begins = pieces_read.largest_read.begins })
+    (record { at_most = lit≤ tt; unread = outcomes_read.largest_read.unread; begins = outcomes_read.largest_read.begins })
     (λ place b. held_at_34 place b.within) [] (picture_reading pic 0 1) refl (λ s among. absurd (none_in s among))
 line_held zero (suc (suc line)) k l = absurd (omega (arith, l))
 line_held (suc component) line k l = absurd (omega (arith, k))
@@ -302,6 +307,7 @@ each_reads = (
     faultless = file_is_faultless;
     read = file_read;
     reads = file_reads_so;
+    ends = tt;
     same_size = record { width_is = refl; height_is = refl; components_are = refl };
     each_alike = λ component c line l. (line_of pic component line, one_of_file component line c l, one_line component line c l);
   },
@@ -462,8 +468,8 @@ picture = line_of pic
 
 true_pieces : HasTruePieces picture course
 true_pieces q among = all_at (λ q. (k : ℕ) × IsTruePiece picture q k) (pieces course) q (
-  (0, record { number_is = refl; lines = (0 ∷ []) ∷ []; reads = pieces_read.zero_read; each = (refl, tt) }),
-  ((1, record { number_is = refl; lines = (255 ∷ []) ∷ []; reads = pieces_read.largest_read; each = (refl, tt) }), tt),
+  (0, record { number_is = refl; lines = (0 ∷ []) ∷ []; reads = outcomes_read.zero_read; each = (refl, tt) }),
+  ((1, record { number_is = refl; lines = (255 ∷ []) ∷ []; reads = outcomes_read.largest_read; each = (refl, tt) }), tt),
 ) among
 
 own_head : (p : PieceOf mended) → HasHead course mended p

@@ -82,6 +82,7 @@ reads_marked number p (f ∷ files) each = (
     faultless = each.0.faultless;
     read = each.0.read;
     reads = each.0.reads;
+    ends = each.0.ends;
     same_size = each.0.same_size;
     each_alike = each.0.each_alike;
   },

@@ -5,10 +5,11 @@ use Rattle.std.specs.List.{AllByRecursion, Contains}
 use Rattle.std.proofs.lemmas.List.{append-nil}
 use Rattle.jls_partial.specs.Reading.{Reading}
 use Rattle.jls_marker.specs.HeaderState.{HeaderState}
-use Rattle.jls_copy.specs.Course.{Course, IsCourse}
-use Rattle.jls_copy.specs.CourseLaws.{OneCourse}
+use Rattle.jls_marker.specs.declared.profile.Profile.TheVariants.{Wide}
+use Rattle.jls_copy.specs.Course.{Course, IsCourseUnder}
+use Rattle.jls_copy.specs.CourseLaws.{OneCourseUnder}
 use Rattle.jls_copy.specs.Pieces.{FoundPiece, pieces}
-use Rattle.jls_copy.specs.Prefixes.{CourseHasReading, HasLines, PrefixesKeepReadings}
+use Rattle.jls_copy.specs.Prefixes.{CourseHasReading, HasLines, PrefixesKeepReadingsUnder}
 use Rattle.jls_copy.specs.declared.end.End.{End}
 use Rattle.jls_copy.specs.declared.end.End.TheVariants.{Eoi, Input, Header}
 use Rattle.jls_copy_laws.proofs.Members.{all_append, none_in}
@@ -31,8 +32,8 @@ begins_with file _ (without_eoi not_at not_within at) =
     record { more = 0xFF ∷ 0xD9 ∷ []; whole_is = refl; are_bytes = (omega arith, (omega arith, tt)) }
 begins_with file _ (elsewhere not_at not_within not_without) = record { more = []; whole_is = sym (append-nil file); are_bytes = tt }
 
-module _ (one : OneCourse) (keep : PrefixesKeepReadings) (file whole : List ℕ) (bytes : AllByRecursion (λ b. b < 256) file)
-    (f : IsFaultless file) (made : IsCompleted file whole) where
+module _ (one : OneCourseUnder Wide) (keep : PrefixesKeepReadingsUnder Wide) (file whole : List ℕ)
+    (bytes : AllByRecursion (λ b. b < 256) file) (f : IsFaultless file) (made : IsCompleted file whole) where
   -- a file with its EOI
   as_it_is : EndsAtEoi file → IsReadAlike file whole
   as_it_is at =
@@ -58,7 +59,7 @@ module _ (one : OneCourse) (keep : PrefixesKeepReadings) (file whole : List ℕ)
     there r has =
         let b = begins_with file whole made in
         keep file b.more (all_append _ file b.more bytes b.are_bytes) f.course then_so.course f.is_course
-        (subst (λ (z : List ℕ). IsCourse z then_so.course) b.whole_is then_so.is_course) each r has
+        (subst (λ (z : List ℕ). IsCourseUnder Wide z then_so.course) b.whole_is then_so.is_course) each r has
 
     back : (r : Reading) → CourseHasReading then_so.course r → CourseHasReading f.course r
     back r (inl (p, among, lines, outcome, of)) =
@@ -95,5 +96,5 @@ module _ (one : OneCourse) (keep : PrefixesKeepReadings) (file whole : List ℕ)
   by_end (Input i) is ends = completed i is
   by_end (Header fault o) is ends = absurd ends
 
-pub completed_files_read_alike : OneCourse → PrefixesKeepReadings → CompletedFilesReadAlike
+pub completed_files_read_alike : OneCourseUnder Wide → PrefixesKeepReadingsUnder Wide → CompletedFilesReadAlike
 completed_files_read_alike one keep file whole bytes f made = by_end one keep file whole bytes f made f.course.end refl f.ends

@@ -6,12 +6,13 @@ use Rattle.std.proofs.Common.{inl, inr}
 use Rattle.std.specs.Prelude.{get_or}
 use Rattle.std.specs.List.{AllByRecursion, Contains}
 use Rattle.jls_values.specs.Shape.{PictureShape}
-use Rattle.jls_interval.specs.Reads.{Reads}
+use Rattle.jls_piece.specs.Reads.{Reads}
 use Rattle.jls_partial.specs.Partial.{PartialPicture, nothing_known, union}
 use Rattle.jls_partial.specs.Reading.{Reading, reading_of}
 use Rattle.jls_marker.specs.declared.fault.MarkerFault.TheVariants as fault
-use Rattle.jls_copy.specs.CopyReads.{CopyReads}
-use Rattle.jls_copy.specs.Course.{by_input, Course, IsCourse, without_units}
+use Rattle.jls_marker.specs.declared.profile.Profile.TheVariants.{Wide}
+use Rattle.jls_copy.specs.CopyReads.{CopyReadsUnder}
+use Rattle.jls_copy.specs.Course.{by_input, Course, IsCourse, IsCourseUnder, without_units_under}
 use Rattle.jls_copy.specs.IntervalOf.{interval_of}
 use Rattle.jls_copy.specs.Numbers.{Interval}
 use Rattle.jls_copy.specs.Pieces.{FoundPiece, Lines, IsOutcome, placed, readings_of}
@@ -19,12 +20,10 @@ use Rattle.jls_copy.specs.ReadCopy.{ReadCopy}
 use Rattle.jls_copy.specs.declared.end.End.TheVariants.{Header}
 use Rattle.jls_copy.specs.Prefixes.{CourseHasReading}
 use Rattle.jls_copy.proofs.OneCourse.{one_course}
-use Rattle.jls_copy_laws.specs.Gives.{GivesReading}
-use Rattle.jls_copy_laws.proofs.Gives.{readings_are_of_the_course}
 use Rattle.jls_copy_laws.proofs.Members.{none_in, first_or_rest, all_at, bytes_of_test}
 use Rattle.jls_headline.specs.Damaged.{picture_reading}
 use Rattle.jls_headline.proofs.ColumnFiles.{column_course, is_column_course, byte_is_piece}
-use Rattle.jls_headline.proofs.TwoLineCopies.{shape, pic, plan, pieces_read, first, first_course, course_with, two_lines_taken}
+use Rattle.jls_headline.proofs.TwoLineCopies.{shape, pic, plan, outcomes_read, first, first_course, course_with, two_lines_taken}
 use Rattle.jls_diff.specs.Parts.{Part, Same, Differ, made, AreParts, IsSplice}
 use Rattle.jls_search.specs.Choices.{IsPath, prefix_of}
 use Rattle.jls_search.specs.Faultless.{IsDead, IsFaultless, IsSought}
@@ -32,7 +31,10 @@ use Rattle.jls_search.specs.Levels.{IsLone}
 use Rattle.jls_search.specs.Shapes.{HasNoFrame, HasFrameOfShape}
 use Rattle.jls_search.specs.Stations.{gives, gives_nothing, no_file}
 use Rattle.jls_search.proofs.OneFile.{no_shape, one_shape_of, shape_read}
+use Rattle.jls_splice_run.proofs.StrictCourses.{wide, wide_course}
 use Rattle.jls_splice_laws.specs.CutLaws.{WereCut, CutLinesAreThePicture, CutTellsOfLine}
+use Rattle.jls_splice_laws.specs.ProfileFiles.{GivesReadingUnder}
+use Rattle.jls_splice_laws.proofs.WholeFiles.{files_by_line_are_whole}
 use Rattle.jls_splice_laws.proofs.FaultlessExamples.{file, file_is_whole, no_soi, has_fault_there}
 
 -- The copies -------------------------------------------------------------------------------------------------------
@@ -119,12 +121,13 @@ no_piece_has_it p samples lines m reads has =
 
 first_has_a_fault : IsFaultless first → ⊥
 first_has_a_fault f =
-    let e = one_course first f.course (course_with [] (0x80 ∷ []) 32) f.is_course first_course in
+    let read : Course = course_with [] (0x80 ∷ []) 32 in
+    let e = one_course first f.course (wide read) f.is_course (wide_course first read first_course tt) in
     let same : Some shape ≡ Some f.shape = sym (ap (λ (c : Course). c.headers.frame) e) ∙ f.framed in
     let s : shape ≡ f.shape = cc in
     let g = f.whole 0 1 (subst (λ (t : PictureShape). 0 < length t.ids) s (lit< tt))
     (subst (λ (t : PictureShape). 1 < t.height) s (lit< tt)) in
-    let given : CourseHasReading (course_with [] (0x80 ∷ []) 32) (reading_of 0 1 g.0) =
+    let given : CourseHasReading (wide read) (reading_of 0 1 g.0) =
     subst (λ c. CourseHasReading c (reading_of 0 1 g.0)) e g.1 in
     elim given [ inl (p, m, lines, reads, has) ↦ no_piece_has_it p g.0 lines m reads has | inr (p, m, head, is, has) ↦ none_in p m ]
 
@@ -132,7 +135,7 @@ each_has_a_fault : AllByRecursion (λ copy. IsFaultless copy → ⊥) copies
 each_has_a_fault = (first_has_a_fault, (has_fault_there following, tt))
 
 other_has_no_frame : HasNoFrame other
-other_has_no_frame = (without_units 0 (Header fault.NoSoi 0), no_soi following, refl)
+other_has_no_frame = (without_units_under Wide 0 (Header fault.NoSoi 0), no_soi following, refl)
 
 -- The station ------------------------------------------------------------------------------------------------------
 
@@ -142,14 +145,18 @@ cut_course = column_course 2 [] (0x80 ∷ []) (by_input 0) 32
 is_cut_course : IsCourse cut cut_course
 is_cut_course = is_column_course 2 two_lines_taken [] (0x80 ∷ []) (by_input 0) tt (byte_is_piece 0x80 (lit< tt))
 
+is_read_so : IsCourseUnder Wide cut (wide cut_course)
+is_read_so = wide_course cut cut_course is_cut_course tt
+
 cut_has_shape : HasFrameOfShape shape cut
-cut_has_shape = (cut_course, is_cut_course, refl)
+cut_has_shape = (wide cut_course, is_read_so, refl)
 
 first_has_shape : HasFrameOfShape shape first
-first_has_shape = (course_with [] (0x80 ∷ []) 32, first_course, refl)
+first_has_shape =
+    let read : Course = course_with [] (0x80 ∷ []) 32 in (wide read, wide_course first read first_course tt, refl)
 
 -- a new station takes what `finish` gives of the first copy and of the cut file. The second copy has no frame
-module _ (a b : ReadCopy) (ra : CopyReads first a) (rb : CopyReads cut b) where
+module _ (a b : ReadCopy) (ra : CopyReadsUnder Wide first a) (rb : CopyReadsUnder Wide cut b) where
   abbrev station : PartialPicture
   station = union (union (nothing_known shape) a.partial) b.partial
 
@@ -176,10 +183,13 @@ module _ (a b : ReadCopy) (ra : CopyReads first a) (rb : CopyReads cut b) where
   -- so the law tells of each line of the picture
   each_line_is_reported : CutLinesAreThePicture → (component line : ℕ) → CutTellsOfLine pic station cut component line
   each_line_is_reported law component line =
-      (law None copies parts path None station were_cut pic cut rest file_is_whole tt cut_is_splice).1 component line
+      (law None copies parts path None station were_cut pic cut rest (files_by_line_are_whole pic file file_is_whole) tt
+      cut_is_splice).1 component line
 
 -- and the cut file gives line 0
-gives_line_0 : GivesReading cut (picture_reading pic 0 0)
-gives_line_0 =
-    (readings_are_of_the_course cut cut_course shape (picture_reading pic 0 0) (bytes_of_test cut refl) is_cut_course refl).1
-    (inl (piece, (0, lit< tt, refl), record { lines = (0 ∷ []) ∷ []; reads = pieces_read.zero_read; among = (0, lit< tt, refl) }))
+gives_line_0 : GivesReadingUnder Wide cut (picture_reading pic 0 0)
+gives_line_0 = (
+  shape,
+  record { bytes = bytes_of_test cut refl; course = wide cut_course; is_course = is_read_so; framed = refl },
+  inl (piece, (0, lit< tt, refl), record { lines = (0 ∷ []) ∷ []; reads = outcomes_read.zero_read; among = (0, lit< tt, refl) }),
+)

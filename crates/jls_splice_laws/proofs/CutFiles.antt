@@ -11,15 +11,12 @@ use Rattle.jls_partial.specs.Reading.{Reading, reading_of, reading_cmp}
 use Rattle.jls_partial.specs.ReadingOrder.{same_reading}
 use Rattle.jls_partial.proofs.Unions.{either, in_its_line}
 use Rattle.jls_copy.specs.Course.{Course}
-use Rattle.jls_copy.specs.Prefixes.{CourseHasReading, PrefixesKeepReadings}
-use Rattle.jls_copy_laws.specs.CourseGives.{CourseGives}
-use Rattle.jls_copy_laws.specs.Gives.{GivesReading}
-use Rattle.jls_copy_laws.proofs.Gives.{readings_are_of_the_course}
-use Rattle.jls_copy_laws.proofs.Members.{is_first, in_rest, all_prefix}
+use Rattle.jls_marker.specs.declared.profile.Profile.TheVariants.{Wide}
+use Rattle.jls_copy.specs.Prefixes.{CourseHasReading, PrefixesKeepReadingsUnder}
+use Rattle.jls_copy.proofs.OneCourse.{one_course}
+use Rattle.jls_copy_laws.proofs.Members.{is_first, in_rest}
 use Rattle.jls_file_laws.specs.Covering.{IsLineOf}
-use Rattle.jls_headline.specs.CollectedLaws.{CollectedHoldsExactlyUnder}
 use Rattle.jls_headline.specs.Damaged.{picture_reading}
-use Rattle.jls_headline.specs.Stations.{HoldsExactly}
 use Rattle.jls_headline.proofs.StationPictures.{only_one}
 use Rattle.jls_diff.specs.Parts.{Part, Same, Differ, HasWays, IsSplice}
 use Rattle.jls_search.specs.Choices.{IsPath, prefix_of}
@@ -27,10 +24,11 @@ use Rattle.jls_search.specs.Faultless.{IsSought}
 use Rattle.jls_search.proofs.Paths.{path_len}
 use Rattle.jls_search.proofs.WholeSplices.{same as same_or_other}
 use Rattle.jls_splice_laws.specs.CutLaws.{SoughtFilesBeginWithTheCut, WholeFilesBeginWithTheirLines, CutsAreHeld, CutLinesAreThePicture}
-use Rattle.jls_splice_laws.specs.WholeFiles.{IsWholeFile, WholeFilesAreFaultless}
+use Rattle.jls_splice_laws.specs.ProfileFiles.{GivesReadingUnder}
+use Rattle.jls_splice_laws.specs.WholeFiles.{IsWholeFileUnder, WholeFilesAreFaultless}
 use Rattle.jls_splice_laws.proofs.HeldFiles.{files_alone, files_are_held}
+use Rattle.jls_splice_laws.proofs.ProfileFiles.{gives_of_course, course_of_gives}
 use Rattle.jls_splice_laws.proofs.TakenFiles.{kept_of_shape}
-use Rattle.jls_splice_laws.proofs.WholeFiles.{gives_of_course}
 
 -- Paths of splices -------------------------------------------------------------------------------------------------
 
@@ -96,18 +94,18 @@ sought_files_begin_with_the_cut ceiling copies parts are path lone prefix more s
 
 -- Readings ---------------------------------------------------------------------------------------------------------
 
-course_of_gives : (c : Course) (r : Reading) → CourseHasReading c r → CourseGives c r
-course_of_gives c r (inl (p, m, lines, reads, among)) = inl (p, m, record { lines = lines; reads = reads; among = among })
-course_of_gives c r (inr (p, m, head, is, among)) = inr (p, m, record { head = head; is_head = is; among = among })
-
-pub whole_files_begin_with_their_lines : WholeFilesAreFaultless → PrefixesKeepReadings → WholeFilesBeginWithTheirLines
+pub whole_files_begin_with_their_lines : WholeFilesAreFaultless → PrefixesKeepReadingsUnder Wide → WholeFilesBeginWithTheirLines
 whole_files_begin_with_their_lines faultless keep pic prefix more whole shape (c, is, framed) r gives =
     let f = faultless pic (prefix ++ more) whole in
-    let low = all_prefix (λ b. b < 256) prefix more whole.bytes in
-    let own = gives_of_course c r ((readings_are_of_the_course prefix c shape r low is framed).0 gives) in
+    let own : CourseHasReading c r =
+    subst (λ (d : Course). CourseHasReading d r) (one_course prefix gives.1.course c gives.1.is_course is)
+    (gives_of_course gives.1.course r gives.2) in
     let kept = keep prefix more whole.bytes c f.course is f.is_course f.each r own in
-    (whole.reads.readings r).0
-    ((readings_are_of_the_course (prefix ++ more) f.course f.shape r whole.bytes f.is_course f.framed).1 (course_of_gives f.course r kept))
+    (whole.reads.readings r).0 (
+      f.shape,
+      record { bytes = whole.bytes; course = f.course; is_course = f.is_course; framed = f.framed },
+      course_of_gives f.course r kept,
+    )
 
 -- The station ------------------------------------------------------------------------------------------------------
 
@@ -121,27 +119,28 @@ among_samples component line r (x ∷ xs) e =
     (is_first x xs))
     (λ later. in_rest r.samples x xs (among_samples component line r xs later)) e
 
-pub cuts_are_held : CollectedHoldsExactlyUnder → CutsAreHeld
-cuts_are_held holds source copies splices cut station takes r gives =
-    let held = files_are_held holds source station.shape ((copies ++ splices) ++ cut ∷ []) station takes.takes in
+pub cuts_are_held : CutsAreHeld
+cuts_are_held source copies splices cut station takes r gives =
+    let held = files_are_held source station.shape ((copies ++ splices) ++ cut ∷ []) station takes.takes in
     let last : Contains ((copies ++ splices) ++ cut ∷ []) cut =
     Contains-append_right (copies ++ splices) (cut ∷ []) cut (is_first cut []) in
     let taken : Contains held.taken cut =
     kept_of_shape station.shape ((copies ++ splices) ++ cut ∷ []) held.taken cut held.of_shape last takes.shape_is in
-    let exactly : HoldsExactly station held.taken = subst (HoldsExactly station) (files_alone source held.taken) held.exactly.readings in
-    let there : set.contains station.readings r ≡ true = (exactly.readings r).1 (cut, taken, gives) in
+    let there : set.contains station.readings r ≡ true =
+    (held.exactly.readings r).1
+    (cut, subst (λ (files : List (List ℕ)). Contains files cut) (sym (files_alone source held.taken)) taken, gives) in
     let among : Contains (readings_at station r.component r.line) r.samples =
     among_samples r.component r.line r (readings_at station r.component r.line) (in_its_line station r there) in
     (among, λ one. only_one (readings_at station r.component r.line) r.samples one among)
 
 -- Both -------------------------------------------------------------------------------------------------------------
 
-pub cut_lines_are_the_picture : WholeFilesAreFaultless → PrefixesKeepReadings → CollectedHoldsExactlyUnder → CutLinesAreThePicture
-cut_lines_are_the_picture faultless keep holds ceiling copies parts path source station w pic prefix more whole within splice = (
+pub cut_lines_are_the_picture : WholeFilesAreFaultless → PrefixesKeepReadingsUnder Wide → CutLinesAreThePicture
+cut_lines_are_the_picture faultless keep ceiling copies parts path source station w pic prefix more whole within splice = (
   begins,
   λ component line. record {
     no_other = λ samples gives. (line_of_cut (reading_of component line samples) gives).2;
-    held = λ gives. cuts_are_held holds source copies w.splices (prefix_of parts path) station w.takes
+    held = λ gives. cuts_are_held source copies w.splices (prefix_of parts path) station w.takes
         (picture_reading pic component line) gives;
   },
 )
@@ -151,7 +150,7 @@ cut_lines_are_the_picture faultless keep holds ceiling copies parts path source 
         sought_files_begin_with_the_cut ceiling copies parts w.are_parts path w.is_lone prefix more splice whole.bytes
         (faultless pic (prefix ++ more) whole, within)
 
-    line_of_cut : (r : Reading) → GivesReading (prefix_of parts path) r → IsLineOf pic r
+    line_of_cut : (r : Reading) → GivesReadingUnder Wide (prefix_of parts path) r → IsLineOf pic r
     line_of_cut r gives =
         whole_files_begin_with_their_lines faultless keep pic (prefix_of parts path) more
-        (subst (λ bytes. IsWholeFile pic (bytes ++ more)) begins whole) station.shape w.takes.shape_is r gives
+        (subst (λ bytes. IsWholeFileUnder Wide pic (bytes ++ more)) begins whole) station.shape w.takes.shape_is r gives

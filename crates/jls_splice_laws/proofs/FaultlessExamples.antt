@@ -8,20 +8,23 @@ use Rattle.jls_marker.specs.ComponentIndex.{index_of}
 use Rattle.jls_marker.specs.MarkerCodes.{has_segment}
 use Rattle.jls_marker.specs.Headers.{headers_after}
 use Rattle.jls_marker.specs.declared.fault.MarkerFault.TheVariants as fault
+use Rattle.jls_marker.specs.declared.profile.Profile.{Profile}
+use Rattle.jls_marker.specs.declared.profile.Profile.TheVariants.{Wide}
 use Rattle.jls_copy.specs.Numbers.{Interval}
 use Rattle.jls_copy.specs.Pieces.{FoundPiece}
 use Rattle.jls_copy.specs.ScanData.{ClosedPiece}
-use Rattle.jls_copy.specs.Course.{by_marker, segment, Course, IsCourse, with_soi, with_no_marker, without_units, at_eoi}
-use Rattle.jls_copy.specs.Course.{for_good}
+use Rattle.jls_copy.specs.Course.{by_marker, segment, Course, IsCourse, IsCourseUnder, with_soi, with_no_marker, without_units_under}
+use Rattle.jls_copy.specs.Course.{at_eoi, for_good}
 use Rattle.jls_copy.specs.declared.end.End.TheVariants.{Eoi, Header}
 use Rattle.jls_copy.proofs.OneCourse.{one_course}
 use Rattle.jls_copy_laws.proofs.Members.{none_in, bytes_of_test}
 use Rattle.jls_headline.proofs.FileExamples.{file_reads}
 use Rattle.jls_headline.proofs.ColumnFiles.{headers_and, column_frame, framed, is_column_course, byte_is_piece}
-use Rattle.jls_headline.proofs.TwoLineCopies.{shape, pic, plan, pieces_read, course_with, two_lines_taken}
+use Rattle.jls_headline.proofs.TwoLineCopies.{shape, pic, plan, outcomes_read, course_with, two_lines_taken}
 use Rattle.jls_diff.specs.Parts.{Part, Same, Differ, made, AreParts, IsSplice}
 use Rattle.jls_copy.specs.Prefixes.{CourseHasReading}
 use Rattle.jls_search.specs.Faultless.{GivesEachLine, EndsWell, IsFaultless}
+use Rattle.jls_splice_run.proofs.StrictCourses.{wide, wide_course}
 use Rattle.jls_splice_laws.specs.Searches.{done, Searched, along, given_up}
 use Rattle.jls_splice_laws.specs.WholeFiles.{IsWholeFile}
 
@@ -75,24 +78,24 @@ abbrev second : FoundPiece
 second = record { scan = 0; plan = plan; number = Interval 1; offset = 34; bytes = 0x40 ∷ [] }
 
 each_line : GivesEachLine shape course
-each_line zero zero k l = (0 ∷ [], inl (first, (0, lit< tt, refl), (0 ∷ []) ∷ [], pieces_read.zero_read, (0, lit< tt, refl)))
-each_line zero (suc zero) k l = (255 ∷ [], inl (second, (1, lit< tt, refl), (255 ∷ []) ∷ [], pieces_read.largest_read, (0, lit< tt, refl)))
+each_line zero zero k l = (0 ∷ [], inl (first, (0, lit< tt, refl), (0 ∷ []) ∷ [], outcomes_read.zero_read, (0, lit< tt, refl)))
+each_line zero (suc zero) k l = (255 ∷ [], inl (second, (1, lit< tt, refl), (255 ∷ []) ∷ [], outcomes_read.largest_read, (0, lit< tt, refl)))
 each_line zero (suc (suc line)) k l = absurd (omega (arith, l))
 each_line (suc component) line k l = absurd (omega (arith, k))
 
 -- it has no fault
 pub file_is_faultless : IsFaultless file
 file_is_faultless = record {
-  course = course;
-  is_course = is_course;
+  course = wide course;
+  is_course = wide_course file course is_course tt;
   shape = shape;
   framed = refl;
   ends = tt;
-  each = (((0 ∷ []) ∷ [], pieces_read.zero_read), (((255 ∷ []) ∷ [], pieces_read.largest_read), tt));
+  each = (((0 ∷ []) ∷ [], outcomes_read.zero_read), (((255 ∷ []) ∷ [], outcomes_read.largest_read), tt));
   whole = each_line;
 }
 
--- and it is an undamaged file of its picture
+-- and it is an undamaged file of its picture, by line
 pub file_is_whole : IsWholeFile pic file
 unfolding file_is_faultless
 file_is_whole = record {
@@ -127,12 +130,12 @@ is_bare =
 -- there is a frame, and no piece is faulty; but no line is read, and that is a fault
 pub no_line_is_read : (bytes : List ℕ) → IsCourse bytes bare → IsFaultless bytes → ⊥
 no_line_is_read bytes is f =
-    let e = one_course bytes f.course bare f.is_course is in
+    let e = one_course bytes f.course (wide bare) f.is_course (wide_course bytes bare is tt) in
     let same : Some shape ≡ Some f.shape = sym (ap (λ (c : Course). c.headers.frame) e) ∙ f.framed in
     let s : shape ≡ f.shape = cc in
     let g = f.whole 0 0 (subst (λ (t : PictureShape). 0 < length t.ids) s (lit< tt))
     (subst (λ (t : PictureShape). 0 < t.height) s (lit< tt)) in
-    let none : CourseHasReading bare (reading_of 0 0 g.0) = subst (λ c. CourseHasReading c (reading_of 0 0 g.0)) e g.1 in
+    let none : CourseHasReading (wide bare) (reading_of 0 0 g.0) = subst (λ c. CourseHasReading c (reading_of 0 0 g.0)) e g.1 in
     elim none [ inl (p, m, lines, reads, has) ↦ none_in p m | inr (p, m, head, is, has) ↦ none_in p m ]
 
 headers_have_a_fault : IsFaultless no_scan → ⊥
@@ -140,16 +143,16 @@ headers_have_a_fault = no_line_is_read no_scan is_bare
 
 -- What doesn't begin with SOI ----------------------------------------------------------------------------------------
 
-pub no_soi : (more : List ℕ) → IsCourse (1 ∷ more) (without_units 0 (Header fault.NoSoi 0))
+pub no_soi : {profile : Profile} (more : List ℕ) → IsCourseUnder profile (1 ∷ more) (without_units_under profile 0 (Header fault.NoSoi 0))
 no_soi more = with_no_marker 1 more (λ (h : 1 ≡ 0xFF). omega (arith, h))
 
 pub has_fault_there : (more : List ℕ) → IsFaultless (1 ∷ more) → ⊥
 has_fault_there more f =
-    let e = one_course (1 ∷ more) f.course (without_units 0 (Header fault.NoSoi 0)) f.is_course (no_soi more) in
+    let e = one_course (1 ∷ more) f.course (without_units_under Wide 0 (Header fault.NoSoi 0)) f.is_course (no_soi more) in
     subst (λ (c : Course). EndsWell c.end) e f.ends
 
 -- so a search gives up after the first byte, and finds nothing
 nothing_found : Searched [] (Same (1 ∷ []) ∷ Differ ((2 ∷ []) ∷ (3 ∷ []) ∷ []) ∷ []) []
 nothing_found =
-    let ended = done (1 ∷ []) (without_units 0 (Header fault.NoSoi 0), no_soi [], refl) (has_fault_there []) in
+    let ended = done (1 ∷ []) (without_units_under Wide 0 (Header fault.NoSoi 0), no_soi [], refl) (has_fault_there []) in
     along [] (1 ∷ []) (Differ ((2 ∷ []) ∷ (3 ∷ []) ∷ []) ∷ []) [] (given_up (1 ∷ []) (Differ ((2 ∷ []) ∷ (3 ∷ []) ∷ []) ∷ []) ended)

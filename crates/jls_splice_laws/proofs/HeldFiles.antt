@@ -1,72 +1,188 @@
 -- What a station holds that took files.
-use Rattle.std.proofs.Common.{◌≡◌, ℕ, true, List, [], ◌∷◌, ◌++◌, Option, refl, sym, ap, ◌∙◌, subst, append_assoc}
-use Rattle.std.specs.Prelude.{fold}
+use Rattle.std.proofs.Common.{◌≡◌, ℕ, true, List, [], ◌∷◌, ◌++◌, Option, Some, refl, sym, ap, ◌∙◌, subst, append_assoc}
+use Rattle.std.specs.Prelude.{fold, ◌↔◌}
+use Rattle.std.specs.List.{AllByRecursion, Contains}
 use Rattle.std.proofs.lemmas.List.{append-nil}
+use Rattle.std.proofs.lemmas.List.Elements.{Contains-append_right}
+use Rattle.jls_values.specs.OrderedSet as set
+use Rattle.jls_values.specs.OrderedSetLaws.{contains-empty}
 use Rattle.jls_values.specs.SameShape.{same_shape}
 use Rattle.jls_values.specs.Shape.{PictureShape}
+use Rattle.jls_partial.specs.Marks.{mark_cmp}
 use Rattle.jls_partial.specs.Partial.{PartialPicture, nothing_known, has_same_shape, union}
-use Rattle.jls_partial.specs.PartialLaws.{shape_itself}
+use Rattle.jls_partial.specs.PartialLaws.{one_shape, shape_itself}
+use Rattle.jls_partial.specs.Reading.{Reading, reading_cmp}
+use Rattle.jls_marker.specs.declared.profile.Profile.{Profile}
+use Rattle.jls_marker.specs.declared.profile.Profile.TheVariants.{Strict, Wide}
 use Rattle.jls_station.specs.Given.{marked}
-use Rattle.jls_station.proofs.Marked.{marked_shape}
-use Rattle.jls_headline.specs.Collected.{Knowledge, of_sources, Collected, new_station, reader_finished, partial_taken}
-use Rattle.jls_headline.specs.CollectedLaws.{CollectedHoldsExactlyUnder}
+use Rattle.jls_station.proofs.Marked.{marked_shape, marked_readings}
+use Rattle.jls_copy_laws.proofs.Members.{is_first, in_map, of_map, all_at, all_prefix, all_append}
 use Rattle.jls_headline.specs.Sources.{SourcedCopy, sourced_copy, copies_of}
-use Rattle.jls_copy_laws.proofs.Members.{none_in}
-use Rattle.jls_splice_laws.specs.Taken.{AreFilesOfShape, none_left, taken, passed_over}
+use Rattle.jls_headline.specs.TookFiles.{IsReadUnder, TookFiles, no_file_taken, file_taken, StrictFilesAreCollected}
+use Rattle.jls_headline.proofs.Stations.{is_read, union_read}
+use Rattle.jls_headline.proofs.SourcedStations.{Mark, is_marked, union_marked}
+use Rattle.jls_headline.proofs.Unions.{GivenBy, Exactly, none_exactly, one_exactly, both_exactly}
 use Rattle.jls_search.specs.Stations.{Give, no_file, gives, gives_nothing}
 use Rattle.jls_search.specs.Shapes.{HasFrameOfShape}
 use Rattle.jls_search.proofs.OneFile.{shape_read}
+use Rattle.jls_splice_laws.specs.ProfileFiles.{HasShapeUnder, GivesReadingUnder, GivesFrom, ReadingsUnder, IsByLine}
+use Rattle.jls_splice_laws.specs.ProfileFiles.{HoldsExactlyBy, TookFilesHoldsExactly, FilesByLineAreCollected}
+use Rattle.jls_splice_laws.specs.Taken.{AreFilesOfShape, none_left, taken, passed_over}
 use Rattle.jls_splice_laws.specs.SplicingLaws.{under, FilesAreHeld}
+use Rattle.jls_splice_laws.proofs.FileReadings.{has_shape_read, file_gives, file_gives_marks}
+use Rattle.jls_splice_laws.proofs.ProfileFiles.{read_as_copy}
 
--- what was read for the station after files
-record Read (source : Option ℕ) (copies : List SourcedCopy) (shape : PictureShape) (files : List (List ℕ)) (new : PartialPicture)
-    : Type 0 where
-  given : List (List ℕ)
-  of_shape : AreFilesOfShape shape files given
-  collected : (known : Knowledge) → Collected known new (copies ++ under source given) []
+-- Exactly what files give ----------------------------------------------------------------------------------------------
 
-read_files : (source : Option ℕ) (shape : PictureShape) (copies : List SourcedCopy) (old : PartialPicture) (files : List (List ℕ))
-    (given : List PartialPicture) → old.shape ≡ shape
-    → ((known : Knowledge) → Collected known old copies []) → Give source shape files given
-    → Read source copies shape files (fold union old given)
-read_files source shape copies old _ _ e h no_file = record {
-  given = [];
-  of_shape = none_left;
-  collected = λ known. subst (λ xs. Collected known old xs []) (sym (append-nil copies)) (h known);
-}
-read_files source shape copies old _ _ e h (gives file read files given low reads is rest) =
-    let p : PartialPicture = marked source read.partial in
-    let one : List SourcedCopy = sourced_copy source file ∷ [] in
-    let same : has_same_shape old p ≡ true =
-    subst (λ (s : PictureShape). same_shape old.shape s ≡ true) (sym (marked_shape source read.partial ∙ is ∙ sym e))
-    (shape_itself old.shape) in
-    let more : (known : Knowledge) → Collected known (union old p) (copies ++ one) [] =
-    λ known. partial_taken old (union old p) p copies [] one [] (h known) (reader_finished source file read p low reads refl) same refl in
-    let r = read_files source shape (copies ++ one) (union old p) files given e more rest in
+copies_of_both : (files more : List SourcedCopy) → copies_of (files ++ more) ≡ copies_of files ++ copies_of more
+copies_of_both [] more = refl
+copies_of_both (file ∷ files) more = ap (λ (bytes : List (List ℕ)). file.bytes ∷ bytes) (copies_of_both files more)
+
+module _ (profile : Profile) where
+  abbrev GivesFile : SourcedCopy → Reading → Type 0
+  GivesFile file r = GivesReadingUnder profile file.bytes r
+
+  abbrev GivesMark : SourcedCopy → Mark → Type 0
+  GivesMark file m = GivesFrom profile file m.0 m.1
+
+  -- the files have the shape, and exactly what they give is held
+  record After (p : PartialPicture) (files : List SourcedCopy) : Type 0 where
+    shapes : AllByRecursion (HasShapeUnder profile p.shape) (copies_of files)
+    readings : Exactly GivesFile is_read union_read p files
+    marks : Exactly GivesMark is_marked union_marked p files
+
+  after_none : (shape : PictureShape) → After (nothing_known shape) []
+  after_none shape = record {
+    shapes = tt;
+    readings = none_exactly GivesFile is_read union_read (nothing_known shape) (contains-empty reading_cmp);
+    marks = none_exactly GivesMark is_marked union_marked (nothing_known shape) (contains-empty (mark_cmp reading_cmp));
+  }
+
+  after_one : (file : SourcedCopy) (p : PartialPicture) → IsReadUnder profile file p → After p (file ∷ [])
+  after_one file p r =
+      subst (λ (q : PartialPicture). After q (file ∷ [])) (sym r.partial_is) (record {
+        shapes = (
+          subst (λ (s : PictureShape). HasShapeUnder profile s file.bytes) (sym (marked_shape file.source r.read.partial))
+              (has_shape_read file.bytes r.are_bytes r.read r.reads),
+          tt,
+        );
+        readings = one_exactly GivesFile is_read union_read (marked file.source r.read.partial) file (λ reading.
+            subst (λ (rs : set.OrderedSet reading_cmp). (set.contains rs reading ≡ true) ↔ GivesFile file reading)
+            (sym (marked_readings file.source r.read.partial)) (file_gives file.bytes r.are_bytes r.read r.reads reading));
+        marks = one_exactly GivesMark is_marked union_marked (marked file.source r.read.partial) file
+            (file_gives_marks file.bytes r.are_bytes r.read r.reads file.source);
+      })
+
+  after_both : (p q : PartialPicture) (files more : List SourcedCopy) → has_same_shape p q ≡ true → After p files → After q more
+      → After (union p q) (files ++ more)
+  after_both p q files more same h k = record {
+    shapes = subst (AllByRecursion (HasShapeUnder profile p.shape)) (sym (copies_of_both files more))
+        (all_append (HasShapeUnder profile p.shape) (copies_of files) (copies_of more) h.shapes
+        (subst (λ (s : PictureShape). AllByRecursion (HasShapeUnder profile s) (copies_of more)) (sym (one_shape p.shape q.shape same))
+        k.shapes));
+    readings = both_exactly GivesFile is_read union_read p q files more h.readings k.readings;
+    marks = both_exactly GivesMark is_marked union_marked p q files more h.marks k.marks;
+  }
+
+  after : (station : PartialPicture) (files : List SourcedCopy) → TookFiles profile station files → After station files
+  after _ _ (no_file_taken shape station is) = subst (λ (p : PartialPicture). After p []) (sym is) (after_none shape)
+  after _ _ (file_taken old new p files file took read same is) =
+      subst (λ (q : PartialPicture). After q (files ++ file ∷ [])) (sym is)
+      (after_both old p files (file ∷ []) same (after old files took) (after_one file p read))
+
+  -- one of these files gives it
+  of_bytes : (files : List SourcedCopy) (r : Reading) → ReadingsUnder profile (copies_of files) r
+      → GivenBy GivesFile is_read union_read files r
+  of_bytes files r (bytes, c, g) =
+      let from = of_map (λ (file : SourcedCopy). file.bytes) files bytes c in
+      (from.0, from.1, subst (λ x. GivesReadingUnder profile x r) (sym from.2) g)
+
+  to_bytes : (files : List SourcedCopy) (r : Reading) → GivenBy GivesFile is_read union_read files r
+      → ReadingsUnder profile (copies_of files) r
+  to_bytes files r (file, c, g) = (file.bytes, in_map (λ (file : SourcedCopy). file.bytes) files file c, g)
+
+pub took_files_holds_exactly : TookFilesHoldsExactly
+took_files_holds_exactly profile station files took =
+    let h = after profile station files took in
     record {
-      given = file ∷ r.given;
-      of_shape = taken file files r.given (subst (λ s. HasFrameOfShape s file) is (shape_read file read reads)) r.of_shape;
-      collected = λ known. subst (λ xs. Collected known (fold union (union old p) given) xs [])
-          (append_assoc copies one (under source r.given)) (r.collected known);
+      are_files = h.shapes;
+      readings = λ r. (λ x. to_bytes profile files r ((h.readings r).0 x), λ g. (h.readings r).1 (of_bytes profile files r g));
+      sources = λ r source. h.marks (r, source);
     }
-read_files source shape copies old _ _ e h (gives_nothing file files given not rest) =
-    let r = read_files source shape copies old files given e h rest in
-    record { given = r.given; of_shape = passed_over file files r.given not r.of_shape; collected = r.collected }
+
+-- Files by line --------------------------------------------------------------------------------------------------------
+
+strictly : (station : PartialPicture) (files : List SourcedCopy) → TookFiles Wide station files → AllByRecursion IsByLine (copies_of files)
+    → TookFiles Strict station files
+strictly _ _ (no_file_taken shape station is) lines = no_file_taken shape station is
+strictly _ _ (file_taken old new p files file took read same is) lines =
+    let parts : AllByRecursion IsByLine (copies_of files ++ file.bytes ∷ []) =
+    subst (AllByRecursion IsByLine) (copies_of_both files (file ∷ [])) lines in
+    let line : IsByLine file.bytes =
+    all_at IsByLine (copies_of files ++ file.bytes ∷ []) file.bytes parts
+    (Contains-append_right (copies_of files) (file.bytes ∷ []) file.bytes (is_first file.bytes [])) in
+    file_taken old new p files file
+    (strictly old files took (all_prefix IsByLine (copies_of files) (file.bytes ∷ []) parts))
+    (record {
+      are_bytes = read.are_bytes;
+      read = read.read;
+      reads = read_as_copy file.bytes line read.read read.reads;
+      partial_is = read.partial_is;
+    }) same is
+
+pub files_by_line_are_collected : StrictFilesAreCollected → FilesByLineAreCollected
+files_by_line_are_collected law station files took lines known = law station files (strictly station files took lines) known
+
+-- What `settle_files` gives --------------------------------------------------------------------------------------------
+
+record Read (source : Option ℕ) (shape : PictureShape) (files : List (List ℕ)) (given : List PartialPicture) : Type 0 where
+  files_given : List (List ℕ)
+  of_shape : AreFilesOfShape shape files files_given
+  took : (old : PartialPicture) (before : List SourcedCopy) → old.shape ≡ shape → TookFiles Wide old before
+      → TookFiles Wide (fold union old given) (before ++ under source files_given)
+
+read_files : (source : Option ℕ) (shape : PictureShape) (files : List (List ℕ)) (given : List PartialPicture)
+    → Give source shape files given → Read source shape files given
+read_files source shape _ _ no_file = record {
+  files_given = [];
+  of_shape = none_left;
+  took = λ old before e h. subst (λ (xs : List SourcedCopy). TookFiles Wide old xs) (sym (append-nil before)) h;
+}
+read_files source shape _ _ (gives file read files given low reads is rest) =
+    let p : PartialPicture = marked source read.partial in
+    let one : SourcedCopy = sourced_copy source file in
+    let r = read_files source shape files given rest in
+    record {
+      files_given = file ∷ r.files_given;
+      of_shape = taken file files r.files_given (subst (λ s. HasFrameOfShape s file) is (shape_read file read reads)) r.of_shape;
+      took = λ old before e h.
+          let same : has_same_shape old p ≡ true =
+          subst (λ (s : PictureShape). same_shape old.shape s ≡ true) (sym (marked_shape source read.partial ∙ is ∙ sym e))
+          (shape_itself old.shape) in
+          subst (λ (xs : List SourcedCopy). TookFiles Wide (fold union (union old p) given) xs)
+          (append_assoc before (one ∷ []) (under source r.files_given))
+          (r.took (union old p) (before ++ one ∷ []) e
+          (file_taken old (union old p) p before one h
+          (record { are_bytes = low; read = read; reads = reads; partial_is = refl }) same refl));
+    }
+read_files source shape _ _ (gives_nothing file files given not rest) =
+    let r = read_files source shape files given rest in
+    record { files_given = r.files_given; of_shape = passed_over file files r.files_given not r.of_shape; took = r.took }
 
 -- the files alone
 pub files_alone : (source : Option ℕ) (files : List (List ℕ)) → copies_of (under source files) ≡ files
 files_alone source [] = refl
 files_alone source (file ∷ files) = ap (λ fs. file ∷ fs) (files_alone source files)
 
-pub files_are_held : CollectedHoldsExactlyUnder → FilesAreHeld
-files_are_held holds source shape files station t =
-    let r = read_files source shape [] (nothing_known shape) files t.given refl
-    (λ known. new_station shape (nothing_known shape) refl) t.give in
-    let read : (known : Knowledge) → Collected known station (under source r.given) [] =
-    λ known. subst (λ (p : PartialPicture). Collected known p (under source r.given) []) (sym t.union_is) (r.collected known) in
+pub files_are_held : FilesAreHeld
+files_are_held source shape files station t =
+    let r = read_files source shape files t.given t.give in
+    let took : TookFiles Wide station (under source r.files_given) =
+    subst (λ (p : PartialPicture). TookFiles Wide p (under source r.files_given)) (sym t.union_is)
+    (r.took (nothing_known shape) [] refl (no_file_taken shape (nothing_known shape) refl)) in
     record {
-      taken = r.given;
+      taken = r.files_given;
       of_shape = r.of_shape;
-      read = read;
-      exactly = holds station (under source r.given) ([], read of_sources, λ copy c. absurd (none_in copy c));
+      read = took;
+      exactly = took_files_holds_exactly Wide station (under source r.files_given) took;
     }

@@ -1,6 +1,9 @@
 -- Lemmas of this crate.
+pub mod ProfileFiles
 mod WholeFiles
+mod FileReadings
 mod Searching
+mod SettledFiles
 mod TakenFiles
 mod FaultlessExamples
 mod CutExamples

@@ -4,20 +4,21 @@ use Rattle.std.proofs.Common.{arith, length-append, ◌⊎◌}
 use Rattle.std.specs.Prelude.{◌/◌, ◌%◌, is_some}
 use Rattle.std.specs.List.{flat_map}
 use Rattle.std.proofs.lemmas.List.{append_assoc, append-nil}
-use Rattle.jls_marker.specs.HeaderState.{HeaderState, no_headers}
+use Rattle.jls_marker.specs.HeaderState.{HeaderState, no_headers_under}
+use Rattle.jls_marker.specs.declared.profile.Profile.TheVariants.{Wide}
 use Rattle.jls_marker.specs.declared.fault.MarkerFault.TheVariants as fault
 use Rattle.std.specs.Prelude.{if◌then◌else◌}
 use Rattle.jls_marker.specs.Scan.{Scan}
 use Rattle.jls_copy.specs.ScanData.{ClosedPiece, closed_bytes, fill_bytes, IsPiece}
-use Rattle.jls_copy.specs.Course.{AreUnits, BeginsWithEnd, Course, CopyUnit, Ends, EndsHere, IsCourse, IsUnit, by_input, by_marker, scan}
-use Rattle.jls_copy.specs.Course.{segment}
+use Rattle.jls_copy.specs.Course.{AreUnits, BeginsWithEnd, Course, CopyUnit, Ends, EndsHere, IsCourseUnder, IsUnit, by_input}
+use Rattle.jls_copy.specs.Course.{by_marker, scan, segment}
 use Rattle.jls_copy.specs.Course.{scan_data_bytes, segment_unit_bytes, unit_bytes}
 use Rattle.jls_copy.specs.Course.{at_eoi, at_eoi_before_a_frame, at_no_marker, at_unknown_code, at_short_length, at_refused_segment}
 use Rattle.jls_copy.specs.Course.{for_good, with_the_input, in_a_unit}
 use Rattle.jls_copy.specs.Course.{with_soi, with_another_marker, with_no_marker, with_fill_alone}
 use Rattle.jls_copy.specs.Pieces.{FoundPiece, pieces, pieces_in, scans_in, unit_pieces}
 use Rattle.jls_copy.specs.CutPieces.{closed_by_input, cut_pieces, last_piece}
-use Rattle.jls_copy.specs.CourseLaws.{OneCourse}
+use Rattle.jls_copy.specs.CourseLaws.{OneCourseUnder}
 use Rattle.jls_splice_run.specs.Completing.{IsCompleted, with_eoi, within_eoi, without_eoi, elsewhere}
 use Rattle.jls_copy.specs.declared.end.End.{End}
 use Rattle.jls_copy.specs.declared.end.End.TheVariants.{Eoi, Input, Header}
@@ -258,7 +259,7 @@ with_second h at bytes (scan fill code payload plan closed last (by_input count)
 -- bytes have a course that ends at EOI, and is this one else
 pub record EndsThen (c : Course) (whole : List ℕ) : Type 0 where
   pub course : Course
-  pub is_course : IsCourse whole course
+  pub is_course : IsCourseUnder Wide whole course
   pub offset : ℕ
   pub end_is : course.end ≡ Eoi offset
   pub headers_are : course.headers ≡ c.headers
@@ -268,11 +269,11 @@ pub record EndsThen (c : Course) (whole : List ℕ) : Type 0 where
 -- or one that does not
 record EndsElse (whole : List ℕ) : Type 0 where
   course : Course
-  is_course : IsCourse whole course
+  is_course : IsCourseUnder Wide whole course
   other : (offset : ℕ) → course.end ≡ Eoi offset → ⊥
 
 ended_course : (n : ℕ) (bytes more : List ℕ) (units : List CopyUnit) (final : HeaderState) (e : End)
-    → EndAtEoi no_headers (n + 2) (bytes ++ more) units final
+    → EndAtEoi (no_headers_under Wide) (n + 2) (bytes ++ more) units final
     → EndsThen (record { begin = n + 2; units = units; headers = final; end = e }) ((fill_bytes n ++ (0xFF ∷ 0xD8 ∷ bytes)) ++ more)
 ended_course n bytes more units final e l =
     let c : Course = record { begin = n + 2; units = units; headers = final; end = e } in
@@ -288,21 +289,21 @@ ended_course n bytes more units final e l =
       none_cut = ap (λ b. if b then last_piece (pieces d) else []) l.uncut;
     })
 
-course_with_both : (file : List ℕ) (c : Course) (i : ℕ) → IsCourse file c → c.end ≡ Input i → is_some c.headers.frame ≡ true
+course_with_both : (file : List ℕ) (c : Course) (i : ℕ) → IsCourseUnder Wide file c → c.end ≡ Input i → is_some c.headers.frame ≡ true
     → EndsThen c (file ++ both)
 course_with_both _ _ i (with_soi n bytes units final e are) same framed =
     ended_course n bytes both units final e
-    (with_both no_headers (n + 2) bytes units final i
-    (subst (λ (x : End). AreUnits no_headers (n + 2) bytes units final x) same are) framed)
+    (with_both (no_headers_under Wide) (n + 2) bytes units final i
+    (subst (λ (x : End). AreUnits (no_headers_under Wide) (n + 2) bytes units final x) same are) framed)
 course_with_both _ _ i (with_another_marker n code bytes p q) same framed = absurd cc
 course_with_both _ _ i (with_no_marker b bytes p) same framed = absurd cc
 course_with_both _ _ i (with_fill_alone n) same framed = absurd cc
 
-course_with_second : (file : List ℕ) (c : Course) (i : ℕ) → IsCourse file c → c.end ≡ Input i → is_some c.headers.frame ≡ true
+course_with_second : (file : List ℕ) (c : Course) (i : ℕ) → IsCourseUnder Wide file c → c.end ≡ Input i → is_some c.headers.frame ≡ true
     → EndsThen c (file ++ second) ⊎ EndsElse (file ++ second)
 course_with_second _ _ i (with_soi n bytes units final e are) same framed =
-    elim (with_second no_headers (n + 2) bytes units final i
-    (subst (λ (x : End). AreUnits no_headers (n + 2) bytes units final x) same are) framed) [
+    elim (with_second (no_headers_under Wide) (n + 2) bytes units final i
+    (subst (λ (x : End). AreUnits (no_headers_under Wide) (n + 2) bytes units final x) same are) framed) [
       | inl l ↦ inl (ended_course n bytes second units final e l)
       | inr l ↦ inr (subst EndsElse (sym (append_assoc (fill_bytes n) (0xFF ∷ 0xD8 ∷ bytes) second))
           (record {
@@ -316,8 +317,8 @@ course_with_second _ _ i (with_no_marker b bytes p) same framed = absurd cc
 course_with_second _ _ i (with_fill_alone n) same framed = absurd cc
 
 -- a file that ends with the input is completed so
-pub ends_then : OneCourse → (file whole : List ℕ) (c : Course) (i : ℕ) → IsCourse file c → c.end ≡ Input i → is_some c.headers.frame ≡ true
-    → IsCompleted file whole → EndsThen c whole
+pub ends_then : OneCourseUnder Wide → (file whole : List ℕ) (c : Course) (i : ℕ) → IsCourseUnder Wide file c → c.end ≡ Input i
+    → is_some c.headers.frame ≡ true → IsCompleted file whole → EndsThen c whole
 ends_then one file _ c i is end framed (with_eoi (d, at, o, e)) =
     let differ : Input i ≡ Eoi o = sym end ∙ ap (λ (x : Course). x.end) (one file c d is at) ∙ e in absurd cc
 ends_then one file _ c i is end framed (within_eoi not_at (d, at, o, e)) =

@@ -14,9 +14,10 @@ use Rattle.jls_partial.specs.Reading.{Reading, reading_cmp}
 use Rattle.jls_partial.specs.Text.{text}
 use Rattle.jls_io.specs.Event.{Event, opened, gave, created, took}
 use Rattle.jls_io.specs.Writing.{Wrote, Printed}
-use Rattle.jls_copy.specs.CopyReads.{CopyReads}
+use Rattle.jls_marker.specs.declared.profile.Profile.TheVariants.{Wide}
+use Rattle.jls_copy.specs.CopyReads.{CopyReads, CopyReadsUnder}
 use Rattle.jls_copy_laws.specs.Gives.{GivesReading}
-use Rattle.jls_copy.specs.Course.{by_marker, Course, IsCourse, without_units}
+use Rattle.jls_copy.specs.Course.{by_marker, Course, IsCourse, without_units_under}
 use Rattle.jls_marker.specs.declared.fault.MarkerFault.TheVariants as fault
 use Rattle.jls_copy.specs.Pieces.{PieceOutcome, Lines, pieces, readings, records}
 use Rattle.jls_copy.specs.ReadCopy.{ReadCopy}
@@ -44,13 +45,14 @@ use Rattle.jls_headline.proofs.ColumnFiles.{is_column_course, byte_is_piece}
 use Rattle.jls_headline.proofs.FileExamples.{file, file_reads}
 use Rattle.jls_headline.proofs.Held.{one_reading}
 use Rattle.jls_headline.proofs.Pictures.{gives_picture}
-use Rattle.jls_headline.proofs.TwoLineCopies.{shape, pic, is_picture, pieces_read, course_with, two_lines_taken}
+use Rattle.jls_headline.proofs.TwoLineCopies.{shape, pic, is_picture, outcomes_read, course_with, two_lines_taken}
 use Rattle.jls_cli.specs.Outcomes.{finished}
 use Rattle.jls_cli.specs.SpliceAsking.{Asked, AskFor}
 use Rattle.jls_splice_run.specs.Handing.{HandsAll, none_handed}
 use Rattle.jls_splice_run.specs.Making.{Made, IsMade, lines}
 use Rattle.jls_splice_run.specs.BadLists.{AreInputs}
 use Rattle.jls_splice_run.specs.Runs.{Performs, Run, came_of, done, performed, texts}
+use Rattle.jls_splice_run.proofs.StrictCourses.{wide, wide_course, wide_reading}
 use Rattle.jls_splice_laws.specs.RunLaws.{DidMake}
 use Rattle.jls_splice_laws.proofs.FaultlessExamples.{file_is_faultless, no_soi, has_fault_there}
 
@@ -118,7 +120,7 @@ is_course =
     (byte_is_piece 0x40 (lit< tt))
 
 has_shape : HasFrameOfShape shape file
-has_shape = (course, is_course, refl)
+has_shape = (wide course, wide_course file course is_course tt, refl)
 
 abbrev outcomes : List PieceOutcome
 outcomes = Lines ((0 ∷ []) ∷ []) ∷ Lines ((255 ∷ []) ∷ []) ∷ []
@@ -138,7 +140,7 @@ reads = record {
   shape = shape;
   framed = refl;
   outcomes = outcomes;
-  each = (pieces_read.zero_read, (pieces_read.largest_read, tt));
+  each = (outcomes_read.zero_read, (outcomes_read.largest_read, tt));
   head = [];
   head_is = refl;
   partial_is = refl;
@@ -147,11 +149,15 @@ reads = record {
   ended_is = refl;
 }
 
+-- and so by the wide profile, under which files are searched
+pub reads_so : CopyReadsUnder Wide file read
+reads_so = wide_reading file read reads tt
+
 pub file_bytes : AllByRecursion (λ b. b < 256) file
 file_bytes = bytes_of_test file refl
 
 other_has_no_frame : HasNoFrame other
-other_has_no_frame = (without_units 0 (Header fault.NoSoi 0), no_soi tail, refl)
+other_has_no_frame = (without_units_under Wide 0 (Header fault.NoSoi 0), no_soi tail, refl)
 
 -- What is made of it -----------------------------------------------------------------------------------------------
 
@@ -162,9 +168,9 @@ station = union (union (nothing_known shape) read.partial) read.partial
 takes : TakesFiles None (file ∷ other ∷ file ∷ []) (nothing_known shape) station
 takes = record {
   given = read.partial ∷ read.partial ∷ [];
-  give = gives file read (other ∷ file ∷ []) (read.partial ∷ []) file_bytes reads refl
+  give = gives file read (other ∷ file ∷ []) (read.partial ∷ []) file_bytes reads_so refl
       (gives_nothing other (file ∷ []) (read.partial ∷ []) (no_shape shape other other_has_no_frame)
-      (gives file read [] [] file_bytes reads refl no_file));
+      (gives file read [] [] file_bytes reads_so refl no_file));
   union_is = refl;
 }
 

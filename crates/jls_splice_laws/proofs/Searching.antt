@@ -3,9 +3,10 @@ use Rattle.std.proofs.Common.{◌≡◌, ℕ, ◌<◌, List, [], ◌∷◌, ◌+
 use Rattle.std.specs.List.{AllByRecursion, Contains, flat_map}
 use Rattle.std.proofs.lemmas.List.{append-nil}
 use Rattle.std.proofs.lemmas.List.Elements.{Contains-append_left, Contains-append_right, Contains-append_cases}
-use Rattle.jls_copy.specs.Course.{Course, IsCourse}
-use Rattle.jls_copy.specs.CopyLaws.{FinalEndsStay}
-use Rattle.jls_copy.specs.Prefixes.{PrefixesStayBroken}
+use Rattle.jls_marker.specs.declared.profile.Profile.TheVariants.{Wide}
+use Rattle.jls_copy.specs.Course.{Course, IsCourseUnder}
+use Rattle.jls_copy.specs.CopyLaws.{FinalEndsStayUnder}
+use Rattle.jls_copy.specs.Prefixes.{PrefixesStayBrokenUnder}
 use Rattle.jls_copy.specs.Pieces.{pieces}
 use Rattle.jls_copy.proofs.OneCourse.{one_course}
 use Rattle.jls_copy_laws.proofs.Members.{is_first, none_in, first_or_rest, all_at, all_append, all_weaker}
@@ -86,7 +87,7 @@ following prefix here parts files finds bytes c h =
     let e : prefix ++ bytes ≡ (prefix ++ here) ++ r.0 = ap (λ b. prefix ++ b) (sym r.2) ∙ sym (append_assoc prefix here r.0) in
     subst (Contains files) (sym e) (finds r.0 r.1 (subst IsSound e h))
 
-module _ (stay : PrefixesStayBroken) (ends_stay : FinalEndsStay) where
+module _ (stay : PrefixesStayBrokenUnder Wide) (ends_stay : FinalEndsStayUnder Wide) where
   never_sound : (prefix more : List ℕ) → CanBeGivenUp prefix → IsSound (prefix ++ more) → ⊥
   never_sound _ more (broken prefix is) sound =
       let f = sound.1 in
@@ -95,7 +96,7 @@ module _ (stay : PrefixesStayBroken) (ends_stay : FinalEndsStay) where
       p.5 reads.0 reads.1
   never_sound _ more (done prefix is not) sound =
       let f = sound.1 in
-      let longer : IsCourse (prefix ++ more) is.0 = ends_stay prefix more is.0 is.1 (sym is.2) in
+      let longer : IsCourseUnder Wide (prefix ++ more) is.0 = ends_stay prefix more is.0 is.1 (sym is.2) in
       let e : f.course ≡ is.0 = one_course (prefix ++ more) f.course is.0 f.is_course longer in
       not
       (record {
@@ -158,7 +159,7 @@ of_other_count n m (Same b ∷ parts) bytes some h k (j, l, rest, e, more) =
 of_other_count n m (Differ ws ∷ parts) bytes some h k (j, l, rest, e, more) =
     (j, subst (λ c. j < c) (sym h.0 ∙ k.0) l, rest, e, of_other_count n m parts rest some h.1 k.1 more)
 
-pub searches_lose_nothing : SplicesAreListed → PrefixesStayBroken → FinalEndsStay → SearchesLoseNothing
+pub searches_lose_nothing : SplicesAreListed → PrefixesStayBrokenUnder Wide → FinalEndsStayUnder Wide → SearchesLoseNothing
 searches_lose_nothing listed stay ends_stay copies parts are some files s count any ways bytes low is faultless =
     let here = of_other_count count (length copies) parts bytes some ways are.ways is in
     is_found stay ends_stay [] parts files s bytes ((listed copies parts are some bytes).0 here) (low, faultless)

@@ -3,6 +3,10 @@ use Rattle.std.proofs.Common.{◌≡◌, ℕ, ◌<◌, Bool, false, List, [], �
 use Rattle.std.specs.List.{AllByRecursion, Contains}
 use Rattle.std.proofs.lemmas.List.Elements.{Contains-append_right}
 use Rattle.jls_values.specs.Shape.{PictureShape}
+use Rattle.jls_partial.specs.Partial.{PartialPicture}
+use Rattle.jls_partial.specs.Status.{IsSettled}
+use Rattle.jls_marker.specs.declared.profile.Profile.TheVariants.{Wide}
+use Rattle.jls_write.specs.Picture.{picture_of}
 use Rattle.jls_headline.specs.Damaged.{EachLineSurvives}
 use Rattle.jls_headline.specs.Headline.{SameCopiesHoldTheSame}
 use Rattle.jls_headline.specs.LineLaws.{NeverAnotherPicture}
@@ -15,7 +19,10 @@ use Rattle.jls_search.specs.Search.{HasEachSplice, files_of}
 use Rattle.jls_search.specs.SearchLaws.{SearchesComeToEachSplice}
 use Rattle.jls_search.specs.Shapes.{HasFrameOfShape}
 use Rattle.jls_splice_laws.specs.SpliceLaws.{FaultlessSplicesAreTaken, SearchedFilesAreTaken, SearchedSplicesGiveNoOther}
-use Rattle.jls_splice_laws.specs.SpliceLaws.{SplicesGiveNoOther, WholeSplicesGiveNoOther}
+use Rattle.jls_splice_laws.specs.SpliceLaws.{SplicesGiveNoOther, WholeSplicesGiveNoOther, ReadFiles, ReadWideFiles}
+use Rattle.jls_splice_laws.specs.WholeFiles.{IsWholeFile}
+use Rattle.jls_splice_laws.proofs.HeldFiles.{took_files_holds_exactly}
+use Rattle.jls_splice_laws.proofs.SettledFiles.{settled_is_whole}
 use Rattle.jls_splice_laws.specs.Taken.{FilesTaken, SearchTaken, AreFilesOfShape, none_left, taken, passed_over}
 use Rattle.jls_splice_laws.proofs.WholeFiles.{whole_files_are_faultless, whole_files_survive}
 
@@ -60,14 +67,24 @@ splices_give_no_other never same copies parts shape files t station (read, colle
 )
 
 pub whole_splices_give_no_other : NeverAnotherPicture → WholeSplicesGiveNoOther
-whole_splices_give_no_other never ceiling copies parts shape files t pic is file whole within splice station
-    (read, collected, are) settled =
-    let inside : Contains files file =
-    faultless_splices_are_taken ceiling copies parts shape files t file whole.bytes splice
-    (whole_files_are_faultless pic file whole, within) in
-    let each : EachLineSurvives pic files =
-    λ c y l k. (file, inside, whole_files_survive pic file whole.bytes whole.reads (whole.course, whole.is_course, whole.each) c y l k) in
-    never pic is station read collected (subst (EachLineSurvives pic) (sym are) each) settled
+whole_splices_give_no_other never ceiling copies parts shape files t pic is file whole within splice =
+    record { wide = wide; as_copies = as_copies }
+  where
+    inside : Contains files file
+    inside =
+        faultless_splices_are_taken ceiling copies parts shape files t file whole.bytes splice
+        (whole_files_are_faultless pic file whole, within)
+
+    wide : (station : PartialPicture) → ReadWideFiles station files → IsSettled station → picture_of station ≡ pic
+    wide station (read, took, are) settled =
+        settled_is_whole station read (took_files_holds_exactly Wide station read took) pic is file whole
+        (subst (λ (fs : List (List ℕ)). Contains fs file) (sym are) inside) settled
+
+    as_copies : IsWholeFile pic file → (station : PartialPicture) → ReadFiles station files → IsSettled station → picture_of station ≡ pic
+    as_copies line station (read, collected, are) settled =
+        let each : EachLineSurvives pic files =
+        λ c y l k. (file, inside, whole_files_survive pic file line.bytes line.reads (line.course, line.is_course, line.each) c y l k) in
+        never pic is station read collected (subst (EachLineSurvives pic) (sym are) each) settled
 
 -- Of a search ------------------------------------------------------------------------------------------------------
 

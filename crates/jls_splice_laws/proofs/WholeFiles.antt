@@ -1,5 +1,6 @@
--- Each line of a picture survives in a file that reads as it and has no faulty piece.
-use Rattle.std.proofs.Common.{◌≡◌, ℕ, ◌+◌, ◌<◌, ◌≤◌, true, false, List, [], ◌∷◌, length, map, Some, refl, ap, ◌∙◌, subst, arith, inl, inr}
+-- Each line of a picture survives in a file by line that reads as it and has no faulty piece. Undamaged files have no fault.
+use Rattle.std.proofs.Common.{◌≡◌, ℕ, ◌+◌, ◌<◌, ◌≤◌, true, false, List, [], ◌∷◌, length, map, Some, refl, sym, ap, ◌∙◌, subst, arith}
+use Rattle.std.proofs.Common.{inl, inr}
 use Rattle.std.specs.Prelude.{nat_lt}
 use Rattle.std.specs.List.{AllByRecursion, Contains}
 use Rattle.std.proofs.lemmas.Bool.{cases_Bool}
@@ -7,24 +8,28 @@ use Rattle.std.proofs.lemmas.Bool.Decides.{nat_tests}
 use Rattle.jls_partial.specs.Reading.{Reading}
 use Rattle.jls_marker.specs.HeaderState.{HeaderState, no_headers}
 use Rattle.jls_marker.specs.Scan.{Scan, intervals}
+use Rattle.jls_marker.specs.declared.profile.Profile.TheVariants.{Wide}
 use Rattle.jls_copy.specs.ScanData.{ClosedPiece, IsClosedPiece, closed_bytes}
 use Rattle.jls_copy.specs.Numbers.{PieceNumber, Interval, BeyondLast, next_number, number_after, given_last, RiseByEightAtMost, mark_before}
-use Rattle.jls_copy.specs.Course.{CopyUnit, segment, scan, segment_unit_bytes, unit_bytes, IsUnit, AreUnits, Course, IsCourse, with_soi}
-use Rattle.jls_copy.specs.Course.{with_another_marker, with_no_marker, with_fill_alone}
+use Rattle.jls_copy.specs.Course.{CopyUnit, segment, scan, segment_unit_bytes, unit_bytes, IsUnit, AreUnits, Course, IsCourse}
+use Rattle.jls_copy.specs.Course.{IsCourseUnder, with_soi, with_another_marker, with_no_marker, with_fill_alone}
 use Rattle.jls_copy.specs.Pieces.{FoundPiece, pieces_from, unit_pieces, pieces, piece_begun}
 use Rattle.jls_copy.specs.declared.end.End.{End}
 use Rattle.jls_write.specs.Picture.{line_of}
 use Rattle.jls_copy_laws.specs.CopyScans.{ScanWithData, scans_of_unit}
-use Rattle.jls_copy_laws.specs.CourseGives.{CourseGives}
 use Rattle.jls_copy_laws.proofs.CopyScans.{scans_of_course}
-use Rattle.jls_copy_laws.proofs.Gives.{unit_stands, readings_are_of_the_course}
+use Rattle.jls_copy_laws.proofs.Gives.{unit_stands}
 use Rattle.jls_copy_laws.proofs.Members.{none_in, first_or_rest, all_at, all_from, of_flat_map}
 use Rattle.jls_headline.specs.Damaged.{AreNumbers, picture_reading}
 use Rattle.jls_headline.proofs.LostIntervals.{given_by_scan}
 use Rattle.jls_headline.proofs.ScanNumbers.{numbered_pieces_give}
 use Rattle.jls_copy.specs.Prefixes.{HasLines, CourseHasReading}
 use Rattle.jls_copy.proofs.NumbersGiven.{number_above}
-use Rattle.jls_splice_laws.specs.WholeFiles.{WholeFilesAreFaultless, WholeFilesSurvive}
+use Rattle.jls_copy.proofs.OneCourse.{one_course}
+use Rattle.jls_splice_run.proofs.StrictCourses.{wide_course}
+use Rattle.jls_splice_laws.specs.ProfileFiles.{course_under}
+use Rattle.jls_splice_laws.specs.WholeFiles.{FilesByLineAreWhole, WholeFilesAreFaultless, WholeFilesSurvive}
+use Rattle.jls_splice_laws.proofs.ProfileFiles.{gives_of_course, strict_files_give_as_copies, files_by_line_give_the_same}
 
 -- Numbers ----------------------------------------------------------------------------------------------------------
 
@@ -123,28 +128,45 @@ whole_files_survive pic file low reads_as no_fault component line l k =
     let piece = (numbered_pieces_give g.0 n.0 n.1 r).0 g.2 in
     (reads_as.shape.0, reads_as.shape.1, g.0, g.1, (n.0, n.1, piece.0, piece.1, piece.2, piece.3))
 
--- Its frame --------------------------------------------------------------------------------------------------------
-
--- what a course gives, as the law on prefixes has it
-pub gives_of_course : (c : Course) (r : Reading) → CourseGives c r → CourseHasReading c r
-gives_of_course c r (inl (p, m, g)) = inl (p, m, g.lines, g.reads, g.among)
-gives_of_course c r (inr (p, m, g)) = inr (p, m, g.head, g.is_head, g.among)
+-- A file without a fault ------------------------------------------------------------------------------------------
 
 pub whole_files_are_faultless : WholeFilesAreFaultless
 whole_files_are_faultless pic file w = record {
   course = w.course;
   is_course = w.is_course;
   shape = pic.shape;
-  framed = framed;
+  framed = ap (λ (c : Course). c.headers.frame) (same w.reads.shape.course w.reads.shape.is_course) ∙ w.reads.shape.framed;
   ends = w.ends;
   each = w.each;
   whole = λ component line k l.
-      let r = picture_reading pic component line in (
+      let r = picture_reading pic component line in
+      let g = (w.reads.readings r).1 (k, l, refl) in (
         line_of pic component line,
-        gives_of_course w.course r
-            ((readings_are_of_the_course file w.course pic.shape r w.bytes w.is_course framed).0 ((w.reads.readings r).1 (k, l, refl))),
+        subst (λ (c : Course). CourseHasReading c r) (sym (same g.1.course g.1.is_course)) (gives_of_course g.1.course r g.2),
       );
 }
   where
-    framed : w.course.headers.frame ≡ Some pic.shape
-    framed = (scans_of_course file w.course pic.shape w.reads.shape.0 w.is_course w.reads.shape.1).0
+    same : (c : Course) → IsCourseUnder Wide file c → w.course ≡ c
+    same c is = one_course file w.course c w.is_course is
+
+-- A file by line -----------------------------------------------------------------------------------------------------
+
+pub files_by_line_are_whole : FilesByLineAreWhole
+files_by_line_are_whole pic file w =
+    let is = wide_course file w.course w.is_course w.ends in
+    let strict = strict_files_give_as_copies file in
+    let wide = files_by_line_give_the_same file (w.course, w.is_course, is) in
+    record {
+      bytes = w.bytes;
+      reads = record {
+        shape = (wide.0 pic.shape).0 ((strict.0 pic.shape).0 w.reads.shape);
+        readings = λ r. (
+          λ g. (w.reads.readings r).0 ((strict.1 r).1 ((wide.1 r).1 g)),
+          λ l. (wide.1 r).0 ((strict.1 r).0 ((w.reads.readings r).1 l)),
+        );
+      };
+      course = course_under Wide w.course;
+      is_course = is;
+      ends = w.ends;
+      each = w.each;
+    }

@@ -2,7 +2,8 @@
 use Rattle.std.specs.Prelude.{◌≡◌, ◌↔◌, ℕ, ◌<◌, List}
 use Rattle.std.specs.List.{AllByRecursion}
 use Rattle.jls_partial.specs.Reading.{Reading}
-use Rattle.jls_copy.specs.Course.{Course, IsCourse}
+use Rattle.jls_marker.specs.declared.profile.Profile.TheVariants.{Wide}
+use Rattle.jls_copy.specs.Course.{Course, IsCourseUnder}
 use Rattle.jls_copy.specs.Prefixes.{CourseHasReading}
 use Rattle.jls_search.specs.Faultless.{IsFaultless}
 use Rattle.jls_splice_run.specs.Completing.{EndsAtEoi, IsCompleted}
@@ -11,8 +12,9 @@ use Rattle.jls_splice_run.specs.Completing.{EndsAtEoi, IsCompleted}
 pub record IsReadAlike (file whole : List ℕ) : Type 0 where
   pub ends : EndsAtEoi whole
   pub faultless : IsFaultless whole
-  pub headers : (c d : Course) → IsCourse file c → IsCourse whole d → d.headers ≡ c.headers
-  pub readings : (c d : Course) → IsCourse file c → IsCourse whole d → (r : Reading) → CourseHasReading c r ↔ CourseHasReading d r
+  pub headers : (c d : Course) → IsCourseUnder Wide file c → IsCourseUnder Wide whole d → d.headers ≡ c.headers
+  pub readings : (c d : Course) → IsCourseUnder Wide file c → IsCourseUnder Wide whole d → (r : Reading)
+      → CourseHasReading c r ↔ CourseHasReading d r
 
 -- so it is of a file of bytes without a fault, and the same file completed by EOI
 abbrev pub CompletedFilesReadAlike : Type 0

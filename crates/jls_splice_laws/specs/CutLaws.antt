@@ -2,22 +2,22 @@
 use Rattle.std.specs.Prelude.{◌≡◌, ℕ, ◌<◌, List, [], ◌∷◌, ◌++◌, length, take, Option}
 use Rattle.std.specs.List.{AllByRecursion, Contains}
 use Rattle.jls_partial.specs.Partial.{PartialPicture, readings_at}
-use Rattle.jls_partial.specs.Reading.{Reading}
+use Rattle.jls_partial.specs.Reading.{Reading, reading_of}
 use Rattle.jls_partial.specs.Status.{status_of}
 use Rattle.jls_partial.specs.declared.status.Status.TheVariants.{Settled}
 use Rattle.jls_values.specs.Shape.{PictureShape}
 use Rattle.jls_write.specs.Picture.{WholePicture, line_of}
 use Rattle.jls_file_laws.specs.Covering.{IsLineOf}
-use Rattle.jls_copy_laws.specs.Gives.{GivesReading}
+use Rattle.jls_marker.specs.declared.profile.Profile.TheVariants.{Wide}
 use Rattle.jls_headline.specs.Damaged.{picture_reading}
-use Rattle.jls_headline.specs.LineLaws.{SaysNoOther}
 use Rattle.jls_diff.specs.Parts.{Part, AreParts, IsSplice}
 use Rattle.jls_search.specs.Choices.{prefix_of}
 use Rattle.jls_search.specs.Faultless.{IsSought, IsWithin}
 use Rattle.jls_search.specs.Levels.{IsLone}
 use Rattle.jls_search.specs.Cuts.{TakesCut}
 use Rattle.jls_search.specs.Shapes.{HasFrameOfShape}
-use Rattle.jls_splice_laws.specs.WholeFiles.{IsWholeFile}
+use Rattle.jls_splice_laws.specs.ProfileFiles.{GivesReadingUnder}
+use Rattle.jls_splice_laws.specs.WholeFiles.{IsWholeFileUnder}
 
 -- A file that is sought begins with bytes that have, at each part for which the path has a choice, what some copy has there. Each other
 -- path of as many choices is dead. Then these bytes are what the path makes
@@ -32,23 +32,23 @@ SoughtFilesBeginWithTheCut =
 -- Each reading that a prefix of an undamaged file gives is a line of that file's picture. The prefix has a frame
 abbrev pub WholeFilesBeginWithTheirLines : Type 0
 WholeFilesBeginWithTheirLines =
-    (pic : WholePicture) (prefix more : List ℕ) → IsWholeFile pic (prefix ++ more)
-    → (shape : PictureShape) → HasFrameOfShape shape prefix → (r : Reading) → GivesReading prefix r → IsLineOf pic r
+    (pic : WholePicture) (prefix more : List ℕ) → IsWholeFileUnder Wide pic (prefix ++ more)
+    → (shape : PictureShape) → HasFrameOfShape shape prefix → (r : Reading) → GivesReadingUnder Wide prefix r → IsLineOf pic r
 
 -- Each reading that a cut file gives is among those that a station which took it holds of that line. If the line is settled, it is the one
 abbrev pub CutsAreHeld : Type 0
 CutsAreHeld =
     (source : Option ℕ) (copies splices : List (List ℕ)) (cut : List ℕ) (station : PartialPicture)
-    → TakesCut source copies splices cut station → (r : Reading) → GivesReading cut r
+    → TakesCut source copies splices cut station → (r : Reading) → GivesReadingUnder Wide cut r
     → Contains (readings_at station r.component r.line) r.samples
     × (status_of (readings_at station r.component r.line) ≡ Settled → readings_at station r.component r.line ≡ r.samples ∷ [])
 
 -- What a cut file, and a station that took it, tell of one line of a picture
 pub record CutTellsOfLine (pic : WholePicture) (station : PartialPicture) (cut : List ℕ) (component line : ℕ) : Type 0 where
   -- each reading that the cut file gives of the line is the picture's; it can give none
-  pub no_other : SaysNoOther pic component line cut
+  pub no_other : (samples : List ℕ) → GivesReadingUnder Wide cut (reading_of component line samples) → samples ≡ line_of pic component line
   -- the cut file gives the line: it is among the readings held. If the line is settled, it is that one
-  pub held : GivesReading cut (picture_reading pic component line)
+  pub held : GivesReadingUnder Wide cut (picture_reading pic component line)
       → Contains (readings_at station component line) (line_of pic component line)
       × (status_of (readings_at station component line) ≡ Settled → readings_at station component line ≡ line_of pic component line ∷ [])
 
@@ -68,7 +68,8 @@ abbrev pub CutLinesAreThePicture : Type 0
 CutLinesAreThePicture =
     (ceiling : Option ℕ) (copies : List (List ℕ)) (parts : List Part) (path : List ℕ) (source : Option ℕ) (station : PartialPicture)
     → WereCut ceiling copies parts path source station
-    → (pic : WholePicture) (prefix more : List ℕ) → IsWholeFile pic (prefix ++ more) → IsWithin ceiling (prefix ++ more)
+    → (pic : WholePicture) (prefix more : List ℕ) → IsWholeFileUnder Wide pic (prefix ++ more)
+    → IsWithin ceiling (prefix ++ more)
     → IsSplice (length copies) (take (length path) parts) prefix
     → (prefix ≡ prefix_of parts path)
     × ((component line : ℕ) → CutTellsOfLine pic station (prefix_of parts path) component line)

@@ -1,4 +1,5 @@
 -- What the contracts of this crate cite.
+pub mod ProfileFiles
 pub mod WholeFiles
 pub mod Searches
 pub mod Taken

@@ -4,13 +4,14 @@ use Rattle.clap.specs.Words.{Text}
 use Rattle.jls_io.specs.Event.{Event}
 use Rattle.jls_io.specs.Writing.{Printed}
 use Rattle.jls_partial.specs.Status.{IsSettled}
+use Rattle.jls_marker.specs.declared.profile.Profile.TheVariants.{Wide}
 use Rattle.jls_write.specs.Picture.{WholePicture, picture_of}
 use Rattle.jls_write.specs.WholePictures.{IsPicture}
 use Rattle.jls_diff.specs.Parts.{IsSplice}
 use Rattle.jls_search.specs.Faultless.{IsWithin}
 use Rattle.jls_station.specs.CopyFiles.{CopyBytes}
 use Rattle.jls_splice_laws.specs.CutLaws.{WereCut}
-use Rattle.jls_splice_laws.specs.WholeFiles.{IsWholeFile}
+use Rattle.jls_splice_laws.specs.WholeFiles.{IsWholeFileUnder}
 use Rattle.jls_cli.specs.FaultLines.{fault_line}
 use Rattle.jls_cli.specs.SpliceAsking.{Asked, AskFor}
 use Rattle.jls_cli.specs.declared.outcome.Refusal.{Refusal}
@@ -75,10 +76,11 @@ FailedReadsCauseStatus4 =
 
 -- ---- what was made
 
--- an undamaged file of a picture is a splice of the copies, as they are parted, and no sample of it is above the limit, if there is one
+-- An undamaged file of a picture, by line or by sample, is a splice of the copies, as they are parted. No sample of it is above the limit,
+-- if there is one
 pub record IsWholeSplice (limit : Option ℕ) (copies : List (List ℕ)) (m : Made) (pic : WholePicture) (file : List ℕ) : Type 0 where
   pub is_picture : IsPicture pic
-  pub whole : IsWholeFile pic file
+  pub whole : IsWholeFileUnder Wide pic file
   pub within : IsWithin limit file
   pub splice : IsSplice (length copies) m.found.parts file
 

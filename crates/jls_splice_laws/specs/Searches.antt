@@ -1,8 +1,9 @@
 -- Searches through the splices of some copies for files without a fault.
 use Rattle.std.specs.Prelude.{ℕ, ◌<◌, true, List, [], ◌∷◌, ◌++◌, length}
 use Rattle.std.specs.List.{AllByRecursion, Contains}
-use Rattle.jls_copy.specs.CopyReads.{IsDone}
-use Rattle.jls_copy.specs.Prefixes.{IsPieceBroken}
+use Rattle.jls_marker.specs.declared.profile.Profile.TheVariants.{Wide}
+use Rattle.jls_copy.specs.CopyReads.{IsDoneUnder}
+use Rattle.jls_copy.specs.Prefixes.{IsPieceBrokenUnder}
 use Rattle.jls_diff.specs.Parts.{Part, Same, Differ, AreParts, IsSplice}
 use Rattle.jls_search.specs.Faultless.{IsFaultless}
 use Rattle.jls_search.specs.Search.{HasEachSplice}
@@ -10,8 +11,8 @@ use Rattle.jls_search.specs.Search.{HasEachSplice}
 -- a prefix that can be given up: its current piece is broken, whatever follows; or bytes after it leave its course as it is, and it has a
 -- fault
 pub data CanBeGivenUp : List ℕ → Type 0 where
-  broken : (prefix : List ℕ) → IsPieceBroken prefix → CanBeGivenUp prefix
-  done : (prefix : List ℕ) → IsDone prefix true → (IsFaultless prefix → ⊥) → CanBeGivenUp prefix
+  broken : (prefix : List ℕ) → IsPieceBrokenUnder Wide prefix → CanBeGivenUp prefix
+  done : (prefix : List ℕ) → IsDoneUnder Wide prefix true → (IsFaultless prefix → ⊥) → CanBeGivenUp prefix
 
 -- The files that a search finds from a prefix on, through these parts, depth first: at a part each of its ways in turn, in their order.
 -- Ways that stand there before can be passed over, and prefixes that can be given up can be

@@ -1,17 +1,19 @@
 -- The laws of stations that took the copies of a picture and the splices that a search found.
-use Rattle.std.specs.Prelude.{◌≡◌, ℕ, ◌<◌, false, List, [], ◌++◌, length, map, Option}
+use Rattle.std.specs.Prelude.{◌≡◌, ℕ, ◌<◌, false, List, ◌++◌, length, map, Option}
 use Rattle.jls_values.specs.Shape.{PictureShape}
 use Rattle.jls_partial.specs.Partial.{PartialPicture, nothing_known}
 use Rattle.jls_partial.specs.Status.{IsSettled}
+use Rattle.jls_marker.specs.declared.profile.Profile.TheVariants.{Wide}
 use Rattle.jls_write.specs.Picture.{WholePicture, picture_of}
 use Rattle.jls_write.specs.WholePictures.{IsPicture}
-use Rattle.jls_headline.specs.Collected.{Knowledge, Collected}
-use Rattle.jls_headline.specs.Sources.{SourcedCopy, sourced_copy, HoldsExactlyUnder}
+use Rattle.jls_headline.specs.Sources.{SourcedCopy, sourced_copy}
+use Rattle.jls_headline.specs.TookFiles.{TookFiles}
 use Rattle.jls_diff.specs.Parts.{Part, AreParts, IsSplice}
 use Rattle.jls_search.specs.Faultless.{IsSought, IsWithin}
 use Rattle.jls_search.specs.Search.{CameTo, files_of}
+use Rattle.jls_splice_laws.specs.ProfileFiles.{HoldsExactlyBy}
 use Rattle.jls_splice_laws.specs.Taken.{AreFilesOfShape}
-use Rattle.jls_splice_laws.specs.WholeFiles.{IsWholeFile}
+use Rattle.jls_splice_laws.specs.WholeFiles.{IsWholeFileUnder}
 use Rattle.jls_search.specs.Shapes.{IsShapeTaken}
 use Rattle.jls_search.specs.Stations.{TakesFiles}
 
@@ -19,12 +21,13 @@ use Rattle.jls_search.specs.Stations.{TakesFiles}
 abbrev pub under : Option ℕ → List (List ℕ) → List SourcedCopy
 under source files = map (sourced_copy source) files
 
--- public calls read those of the files that have the shape for the station, each under the source; and it holds exactly their readings
+-- Public calls came to the station, which took those of the files that have the shape, each read under the wide profile and under the
+-- source. It holds exactly their readings
 pub record HoldsFiles (source : Option ℕ) (shape : PictureShape) (files : List (List ℕ)) (station : PartialPicture) : Type 0 where
   pub taken : List (List ℕ)
   pub of_shape : AreFilesOfShape shape files taken
-  pub read : (known : Knowledge) → Collected known station (under source taken) []
-  pub exactly : HoldsExactlyUnder station (under source taken)
+  pub read : TookFiles Wide station (under source taken)
+  pub exactly : HoldsExactlyBy Wide station (under source taken)
 
 -- what `settle_files` gives does so
 abbrev pub FilesAreHeld : Type 0
@@ -49,6 +52,6 @@ abbrev pub SplicedCopiesGiveNoOther : Type 0
 SplicedCopiesGiveNoOther =
     (ceiling : Option ℕ) (copies : List (List ℕ)) (parts : List Part) (source : Option ℕ) (station : PartialPicture)
     → WereSpliced ceiling copies parts source station
-    → (pic : WholePicture) → IsPicture pic → (file : List ℕ) → IsWholeFile pic file → IsWithin ceiling file
+    → (pic : WholePicture) → IsPicture pic → (file : List ℕ) → IsWholeFileUnder Wide pic file → IsWithin ceiling file
     → IsSplice (length copies) parts file
     → IsSettled station → picture_of station ≡ pic

@@ -2,7 +2,7 @@
 
 ghost use Rattle.jls_splice_laws.specs.CompletedLaws.{CompletedFilesReadAlike, FilesAreCompletedOnce};
 
-use jls_copy::{copies_have_one_course, prefixes_keep_readings};
+use jls_copy::{copies_have_one_course_under, prefixes_keep_readings_under};
 
 /// A law: a file of bytes without a fault, completed by EOI, ends at EOI and has no fault. It has the same headers, and gives the same
 /// readings and no others. Each file is completed to one list of bytes.
@@ -10,6 +10,6 @@ pub fn completed_files_read_alike()
     ensures alike { CompletedFilesReadAlike }
     ensures once { FilesAreCompletedOnce }
 {
-    copies_have_one_course();
-    prefixes_keep_readings();
+    copies_have_one_course_under();
+    prefixes_keep_readings_under();
 }

@@ -4,8 +4,7 @@ ghost use Rattle.jls_splice_laws.specs.CutLaws.{CutLinesAreThePicture, CutsAreHe
 ghost use Rattle.jls_splice_laws.specs.CutLaws.{WholeFilesBeginWithTheirLines};
 
 use crate::settled::whole_files_survive;
-use jls_copy::prefixes_keep_readings;
-use jls_headline::collected_copies_are_held;
+use jls_copy::prefixes_keep_readings_under;
 
 /// A law: assume that each other choice of ways for the first parts is dead. Assume also that an undamaged file has, at each of these
 /// parts, what some copy has there, and no sample above the ceiling. Then the file begins with the cut file. Each reading that the cut
@@ -18,6 +17,5 @@ pub fn cut_lines_are_the_picture()
     ensures all { CutLinesAreThePicture }
 {
     whole_files_survive();
-    prefixes_keep_readings();
-    collected_copies_are_held();
+    prefixes_keep_readings_under();
 }

@@ -2,6 +2,7 @@
 //! in such a file, what the files that are taken settle, and what a run of `jls-splice` writes. This crate has definitions and laws
 //! alone. Each law is a function that does nothing: its contract is the law.
 //!
+//! - `by_line`: files whose scans are by line, under both profiles
 //! - `searches`, `settled`: searches, and files taken
 //! - `splicing`: stations of files taken, in the words of the laws of stations and pictures
 //! - `cut`: the cut file, where no splice is a file without a fault
@@ -9,10 +10,14 @@
 //! - `completed`: files completed by EOI
 //! - `carry`: runs over copies in several codings that gave each other lines
 //!
-//! Definitions: `WholeFiles`, `Searches`, `Taken`, `SpliceLaws`, `SplicingLaws`, `CutLaws`, `RunLaws`, `CompletedLaws`, `CarryLaws`,
-//! `Failures`.
+//! Files are those that jls_search reads: under the wide profile, with scans by line or by sample. What mended files hold, and what public
+//! calls read as copies, is by line.
+//!
+//! Definitions: `ProfileFiles`, `WholeFiles`, `Searches`, `Taken`, `SpliceLaws`, `SplicingLaws`, `CutLaws`, `RunLaws`, `CompletedLaws`,
+//! `CarryLaws`, `Failures`.
 #![tactic(auto)]
 
+mod by_line;
 mod carry;
 mod completed;
 mod cut;
@@ -21,6 +26,7 @@ mod searches;
 mod settled;
 mod splicing;
 
+pub use by_line::files_by_line_give_the_same;
 pub use carry::carried_runs_give_no_other;
 pub use completed::completed_files_read_alike;
 pub use cut::cut_lines_are_the_picture;
@@ -30,4 +36,4 @@ pub use runs::{
 };
 pub use searches::searches_lose_nothing;
 pub use settled::{faultless_splices_are_taken, splices_give_no_other, whole_files_survive};
-pub use splicing::{files_are_held, spliced_copies_give_no_other};
+pub use splicing::{files_are_held, spliced_copies_give_no_other, took_files_are_held};

@@ -16,11 +16,16 @@ pub fn spliced_runs_are_done()
 {}
 
 /// A law: the words of `jls-splice` ask for something, and the run ends with status 4. Then what they ask for was done with all that was
-/// read, though some copy was not read to its end. Or the run stopped, and its last line says why. Either a copy or a list of bad places
-/// was not opened; or a list was not read to its end; or the first copy was not, and no copy has a frame in what is searched; or an output
-/// can't be created or written. This is the
-/// report output, OUT, that of `--file` or one of `--files`, and those before it have all that is theirs. So something failed, or as many
-/// reads were made as one copy can have. Where nothing failed but reads, no output stopped the run, and each copy was opened.
+/// read, though some copy was not read to its end. Or the run stopped, and its last line says why:
+///
+/// - A copy or a list of bad places was not opened.
+/// - A list was not read to its end.
+/// - The first copy was not read to its end, and no copy has a frame in what is searched.
+/// - An output can't be created or written: the report output, OUT, that of `--file` or one of `--files`. Those before it have all that is
+///   theirs.
+///
+/// So something failed, or as many reads were made as one copy can have. Where nothing failed but reads, no output stopped the run, and
+/// each copy was opened.
 pub fn spliced_runs_end_with_4()
     ensures ends { RunsEndWith4 }
     ensures failures { SplicedFailuresCauseStatus4 }

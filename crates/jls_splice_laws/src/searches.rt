@@ -2,7 +2,7 @@
 
 ghost use Rattle.jls_splice_laws.specs.Searches.{SearchesFindSplices, SearchesLoseNothing};
 
-use jls_copy::{final_ends_stay, prefixes_stay_broken};
+use jls_copy::{final_ends_stay_under, prefixes_stay_broken_under};
 use jls_diff::splices_are_listed;
 
 /// A law: what a search as `Searched` defines it finds are splices without a fault, and it finds all of them. It may give up a prefix whose
@@ -12,6 +12,6 @@ pub fn searches_lose_nothing()
     ensures all { SearchesLoseNothing }
 {
     splices_are_listed();
-    prefixes_stay_broken();
-    final_ends_stay();
+    prefixes_stay_broken_under();
+    final_ends_stay_under();
 }

@@ -1,14 +1,15 @@
 -- Whether a file ends at EOI, by what was read of it.
 use Rattle.std.proofs.Common.{◌≡◌, ℕ, ◌+◌, Bool, true, false, List, [], ◌∷◌, refl, sym, ap, ◌∙◌, subst}
 use Rattle.std.specs.Prelude.{◌↔◌, IsTrue, is_some}
-use Rattle.jls_marker.specs.HeaderState.{HeaderState, no_headers}
+use Rattle.jls_marker.specs.HeaderState.{HeaderState, no_headers_under}
 use Rattle.jls_marker.specs.declared.fault.MarkerFault.{MarkerFault}
-use Rattle.jls_copy.specs.Course.{AreUnits, Course, CopyUnit, Ends, EndsHere, IsCourse}
+use Rattle.jls_marker.specs.declared.profile.Profile.TheVariants.{Wide}
+use Rattle.jls_copy.specs.Course.{AreUnits, Course, CopyUnit, Ends, EndsHere, IsCourseUnder}
 use Rattle.jls_copy.specs.Course.{at_eoi, at_eoi_before_a_frame, at_no_marker, at_unknown_code, at_short_length, at_refused_segment}
 use Rattle.jls_copy.specs.Course.{for_good, with_the_input, in_a_unit}
 use Rattle.jls_copy.specs.Course.{with_soi, with_another_marker, with_no_marker, with_fill_alone}
-use Rattle.jls_copy.specs.CourseLaws.{OneCourse}
-use Rattle.jls_copy.specs.CopyReads.{CopyGivesNone}
+use Rattle.jls_copy.specs.CourseLaws.{OneCourseUnder}
+use Rattle.jls_copy.specs.CopyReads.{CopyGivesNoneUnder}
 use Rattle.jls_copy.specs.declared.end.End.{End}
 use Rattle.jls_copy.specs.declared.end.End.TheVariants.{Eoi}
 use Rattle.jls_copy.specs.declared.reader.CopyFault.TheVariants.{NoPicture}
@@ -34,15 +35,17 @@ framed_units h at bytes [] final o (same, ends) =
     subst (λ (s : HeaderState). is_some s.frame ≡ true) (sym same) (framed_end h at bytes (Eoi o) o ends refl)
 framed_units h at bytes (u ∷ us) final o (after, rest, is, unit, more) = framed_units after _ rest us final o more
 
-framed_course : (file : List ℕ) (c : Course) (o : ℕ) → IsCourse file c → c.end ≡ Eoi o → is_some c.headers.frame ≡ true
+framed_course : (file : List ℕ) (c : Course) (o : ℕ) → IsCourseUnder Wide file c → c.end ≡ Eoi o → is_some c.headers.frame ≡ true
 framed_course _ _ o (with_soi n bytes units final e are) same =
-    framed_units no_headers (n + 2) bytes units final o (subst (λ (x : End). AreUnits no_headers (n + 2) bytes units final x) same are)
+    framed_units (no_headers_under Wide) (n + 2) bytes units final o
+    (subst (λ (x : End). AreUnits (no_headers_under Wide) (n + 2) bytes units final x) same are)
 framed_course _ _ o (with_another_marker n code bytes p q) same = absurd cc
 framed_course _ _ o (with_no_marker b bytes p) same = absurd cc
 framed_course _ _ o (with_fill_alone n) same = absurd cc
 
 -- and where there is no picture
-pub none_so : OneCourse → (file : List ℕ) (f : MarkerFault) (n : ℕ) → CopyGivesNone file (NoPicture f n) → EndsAtEoi file → ⊥
+pub none_so : OneCourseUnder Wide → (file : List ℕ) (f : MarkerFault) (n : ℕ) → CopyGivesNoneUnder Wide file (NoPicture f n)
+    → EndsAtEoi file → ⊥
 none_so one file f n (c, is, none, fault) (d, at, o, e) =
     let framed : is_some d.headers.frame ≡ true = framed_course file d o at e in
     let bare : is_some d.headers.frame ≡ false =

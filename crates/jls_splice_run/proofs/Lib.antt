@@ -2,6 +2,8 @@
 mod BesideFiles
 mod PrintedLineExamples
 pub mod Eois
+mod StrictRefusals
+pub mod StrictCourses
 mod NewFiles
 mod MendedNumbers
 mod MappedMore

@@ -4,7 +4,7 @@ ghost use Rattle.std.specs.Prelude.{◌≡◌, ◌↔◌, ◌++◌, ◌∷◌, [
 ghost use Rattle.jls_copy.specs.declared.end.End.TheVariants as copy_end;
 ghost use Rattle.jls_splice_run.specs.Completing.{EndsAtEoi, IsCompleted, IsCompletedIn};
 
-use jls_copy::{CopyFault, CopyReader, End, copies_have_one_course};
+use jls_copy::{CopyFault, End, WideReader, copies_have_one_course_under};
 use std::alloc::{AllocError, Global};
 
 /// Whether an end is EOI.
@@ -22,8 +22,8 @@ fn is_eoi(end: End) -> bool
 fn ends_at_eoi(alloc: Global, file: &[u8]) -> Result<bool, AllocError>
     ensures { IfOk result (λ ends. IsTrue ends ↔ EndsAtEoi file.now) }
 {
-    copies_have_one_course();
-    let mut reader = CopyReader::new(alloc);
+    copies_have_one_course_under();
+    let mut reader = WideReader::new(alloc);
     reader.feed(file)?;
     match reader.finish() {
         Ok(read) => Ok(is_eoi(read.ended())),

@@ -1,5 +1,6 @@
-//! Files that CharLS wrote, of pictures of noise, and what their pictures are.
+//! Files that CharLS wrote, of pictures of noise.
 
+use crate::pictures::text_of;
 use std::alloc::{AllocError, Global};
 
 /// 24 samples by 20 lines of 8 bits, in one piece, which begins at 25.
@@ -235,18 +236,22 @@ const TENS: &[u8] = b"\
 \x37\x11\x91\x52\x00\x05\x24\xce\x3b\xf4\x33\x2a\x40\x80\x00\xc7\x82\x3c\x28\x05\x60\x0e\x0b\x38\x71\
 \xee\xff\xd9";
 
-/// A picture of noise: 75 times what came before, modulo 65,537. A sample is that modulo how many values there are. The noise begins anew
-/// after so many lines, with the next number.
-#[derive(Clone, Copy)]
-struct Picture {
-    precision: u8,
-    values: u32,
-    width: u16,
-    height: u16,
-    components: u8,
-    begin: u32,
-    lines: u32,
-}
+/// 8 samples by 8 lines of three components, interleaved by sample, in one piece, which begins at 35. It is the picture of `scans`.
+const PIXELS: &[u8] = b"\
+\xff\xd8\xff\xf7\x00\x11\x08\x00\x08\x00\x08\x03\x01\x11\x00\x02\x11\x00\x03\x11\x00\xff\xda\x00\x0c\
+\x03\x01\x00\x02\x00\x03\x00\x00\x02\x00\x00\x00\xa7\x00\x2e\x0e\x00\x00\x50\x15\xa6\x31\x3d\x26\x8e\
+\x5a\x95\x06\x3a\xe5\xc2\x3a\xd1\xd9\x23\x18\x00\x00\x0f\x21\x47\x98\x00\x00\x0d\xf8\x00\x00\x70\xe0\
+\x00\x00\x06\x2c\x00\x00\x06\xec\x00\x00\x10\x08\x87\xc2\x91\xbc\x6a\x00\x00\x01\xf3\x00\x00\x01\xf3\
+\x7f\x00\x00\x00\xdd\xb8\x56\x03\x03\x0e\x24\x00\x00\x05\xd8\x00\x00\x07\x8d\x74\x50\x79\x88\x7d\x9f\
+\xa9\x92\x2a\xc0\x00\x00\x16\x11\xc9\xbe\x00\x00\x02\xe6\x8e\x70\x21\x68\x9f\x60\x00\x00\x3b\xa0\x00\
+\x08\xfc\x00\x00\x01\xb4\x90\x00\x0a\x00\x00\x02\xce\x00\x00\x03\xd0\xcd\x78\x2e\xa1\x14\xab\x66\x03\
+\xf7\x19\x80\xcd\x00\x00\x3f\xd3\xc4\x00\xf5\xb4\x60\x00\x20\x00\x03\x4b\x88\x6c\x90\x88\x00\x00\x0d\
+\x5a\x3a\x43\x9c\xa4\x15\x3d\xaa\x1d\xa0\x00\x00\x31\x7e\x11\x00\x00\x00\x3c\x35\x28\xe3\x6a\xdb\x40\
+\x00\x02\xda\x44\x42\x33\x26\x30\xdb\xa0\x00\x00\x3a\xe5\x1a\x86\xd3\x9c\xd0\x00\x00\x0e\x93\xee\xd8\
+\x00\x00\x0b\x8c\x60\xa2\x6d\x00\x00\x01\xa8\x0a\xd8\x12\x41\xd3\x4b\x3b\xf1\xaa\x00\x00\x03\x91\x7d\
+\xa9\xd0\x33\x22\xab\x1a\xa9\x1d\x05\xca\x53\xca\x46\xf3\xb8\x00\x00\x07\x90\x9f\x61\xc3\x6e\xbc\x37\
+\x3c\x5a\x4b\x07\x50\x88\x74\x04\x48\x37\xec\x2f\x1b\x2e\x40\x00\xcd\x4d\x3d\x08\x2d\xa0\x03\xda\x7c\
+\x95\x60\xbc\xe1\x40\xff\xd9";
 
 /// The file of this name. That of `text` is the text of a picture.
 pub(crate) fn file_of(alloc: Global, name: &str) -> Result<Option<Vec<u8>>, AllocError> {
@@ -263,116 +268,11 @@ pub(crate) fn file_of(alloc: Global, name: &str) -> Result<Option<Vec<u8>>, Allo
         "reset" => (b"", RESET),
         "fives" => (b"", FIVES),
         "tens" => (b"", TENS),
+        "pixels" => (b"", PIXELS),
         "text" => return text_of(alloc, "eight"),
         _ => return Ok(None),
     };
     let mut file = Vec::from_slice(alloc, begin)?;
     file.extend_from_slice(rest)?;
     Ok(Some(file))
-}
-
-/// The picture of `eight`, from which the others differ.
-const OF_EIGHT: Picture = Picture {
-    precision: 8,
-    values: 256,
-    width: 24,
-    height: 20,
-    components: 1,
-    begin: 1,
-    lines: 20,
-};
-
-fn picture_of(name: &str) -> Option<Picture> {
-    match name {
-        "eight" | "comment" => Some(OF_EIGHT),
-        "sixteen" => Some(Picture {
-            precision: 16,
-            values: 65_536,
-            width: 16,
-            height: 14,
-            begin: 2,
-            ..OF_EIGHT
-        }),
-        "deep" => Some(Picture {
-            precision: 16,
-            width: 16,
-            height: 14,
-            begin: 4,
-            ..OF_EIGHT
-        }),
-        "narrow" | "reset" | "fives" | "tens" => Some(Picture {
-            values: 32,
-            begin: 5,
-            ..OF_EIGHT
-        }),
-        "scans" => Some(Picture {
-            width: 8,
-            height: 8,
-            components: 3,
-            begin: 3,
-            lines: 8,
-            ..OF_EIGHT
-        }),
-        "restarts" => Some(Picture {
-            width: 8,
-            height: 12,
-            begin: 10,
-            lines: 4,
-            ..OF_EIGHT
-        }),
-        _ => None,
-    }
-}
-
-/// The identifiers of so many components.
-fn ids_of(components: u8) -> &'static [u8] {
-    if components == 3 {
-        b"\x01\x02\x03"
-    } else {
-        b"\x01"
-    }
-}
-
-/// Appends a line of noise. The answer is where it has come to.
-fn put_noise(text: &mut Vec<u8>, picture: &Picture, begin: u32) -> Result<u32, AllocError> {
-    let mut noise = begin;
-    for _ in 0..picture.width {
-        noise = noise.wrapping_mul(75) % 65_537;
-        let sample = noise.checked_rem(picture.values).unwrap_or(0);
-        text.extend_from_slice(&sample.to_be_bytes()[2..])?;
-    }
-    Ok(noise)
-}
-
-/// The text of a picture, each of whose lines has one reading, which has no source (docs/FORMAT.md).
-pub(crate) fn text_of(alloc: Global, name: &str) -> Result<Option<Vec<u8>>, AllocError> {
-    let Some(picture) = picture_of(name) else {
-        return Ok(None);
-    };
-    let height = u32::from(picture.height);
-    let entries = height.wrapping_mul(u32::from(picture.components));
-    let mut text = Vec::from_slice(alloc, b"JLSP\x02")?;
-    text.push(picture.precision)?;
-    text.extend_from_slice(&picture.width.to_be_bytes())?;
-    text.extend_from_slice(&picture.height.to_be_bytes())?;
-    text.push(picture.components)?;
-    text.extend_from_slice(ids_of(picture.components))?;
-    text.extend_from_slice(&entries.to_be_bytes())?;
-    let mut noise = 0;
-    for entry in 0..entries {
-        if let Some(0) = entry.checked_rem(picture.lines) {
-            noise = entry
-                .checked_div(picture.lines)
-                .unwrap_or(0)
-                .wrapping_add(picture.begin);
-        }
-        let component = entry.checked_div(height).unwrap_or(0);
-        let line = entry.checked_rem(height).unwrap_or(0);
-        text.extend_from_slice(&component.to_be_bytes()[3..])?;
-        text.extend_from_slice(&line.to_be_bytes()[2..])?;
-        text.extend_from_slice(&1u64.to_be_bytes())?;
-        noise = put_noise(&mut text, &picture, noise)?;
-        text.extend_from_slice(&0u64.to_be_bytes())?;
-    }
-    Ok(Some(text))
 }

@@ -3,7 +3,7 @@
 //! - `parts`, `groups`: where copies differ
 //! - `searched`, `prefixes`, `group_search`, `stations`: the searches, and stations of the files taken
 //! - `copy_files`, `lines`, `words`: copies that are read, printed lines, the command line
-//! - `memory`, `files`, `damage`, `program`: runs over files in memory
+//! - `memory`, `files`, `pictures`, `damage`, `program`: runs over files in memory
 //! - `mending`: copies in memory that a call mends
 #![tactic(auto)]
 
@@ -27,6 +27,8 @@ mod mending;
 mod numbered;
 #[cfg(test)]
 mod parts;
+#[cfg(test)]
+mod pictures;
 #[cfg(test)]
 mod prefixes;
 #[cfg(test)]

@@ -3,14 +3,14 @@
 use crate::damage::copy_of;
 use crate::files::file_of;
 use crate::searched::searched;
-use jls_copy::CopyReader;
+use jls_copy::WideReader;
 use jls_search::{are_short, is_dead, is_faultless, is_sought};
 use std::alloc::Global;
 use std::process::Abort;
 use std::test::Fail;
 
 /// A file, what is damaged in it, and whether that is without a fault, and whether it is a dead prefix.
-const PREFIXES: [(&str, &str, bool, bool); 9] = [
+const PREFIXES: [(&str, &str, bool, bool); 12] = [
     ("eight", "whole", true, false),
     ("scans", "whole", true, false),
     ("restarts", "whole", true, false),
@@ -25,11 +25,15 @@ const PREFIXES: [(&str, &str, bool, bool); 9] = [
     ("restarts", "97+69=lost", false, true),
     // there is no third scan
     ("scans", "269+136=lost", false, true),
+    // by sample: whole, cut off in its data, and without them
+    ("pixels", "whole", true, false),
+    ("pixels", "200+999=lost", false, false),
+    ("pixels", "35+295=lost", false, true),
 ];
 
 /// A reader that was fed the bytes.
-fn reader_of(alloc: Global, bytes: &[u8]) -> Result<CopyReader, Fail> {
-    let mut reader = CopyReader::new(alloc);
+fn reader_of(alloc: Global, bytes: &[u8]) -> Result<WideReader, Fail> {
+    let mut reader = WideReader::new(alloc);
     if reader.feed(bytes).is_err() {
         return Err(Fail::from("out of memory"));
     }
@@ -50,8 +54,9 @@ fn judges_prefixes(rt: HostRuntime) -> Result<(), Fail> {
 }
 
 /// How many files without a fault and within the ceiling, if there is one, are found in so many tries of the first file, and whether the
-/// tries are used up, where its copies are damaged at these offsets. Its greatest sample is 255.
-const SEARCHES: [(&str, &str, u32, Option<u16>, usize, bool); 10] = [
+/// tries are used up, where its copies are damaged at these offsets. Its greatest sample is 255. A name that stands first is that of
+/// another file.
+const SEARCHES: [(&str, &str, u32, Option<u16>, usize, bool); 11] = [
     ("100+8=0", "400+8=0", 4096, None, 1, false),
     ("100+8=0", "400+8=0", 5, None, 1, false),
     ("100+8=0", "400+8=0", 4, None, 1, true),
@@ -62,6 +67,7 @@ const SEARCHES: [(&str, &str, u32, Option<u16>, usize, bool); 10] = [
     ("100+8=0", "400+8=0", 4096, Some(254), 0, false),
     ("100+8=0", "400+8=0", 4096, Some(0), 0, false),
     ("whole", "whole", 4096, Some(254), 0, false),
+    ("pixels 60+8=0", "pixels 200+8=0", 4096, None, 1, false),
 ];
 
 fn check_search(

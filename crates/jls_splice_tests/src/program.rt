@@ -1,8 +1,9 @@
 //! Runs over copies of one file, each damaged in its own way: what comes back is the picture of the file, or is reported not to.
 
 use crate::damage::copies_of;
-use crate::files::{file_of, text_of};
+use crate::files::file_of;
 use crate::memory::MemoryFiles;
+use crate::pictures::text_of;
 use crate::words::words_of;
 use jls_io::Counted;
 use jls_splice_run::run;
@@ -16,7 +17,8 @@ use std::test::Fail;
 ///
 /// Where a copy differs from its mended file was counted in the files, and in the damage: a byte that is 0 by itself doesn't differ. In
 /// *damage of one line in both* 12 lines stand before it. Their code fills 274 and 289 bytes of the files, by `interop/plain_coder.py`. The
-/// last bits of the twelfth stand in the next byte, which isn't known.
+/// last bits of the twelfth stand in the next byte, which isn't known. In *by sample, one place in all* four rows stand before it, whose
+/// code CharLS ends in 166 bytes.
 ///
 /// How often a search of levels tries is counted by hand: at each place, each path that lives goes on by both ways. In *three intervals*
 /// each wrong way ends with its interval, so there are 2 tries at each of 3 places. In the rows of `deep` nothing dies without a limit, so
@@ -41,6 +43,14 @@ blocks that touch, in two places: eight: 101+30=85 331+30=170 / 131+30=170 301+3
 lost where others are damaged: eight: 200+8=lost / 200+2=0 400+8=0 / 206+2=0 500+8=0: OUT 1 2 3: 0 eight: splices 1
 in a COM segment: comment: 100+8=0 / 400+8=0: OUT 1 2: 0 comment: splices 1
 three scans: scans: 60+8=85 330+8=85 / 200+8=85: OUT 1 2: 0 scans: splices 1
+by sample, one place: pixels: 60+8=85 / 200+8=85: OUT 1 2: 0 pixels: splices 1
+by sample, two places: pixels: 60+8=85 250+8=85 / 150+8=85: OUT 1 2: 0 pixels: splices 1
+by sample, blocks that touch: pixels: 100+30=85 / 130+30=170: OUT 1 2: 0 pixels: splices 1
+by sample, a header and data: pixels: 2+30=0 / 200+8=85: OUT 1 2: 0 pixels: splices 1
+by sample, cut off after the damage: pixels: 200+999=lost / 60+8=85: OUT 1 2: 0 pixels: splices 1
+by sample, a flipped bit of the interleaving: pixels: 33+1=0 / 200+8=85: OUT 1 2: 0 pixels: splices 1
+by sample, the mended file: pixels: 60+8=85 / 200+8=85: --file NAME OUT 1 2: 0 pixels: splices 1
+by sample, one place in all: pixels: 205+8=0 / 205+8=85: OUT 1 2: 1 other: missing 1 4-7 | missing 2 4-7 | missing 3 4-7
 one interval: restarts: 45+3=0 / 70+3=0: OUT 1 2: 0 restarts: splices 1
 two intervals: restarts: 50+4=0 / 140+4=0: OUT 1 2: 0 restarts: splices 1
 three intervals, each way judged where it ends: restarts: 64+4=0 201+4=0 / 131+4=0: --progress OUT 1 2: 0 restarts: 6 tries, 1 files
@@ -129,7 +139,8 @@ bad behind a place in the copies: eight: 100+8=0 / 400+8=0: --bad 1:end OUT 1 2:
 one copy, and nothing bad: eight: whole: --bad 1:none OUT 1: 0 eight: splices 0
 one copy, up to a bad place: eight: 300+8=0: --bad 1:place OUT 1: 1 other: missing 1 7-19
 one copy, and a bad place in an interval: restarts: 70+3=0: --bad 1:interval OUT 1: 1 other: missing 1 0-3
-a header that is bad in all: eight: whole / whole: --bad 1:header --bad 2:header OUT 1 2: 3 nothing: jls-splice: 1: no picture, fault 19 at 6
+a header that is bad in all: eight: whole / whole: --bad 1:header --bad 2:header OUT 1 2: 3 nothing: \
+jls-splice: 1: no picture, fault 19 at 6
 one copy alone: eight: whole: OUT 1: 2 nothing: jls-splice: one COPY is enough only with --bad N:LIST
 bad places of no copy: eight: whole / whole: --bad 3:place OUT 1 2: 2 nothing: \
 jls-splice: 3:place: --bad wants N:LIST, with the number of a COPY, and a LIST that is no output and not -

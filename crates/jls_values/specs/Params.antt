@@ -11,7 +11,7 @@ pub record CodingParameters : Type 0 where
   pub t3 : ℕ
   pub reset : ℕ
 
--- the ranges of coding parameters: those of T.87, table C.1, at NEAR 0 and at the precisions of this profile
+-- the ranges of coding parameters: those of T.87, table C.1, at NEAR 0 and at the precisions of this project
 pub record AreCodingParameters (p : CodingParameters) : Type 0 where
   pub precision_at_least : 2 ≤ p.precision
   pub precision_at_most : p.precision ≤ 16

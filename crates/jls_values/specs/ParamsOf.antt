@@ -1,5 +1,5 @@
 -- The parameters in force if some values are given, or the first value that is outside its range. A 0 asks for the default (T.87
--- C.2.4.1.1.1, at NEAR 0). That each default follows from the values in force before it is this profile's choice.
+-- C.2.4.1.1.1, at NEAR 0). That each default follows from the values in force before it is this project's choice.
 use Rattle.std.specs.Prelude.{ℕ, ◌+◌, ◌-◌, ◌*◌, ◌/◌, ◌^◌, min, max, Bool, ◌||◌, nat_lt, nat_le, ◌==◌, Option, Some, None, Result, Ok, Err}
 use Rattle.std.specs.Prelude.{if◌then◌else◌}
 use Rattle.jls_values.specs.declared.params.ParamFault.{ParamFault}

@@ -1,4 +1,4 @@
--- The shape of a picture, as a frame header gives it (T.87 C.2.2). That there are at most four components is this profile's choice.
+-- The shape of a picture, as a frame header gives it (T.87 C.2.2). That there are at most four components is this project's choice.
 use Rattle.std.specs.Prelude.{◌≡◌, ℕ, ◌≤◌, ◌<◌, ◌^◌, Bool, false, ◌||◌, ◌==◌, List, [], ◌∷◌, length}
 use Rattle.std.specs.List.{list_any, AllByRecursion}
 
@@ -15,7 +15,7 @@ abbrev pub has_repeat : List ℕ → Bool
 has_repeat [] = false
 has_repeat (id ∷ ids) = list_any (λ other. other == id) ids || has_repeat ids
 
--- the ranges of this profile: 2 to 16 bits, 1 to 65,535 samples and lines. It has 1 to 4 components, whose identifiers are bytes and differ
+-- the ranges of this project: 2 to 16 bits, 1 to 65,535 samples and lines. It has 1 to 4 components, whose identifiers are bytes and differ
 -- (T.87 C.2.2)
 pub record IsShape (s : PictureShape) : Type 0 where
   pub precision_at_least : 2 ≤ s.precision

@@ -4,7 +4,7 @@ use Rattle.std.proofs.Common.{◌∙◌, arith}
 use Rattle.std.specs.Prelude.{nat_lt, nat_le, not, ◌&&◌, ◌||◌}
 use Rattle.std.specs.List.{range_with_len}
 use Rattle.std.proofs.Math.Seq.{drop-cons}
-use Rattle.jls_marker.specs.ScanSelection.{ScanSelection, selection_of}
+use Rattle.jls_marker.specs.ScanSelection.{ScanSelection, selection, selection_of}
 use Rattle.jls_values.specs.Shape.{has_repeat}
 use Rattle.jls_marker.specs.declared.fault.MarkerFault.TheVariants as fault
 use Rattle.jls_marker.specs.declared.segment.Segment.TheVariants as segment
@@ -30,11 +30,11 @@ sliced ids given first count from size given_is from_is size_is within =
     ∙ ap (λ t. take count (drop first t)) given_is ∙ sym (ids_are ids first count within)
 
 -- the selection that these identifiers make
-selected : (ids : List ℕ) (line : Bool) (head : ScanSelection) → selection_of ids line ≡ Ok head → head ≡ record { ids = ids; line = line }
+selected : (ids : List ℕ) (line : Bool) (head : ScanSelection) → selection_of ids line ≡ Ok head → head ≡ selection ids line
 selected ids line head made =
     let tests = (nat_le 1 (length ids) && nat_le (length ids) 4, fault.Length) ∷ (not (has_repeat ids), fault.RepeatedComponent)
     ∷ (nat_le (length ids) 1 || line, fault.Interleave) ∷ [] in
-    sym (all_pass tests (record { ids = ids; line = line }) head made).1
+    sym (all_pass tests (selection ids line) head made).1
 
 -- the header that was made of these identifiers is that of the scan
 pub scan_header_is : (pic : WholePicture) (given : List ℕ) (first count from size : ℕ) (head : ScanSelection) → given ≡ pic.shape.ids
@@ -45,7 +45,7 @@ scan_header_is pic given first count from size head given_is from_is size_is wit
     let ids : List ℕ = take (from + size - from) (drop from given) in
     ap (λ (h : ScanSelection). bytes_of (segment.Scan h))
     (selected ids (nat_lt 1 count) head made
-    ∙ ap (λ (t : List ℕ). record { ids = t; line = nat_lt 1 count })
+    ∙ ap (λ (t : List ℕ). selection t (nat_lt 1 count))
     (sliced pic.shape.ids given first count from size given_is from_is size_is within)
-    ∙ ap (λ n. record { ids = map (λ c. get_or pic.shape.ids c 0) (range_with_len first count); line = nat_lt 1 n })
+    ∙ ap (λ n. selection (map (λ c. get_or pic.shape.ids c 0) (range_with_len first count)) (nat_lt 1 n))
     (sym (length_range first count)))

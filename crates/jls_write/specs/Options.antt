@@ -1,4 +1,4 @@
--- How a picture is written as JPEG-LS, and which pictures can be written so. That an interval has at most 2^28 samples is this profile's
+-- How a picture is written as JPEG-LS, and which pictures can be written so. That an interval has at most 2^28 samples is this project's
 -- choice.
 use Rattle.std.specs.Prelude.{◌≡◌, ℕ, ◌*◌, ◌^◌, ◌<◌, ◌≤◌, Bool, ◌==◌, min, All, length, if◌then◌else◌}
 use Rattle.jls_values.specs.Shape.{PictureShape}

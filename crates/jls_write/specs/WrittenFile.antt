@@ -1,6 +1,6 @@
 -- The JPEG-LS file of a picture under given options (T.81 B.2.1 and B.2.2, T.87 C.1 and C.2): SOI, the header segments, the scans, EOI.
 -- That LSE and DRI stand only where they say something, that components without interleaving have a scan each, and that nothing else is
--- written, no fill either, is this profile's choice.
+-- written, no fill either, is this project's choice.
 use Rattle.std.specs.Prelude.{ℕ, ◌+◌, ◌-◌, ◌%◌, Bool, ◌&&◌, ◌==◌, nat_lt, if◌then◌else◌, List, [], ◌∷◌}
 use Rattle.std.specs.Prelude.{◌++◌, map, length, get_or}
 use Rattle.std.specs.List.{flat_map, range_with_len}
@@ -9,6 +9,7 @@ use Rattle.jls_values.specs.ParamsOf.{in_force}
 use Rattle.jls_values.specs.PresetParameters.{no_presets}
 use Rattle.jls_interval.specs.Reads.{packed}
 use Rattle.jls_marker.specs.Scan.{Scan, scan_with, intervals, first_row, row_count}
+use Rattle.jls_marker.specs.ScanSelection.{selection}
 use Rattle.jls_marker.specs.Written.{segment_bytes, payload_of, code_of}
 use Rattle.jls_marker.specs.declared.segment.Segment.{Segment}
 use Rattle.jls_marker.specs.declared.segment.Segment.TheVariants as segment
@@ -55,7 +56,7 @@ scan_of pic o components = scan_with pic.shape components o.params o.restart_int
 -- SOS of a scan of these components: ILV is 1 for more than one, interleaved by line, and 0 for one (T.87 C.2.3)
 abbrev pub scan_segment : WholePicture → List ℕ → Segment
 scan_segment pic components =
-    segment.Scan (record { ids = map (λ c. get_or pic.shape.ids c 0) components; line = nat_lt 1 (length components) })
+    segment.Scan (selection (map (λ c. get_or pic.shape.ids c 0) components) (nat_lt 1 (length components)))
 
 -- a row: a line of each component
 abbrev pub row_lines : WholePicture → List ℕ → ℕ → List (List ℕ)

@@ -89,17 +89,11 @@ class Given:
         """The copies, those of other codings with the Pixel Data of one that stands."""
         wanted = (self.options.stands, self.options.header)
         stands, named = (next((at for at, path in enumerate(self.paths) if path == each), None) for each in wanted)
-        self.codings = codings_of(texts, self.options.same, (stands, named), self.reads)
+        self.codings = codings_of(texts, self.options.same, (stands, named), self.programs.reads)
         self.result.other_codings = [[self.paths[at] for at in group] for group in self.codings.further]
         for known in (self.bad, self.seen):
             known[:] = [moved_to_coding(ranges, texts[at], self.codings, at) for at, ranges in enumerate(known)]
         return self.codings.texts
-
-    def reads(self, stream: bytes) -> bool:
-        """Whether a codestream is whole."""
-        if self.programs.library and self.programs.library.whole(stream):
-            return True
-        return self.programs.run([self.programs.salvage, "check", "-"], given=stream).status == 0
 
     def look_at_versions(self) -> None:
         """Gives all copies one header, where those of several read whole and have other lengths."""

@@ -2,4 +2,4 @@ use Rattle.jls_carry_laws.proofs.StrictHeads as strict_heads
 use Rattle.jls_carry_laws.proofs.laws.strictly_held_lines_are_the_picture.Goals as goal
 
 pub returns : goal.returns
-returns c = strict_heads.strictly_held_lines_are_the_picture c.pieces_stand_at_their_offsets.ensures
+returns c = strict_heads.strictly_held_lines_are_the_picture c.pieces_stand_at_their_offsets.ensures c.strict_pieces_are_by_line.ensures

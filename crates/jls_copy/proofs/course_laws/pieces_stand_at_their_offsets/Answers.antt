@@ -1,5 +1,6 @@
+use Rattle.jls_marker.specs.declared.profile.Profile.TheVariants.{Strict}
 use Rattle.jls_copy.proofs.TellingLaws.{pieces_stand_at_their_offsets}
 use Rattle.jls_copy.proofs.course_laws.pieces_stand_at_their_offsets.Goals as goal
 
 pub returns : goal.returns
-returns c = pieces_stand_at_their_offsets
+returns c = pieces_stand_at_their_offsets Strict

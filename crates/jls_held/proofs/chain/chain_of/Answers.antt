@@ -31,8 +31,8 @@ returns-in_default c =
     end_read p.plan p.interval (lines_of p) ends c.in_ok-ends.ensures.count_is chain c.in-Some.samples.items rest before.row before.place so end
     (c.index-end.ensures ∙ ap (λ n. get_or ends n end) count) in
     let out = c.push.new.self.items in let out_is : out ≡ chain ++ l ∷ [] = c.in_ok-push.ensures.items in
-    let are = chain_step c.fronts_begin_pieces.ensures f p c.requires ends c.in_ok-ends.ensures chain l rest before.place before.start end so
-    component before.invariant.start_is end_is
+    let are = chain_step c.fronts_begin_pieces.ensures c.strict_pieces_are_by_line.ensures f p c.requires ends c.in_ok-ends.ensures chain l
+    rest before.place before.start end so component before.invariant.start_is end_is
     (λ known. subst (λ z. AreHeldBetween z p.offset before.start end) c.deref.ensures.value (c.is_code_held.ensures known))
     before.invariant.are out out_is in
     are
@@ -52,8 +52,8 @@ loop-samples-preserved-then-place-components c =
     end_read p.plan p.interval (lines_of p) ends c.in_ok-ends.ensures.count_is chain c.in-Some.samples.items rest before.row before.place so end
     (c.index-end.ensures ∙ ap (λ n. get_or ends n end) count) in
     let out = c.push.new.self.items in let out_is : out ≡ chain ++ l ∷ [] = c.in_ok-push.ensures.items in
-    let are = chain_step c.fronts_begin_pieces.ensures f p c.requires ends c.in_ok-ends.ensures chain l rest before.place before.start end so
-    component before.invariant.start_is end_is
+    let are = chain_step c.fronts_begin_pieces.ensures c.strict_pieces_are_by_line.ensures f p c.requires ends c.in_ok-ends.ensures chain l
+    rest before.place before.start end so component before.invariant.start_is end_is
     (λ known. subst (λ z. AreHeldBetween z p.offset before.start end) c.deref.ensures.value (c.is_code_held.ensures known))
     before.invariant.are out out_is in
     let over : before.place + 1 ≡ length p.plan.components = omega (arith, ap length c.components-in-loop-samples.ensures.value) in
@@ -82,8 +82,8 @@ loop-samples-preserved c =
     end_read p.plan p.interval (lines_of p) ends c.in_ok-ends.ensures.count_is chain c.in-Some.samples.items rest before.row before.place so end
     (c.index-end.ensures ∙ ap (λ n. get_or ends n end) count) in
     let out = c.push.new.self.items in let out_is : out ≡ chain ++ l ∷ [] = c.in_ok-push.ensures.items in
-    let are = chain_step c.fronts_begin_pieces.ensures f p c.requires ends c.in_ok-ends.ensures chain l rest before.place before.start end so
-    component before.invariant.start_is end_is
+    let are = chain_step c.fronts_begin_pieces.ensures c.strict_pieces_are_by_line.ensures f p c.requires ends c.in_ok-ends.ensures chain l
+    rest before.place before.start end so component before.invariant.start_is end_is
     (λ known. subst (λ z. AreHeldBetween z p.offset before.start end) c.deref.ensures.value (c.is_code_held.ensures known))
     before.invariant.are out out_is in
     let test = c.if-place-components.false in let inside : before.place + 1 < length p.plan.components =

@@ -1,9 +1,10 @@
-use Rattle.std.proofs.Common.{◌≡◌, ◌<◌, ℕ, true, length, map, sym, ap, subst, Ok, ◌∙◌}
+use Rattle.std.proofs.Common.{◌≡◌, ◌<◌, ℕ, Bool, true, length, map, sym, ap, subst, Ok, ◌∙◌}
 use Rattle.std.specs.Prelude.{is_ok}
 use Rattle.std.specs.List.{AllByRecursion}
 use Rattle.jls_values.specs.ParamsOf.{params_of}
 use Rattle.jls_values.specs.PresetParameters.{PresetParameters}
 use Rattle.jls_marker.specs.ComponentIndex.{index_of}
+use Rattle.jls_marker.specs.Scan.{scan_by}
 use Rattle.jls_marker.specs.declared.headers.PresetValues.{PresetValues}
 use Rattle.jls_marker.proofs.Beginning.{are_known, known_there, indices_there, indices_below, bytes_below, params_known, bad_params}
 use Rattle.jls_marker.proofs.Beginning.{too_large, too_many, begins, ok_scan}
@@ -62,6 +63,8 @@ returns-clause-judged c =
     let here = goal.at.returns-clause-judged c in
     let small = rw c.first_samples.ensures at c.if-first_samples-gt-MOST_SAMPLES.false in
     ap ok_scan c.new.ensures
+    ∙ ap (λ (b : Bool). ok_scan (scan_by b c.args.frame.now c.in-Some.components.items c.in-Ok.params c.args.restart_interval))
+    c.by_sample.ensures.value
     ∙ sym (begins c.args.frame.now (values c.args.preset) c.args.restart_interval c.args.scans c.args.head.now
     c.in-Some.components.items c.in-Ok.params (known here.In-Some) (indices here.In-Some) (judged here.In-Ok) small
     c.if-scans-ge-MOST_SCANS.false)

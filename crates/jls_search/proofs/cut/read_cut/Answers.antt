@@ -1,7 +1,8 @@
 use Rattle.std.proofs.Common.{subst}
 use Rattle.std.specs.Prelude.{IfSome}
 use Rattle.std.proofs.lemmas.Option.{IfSome_then}
-use Rattle.jls_copy.specs.CopyReads.{CopyGivesNone, CopyReads}
+use Rattle.jls_copy.specs.CopyReads.{CopyGivesNoneUnder, CopyReadsUnder}
+use Rattle.jls_marker.specs.declared.profile.Profile.TheVariants.{Wide}
 use Rattle.jls_search.specs.Choices.{prefix_of}
 use Rattle.jls_search.specs.Shapes.{HasNoFrame}
 use Rattle.jls_search.proofs.Prefixes.{fed_first, of_some}
@@ -11,7 +12,7 @@ pub returns-in-Ok-clause-some : goal.returns-in-Ok-clause-some
 returns-in-Ok-clause-some c =
     let prefix = prefix_of c.args.parts.now c.args.cut.now in
     let fed = c.feed_prefix.new.reader in
-    of_some fed prefix (λ bytes. CopyReads bytes c.in-Ok.read)
+    of_some fed prefix (λ bytes. CopyReadsUnder Wide bytes c.in-Ok.read)
     (fed_first fed c.new-reader.result prefix c.new-reader.ensures c.in_ok-feed_prefix.ensures.fed) c.in-Ok.ensures.read
 
 pub returns-in-Err-NoPicture-clause-none : goal.returns-in-Err-NoPicture-clause-none
@@ -21,5 +22,5 @@ returns-in-Err-NoPicture-clause-none c =
     let fed = c.feed_prefix.new.reader in
     of_some fed prefix (λ bytes. HasNoFrame bytes)
     (fed_first fed c.new-reader.result prefix c.new-reader.ensures c.in_ok-feed_prefix.ensures.fed)
-    (IfSome_then fed (subst (λ f. IfSome fed (λ bytes. CopyGivesNone bytes f)) none.field-0-is none.ensures.none)
+    (IfSome_then fed (subst (λ f. IfSome fed (λ bytes. CopyGivesNoneUnder Wide bytes f)) none.field-0-is none.ensures.none)
     (λ bytes gives. (gives.0, gives.1, gives.2)))

@@ -1,6 +1,7 @@
 use Rattle.std.proofs.Common.{◌<◌}
 use Rattle.std.specs.List.{AllByRecursion}
-use Rattle.jls_copy.specs.CopyReads.{CopyReads}
+use Rattle.jls_copy.specs.CopyReads.{CopyReadsUnder}
+use Rattle.jls_marker.specs.declared.profile.Profile.TheVariants.{Wide}
 use Rattle.jls_search.specs.OfGroups.{HasManyFaults}
 use Rattle.jls_search.specs.ReadsBetween.{ReadsBetween}
 use Rattle.jls_search.proofs.Records.{unread_without_frame}
@@ -9,16 +10,16 @@ use Rattle.jls_search.proofs.reading_between.told_by.Goals as goal
 
 pub returns-in-Ok-clause-reads : goal.returns-in-Ok-clause-reads
 returns-in-Ok-clause-reads c =
-    λ t. some_then c.args.reader (λ file. CopyReads file c.in-Ok.read) (λ file. ReadsBetween c.args.from c.args.to file)
+    λ t. some_then c.args.reader (λ file. CopyReadsUnder Wide file c.in-Ok.read) (λ file. ReadsBetween c.args.from c.args.to file)
     (c.told_between.ensures.reads t) c.in-Ok.ensures.read
 
 pub returns-in-Ok-clause-unread : goal.returns-in-Ok-clause-unread
-returns-in-Ok-clause-unread c = λ f. some_then c.args.reader (λ file. CopyReads file c.in-Ok.read)
+returns-in-Ok-clause-unread c = λ f. some_then c.args.reader (λ file. CopyReadsUnder Wide file c.in-Ok.read)
     (λ file. AllByRecursion (λ b. b < 256) file → ReadsBetween c.args.from c.args.to file → ⊥) (c.told_between.ensures.unread f)
     c.in-Ok.ensures.read
 
 pub returns-in-Ok-clause-many : goal.returns-in-Ok-clause-many
-returns-in-Ok-clause-many c = λ m. some_then c.args.reader (λ file. CopyReads file c.in-Ok.read) HasManyFaults
+returns-in-Ok-clause-many c = λ m. some_then c.args.reader (λ file. CopyReadsUnder Wide file c.in-Ok.read) HasManyFaults
     (c.told_between.ensures.many m) c.in-Ok.ensures.read
 
 pub returns-in-Err-NoPicture-clause-unread : goal.returns-in-Err-NoPicture-clause-unread

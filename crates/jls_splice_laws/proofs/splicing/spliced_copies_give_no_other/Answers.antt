@@ -2,4 +2,4 @@ use Rattle.jls_splice_laws.proofs.SplicedCopies.{spliced_copies_give_no_other}
 use Rattle.jls_splice_laws.proofs.splicing.spliced_copies_give_no_other.Goals as goal
 
 pub returns : goal.returns
-returns c = spliced_copies_give_no_other c.splices_give_no_other.ensures.searched c.collected_copies_are_held.ensures.sources
+returns c = spliced_copies_give_no_other c.splices_give_no_other.ensures.searched

@@ -1,16 +1,6 @@
-use Rattle.std.proofs.Common.{◌≡◌, ℕ, true, not, ◌∙◌, subst}
-use Rattle.std.specs.Prelude.{◌==◌}
-use Rattle.jls_copy.specs.Prefixes.{StaysFaulty}
-use Rattle.jls_copy.specs.ReaderState.{reading}
-use Rattle.jls_copy.proofs.FaultyPieces.{some_fault, stays_faulty}
-use Rattle.jls_copy.proofs.Gathering.{fed_or_failed}
+use Rattle.jls_copy.specs.Prefixes.{StaysFaultyUnder}
+use Rattle.jls_copy.proofs.StrictReaders.{strictly}
 use Rattle.jls_copy.proofs.reader.CopyReader.has_faulty_piece.Goals as goal
 
 pub returns : goal.returns
-returns c = λ yes.
-    let reader = c.self.inside in
-    fed_or_failed reader.failed reader.bytes.list _ (λ bytes. StaysFaulty bytes) c.self.view_is
-    (λ open_. let h = c.self.invariant open_ in
-    stays_faulty reader.bytes.list (some_fault (reading reader.bytes.list).pieces h.gathers.outcomes h.gathers.each (λ none.
-    let zero : reader.machine.findings.record_count ≡ 0 = h.gathers.count_is ∙ none in
-    let never : not (0 == 0) ≡ true = subst (λ (n : ℕ). not (n == 0) ≡ true) zero yes in absurd cc)))
+returns c = λ yes. strictly _ _ (λ p bytes. StaysFaultyUnder p bytes) c.self.invariant c.self.view_is (c.has_faulty_piece.ensures yes)

@@ -1,18 +1,13 @@
-use Rattle.std.proofs.Common.{ap, map}
-use Rattle.jls_copy.specs.InHand.{IsInHand}
-use Rattle.jls_copy.proofs.Gathering.{fed_or_failed}
-use Rattle.jls_copy.proofs.PiecesInHand.{in_hand_fed, of_found}
+use Rattle.std.proofs.Common.{map}
+use Rattle.jls_copy.specs.InHand.{IsInHandUnder}
+use Rattle.jls_copy.proofs.PiecesInHand.{of_found}
+use Rattle.jls_copy.proofs.StrictReaders.{strictly}
 use Rattle.jls_copy.proofs.reader.CopyReader.piece_in_hand.Goals as goal
 
 pub returns : goal.returns
 returns c =
-    let reader = c.self.inside in
-    let machine = reader.machine in
     of_found c.piece_in_hand.result _ _
-    (λ p holds.
-    let lines = map (λ line. line.items) p.lines.items in
-    fed_or_failed reader.failed reader.bytes.list _ (λ bytes. IsInHand bytes p.plan p.interval p.offset lines) c.self.view_is
-    (λ open_. let h = c.self.invariant open_ in
-    in_hand_fed reader.bytes.list h.are_bytes machine.headers.frame machine.payload.items machine.place (ap (λ s. s.place) h.state_is)
-    h.place_is p.plan p.interval p.offset lines holds))
+    (λ found holds.
+    let lines = map (λ line. line.items) found.lines.items in
+    strictly _ _ (λ p bytes. IsInHandUnder p bytes found.plan found.interval found.offset lines) c.self.invariant c.self.view_is holds)
     c.piece_in_hand.ensures

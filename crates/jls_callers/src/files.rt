@@ -1,0 +1,50 @@
+//! Callers that read files under a profile, for a station.
+
+ghost use Rattle.std.specs.Prelude.{◌++◌, ◌∷◌, [], List, IfOk, OnOk};
+ghost use Rattle.jls_marker.specs.declared.profile.Profile.{Profile};
+ghost use Rattle.jls_headline.specs.Sources.{SourcedCopy, sourced_copy};
+ghost use Rattle.jls_headline.specs.TookFiles.{IsReadUnder, TookFiles};
+
+use jls_copy::{CopyFault, ProfileReader};
+use jls_marker::Profile;
+use jls_partial::Partial;
+use jls_station::Station;
+use jls_values::MergeFault;
+use std::alloc::Global;
+
+/// Reads a file that stands in memory under the profile, and under a source if there is one.
+pub fn read_under(
+    alloc: Global,
+    profile: Profile,
+    source: Option<u32>,
+    bytes: &[u8],
+) -> Result<Partial, CopyFault>
+    ensures { IfOk result (λ partial. IsReadUnder profile (sourced_copy source bytes.now) partial) }
+{
+    if bytes.len() > 1 << 61 {
+        return Err(CopyFault::OutOfMemory);
+    }
+    let mut reader = ProfileReader::new(alloc, profile);
+    match reader.feed(bytes) {
+        Ok(()) => {}
+        Err(_) => return Err(CopyFault::OutOfMemory),
+    }
+    let read = reader.finish()?;
+    let mut partial = read.into_partial();
+    match source {
+        None => Ok(partial),
+        Some(number) => match partial.mark(number) {
+            Ok(()) => Ok(partial),
+            Err(_) => Err(CopyFault::OutOfMemory),
+        },
+    }
+}
+
+/// A station takes what was read of a file.
+pub fn take_read(station: &mut Station, partial: &Partial) -> Result<(), MergeFault>
+    ensures { (profile : Profile) (files : List SourcedCopy) (file : SourcedCopy) → TookFiles profile station.old files
+        → IsReadUnder profile file partial.now
+        → OnOk result (TookFiles profile station.new (files ++ file ∷ [])) }
+{
+    station.take(partial)
+}

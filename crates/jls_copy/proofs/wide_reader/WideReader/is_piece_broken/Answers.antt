@@ -1,0 +1,6 @@
+use Rattle.jls_copy.specs.Prefixes.{IsPieceBrokenUnder}
+use Rattle.jls_copy.proofs.WideReaders.{widely}
+use Rattle.jls_copy.proofs.wide_reader.WideReader.is_piece_broken.Goals as goal
+
+pub returns : goal.returns
+returns c = λ yes. widely _ _ (λ p bytes. IsPieceBrokenUnder p bytes) c.self.invariant c.self.view_is (c.is_piece_broken.ensures yes)

@@ -1,0 +1,11 @@
+//! The law of files by line. It is a function that does nothing and whose contract is the law.
+
+ghost use Rattle.jls_splice_laws.specs.ProfileFiles.{FilesByLineGiveTheSame, OtherFilesAreByLine, StrictFilesGiveAsCopies};
+
+/// A law: what a file gives under the strict profile is what it gives as a copy. Unless the fault of a scan's interleaving ends it there,
+/// all its scans are by line, whatever is damaged. Then it gives the same under the wide profile.
+pub fn files_by_line_give_the_same()
+    ensures as_copies { StrictFilesGiveAsCopies }
+    ensures by_line { OtherFilesAreByLine }
+    ensures same { FilesByLineGiveTheSame }
+{}
