@@ -1,9 +1,10 @@
 //! Callers that read files under a profile, for a station.
 
-ghost use Rattle.std.specs.Prelude.{◌++◌, ◌∷◌, [], List, IfOk, OnOk};
+ghost use Rattle.std.specs.Prelude.{◌++◌, ◌∷◌, [], List, IfOk, IsErrOf, OnOk};
 ghost use Rattle.jls_marker.specs.declared.profile.Profile.{Profile};
 ghost use Rattle.jls_headline.specs.Sources.{SourcedCopy, sourced_copy};
 ghost use Rattle.jls_headline.specs.TookFiles.{IsReadUnder, TookFiles};
+ghost use Rattle.jls_values.specs.declared.merge.MergeFault.TheVariants.{OutOfMemory, ShapeDiffers};
 
 use jls_copy::{CopyFault, ProfileReader};
 use jls_marker::Profile;
@@ -42,9 +43,14 @@ pub fn read_under(
 
 /// A station takes what was read of a file.
 pub fn take_read(station: &mut Station, partial: &Partial) -> Result<(), MergeFault>
-    ensures { (profile : Profile) (files : List SourcedCopy) (file : SourcedCopy) → TookFiles profile station.old files
+    ensures taken { (profile : Profile) (files over : List SourcedCopy) (file : SourcedCopy) → TookFiles profile station.old files over
         → IsReadUnder profile file partial.now
-        → OnOk result (TookFiles profile station.new (files ++ file ∷ [])) }
+        → OnOk result (TookFiles profile station.new (files ++ file ∷ []) over) }
+    ensures refused { (profile : Profile) (files over : List SourcedCopy) → TookFiles profile station.old files over
+        → IsErrOf result ShapeDiffers → TookFiles profile station.new files over }
+    ensures ran_out { (profile : Profile) (files over : List SourcedCopy) (file : SourcedCopy) → TookFiles profile station.old files over
+        → IsReadUnder profile file partial.now
+        → IsErrOf result OutOfMemory → TookFiles profile station.new files (over ++ file ∷ []) }
 {
     station.take(partial)
 }

@@ -7,3 +7,4 @@ pub mod CopyScans
 mod ByLine
 pub mod Gives
 pub mod FileExamples
+pub mod SampleExamples

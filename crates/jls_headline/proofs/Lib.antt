@@ -32,4 +32,5 @@ mod HeadExamples
 mod EitherWayExamples
 pub mod ClosedExamples
 mod SourcedExamples
+mod SampleExamples
 mod TwoCodingExamples

@@ -1,9 +1,10 @@
 -- What a station holds that took files.
-use Rattle.std.proofs.Common.{◌≡◌, ℕ, true, List, [], ◌∷◌, ◌++◌, Option, Some, refl, sym, ap, ◌∙◌, subst, append_assoc}
-use Rattle.std.specs.Prelude.{fold, ◌↔◌}
+use Rattle.std.proofs.Common.{◌≡◌, ℕ, Bool, true, List, [], ◌∷◌, ◌++◌, Option, Some, refl, sym, ap, ◌∙◌, subst, append_assoc}
+use Rattle.std.specs.Prelude.{fold, ◌||◌, ◌↔◌}
 use Rattle.std.specs.List.{AllByRecursion, Contains}
 use Rattle.std.proofs.lemmas.List.{append-nil}
 use Rattle.std.proofs.lemmas.List.Elements.{Contains-append_right}
+use Rattle.jls_values.specs.Join.{IsBetween}
 use Rattle.jls_values.specs.OrderedSet as set
 use Rattle.jls_values.specs.OrderedSetLaws.{contains-empty}
 use Rattle.jls_values.specs.SameShape.{same_shape}
@@ -16,12 +17,15 @@ use Rattle.jls_marker.specs.declared.profile.Profile.{Profile}
 use Rattle.jls_marker.specs.declared.profile.Profile.TheVariants.{Strict, Wide}
 use Rattle.jls_station.specs.Given.{marked}
 use Rattle.jls_station.proofs.Marked.{marked_shape, marked_readings}
-use Rattle.jls_copy_laws.proofs.Members.{is_first, in_map, of_map, all_at, all_prefix, all_append}
+use Rattle.jls_copy_laws.proofs.Members.{is_first, none_in, in_map, of_map, all_at, all_prefix, all_append}
 use Rattle.jls_headline.specs.Sources.{SourcedCopy, sourced_copy, copies_of}
-use Rattle.jls_headline.specs.TookFiles.{IsReadUnder, TookFiles, no_file_taken, file_taken, StrictFilesAreCollected}
+use Rattle.jls_headline.specs.TookFiles.{IsReadUnder, TookFiles, no_file_taken, file_taken, file_refused, file_ran_out}
+use Rattle.jls_headline.specs.TookFiles.{TookFilesFrom, StrictFilesAreCollected}
+use Rattle.jls_headline.specs.Stations.{AreAmong}
 use Rattle.jls_headline.proofs.Stations.{is_read, union_read}
 use Rattle.jls_headline.proofs.SourcedStations.{Mark, is_marked, union_marked}
-use Rattle.jls_headline.proofs.Unions.{GivenBy, Exactly, none_exactly, one_exactly, both_exactly}
+use Rattle.jls_headline.proofs.Unions.{GivenBy, Holds, none_exactly, one_exactly, at_first, in_the_end, both_collected, part_collected}
+use Rattle.jls_headline.proofs.Unions.{between_keeps, between_only}
 use Rattle.jls_search.specs.Stations.{Give, no_file, gives, gives_nothing}
 use Rattle.jls_search.specs.Shapes.{HasFrameOfShape}
 use Rattle.jls_search.proofs.OneFile.{shape_read}
@@ -45,50 +49,76 @@ module _ (profile : Profile) where
   abbrev GivesMark : SourcedCopy → Mark → Type 0
   GivesMark file m = GivesFrom profile file m.0 m.1
 
-  -- the files have the shape, and exactly what they give is held
-  record After (p : PartialPicture) (files : List SourcedCopy) : Type 0 where
+  -- The files have the shape. What they give is held, and nothing else but what those can have left for which memory ran out
+  record After (p : PartialPicture) (files over : List SourcedCopy) : Type 0 where
     shapes : AllByRecursion (HasShapeUnder profile p.shape) (copies_of files)
-    readings : Exactly GivesFile is_read union_read p files
-    marks : Exactly GivesMark is_marked union_marked p files
+    readings : Holds GivesFile is_read union_read p files over
+    marks : Holds GivesMark is_marked union_marked p files over
 
-  after_none : (shape : PictureShape) → After (nothing_known shape) []
-  after_none shape = record {
-    shapes = tt;
-    readings = none_exactly GivesFile is_read union_read (nothing_known shape) (contains-empty reading_cmp);
-    marks = none_exactly GivesMark is_marked union_marked (nothing_known shape) (contains-empty (mark_cmp reading_cmp));
-  }
+  after_none : (shape : PictureShape) → After (nothing_known shape) [] []
+  after_none shape =
+      let none : PartialPicture = nothing_known shape in
+      record {
+        shapes = tt;
+        readings = at_first GivesFile is_read union_read none []
+            (none_exactly GivesFile is_read union_read none (contains-empty reading_cmp));
+        marks = at_first GivesMark is_marked union_marked none []
+            (none_exactly GivesMark is_marked union_marked none (contains-empty (mark_cmp reading_cmp)));
+      }
 
-  after_one : (file : SourcedCopy) (p : PartialPicture) → IsReadUnder profile file p → After p (file ∷ [])
+  after_one : (file : SourcedCopy) (p : PartialPicture) → IsReadUnder profile file p → After p (file ∷ []) []
   after_one file p r =
-      subst (λ (q : PartialPicture). After q (file ∷ [])) (sym r.partial_is) (record {
+      let given : PartialPicture = marked file.source r.read.partial in
+      subst (λ (q : PartialPicture). After q (file ∷ []) []) (sym r.partial_is) (record {
         shapes = (
           subst (λ (s : PictureShape). HasShapeUnder profile s file.bytes) (sym (marked_shape file.source r.read.partial))
               (has_shape_read file.bytes r.are_bytes r.read r.reads),
           tt,
         );
-        readings = one_exactly GivesFile is_read union_read (marked file.source r.read.partial) file (λ reading.
+        readings = at_first GivesFile is_read union_read given (file ∷ [])
+            (one_exactly GivesFile is_read union_read given file (λ reading.
             subst (λ (rs : set.OrderedSet reading_cmp). (set.contains rs reading ≡ true) ↔ GivesFile file reading)
-            (sym (marked_readings file.source r.read.partial)) (file_gives file.bytes r.are_bytes r.read r.reads reading));
-        marks = one_exactly GivesMark is_marked union_marked (marked file.source r.read.partial) file
-            (file_gives_marks file.bytes r.are_bytes r.read r.reads file.source);
+            (sym (marked_readings file.source r.read.partial)) (file_gives file.bytes r.are_bytes r.read r.reads reading)));
+        marks = at_first GivesMark is_marked union_marked given (file ∷ [])
+            (one_exactly GivesMark is_marked union_marked given file
+            (file_gives_marks file.bytes r.are_bytes r.read r.reads file.source));
       })
 
-  after_both : (p q : PartialPicture) (files more : List SourcedCopy) → has_same_shape p q ≡ true → After p files → After q more
-      → After (union p q) (files ++ more)
-  after_both p q files more same h k = record {
-    shapes = subst (AllByRecursion (HasShapeUnder profile p.shape)) (sym (copies_of_both files more))
-        (all_append (HasShapeUnder profile p.shape) (copies_of files) (copies_of more) h.shapes
-        (subst (λ (s : PictureShape). AllByRecursion (HasShapeUnder profile s) (copies_of more)) (sym (one_shape p.shape q.shape same))
+  after_taken : (p q : PartialPicture) (files over : List SourcedCopy) (file : SourcedCopy) → has_same_shape p q ≡ true
+      → After p files over → After q (file ∷ []) []
+      → After (union p q) (files ++ file ∷ []) over
+  after_taken p q files over file same h k = record {
+    shapes = subst (AllByRecursion (HasShapeUnder profile p.shape)) (sym (copies_of_both files (file ∷ [])))
+        (all_append (HasShapeUnder profile p.shape) (copies_of files) (file.bytes ∷ []) h.shapes
+        (subst (λ (s : PictureShape). AllByRecursion (HasShapeUnder profile s) (file.bytes ∷ [])) (sym (one_shape p.shape q.shape same))
         k.shapes));
-    readings = both_exactly GivesFile is_read union_read p q files more h.readings k.readings;
-    marks = both_exactly GivesMark is_marked union_marked p q files more h.marks k.marks;
+    readings = subst (Holds GivesFile is_read union_read (union p q) (files ++ file ∷ [])) (append-nil over)
+        (both_collected GivesFile is_read union_read p q files over (file ∷ []) [] h.readings k.readings);
+    marks = subst (Holds GivesMark is_marked union_marked (union p q) (files ++ file ∷ [])) (append-nil over)
+        (both_collected GivesMark is_marked union_marked p q files over (file ∷ []) [] h.marks k.marks);
   }
 
-  after : (station : PartialPicture) (files : List SourcedCopy) → TookFiles profile station files → After station files
-  after _ _ (no_file_taken shape station is) = subst (λ (p : PartialPicture). After p []) (sym is) (after_none shape)
-  after _ _ (file_taken old new p files file took read same is) =
-      subst (λ (q : PartialPicture). After q (files ++ file ∷ [])) (sym is)
-      (after_both old p files (file ∷ []) same (after old files took) (after_one file p read))
+  after_ran_out : (p q new : PartialPicture) (files over : List SourcedCopy) (file : SourcedCopy) → IsBetween union p new (union p q)
+      → After p files over → After q (file ∷ []) []
+      → After new files (over ++ file ∷ [])
+  after_ran_out p q new files over file between h k = record {
+    shapes = subst (λ (s : PictureShape). AllByRecursion (HasShapeUnder profile s) (copies_of files))
+        (ap (λ (z : PartialPicture). z.shape) between.0) h.shapes;
+    readings = part_collected GivesFile is_read union_read p q new files over (file ∷ []) [] h.readings k.readings
+        (between_keeps GivesFile is_read union_read p q new between) (between_only GivesFile is_read union_read p q new between);
+    marks = part_collected GivesMark is_marked union_marked p q new files over (file ∷ []) [] h.marks k.marks
+        (between_keeps GivesMark is_marked union_marked p q new between) (between_only GivesMark is_marked union_marked p q new between);
+  }
+
+  after : (station : PartialPicture) (files over : List SourcedCopy) → TookFiles profile station files over → After station files over
+  after _ _ _ (no_file_taken shape station is) = subst (λ (p : PartialPicture). After p [] []) (sym is) (after_none shape)
+  after _ _ _ (file_taken old new p files over file took read same is) =
+      subst (λ (q : PartialPicture). After q (files ++ file ∷ []) over) (sym is)
+      (after_taken old p files over file same (after old files over took) (after_one file p read))
+  after _ _ _ (file_refused old new files over took is) =
+      subst (λ (q : PartialPicture). After q files over) (sym is) (after old files over took)
+  after _ _ _ (file_ran_out old new p files over file took read between) =
+      after_ran_out old p new files over file between (after old files over took) (after_one file p read)
 
   -- one of these files gives it
   of_bytes : (files : List SourcedCopy) (r : Reading) → ReadingsUnder profile (copies_of files) r
@@ -101,52 +131,85 @@ module _ (profile : Profile) where
       → ReadingsUnder profile (copies_of files) r
   to_bytes files r (file, c, g) = (file.bytes, in_map (λ (file : SourcedCopy). file.bytes) files file c, g)
 
+-- what files give of which each is among others, these give too
+given_too : {M : Type 0} (Gives : SourcedCopy → M → Type 0) (contains : PartialPicture → M → Bool)
+    (union_contains : (p q : PartialPicture) (m : M) → contains (union p q) m ≡ (contains p m || contains q m))
+    (over files : List SourcedCopy) → AreAmong (λ file other. file ≡ other) over files
+    → (m : M) → GivenBy Gives contains union_contains over m → GivenBy Gives contains union_contains files m
+given_too Gives contains union_contains over files among m (file, c, g) =
+    let there = among file c in
+    (there.0, there.1, subst (λ x. Gives x m) there.2 g)
+
 pub took_files_holds_exactly : TookFilesHoldsExactly
-took_files_holds_exactly profile station files took =
-    let h = after profile station files took in
+took_files_holds_exactly profile station files (over, took, among) =
+    let h = after profile station files over took in
+    let readings = in_the_end (GivesFile profile) is_read union_read station files over h.readings
+    (given_too (GivesFile profile) is_read union_read over files among) in
+    let marks = in_the_end (GivesMark profile) is_marked union_marked station files over h.marks
+    (given_too (GivesMark profile) is_marked union_marked over files among) in
     record {
       are_files = h.shapes;
-      readings = λ r. (λ x. to_bytes profile files r ((h.readings r).0 x), λ g. (h.readings r).1 (of_bytes profile files r g));
-      sources = λ r source. h.marks (r, source);
+      readings = λ r. (λ x. to_bytes profile files r ((readings r).0 x), λ g. (readings r).1 (of_bytes profile files r g));
+      sources = λ r source. marks (r, source);
     }
 
 -- Files by line --------------------------------------------------------------------------------------------------------
 
-strictly : (station : PartialPicture) (files : List SourcedCopy) → TookFiles Wide station files → AllByRecursion IsByLine (copies_of files)
-    → TookFiles Strict station files
-strictly _ _ (no_file_taken shape station is) lines = no_file_taken shape station is
-strictly _ _ (file_taken old new p files file took read same is) lines =
+-- of files by line, with one more behind them
+before_last : (files : List SourcedCopy) (file : SourcedCopy) → AllByRecursion IsByLine (copies_of (files ++ file ∷ []))
+    → AllByRecursion IsByLine (copies_of files) × IsByLine file.bytes
+before_last files file lines =
     let parts : AllByRecursion IsByLine (copies_of files ++ file.bytes ∷ []) =
-    subst (AllByRecursion IsByLine) (copies_of_both files (file ∷ [])) lines in
-    let line : IsByLine file.bytes =
-    all_at IsByLine (copies_of files ++ file.bytes ∷ []) file.bytes parts
-    (Contains-append_right (copies_of files) (file.bytes ∷ []) file.bytes (is_first file.bytes [])) in
-    file_taken old new p files file
-    (strictly old files took (all_prefix IsByLine (copies_of files) (file.bytes ∷ []) parts))
-    (record {
-      are_bytes = read.are_bytes;
-      read = read.read;
-      reads = read_as_copy file.bytes line read.read read.reads;
-      partial_is = read.partial_is;
-    }) same is
+    subst (AllByRecursion IsByLine) (copies_of_both files (file ∷ [])) lines in (
+      all_prefix IsByLine (copies_of files) (file.bytes ∷ []) parts,
+      all_at IsByLine (copies_of files ++ file.bytes ∷ []) file.bytes parts
+          (Contains-append_right (copies_of files) (file.bytes ∷ []) file.bytes (is_first file.bytes [])),
+    )
+
+read_strictly : (file : SourcedCopy) (p : PartialPicture) → IsByLine file.bytes → IsReadUnder Wide file p → IsReadUnder Strict file p
+read_strictly file p line read = record {
+  are_bytes = read.are_bytes;
+  read = read.read;
+  reads = read_as_copy file.bytes line read.read read.reads;
+  partial_is = read.partial_is;
+}
+
+strictly : (station : PartialPicture) (files over : List SourcedCopy) → TookFiles Wide station files over
+    → AllByRecursion IsByLine (copies_of files) → AllByRecursion IsByLine (copies_of over)
+    → TookFiles Strict station files over
+strictly _ _ _ (no_file_taken shape station is) lines more = no_file_taken shape station is
+strictly _ _ _ (file_taken old new p files over file took read same is) lines more =
+    let parts = before_last files file lines in
+    file_taken old new p files over file (strictly old files over took parts.0 more) (read_strictly file p parts.1 read) same is
+strictly _ _ _ (file_refused old new files over took is) lines more =
+    file_refused old new files over (strictly old files over took lines more) is
+strictly _ _ _ (file_ran_out old new p files over file took read between) lines more =
+    let parts = before_last over file more in
+    file_ran_out old new p files over file (strictly old files over took lines parts.0) (read_strictly file p parts.1 read) between
 
 pub files_by_line_are_collected : StrictFilesAreCollected → FilesByLineAreCollected
-files_by_line_are_collected law station files took lines known = law station files (strictly station files took lines) known
+files_by_line_are_collected law station files over took lines more known =
+    law station files over (strictly station files over took lines more) known
+
+-- where memory ran out for none
+pub took_alone : (profile : Profile) (station : PartialPicture) (files : List SourcedCopy) → TookFiles profile station files []
+    → TookFilesFrom profile station files
+took_alone profile station files took = ([], took, λ file c. absurd (none_in file c))
 
 -- What `settle_files` gives --------------------------------------------------------------------------------------------
 
 record Read (source : Option ℕ) (shape : PictureShape) (files : List (List ℕ)) (given : List PartialPicture) : Type 0 where
   files_given : List (List ℕ)
   of_shape : AreFilesOfShape shape files files_given
-  took : (old : PartialPicture) (before : List SourcedCopy) → old.shape ≡ shape → TookFiles Wide old before
-      → TookFiles Wide (fold union old given) (before ++ under source files_given)
+  took : (old : PartialPicture) (before : List SourcedCopy) → old.shape ≡ shape → TookFiles Wide old before []
+      → TookFiles Wide (fold union old given) (before ++ under source files_given) []
 
 read_files : (source : Option ℕ) (shape : PictureShape) (files : List (List ℕ)) (given : List PartialPicture)
     → Give source shape files given → Read source shape files given
 read_files source shape _ _ no_file = record {
   files_given = [];
   of_shape = none_left;
-  took = λ old before e h. subst (λ (xs : List SourcedCopy). TookFiles Wide old xs) (sym (append-nil before)) h;
+  took = λ old before e h. subst (λ (xs : List SourcedCopy). TookFiles Wide old xs []) (sym (append-nil before)) h;
 }
 read_files source shape _ _ (gives file read files given low reads is rest) =
     let p : PartialPicture = marked source read.partial in
@@ -159,10 +222,10 @@ read_files source shape _ _ (gives file read files given low reads is rest) =
           let same : has_same_shape old p ≡ true =
           subst (λ (s : PictureShape). same_shape old.shape s ≡ true) (sym (marked_shape source read.partial ∙ is ∙ sym e))
           (shape_itself old.shape) in
-          subst (λ (xs : List SourcedCopy). TookFiles Wide (fold union (union old p) given) xs)
+          subst (λ (xs : List SourcedCopy). TookFiles Wide (fold union (union old p) given) xs [])
           (append_assoc before (one ∷ []) (under source r.files_given))
           (r.took (union old p) (before ++ one ∷ []) e
-          (file_taken old (union old p) p before one h
+          (file_taken old (union old p) p before [] one h
           (record { are_bytes = low; read = read; reads = reads; partial_is = refl }) same refl));
     }
 read_files source shape _ _ (gives_nothing file files given not rest) =
@@ -177,12 +240,13 @@ files_alone source (file ∷ files) = ap (λ fs. file ∷ fs) (files_alone sourc
 pub files_are_held : FilesAreHeld
 files_are_held source shape files station t =
     let r = read_files source shape files t.given t.give in
-    let took : TookFiles Wide station (under source r.files_given) =
-    subst (λ (p : PartialPicture). TookFiles Wide p (under source r.files_given)) (sym t.union_is)
+    let took : TookFiles Wide station (under source r.files_given) [] =
+    subst (λ (p : PartialPicture). TookFiles Wide p (under source r.files_given) []) (sym t.union_is)
     (r.took (nothing_known shape) [] refl (no_file_taken shape (nothing_known shape) refl)) in
     record {
       taken = r.files_given;
       of_shape = r.of_shape;
       read = took;
-      exactly = took_files_holds_exactly Wide station (under source r.files_given) took;
+      exactly = took_files_holds_exactly Wide station (under source r.files_given)
+          (took_alone Wide station (under source r.files_given) took);
     }

@@ -1,9 +1,10 @@
 -- What the files of searched copies settle.
 use Rattle.std.proofs.Common.{ℕ, List, ◌++◌}
+use Rattle.jls_marker.specs.declared.profile.Profile.TheVariants.{Wide}
 use Rattle.jls_search.specs.Search.{files_of}
 use Rattle.jls_splice_laws.specs.SpliceLaws.{SearchedSplicesGiveNoOther}
 use Rattle.jls_splice_laws.specs.SplicingLaws.{under, SplicedCopiesGiveNoOther}
-use Rattle.jls_splice_laws.proofs.HeldFiles.{files_alone, files_are_held}
+use Rattle.jls_splice_laws.proofs.HeldFiles.{files_alone, files_are_held, took_alone}
 
 pub spliced_copies_give_no_other : SearchedSplicesGiveNoOther → SplicedCopiesGiveNoOther
 spliced_copies_give_no_other never ceiling copies parts source station w pic is file whole within splice settled =
@@ -15,4 +16,5 @@ spliced_copies_give_no_other never ceiling copies parts source station w pic is 
       came_to = w.searched;
       shape_is = w.shape_is;
       of_shape = held.of_shape;
-    }) pic is file whole within splice).1.wide station (under source held.taken, held.read, files_alone source held.taken) settled
+    }) pic is file whole within splice).1.wide station
+    (under source held.taken, took_alone Wide station (under source held.taken) held.read, files_alone source held.taken) settled

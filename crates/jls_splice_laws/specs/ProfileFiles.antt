@@ -14,7 +14,7 @@ use Rattle.jls_copy_laws.specs.Gives.{GivesReading}
 use Rattle.jls_headline.specs.Collected.{Knowledge, Collected}
 use Rattle.jls_headline.specs.Sources.{SourcedCopy, copies_of}
 use Rattle.jls_headline.specs.Stations.{HasShape}
-use Rattle.jls_headline.specs.TookFiles.{TookFiles}
+use Rattle.jls_headline.specs.TookFiles.{TookFiles, TookFilesFrom}
 use Rattle.jls_copy.specs.declared.end.End.TheVariants.{Header}
 use Rattle.jls_marker.specs.declared.fault.MarkerFault.TheVariants as fault
 
@@ -49,7 +49,7 @@ pub record HoldsExactlyBy (profile : Profile) (p : PartialPicture) (files : List
 -- what public calls came to that took files under a profile does so
 abbrev pub TookFilesHoldsExactly : Type 0
 TookFilesHoldsExactly =
-    (profile : Profile) (station : PartialPicture) (files : List SourcedCopy) → TookFiles profile station files
+    (profile : Profile) (station : PartialPicture) (files : List SourcedCopy) → TookFilesFrom profile station files
     → HoldsExactlyBy profile station files
 
 -- Under the strict profile, a file has the frame and gives the readings that it has and gives as a copy
@@ -84,5 +84,6 @@ FilesByLineGiveTheSame =
 -- a station that took files by line under the wide profile is collected from copies, whatever else is known
 abbrev pub FilesByLineAreCollected : Type 0
 FilesByLineAreCollected =
-    (station : PartialPicture) (files : List SourcedCopy) → TookFiles Wide station files → AllByRecursion IsByLine (copies_of files)
-    → (known : Knowledge) → Collected known station files []
+    (station : PartialPicture) (files over : List SourcedCopy) → TookFiles Wide station files over
+    → AllByRecursion IsByLine (copies_of files) → AllByRecursion IsByLine (copies_of over)
+    → (known : Knowledge) → Collected known station files over

@@ -10,7 +10,7 @@ use Rattle.jls_write.specs.WholePictures.{IsPicture}
 use Rattle.jls_headline.specs.Stations.{HoldsExactly}
 use Rattle.jls_headline.specs.Sources.{SourcedCopy, copies_of}
 use Rattle.jls_headline.specs.Collected.{CollectedFrom}
-use Rattle.jls_headline.specs.TookFiles.{TookFiles}
+use Rattle.jls_headline.specs.TookFiles.{TookFilesFrom}
 use Rattle.jls_headline.specs.Damaged.{EachLineSurvives}
 use Rattle.jls_diff.specs.Parts.{Part, IsSplice}
 use Rattle.jls_search.specs.Faultless.{IsSought, IsWithin}
@@ -24,7 +24,7 @@ ReadFiles station files = (copies : List SourcedCopy) × CollectedFrom station c
 
 -- public calls that read under the wide profile did
 abbrev pub ReadWideFiles : PartialPicture → List (List ℕ) → Type 0
-ReadWideFiles station files = (read : List SourcedCopy) × TookFiles Wide station read × (copies_of read ≡ files)
+ReadWideFiles station files = (read : List SourcedCopy) × TookFilesFrom Wide station read × (copies_of read ≡ files)
 
 -- Where calls read these files for a station, under the wide profile or all of them as copies: not each line of it is settled, or they are
 -- the picture of this undamaged file. As a copy it is read by line

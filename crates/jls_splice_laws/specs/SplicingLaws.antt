@@ -1,5 +1,5 @@
 -- The laws of stations that took the copies of a picture and the splices that a search found.
-use Rattle.std.specs.Prelude.{◌≡◌, ℕ, ◌<◌, false, List, ◌++◌, length, map, Option}
+use Rattle.std.specs.Prelude.{◌≡◌, ℕ, ◌<◌, false, List, [], ◌++◌, length, map, Option}
 use Rattle.jls_values.specs.Shape.{PictureShape}
 use Rattle.jls_partial.specs.Partial.{PartialPicture, nothing_known}
 use Rattle.jls_partial.specs.Status.{IsSettled}
@@ -26,7 +26,7 @@ under source files = map (sourced_copy source) files
 pub record HoldsFiles (source : Option ℕ) (shape : PictureShape) (files : List (List ℕ)) (station : PartialPicture) : Type 0 where
   pub taken : List (List ℕ)
   pub of_shape : AreFilesOfShape shape files taken
-  pub read : TookFiles Wide station (under source taken)
+  pub read : TookFiles Wide station (under source taken) []
   pub exactly : HoldsExactlyBy Wide station (under source taken)
 
 -- what `settle_files` gives does so
