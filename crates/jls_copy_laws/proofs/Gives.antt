@@ -12,12 +12,13 @@ use Rattle.jls_copy.specs.ScanData.{ClosedPiece, closed_bytes}
 use Rattle.jls_copy.specs.Numbers.{PieceNumber, Interval, BeyondLast, number_after, given_last, numbers_after}
 use Rattle.jls_copy.specs.Course.{LastClosed, by_input, by_marker, CopyUnit, segment, scan, segment_unit_bytes, unit_bytes}
 use Rattle.jls_copy.specs.Course.{Course, IsCourse}
-use Rattle.jls_copy.specs.Pieces.{FoundPiece, pieces_from, unit_pieces, scans_in, pieces_in, pieces, piece_begun}
-use Rattle.jls_copy.specs.CutPieces.{is_cut, closed_by_input, last_piece, cut_pieces}
+use Rattle.jls_copy.specs.Pieces.{FoundPiece, Lines, IsOutcome, readings_of, pieces_from, unit_pieces, scans_in, pieces_in, pieces}
+use Rattle.jls_copy.specs.Pieces.{piece_begun}
+use Rattle.jls_copy.specs.CutPieces.{is_cut, closed_by_input, last_piece, cut_pieces, IsHeadAt}
+use Rattle.jls_copy.specs.Prefixes.{CourseHasReading}
 use Rattle.jls_copy.proofs.ByLine.{strict_pieces_are_by_line}
 use Rattle.jls_copy_laws.specs.CopyScans.{ScanPiece, ScanWithData, scans_of_unit, is_by_input, HasScans}
 use Rattle.jls_copy_laws.specs.CopyLaws.{OneListOfScans, ReadingsAreOfTheCourse}
-use Rattle.jls_copy_laws.specs.CourseGives.{FoundPieceGives, FoundHeadGives, CourseGives}
 use Rattle.jls_copy_laws.specs.Gives.{PieceGives, ScanGives, GivesReading}
 use Rattle.jls_copy_laws.proofs.ByLine.{reads_by_line, reads_as_piece, head_by_line, head_as_piece}
 use Rattle.jls_copy_laws.proofs.CopyScans.{course_has_scans, one_list_of_scans}
@@ -161,21 +162,30 @@ cut_found index s number given at (c ∷ closed) last cut n piece m is =
 
 -- What a piece gives -----------------------------------------------------------------------------------------------
 
+-- a piece of a course gives the reading: under its number it reads as lines that have it
+abbrev pub FoundPieceGives : FoundPiece → Reading → Type 0
+FoundPieceGives p r = (lines : List (List ℕ)) × IsOutcome p (Lines lines) × Contains (readings_of p (Lines lines)) r
+
+-- the head of a piece of a course gives it
+abbrev pub FoundHeadGives : FoundPiece → Reading → Type 0
+FoundHeadGives p r =
+    (head : List (List ℕ)) × IsHeadAt p.plan p.number p.bytes head × Contains (readings_of p (Lines head)) r
+
 -- a piece that is found and gives the reading has the number of an interval, and gives it as a piece of the scan
 piece_gives : (index : ℕ) (s : Scan) (n : PieceNumber) (offset : ℕ) (piece : ScanPiece) (r : Reading)
     → s.by_sample ≡ false → FoundPieceGives (found index s n offset piece.bytes) r
     → (k : ℕ) × (n ≡ Interval k) × PieceGives s k piece r
 piece_gives index s (Interval k) offset piece r line g =
-    (k, refl, (g.lines, inl (reads_by_line s k line piece.bytes g.lines g.reads), g.among))
-piece_gives index s (BeyondLast k) offset piece r line g = absurd g.reads
+    (k, refl, (g.0, inl (reads_by_line s k line piece.bytes g.0 g.1), g.2))
+piece_gives index s (BeyondLast k) offset piece r line g = absurd g.1
 
 -- and so does one whose head gives it, where it is cut
 head_gives : (index : ℕ) (s : Scan) (n : PieceNumber) (offset : ℕ) (piece : ScanPiece) (r : Reading) → piece.ended_by_input ≡ true
     → s.by_sample ≡ false → FoundHeadGives (found index s n offset piece.bytes) r
     → (k : ℕ) × (n ≡ Interval k) × PieceGives s k piece r
 head_gives index s (Interval k) offset piece r is line g =
-    (k, refl, (g.head, inr (is, head_by_line s k line piece.bytes g.head g.is_head), g.among))
-head_gives index s (BeyondLast k) offset piece r is line g = absurd (none_in r g.among)
+    (k, refl, (g.0, inr (is, head_by_line s k line piece.bytes g.0 g.1), g.2))
+head_gives index s (BeyondLast k) offset piece r is line g = absurd (none_in r g.2)
 
 -- Units ------------------------------------------------------------------------------------------------------------
 
@@ -290,14 +300,14 @@ cut_tells us r index at u among is =
     (fed.0, in_flat_map scans_of_unit us u fed.0 among fed.1, fed.2))
 
 -- what a course gives whose pieces are by line is given by a scan of its units
-pub units_give : (c : Course) (r : Reading) → AllByRecursion IsByLine (pieces c) → CourseGives c r
+pub units_give : (c : Course) (r : Reading) → AllByRecursion IsByLine (pieces c) → CourseHasReading c r
     → (d : ScanWithData) × Contains (flat_map scans_of_unit c.units) d × ScanGives d r
-units_give c r lines (inl (p, m, g)) =
+units_give c r by_line (inl (p, m, lines, reads, among)) =
     let i = in_some_unit c.units 0 c.begin p m in
-    let fed = unit_gives i.2 i.3 i.0 p r (all_at IsByLine (pieces c) p lines m) i.4 g in
+    let fed = unit_gives i.2 i.3 i.0 p r (all_at IsByLine (pieces c) p by_line m) i.4 (lines, reads, among) in
     (fed.0, in_flat_map scans_of_unit c.units i.0 fed.0 i.1 fed.1, fed.2)
-units_give c r lines (inr (p, m, g)) =
-    all_at (HeadTells c.units r) (cut_pieces c) p each m (all_at IsByLine (cut_pieces c) p (cut_by_line c lines) m) g
+units_give c r by_line (inr (p, m, head, is_head, among)) =
+    all_at (HeadTells c.units r) (cut_pieces c) p each m (all_at IsByLine (cut_pieces c) p (cut_by_line c by_line) m) (head, is_head, among)
   where
     each : AllByRecursion (HeadTells c.units r) (cut_pieces c)
     each =
@@ -306,7 +316,7 @@ units_give c r lines (inr (p, m, g)) =
 
 -- what a scan of a unit gives is given by a piece of the course, or by the head of the one that is cut
 by_unit_of : (copy : List ℕ) (c : Course) (r : Reading) → IsCourse copy c → (u : CopyUnit) → Contains c.units u
-    → (d : ScanWithData) → Contains (scans_of_unit u) d → ScanGives d r → CourseGives c r
+    → (d : ScanWithData) → Contains (scans_of_unit u) d → ScanGives d r → CourseHasReading c r
 by_unit_of copy c r is (segment fill code payload) among d here g = absurd (none_in d here)
 by_unit_of copy c r is (scan fill code payload s closed last closing) among d here g =
     by (subst (λ x. ScanGives x r) (sym (only_member d (scan_with s closed last closing) here)) g)
@@ -321,14 +331,14 @@ by_unit_of copy c r is (scan fill code payload s closed last closing) among d he
     closed_so (by_input n) e = refl
     closed_so by_marker e = absurd cc
 
-    by : ScanGives (scan_with s closed last closing) r → CourseGives c r
+    by : ScanGives (scan_with s closed last closing) r → CourseHasReading c r
     by (k, piece, m, (lines, inl reads, line)) =
         let stands = unit_stands c.units 0 c.begin u among in
         let begin = stands.1 + length (segment_unit_bytes fill code payload) in
         let f = number_found stands.0 s (Interval 0) 0 begin closed last (is_by_input closing) (Interval k) piece m in
         let p = found stands.0 s (Interval k) f.0 piece.bytes in
         let own = all_at IsByLine (pieces c) p by_line (stands.2 p f.1) in
-        inl (p, stands.2 p f.1, record { lines = lines; reads = reads_as_piece s k own piece.bytes lines reads; among = line })
+        inl (p, stands.2 p f.1, lines, reads_as_piece s k own piece.bytes lines reads, line)
     by (k, piece, m, (lines, inr (cut, head), line)) =
         let units = units_of copy c u is among in
         let closes = (cut_found 0 s (Interval 0) 0 0 closed last (is_by_input closing) (Interval k) piece m cut).1 in
@@ -337,11 +347,11 @@ by_unit_of copy c r is (scan fill code payload s closed last closing) among d he
         let f = cut_found stands.0 s (Interval 0) 0 begin closed last (is_by_input closing) (Interval k) piece m cut in
         let p = found stands.0 s (Interval k) f.0 piece.bytes in
         let own = all_at IsByLine (cut_pieces c) p (cut_by_line c by_line) (stands.2 p f.2) in
-        inr (p, stands.2 p f.2, record { head = lines; is_head = head_as_piece s k own piece.bytes lines head; among = line })
+        inr (p, stands.2 p f.2, lines, head_as_piece s k own piece.bytes lines head, line)
 
 -- what a scan of the units of a copy's course gives is given by the course
 pub given_by_units : (copy : List ℕ) (c : Course) (r : Reading) → IsCourse copy c → (d : ScanWithData)
-    → Contains (flat_map scans_of_unit c.units) d → ScanGives d r → CourseGives c r
+    → Contains (flat_map scans_of_unit c.units) d → ScanGives d r → CourseHasReading c r
 given_by_units copy c r is d m g =
     let from = of_flat_map scans_of_unit c.units d m in by_unit_of copy c r is from.0 from.1 d from.2 g
 
@@ -352,13 +362,15 @@ pub by_course : (has : (copy : List ℕ) (c : Course) (shape : PictureShape) →
     → HasScans copy shape (flat_map scans_of_unit c.units)) (one : OneListOfScans) → ReadingsAreOfTheCourse
 by_course has one copy c shape r low is framed = (there, back)
   where
-    there : GivesReading copy r → CourseGives c r
+    there : GivesReading copy r → CourseHasReading c r
     there (shape', scans, scanned, d, m, g) =
         let same = (one copy shape' shape scans (flat_map scans_of_unit c.units) scanned (has copy c shape low is framed)).1 in
         given_by_units copy c r is d (subst (λ ds. Contains ds d) same m) g
 
-    back : CourseGives c r → GivesReading copy r
-    back g = let fed = units_give c r (strict_pieces_are_by_line copy c is) g in (shape, flat_map scans_of_unit c.units, has copy c shape low is framed, fed.0, fed.1, fed.2)
+    back : CourseHasReading c r → GivesReading copy r
+    back g =
+        let fed = units_give c r (strict_pieces_are_by_line copy c is) g in
+        (shape, flat_map scans_of_unit c.units, has copy c shape low is framed, fed.0, fed.1, fed.2)
 
 pub readings_are_of_the_course : ReadingsAreOfTheCourse
 readings_are_of_the_course = by_course course_has_scans one_list_of_scans

@@ -5,8 +5,8 @@ use Rattle.jls_values.specs.Shape.{PictureShape}
 use Rattle.jls_partial.specs.Reading.{Reading}
 use Rattle.jls_marker.specs.SegmentLaws.{AreBytes}
 use Rattle.jls_copy.specs.Course.{Course, IsCourse}
+use Rattle.jls_copy.specs.Prefixes.{CourseHasReading}
 use Rattle.jls_copy_laws.specs.CopyScans.{ScanWithData, scans_of_unit, HasScans}
-use Rattle.jls_copy_laws.specs.CourseGives.{CourseGives}
 use Rattle.jls_copy_laws.specs.Gives.{GivesReading}
 
 -- the course takes a frame of this shape, and its scans are these
@@ -26,7 +26,7 @@ abbrev pub OneListOfScans : Type 0
 OneListOfScans = (copy : List ℕ) (shape shape' : PictureShape) (scans scans' : List ScanWithData)
     → HasScans copy shape scans → HasScans copy shape' scans' → (shape ≡ shape') × (scans ≡ scans')
 
--- if the course of bytes takes a frame, they give exactly the readings that the course gives
+-- if the course of bytes takes a frame, they give exactly the readings that the course has
 abbrev pub ReadingsAreOfTheCourse : Type 0
 ReadingsAreOfTheCourse = (copy : List ℕ) (c : Course) (shape : PictureShape) (r : Reading) → AreBytes copy → IsCourse copy c
-    → c.headers.frame ≡ Some shape → GivesReading copy r ↔ CourseGives c r
+    → c.headers.frame ≡ Some shape → GivesReading copy r ↔ CourseHasReading c r

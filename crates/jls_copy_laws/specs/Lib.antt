@@ -2,5 +2,4 @@ pub mod SegmentSets
 pub mod SegmentLaws
 pub mod CopyScans
 pub mod Gives
-pub mod CourseGives
 pub mod CopyLaws

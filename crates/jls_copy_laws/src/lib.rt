@@ -3,9 +3,9 @@
 //! Each law is a function that changes nothing and whose contract is the law. They say that the reader of copies gives just that.
 //!
 //! Definitions and laws, and no other code. The definitions say in relations what a copy gives, for a reader who knows the standards:
-//! `SegmentSets` (what a marker segment sets), `CopyScans` (the units and the scans of a copy), `Gives` (its readings). `CourseGives` says
-//! what a course gives. The laws say that both are the same (`SegmentLaws`, `CopyLaws`). The proofs, bottom up: `PayloadFields` and
-//! `ScanBegins`, `SegmentSets`, `CopyScans` (units), `CutOff` (the piece that the input's end cuts off), `Gives`.
+//! `SegmentSets` (what a marker segment sets), `CopyScans` (the units and the scans of a copy), `Gives` (its readings). The laws say that
+//! the course of a copy has the same (`SegmentLaws`, `CopyLaws`). The proofs, bottom up: `PayloadFields` and `ScanBegins`, `SegmentSets`,
+//! `CopyScans` (units), `CutOff` (the piece that the input's end cuts off), `Gives`.
 #![tactic(auto)]
 
 mod laws;

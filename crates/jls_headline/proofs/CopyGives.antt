@@ -1,53 +1,31 @@
 -- What is read of a copy is what the copy gives.
 use Rattle.std.proofs.Common.{◌≡◌, ℕ, ◌<◌, true, List, Option, Some, sym, ap, ◌∙◌}
-use Rattle.std.proofs.Common.{inl, inr}
 use Rattle.std.specs.Prelude.{◌↔◌}
-use Rattle.std.specs.List.{AllByRecursion, Contains}
+use Rattle.std.specs.List.{AllByRecursion}
 use Rattle.jls_values.specs.OrderedSet as set
 use Rattle.jls_values.specs.Shape.{PictureShape}
 use Rattle.jls_partial.specs.Reading.{Reading}
 use Rattle.jls_partial.specs.Partial.{PartialPicture}
 use Rattle.jls_copy.specs.CopyReads.{CopyReads}
 use Rattle.jls_copy.specs.ReadCopy.{ReadCopy}
-use Rattle.jls_copy.specs.Pieces.{FoundPiece, PieceOutcome, AreOutcomes, readings}
-use Rattle.jls_copy_laws.specs.CourseGives.{FoundPieceGives, CourseGives}
 use Rattle.jls_copy_laws.specs.Gives.{GivesReading}
 use Rattle.jls_copy_laws.proofs.CopyScans.{course_has_scans}
 use Rattle.jls_copy_laws.proofs.Gives.{readings_are_of_the_course}
 use Rattle.jls_headline.specs.Stations.{HasShape}
 use Rattle.jls_copy.specs.Course.{Course}
 use Rattle.jls_copy.specs.Prefixes.{CourseHasReading}
-use Rattle.jls_copy.proofs.ReadGives.{piece_listed, held_is_given, given_is_held}
+use Rattle.jls_copy.proofs.ReadGives.{held_is_given, given_is_held}
 
 abbrev some_shape : PictureShape → Option PictureShape
 some_shape shape = Some shape
-
--- the readings of pieces that have these outcomes are what the pieces give
-pub listed : (ps : List FoundPiece) (os : List PieceOutcome) (r : Reading) → AreOutcomes ps os → Contains (readings ps os) r
-    → (p : FoundPiece) × Contains ps p × FoundPieceGives p r
-listed ps os r are c = let g = piece_listed ps os r are c in
-    (g.0, g.1, record { lines = g.2.0; reads = g.2.1; among = g.2.2 })
-
--- What a course gives ---------------------------------------------------------------------------------------------
-
-course_gives_it : (c : Course) (r : Reading) → CourseHasReading c r → CourseGives c r
-course_gives_it c r (inl (p, m, lines, reads, has)) = inl (p, m, record { lines = lines; reads = reads; among = has })
-course_gives_it c r (inr (p, m, head, is, has)) = inr (p, m, record { head = head; is_head = is; among = has })
-
-gives_it : (c : Course) (r : Reading) → CourseGives c r → CourseHasReading c r
-gives_it c r (inl (p, m, g)) = inl (p, m, g.lines, g.reads, g.among)
-gives_it c r (inr (p, m, g)) = inr (p, m, g.head, g.is_head, g.among)
 
 -- the frame of what was read is that of the course
 frame_is : (copy : List ℕ) (read : ReadCopy) (reads : CopyReads copy read) → reads.course.headers.frame ≡ Some read.partial.shape
 frame_is copy read reads = reads.framed ∙ ap (λ (p : PartialPicture). some_shape p.shape) (sym reads.partial_is)
 
 course_gives : (copy : List ℕ) → AllByRecursion (λ b. b < 256) copy → (read : ReadCopy) (reads : CopyReads copy read) (r : Reading)
-    → (set.contains read.partial.readings r ≡ true) ↔ CourseGives reads.course r
-course_gives copy low read reads r = (
-  λ h. course_gives_it reads.course r (held_is_given copy read reads r h),
-  λ g. given_is_held copy read reads low r (gives_it reads.course r g),
-)
+    → (set.contains read.partial.readings r ≡ true) ↔ CourseHasReading reads.course r
+course_gives copy low read reads r = (held_is_given copy read reads r, given_is_held copy read reads low r)
 
 -- what was read of a copy is what the copy gives
 pub copy_gives : (copy : List ℕ) → AllByRecursion (λ b. b < 256) copy → (read : ReadCopy) → CopyReads copy read → (r : Reading)

@@ -7,6 +7,8 @@ use Rattle.jls_values.specs.Shape.{PictureShape}
 use Rattle.jls_partial.specs.Reading.{Reading}
 use Rattle.jls_partial.specs.Partial.{PartialPicture}
 use Rattle.jls_copy.specs.Pieces.{FoundPiece, PieceOutcome, Lines, pieces, AreOutcomes, readings_of, readings}
+use Rattle.jls_copy.specs.Prefixes.{CourseHasReading}
+use Rattle.jls_copy.proofs.ReadGives.{piece_listed}
 use Rattle.jls_write.specs.Picture.{WholePicture, line_of, picture_of}
 use Rattle.jls_write.specs.WrittenFile.{written_file}
 use Rattle.jls_file_laws.specs.Covering.{AreThePicture}
@@ -14,14 +16,12 @@ use Rattle.jls_file_laws.specs.FileLaw.{IsWritable, ReadsBack}
 use Rattle.jls_file_laws.proofs.Covering.{contains_the_picture}
 use Rattle.jls_file_laws.proofs.FileRead.{file_law}
 use Rattle.jls_file_laws.proofs.WrittenBytes.{written_bytes}
-use Rattle.jls_copy_laws.specs.CourseGives.{FoundPieceGives, CourseGives}
 use Rattle.jls_copy_laws.specs.Gives.{GivesReading}
 use Rattle.jls_copy_laws.proofs.CopyScans.{course_has_scans}
-use Rattle.jls_copy_laws.proofs.Gives.{readings_are_of_the_course}
+use Rattle.jls_copy_laws.proofs.Gives.{FoundPieceGives, readings_are_of_the_course}
 use Rattle.jls_write.specs.WholePictures.{IsLineIn, IsComponentIn, IsPicture, IsWholePicture}
 use Rattle.jls_headline.specs.ReadsAs.{ReadsAs, ReadsAsOnly, FilesReadBack, FilesReadAs}
 use Rattle.jls_copy_laws.proofs.Members.{none_in, first_or_rest}
-use Rattle.jls_headline.proofs.CopyGives.{listed}
 use Rattle.jls_headline.proofs.Pictures.{heights, files_read_as_one}
 
 -- A picture is one that can be written ---------------------------------------------------------------------------
@@ -60,23 +60,24 @@ with_own (q ∷ ps) (o ∷ os) p r are c g =
     elim (first_or_rest p q ps c) [
       | inl e ↦ (
           let h : FoundPieceGives q r = subst (λ x. FoundPieceGives x r) (sym e) g in
-          (Lines h.lines ∷ os, (h.reads, are.1), Contains-append_left (readings_of q (Lines h.lines)) (readings ps os) r h.among))
+          (Lines h.0 ∷ os, (h.1, are.1), Contains-append_left (readings_of q (Lines h.0)) (readings ps os) r h.2))
       | inr later ↦ (
           let m = with_own ps os p r are.1 later g in
           (o ∷ m.0, (are.0, m.1), Contains-append_right (readings_of q o) (readings ps m.0) r m.2))
     ]
 
 module _ (pic : WholePicture) (file : List ℕ) (rs : List Reading) (w : ReadsBack pic file rs) where
-  given_is_listed : (r : Reading) → CourseGives w.course r → Contains rs r
-  given_is_listed r (inl (p, c, g)) =
-      let m = with_own (pieces w.course) w.outcomes p r w.some_outcomes c g in
+  given_is_listed : (r : Reading) → CourseHasReading w.course r → Contains rs r
+  given_is_listed r (inl (p, c, lines, reads, among)) =
+      let m = with_own (pieces w.course) w.outcomes p r w.some_outcomes c (lines, reads, among) in
       subst (λ xs. Contains xs r) (w.gives m.0 m.1).0 m.2
-  given_is_listed r (inr (p, c, g)) = absurd (none_in p (subst (λ ps. Contains ps p) w.uncut c))
+  given_is_listed r (inr (p, c, head, is_head, among)) = absurd (none_in p (subst (λ ps. Contains ps p) w.uncut c))
 
-  listed_is_given : (r : Reading) → Contains rs r → CourseGives w.course r
+  listed_is_given : (r : Reading) → Contains rs r → CourseHasReading w.course r
   listed_is_given r c =
-      inl (listed (pieces w.course) w.outcomes r w.some_outcomes
-      (subst (λ xs. Contains xs r) (sym (w.gives w.outcomes w.some_outcomes).0) c))
+      let g = piece_listed (pieces w.course) w.outcomes r w.some_outcomes
+      (subst (λ xs. Contains xs r) (sym (w.gives w.outcomes w.some_outcomes).0) c) in
+      inl (g.0, g.1, g.2.0, g.2.1, g.2.2)
 
   reads_as : AllByRecursion (λ b. b < 256) file → AreThePicture pic rs → ReadsAs file pic
   reads_as low are = record {
@@ -87,7 +88,7 @@ module _ (pic : WholePicture) (file : List ℕ) (rs : List Reading) (w : ReadsBa
     );
   }
     where
-      by_course : (r : Reading) → GivesReading file r ↔ CourseGives w.course r
+      by_course : (r : Reading) → GivesReading file r ↔ CourseHasReading w.course r
       by_course r = readings_are_of_the_course file w.course pic.shape r low w.is_course w.framed
 
 -- The files of a station's picture -------------------------------------------------------------------------------

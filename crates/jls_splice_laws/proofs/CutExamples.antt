@@ -191,5 +191,5 @@ gives_line_0 : GivesReadingUnder Wide cut (picture_reading pic 0 0)
 gives_line_0 = (
   shape,
   record { bytes = bytes_of_test cut refl; course = wide cut_course; is_course = is_read_so; framed = refl },
-  inl (piece, (0, lit< tt, refl), record { lines = (0 ∷ []) ∷ []; reads = outcomes_read.zero_read; among = (0, lit< tt, refl) }),
+  inl (piece, (0, lit< tt, refl), (0 ∷ []) ∷ [], outcomes_read.zero_read, (0, lit< tt, refl)),
 )

@@ -27,7 +27,6 @@ use Rattle.jls_splice_laws.specs.CutLaws.{SoughtFilesBeginWithTheCut, WholeFiles
 use Rattle.jls_splice_laws.specs.ProfileFiles.{GivesReadingUnder}
 use Rattle.jls_splice_laws.specs.WholeFiles.{IsWholeFileUnder, WholeFilesAreFaultless}
 use Rattle.jls_splice_laws.proofs.HeldFiles.{files_alone, files_are_held}
-use Rattle.jls_splice_laws.proofs.ProfileFiles.{gives_of_course, course_of_gives}
 use Rattle.jls_splice_laws.proofs.TakenFiles.{kept_of_shape}
 
 -- Paths of splices -------------------------------------------------------------------------------------------------
@@ -98,13 +97,12 @@ pub whole_files_begin_with_their_lines : WholeFilesAreFaultless → PrefixesKeep
 whole_files_begin_with_their_lines faultless keep pic prefix more whole shape (c, is, framed) r gives =
     let f = faultless pic (prefix ++ more) whole in
     let own : CourseHasReading c r =
-    subst (λ (d : Course). CourseHasReading d r) (one_course prefix gives.1.course c gives.1.is_course is)
-    (gives_of_course gives.1.course r gives.2) in
+    subst (λ (d : Course). CourseHasReading d r) (one_course prefix gives.1.course c gives.1.is_course is) gives.2 in
     let kept = keep prefix more whole.bytes c f.course is f.is_course f.each r own in
     (whole.reads.readings r).0 (
       f.shape,
       record { bytes = whole.bytes; course = f.course; is_course = f.is_course; framed = f.framed },
-      course_of_gives f.course r kept,
+      kept,
     )
 
 -- The station ------------------------------------------------------------------------------------------------------

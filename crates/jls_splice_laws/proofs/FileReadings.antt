@@ -16,7 +16,6 @@ use Rattle.jls_copy.proofs.ReadGives.{held_is_given, given_is_held}
 use Rattle.jls_station.specs.Given.{marked}
 use Rattle.jls_headline.proofs.SourcedStations.{Mark, is_marked, marks_given}
 use Rattle.jls_splice_laws.specs.ProfileFiles.{HasShapeUnder, GivesReadingUnder}
-use Rattle.jls_splice_laws.proofs.ProfileFiles.{gives_of_course, course_of_gives}
 
 abbrev some_shape : PictureShape → Option PictureShape
 some_shape shape = Some shape
@@ -35,9 +34,9 @@ module _ {profile : Profile} (file : List ℕ) (low : AllByRecursion (λ b. b < 
   pub file_gives : (r : Reading) → (set.contains read.partial.readings r ≡ true) ↔ GivesReadingUnder profile file r
   unfolding has_shape_read
   file_gives r = (
-    λ h. (read.partial.shape, has_shape_read, course_of_gives reads.course r (held_is_given file read reads r h)),
+    λ h. (read.partial.shape, has_shape_read, held_is_given file read reads r h),
     λ g. given_is_held file read reads low r (subst (λ (c : Course). CourseHasReading c r)
-        (one_course file g.1.course reads.course g.1.is_course reads.is_course) (gives_of_course g.1.course r g.2)),
+        (one_course file g.1.course reads.course g.1.is_course reads.is_course) g.2),
   )
 
   pub file_gives_marks : (source : Option ℕ) (m : Mark)

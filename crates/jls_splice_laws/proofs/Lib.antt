@@ -19,4 +19,5 @@ mod CarriedExamples
 mod HandedFiles
 mod StoppedRuns
 mod LongerFiles
+mod WideReadings
 mod CompletedFiles

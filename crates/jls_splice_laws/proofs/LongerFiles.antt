@@ -74,7 +74,7 @@ unit_some (scan fill code payload plan closed last closing) rest =
     let k = length-append (segment_unit_bytes fill code payload) (scan_data_bytes closed last closing) in
     let l = length-append (segment_unit_bytes fill code payload ++ scan_data_bytes closed last closing) rest in omega (arith, l, k, s)
 
-no_unit : (u : CopyUnit) (rest : List ℕ) → [] ≡ unit_bytes u ++ rest → ⊥
+pub no_unit : (u : CopyUnit) (rest : List ℕ) → [] ≡ unit_bytes u ++ rest → ⊥
 no_unit u rest is = let l = ap length is in let s = unit_some u rest in absurd (omega (arith, l, s))
 
 -- the last of these bytes is that of a marker

@@ -1,5 +1,5 @@
 -- What files give under a profile: under the strict one what copies give, and of files by line the same under both.
-use Rattle.std.proofs.Common.{◌≡◌, ℕ, ◌<◌, List, ◌++◌, length, take, Some, sym, ap, ◌∙◌, subst, inl, inr}
+use Rattle.std.proofs.Common.{◌≡◌, ℕ, ◌<◌, List, ◌++◌, length, take, Some, sym, ap, ◌∙◌, subst}
 use Rattle.std.specs.Prelude.{◌↔◌}
 use Rattle.std.specs.List.{AllByRecursion}
 use Rattle.jls_values.specs.OrderedSet as set
@@ -17,7 +17,6 @@ use Rattle.jls_copy.specs.Prefixes.{CourseHasReading}
 use Rattle.jls_copy.specs.ReadCopy.{ReadCopy}
 use Rattle.jls_copy.proofs.CourseFed.{course_fed}
 use Rattle.jls_copy.proofs.OneCourse.{one_course}
-use Rattle.jls_copy_laws.specs.CourseGives.{CourseGives}
 use Rattle.jls_copy_laws.specs.Gives.{GivesReading}
 use Rattle.jls_copy_laws.proofs.CopyScans.{course_has_scans, has_course_with}
 use Rattle.jls_copy_laws.proofs.Gives.{readings_are_of_the_course}
@@ -30,15 +29,6 @@ use Rattle.jls_splice_laws.specs.ProfileFiles.{OtherFilesAreByLine, FilesByLineG
 
 some_course : SomeCourse
 some_course bytes low = let fed = course_fed Strict bytes low in (fed.0, fed.1)
-
--- what a course gives, as the law on prefixes has it, and back
-pub gives_of_course : (c : Course) (r : Reading) → CourseGives c r → CourseHasReading c r
-gives_of_course c r (inl (p, m, g)) = inl (p, m, g.lines, g.reads, g.among)
-gives_of_course c r (inr (p, m, g)) = inr (p, m, g.head, g.is_head, g.among)
-
-pub course_of_gives : (c : Course) (r : Reading) → CourseHasReading c r → CourseGives c r
-course_of_gives c r (inl (p, m, lines, reads, among)) = inl (p, m, record { lines = lines; reads = reads; among = among })
-course_of_gives c r (inr (p, m, head, is, among)) = inr (p, m, record { head = head; is_head = is; among = among })
 
 -- a file has one shape
 pub one_shape : (profile : Profile) (file : List ℕ) (s t : PictureShape) → HasShapeUnder profile s file → HasShapeUnder profile t file
@@ -60,7 +50,7 @@ has_as_copy file shape h = (_, course_has_scans file h.course shape h.bytes h.is
 pub strict_files_give_as_copies : StrictFilesGiveAsCopies
 strict_files_give_as_copies file = (λ shape. (has_strictly file shape, has_as_copy file shape), λ r. (there r, back r))
   where
-    of : (shape : PictureShape) (h : HasShapeUnder Strict shape file) (r : Reading) → GivesReading file r ↔ CourseGives h.course r
+    of : (shape : PictureShape) (h : HasShapeUnder Strict shape file) (r : Reading) → GivesReading file r ↔ CourseHasReading h.course r
     of shape h r = readings_are_of_the_course file h.course shape r h.bytes h.is_course h.framed
 
     there : (r : Reading) → GivesReading file r → GivesReadingUnder Strict file r
@@ -113,7 +103,7 @@ module _ (file : List ℕ) (l : IsByLine file) where
           is_course = l.2;
           framed = ap (λ (c : Course). c.headers.frame) (sym e) ∙ h.framed;
         },
-        subst (λ (c : Course). CourseGives c r) e gives,
+        subst (λ (c : Course). CourseHasReading c r) e gives,
       )
 
   gives_strict : (r : Reading) → GivesReadingUnder Wide file r → GivesReadingUnder Strict file r
@@ -126,7 +116,7 @@ module _ (file : List ℕ) (l : IsByLine file) where
           is_course = l.1;
           framed = ap (λ (c : Course). c.headers.frame) (sym e) ∙ h.framed;
         },
-        subst (λ (c : Course). CourseGives c r) e gives,
+        subst (λ (c : Course). CourseHasReading c r) e gives,
       )
 
   -- what is read of the file under the wide profile is read of it as a copy

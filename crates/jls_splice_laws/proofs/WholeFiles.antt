@@ -29,7 +29,7 @@ use Rattle.jls_copy.proofs.OneCourse.{one_course}
 use Rattle.jls_splice_run.proofs.StrictCourses.{wide_course}
 use Rattle.jls_splice_laws.specs.ProfileFiles.{course_under}
 use Rattle.jls_splice_laws.specs.WholeFiles.{FilesByLineAreWhole, WholeFilesAreFaultless, WholeFilesSurvive}
-use Rattle.jls_splice_laws.proofs.ProfileFiles.{gives_of_course, strict_files_give_as_copies, files_by_line_give_the_same}
+use Rattle.jls_splice_laws.proofs.ProfileFiles.{strict_files_give_as_copies, files_by_line_give_the_same}
 
 -- Numbers ----------------------------------------------------------------------------------------------------------
 
@@ -142,7 +142,7 @@ whole_files_are_faultless pic file w = record {
       let r = picture_reading pic component line in
       let g = (w.reads.readings r).1 (k, l, refl) in (
         line_of pic component line,
-        subst (λ (c : Course). CourseHasReading c r) (sym (same g.1.course g.1.is_course)) (gives_of_course g.1.course r g.2),
+        subst (λ (c : Course). CourseHasReading c r) (sym (same g.1.course g.1.is_course)) g.2,
       );
 }
   where

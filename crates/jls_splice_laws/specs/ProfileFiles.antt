@@ -9,7 +9,7 @@ use Rattle.jls_marker.specs.ProfileLaws.{under}
 use Rattle.jls_marker.specs.declared.profile.Profile.{Profile}
 use Rattle.jls_marker.specs.declared.profile.Profile.TheVariants.{Strict, Wide}
 use Rattle.jls_copy.specs.Course.{Course, IsCourse, IsCourseUnder}
-use Rattle.jls_copy_laws.specs.CourseGives.{CourseGives}
+use Rattle.jls_copy.specs.Prefixes.{CourseHasReading}
 use Rattle.jls_copy_laws.specs.Gives.{GivesReading}
 use Rattle.jls_headline.specs.Collected.{Knowledge, Collected}
 use Rattle.jls_headline.specs.Sources.{SourcedCopy, copies_of}
@@ -27,7 +27,7 @@ pub record HasShapeUnder (profile : Profile) (shape : PictureShape) (file : List
 
 -- it takes a frame of some shape, and gives the reading: a piece of it does, or the head of the piece that the input's end cuts off
 abbrev pub GivesReadingUnder : Profile → List ℕ → Reading → Type 0
-GivesReadingUnder profile file r = (shape : PictureShape) × (has : HasShapeUnder profile shape file) × CourseGives has.course r
+GivesReadingUnder profile file r = (shape : PictureShape) × (has : HasShapeUnder profile shape file) × CourseHasReading has.course r
 
 -- one of these files gives it
 abbrev pub ReadingsUnder : Profile → List (List ℕ) → Reading → Type 0
@@ -58,6 +58,13 @@ StrictFilesGiveAsCopies =
     (file : List ℕ)
     → ((shape : PictureShape) → HasShape shape file ↔ HasShapeUnder Strict shape file)
     × ((r : Reading) → GivesReading file r ↔ GivesReadingUnder Strict file r)
+
+-- what a file gives under the strict profile, it gives under the wide one too, in the same frame
+abbrev pub WideGivesWhatStrictGives : Type 0
+WideGivesWhatStrictGives =
+    (file : List ℕ)
+    → ((shape : PictureShape) → HasShapeUnder Strict shape file → HasShapeUnder Wide shape file)
+    × ((r : Reading) → GivesReadingUnder Strict file r → GivesReadingUnder Wide file r)
 
 -- Files by line ------------------------------------------------------------------------------------------------------
 

@@ -2,7 +2,7 @@
 //! in such a file, what the files that are taken settle, and what a run of `jls-splice` writes. This crate has definitions and laws
 //! alone. Each law is a function that does nothing: its contract is the law.
 //!
-//! - `by_line`: files whose scans are by line, under both profiles
+//! - `by_line`: files under both profiles, and those whose scans are by line
 //! - `searches`, `settled`: searches, and files taken
 //! - `splicing`: stations of files taken, in the words of the laws of stations and pictures
 //! - `cut`: the cut file, where no splice is a file without a fault
@@ -26,7 +26,7 @@ mod searches;
 mod settled;
 mod splicing;
 
-pub use by_line::files_by_line_give_the_same;
+pub use by_line::{files_by_line_give_the_same, wide_gives_what_strict_gives};
 pub use carry::carried_runs_give_no_other;
 pub use completed::completed_files_read_alike;
 pub use cut::cut_lines_are_the_picture;

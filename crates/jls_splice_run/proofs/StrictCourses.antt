@@ -58,14 +58,14 @@ taken_wide h after code payload s strict taken =
     wide_headers_take_alike h after code payload s
     (subst (λ (x : HeaderState). headers_after x code payload ≡ Ok (after, s)) same taken)
 
-unit_of : (h : HeaderState) (u : CopyUnit) (after : HeaderState) (rest : List ℕ) → h.profile ≡ Strict → IsUnit h u after rest
+pub unit_of : (h : HeaderState) (u : CopyUnit) (after : HeaderState) (rest : List ℕ) → h.profile ≡ Strict → IsUnit h u after rest
     → IsUnit (under Wide h) u (under Wide after) rest
 unit_of h (segment fill code payload) after rest strict (whole, taken) = (whole, taken_wide h after code payload None strict taken)
 unit_of h (scan fill code payload plan closed last closing) after rest strict (whole, taken, each, piece, following) =
     (whole, taken_wide h after code payload (Some plan) strict taken, each, piece, following)
 
 -- a unit keeps the profile
-profile_kept : (h : HeaderState) (u : CopyUnit) (after : HeaderState) (rest : List ℕ) → IsUnit h u after rest → after.profile ≡ h.profile
+pub profile_kept : (h : HeaderState) (u : CopyUnit) (after : HeaderState) (rest : List ℕ) → IsUnit h u after rest → after.profile ≡ h.profile
 profile_kept h (segment fill code payload) after rest (whole, taken) = profiles_stay h after code payload None taken
 profile_kept h (scan fill code payload plan closed last closing) after rest (whole, taken, each, piece, following) =
     profiles_stay h after code payload (Some plan) taken
