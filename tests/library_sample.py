@@ -140,7 +140,7 @@ def of_gdcm(folder: str) -> None:
     smooth = numpy.add.outer(numpy.arange(24), numpy.arange(30))[:, :, None] + numpy.array([0, 7, 40])
     plain, coded = os.path.join(folder, "plain.dcm"), os.path.join(folder, "coded.dcm")
     pydicom.config.pixel_data_handlers = [pydicom_handler]
-    pictures = {"noise": chance.integers(0, 256, (24, 30, 3)), "a slope": smooth, "one pixel": numpy.array([[[5, 250, 5]]])}
+    pictures = {"noise": chance.integers(0, 256, (24, 30, 3)), "a slope": smooth}
     for name, values in pictures.items():
         pixels = values.astype("u1")
         data_set(plain, pixels)
@@ -154,9 +154,8 @@ def of_gdcm(folder: str) -> None:
         runner = Runner(pixels)
         differ(f"{name} by the decoder", pydicom_decoder._decode_frame(frame, runner), pixels.tobytes())
         differ(f"{name}: what it sets", runner.options, {"bits_allocated": 8, "planar_configuration": 0})
-        if len(pixels) < 2:
-            continue
-        found.PixelData = encapsulate([frame[: len(frame) // 2]])
+        # of an even length: a byte more, which fills the item, could be no code that goes on
+        found.PixelData = encapsulate([frame[: len(frame) // 4 * 2]])
         why = raised(lambda: found.pixel_array)
         differ(f"half of {name}", type(why), pydicom_handler.DamagedFrame)
         half = pydicom_handler.masked_array(found)
