@@ -3,7 +3,7 @@
 
 ghost use Rattle.std.specs.Prelude.{◌≤◌};
 
-use crate::decoding::{BLOCKS, CONTEXT_0, DEEP, FOUR, Known, PIXELS, RESET_3, RUNS, TWO, sliced};
+use crate::rows::{BLOCKS, CONTEXT_0, DEEP, FOUR, Known, PIXELS, RESET_3, RUNS, TWO, sliced};
 use jls_pixel::{FinishedRows, PixelCutEnd, PixelDecoder, PixelFault};
 use jls_values::Params;
 use std::alloc::Global;
