@@ -36,6 +36,26 @@ known_bytes copies copy bytes lost known filled chosen offset below before =
     if_same (byte_for copies copy offset) (slice_get known offset) (filled.there offset (omega arith) e ∙ sym (same_byte known bytes offset below (omega arith) kept)))
     (is_or_not (get_or lost offset false))
 
+some_same : (a b : ℕ) → Some a ≡ Some b → a ≡ b
+some_same a b e = cc
+
+lost_is_none : (byte : Option ℕ) (b : ℕ) → byte ≡ None → byte ≡ Some b → ⊥
+lost_is_none byte b e f = absurd (none-is-some (sym e ∙ f))
+  where
+    none-is-some : None ≡ Some b → ⊥
+    none-is-some g = cc
+
+-- a byte FF stays
+known_markers : (copies : List Copy) (copy : Copy) (bytes : List ℕ) (lost : List Bool) (known : List ℕ) → IsFilled (byte_for copies copy) (length copy.bytes) bytes lost → IsChosen bytes lost known
+    → (offset : ℕ) → offset < length known → byte_for copies copy offset ≡ Some 0xFF → slice_get known offset ≡ Some 0xFF
+known_markers copies copy bytes lost known filled chosen offset below is =
+    let size : length bytes ≡ length copy.bytes = filled.size in
+    let within : length known ≤ length bytes = chosen.size in
+    let not : get_or lost offset false ≡ false = not_lost copies copy bytes lost offset filled (omega arith) (λ none. lost_is_none (byte_for copies copy offset) 0xFF none is) in
+    let own : get_or bytes offset 0 ≡ 0xFF =
+    some_same (get_or bytes offset 0) 0xFF (sym (slice_get-get_or bytes offset 0 (omega arith)) ∙ (sym (filled.there offset (omega arith) not) ∙ is)) in
+    slice_get-get_or known offset 0 below ∙ ap Some (chosen.kept_markers offset below not own)
+
 -- what is chosen for the lost bytes of a copy stands for it
 pub known_from_chosen : (copies : List Copy) (copy : Copy) (bytes : List ℕ) (lost : List Bool) (known : List ℕ) → IsFilled (byte_for copies copy) (length copy.bytes) bytes lost → IsChosen bytes lost known → IsKnownCopy copies copy known
 known_from_chosen copies copy bytes lost known filled chosen =
@@ -44,6 +64,7 @@ known_from_chosen copies copy bytes lost known filled chosen =
     record {
       size = omega arith;
       bytes = known_bytes copies copy bytes lost known filled chosen;
+      kept_markers = known_markers copies copy bytes lost known filled chosen;
       cut = λ h. filled.lost (length known) (omega arith) (chosen.cut (omega arith));
     }
 

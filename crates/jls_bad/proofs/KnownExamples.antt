@@ -1,5 +1,5 @@
 -- Copies with bad places, and what can stand for them, by hand.
-use Rattle.std.proofs.Common.{◌≡◌, ℕ, zero, suc, ◌-◌, ◌<◌, List, [], ◌∷◌, Some, None, IfSome, slice_get, refl, arith}
+use Rattle.std.proofs.Common.{◌≡◌, ℕ, zero, suc, ◌-◌, ◌<◌, List, [], ◌∷◌, Some, None, IfSome, slice_get, refl, sym, arith}
 use Rattle.jls_bad.specs.Known.{Copy, byte_for, IsLost, IsKnownCopy, AreKnownCopies}
 
 -- its second and third bytes are bad
@@ -42,18 +42,29 @@ none_as_long = refl
 pub past_all : IsLost copies second 5
 past_all = refl
 
+two_values : (a b : ℕ) → Some a ≡ Some b → a ≡ b
+two_values a b e = cc
+
+some_is_none : (a x y : ℕ) → Some a ≡ None → x ≡ y
+some_is_none a x y e = cc
+
 -- cut before the lost byte
 pub cut_first : IsKnownCopy copies first (1 ∷ 9 ∷ [])
-cut_first = record { size = omega arith; bytes = by; cut = λ h. refl }
+cut_first = record { size = omega arith; bytes = by; kept_markers = markers; cut = λ h. refl }
   where
     by : (offset : ℕ) → offset < 2 → (0 < offset → IsLost copies first (offset - 1) → ⊥) → IfSome (byte_for copies first offset) (λ byte. slice_get (1 ∷ 9 ∷ []) offset ≡ Some byte)
     by zero h before = refl
     by (suc zero) h before = refl
     by (suc (suc offset)) h before = absurd (omega (arith, h))
 
+    markers : (offset : ℕ) → offset < 2 → byte_for copies first offset ≡ Some 0xFF → slice_get {X = ℕ} (1 ∷ 9 ∷ []) offset ≡ Some 0xFF
+    markers zero h e = absurd (omega (arith, two_values 1 0xFF e))
+    markers (suc zero) h e = absurd (omega (arith, two_values 9 0xFF e))
+    markers (suc (suc offset)) h e = absurd (omega (arith, h))
+
 -- with a marker over the lost byte and the one behind it
 pub marked_first : IsKnownCopy copies first (1 ∷ 9 ∷ 0xFF ∷ 0xD8 ∷ 5 ∷ [])
-marked_first = record { size = omega arith; bytes = by; cut = λ h. absurd (omega (arith, h)) }
+marked_first = record { size = omega arith; bytes = by; kept_markers = markers; cut = λ h. absurd (omega (arith, h)) }
   where
     by : (offset : ℕ) → offset < 5 → (0 < offset → IsLost copies first (offset - 1) → ⊥) → IfSome (byte_for copies first offset) (λ byte. slice_get (1 ∷ 9 ∷ 0xFF ∷ 0xD8 ∷ 5 ∷ []) offset ≡ Some byte)
     by zero h before = refl
@@ -63,11 +74,13 @@ marked_first = record { size = omega arith; bytes = by; cut = λ h. absurd (omeg
     by (suc (suc (suc (suc zero)))) h before = refl
     by (suc (suc (suc (suc (suc offset))))) h before = absurd (omega (arith, h))
 
-two_values : (a b : ℕ) → Some a ≡ Some b → a ≡ b
-two_values a b e = cc
-
-some_is_none : (a x y : ℕ) → Some a ≡ None → x ≡ y
-some_is_none a x y e = cc
+    markers : (offset : ℕ) → offset < 5 → byte_for copies first offset ≡ Some 0xFF → slice_get {X = ℕ} (1 ∷ 9 ∷ 0xFF ∷ 0xD8 ∷ 5 ∷ []) offset ≡ Some 0xFF
+    markers zero h e = absurd (omega (arith, two_values 1 0xFF e))
+    markers (suc zero) h e = absurd (omega (arith, two_values 9 0xFF e))
+    markers (suc (suc zero)) h e = absurd (omega (arith, some_is_none 0xFF 0 1 (sym e)))
+    markers (suc (suc (suc zero))) h e = absurd (omega (arith, two_values 4 0xFF e))
+    markers (suc (suc (suc (suc zero)))) h e = absurd (omega (arith, two_values 5 0xFF e))
+    markers (suc (suc (suc (suc (suc offset))))) h e = absurd (omega (arith, h))
 
 -- no other byte stands where one is known
 pub not_otherwise : IsKnownCopy copies first (1 ∷ 2 ∷ 3 ∷ 4 ∷ 5 ∷ []) → ⊥
@@ -79,7 +92,7 @@ not_cut h = omega (arith, some_is_none 4 0 1 (h.cut (omega arith)))
 
 -- the second copy, with another byte in place of the lost one
 pub other_second : IsKnownCopy copies second (1 ∷ 9 ∷ 0 ∷ 4 ∷ 6 ∷ [])
-other_second = record { size = omega arith; bytes = by; cut = λ h. absurd (omega (arith, h)) }
+other_second = record { size = omega arith; bytes = by; kept_markers = markers; cut = λ h. absurd (omega (arith, h)) }
   where
     by : (offset : ℕ) → offset < 5 → (0 < offset → IsLost copies second (offset - 1) → ⊥) → IfSome (byte_for copies second offset) (λ byte. slice_get (1 ∷ 9 ∷ 0 ∷ 4 ∷ 6 ∷ []) offset ≡ Some byte)
     by zero h before = refl
@@ -89,5 +102,21 @@ other_second = record { size = omega arith; bytes = by; cut = λ h. absurd (omeg
     by (suc (suc (suc (suc zero)))) h before = refl
     by (suc (suc (suc (suc (suc offset))))) h before = absurd (omega (arith, h))
 
+    markers : (offset : ℕ) → offset < 5 → byte_for copies second offset ≡ Some 0xFF → slice_get {X = ℕ} (1 ∷ 9 ∷ 0 ∷ 4 ∷ 6 ∷ []) offset ≡ Some 0xFF
+    markers zero h e = absurd (omega (arith, two_values 1 0xFF e))
+    markers (suc zero) h e = absurd (omega (arith, two_values 9 0xFF e))
+    markers (suc (suc zero)) h e = absurd (omega (arith, some_is_none 0xFF 0 1 (sym e)))
+    markers (suc (suc (suc zero))) h e = absurd (omega (arith, two_values 4 0xFF e))
+    markers (suc (suc (suc (suc zero)))) h e = absurd (omega (arith, two_values 6 0xFF e))
+    markers (suc (suc (suc (suc (suc offset))))) h e = absurd (omega (arith, h))
+
 pub both : AreKnownCopies copies ((1 ∷ 9 ∷ []) ∷ (1 ∷ 9 ∷ 0 ∷ 4 ∷ 6 ∷ []) ∷ [])
 both = (cut_first, (other_second, tt))
+
+-- its second byte is bad, and a marker follows
+abbrev third : Copy
+third = record { bytes = 1 ∷ 2 ∷ 0xFF ∷ 0xD0 ∷ []; places = record { offset = 1; length = 1 } ∷ [] }
+
+-- the byte FF behind the lost one stays
+pub not_without_the_marker : IsKnownCopy (third ∷ []) third (1 ∷ 0xFF ∷ 0xD8 ∷ 0xD0 ∷ []) → ⊥
+not_without_the_marker h = omega (arith, two_values 0xD8 0xFF (h.kept_markers 2 (omega arith) refl))

@@ -39,4 +39,6 @@ pub record IsChosen (bytes : List ℕ) (marks : List Bool) (known : List ℕ) : 
   pub size : length known ≤ length bytes
   pub kept : (offset : ℕ) → offset < length known → get_or marks offset false ≡ false
       → (0 < offset → get_or marks (offset - 1) false ≡ false) → get_or known offset 0 ≡ get_or bytes offset 0
+  pub kept_markers : (offset : ℕ) → offset < length known → get_or marks offset false ≡ false → get_or bytes offset 0 ≡ 0xFF
+      → get_or known offset 0 ≡ 0xFF
   pub cut : length known < length bytes → get_or marks (length known) false ≡ true

@@ -46,6 +46,8 @@ pub record IsKnownCopy (copies : List Copy) (copy : Copy) (known : List ℕ) : T
   -- it has the byte for the copy, but for lost bytes and the first byte behind them
   pub bytes : (offset : ℕ) → offset < length known → (0 < offset → IsLost copies copy (offset - 1) → ⊥)
       → IfSome (byte_for copies copy offset) (λ byte. slice_get known offset ≡ Some byte)
+  -- it has each byte FF for the copy, also behind a lost byte: a marker may begin with it
+  pub kept_markers : (offset : ℕ) → offset < length known → byte_for copies copy offset ≡ Some 0xFF → slice_get known offset ≡ Some 0xFF
   -- if it has fewer, the first that it has not is lost
   pub cut : length known < length copy.bytes → IsLost copies copy (length known)
 

@@ -20,7 +20,8 @@ pub struct Listed<'a> {
 
 /// Whether a byte is lost, or is given up behind the lost ones in front of it. `FF` is not given up: a marker may begin with it.
 fn is_written(byte: u8, is_lost: &[bool], at: usize, is_second: bool) -> bool
-    ensures { get_or is_lost.now at false ≡ false → (0 < at → get_or is_lost.now (at - 1) false ≡ false) → result ≡ false }
+    ensures kept { get_or is_lost.now at false ≡ false → (0 < at → get_or is_lost.now (at - 1) false ≡ false) → result ≡ false }
+    ensures kept_marker { get_or is_lost.now at false ≡ false → byte ≡ 0xFF → result ≡ false }
 {
     if is_marked(is_lost, at) {
         return true;
@@ -39,6 +40,8 @@ fn write_fault(bytes: &mut Vec<u8>, is_lost: &[bool], at: usize, is_second: bool
     ensures size { vec_len bytes.new ≡ vec_len bytes.old }
     ensures kept { (k : ℕ) → get_or is_lost.now k false ≡ false → (0 < k → get_or is_lost.now (k - 1) false ≡ false)
         → get_or bytes.new.items k 0 ≡ get_or bytes.old.items k 0 }
+    ensures kept_markers { (k : ℕ) → get_or is_lost.now k false ≡ false → get_or bytes.old.items k 0 ≡ 0xFF
+        → get_or bytes.new.items k 0 ≡ 0xFF }
 {
     if !is_written(bytes[at], is_lost, at, is_second) {
         return false;
@@ -55,6 +58,8 @@ fn write_faults(bytes: &mut Vec<u8>, is_lost: &[bool])
     ensures size { vec_len bytes.new ≡ vec_len bytes.old }
     ensures kept { (k : ℕ) → get_or is_lost.now k false ≡ false → (0 < k → get_or is_lost.now (k - 1) false ≡ false)
         → get_or bytes.new.items k 0 ≡ get_or bytes.old.items k 0 }
+    ensures kept_markers { (k : ℕ) → get_or is_lost.now k false ≡ false → get_or bytes.old.items k 0 ≡ 0xFF
+        → get_or bytes.new.items k 0 ≡ 0xFF }
 {
     let mut is_second = false;
     for at in 0..bytes.len() {
