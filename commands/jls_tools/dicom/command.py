@@ -211,7 +211,7 @@ def run(words: argparse.Namespace) -> int:
         if words.command == "info":
             lines, refusal, status = info(words.file, programs, progress)
         else:
-            lines, refusal, status = frames(words.file, words.dir)
+            lines, refusal, status = frames(words.file, words.dir, programs)
     finally:
         progress.end()
     for line in lines:

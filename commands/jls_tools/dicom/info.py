@@ -16,7 +16,7 @@ from jls_tools.dicom.read.elements import JPEG_LS, NEAR_LOSSLESS, SYNTAXES, has_
 from jls_tools.dicom.read.tags import COLUMNS, FRAMES, PIXEL_DATA, ROWS, SAMPLES, STORED
 from jls_tools.dicom.result import FAILED, NOT_SUPPORTED, NOT_WHOLE, REFUSED, WHOLE, FrameResult, MendOptions
 from jls_tools.dicom.walk.frames import by_search
-from jls_tools.frames.codestream import other_coding, shape_of, unpadded
+from jls_tools.frames.codestream import other_coding, shape_of, unpadded, without_padding
 from jls_tools.frames.mending import FrameMender, Mended
 from jls_tools.programs import Programs
 
@@ -49,7 +49,20 @@ class OneFile:
         """A frame as far as it reads, up to sectors that look bad."""
         stream, parts = self.frames[number][1], self.parts[number]
         note = bad_places.note_of([pair for part in parts for pair in bad_places.clipped(self.seen, *part)])
-        return mender.mend_beside(mender.mend(number, [stream]), [stream], bad_places.within(self.seen, parts), note)
+        mended = mender.mend_padded(number, [stream], is_exact=self.is_exact(number))
+        return mender.mend_beside(mended, [stream], bad_places.within(self.seen, parts), note)
+
+    def is_exact(self, number: int) -> bool:
+        """Whether the items of a frame end where they say."""
+        return bool(self.layout.places) and self.layout.places[number].is_exact
+
+    def stream(self, mender: FrameMender, number: int) -> bytes:
+        """A frame without a last byte that is padding, as far as its lines say."""
+        stream = self.frames[number][1]
+        unpadded = without_padding([stream])[0]
+        if unpadded == stream:
+            return stream
+        return unpadded if mender.mend_padded(number, [stream], is_exact=self.is_exact(number)).is_unpadded else stream
 
     def value(self, tag: int) -> Optional[bytes]:
         for element in self.layout.structure.elements:
@@ -147,7 +160,7 @@ def status_of(results: Sequence[FrameResult]) -> int:
     return WHOLE if all(result.kind == "whole" for result in results) else NOT_WHOLE
 
 
-def frames(path: str, folder: str) -> tuple[list[str], Optional[str], int]:
+def frames(path: str, folder: str, programs: Programs) -> tuple[list[str], Optional[str], int]:
     """Takes the frames out: (lines, why it is refused or nothing, status)."""
     if os.path.lexists(folder):
         return [], f"{folder}: it is there already", FAILED
@@ -157,14 +170,16 @@ def frames(path: str, folder: str) -> tuple[list[str], Optional[str], int]:
         return [], refusal, REFUSED
     lines = []
     parent = os.path.dirname(os.path.abspath(folder))
-    part = tempfile.mkdtemp(prefix=".jls-dicom-", dir=parent)
+    part, work = (tempfile.mkdtemp(prefix=".jls-dicom-", dir=parent) for _ in range(2))
     try:
-        for number, (offset, stream) in enumerate(file.frames):
-            name = f"frame-{number:04}.jls"
+        mender = FrameMender(programs, work, MendOptions())
+        for number, (offset, _) in enumerate(file.frames):
+            name, stream = f"frame-{number:04}.jls", file.stream(mender, number)
             with open(os.path.join(part, name), "wb") as out:
                 out.write(stream)
             lines.append(f"{os.path.join(folder, name)} {offset} {len(stream)} {file.how}")
         os.rename(part, folder)
     finally:
-        shutil.rmtree(part, ignore_errors=True)
+        for each in (part, work):
+            shutil.rmtree(each, ignore_errors=True)
     return lines, None, WHOLE

@@ -14,9 +14,9 @@ from jls_tools.dicom.read.elements import DELIMITER
 from jls_tools.dicom.result import NOT_SUPPORTED, FrameResult, Unsupported
 from jls_tools.dicom.walk.frames import FramePlace, by_search, paired_by_bytes
 from jls_tools.dicom.walk.lost import Lost, equal_in_most, most_of
-from jls_tools.frames.codestream import EOI_AND_PADDING
+from jls_tools.frames.codestream import EOI_AND_PADDING, without_padding
 from jls_tools.frames.likeness import is_connected, is_spliced
-from jls_tools.frames.mending import FrameMender, Mended
+from jls_tools.frames.mending import KEPT, FrameMender, Mended
 from jls_tools.frames.mending_codings import CodingsMender
 
 
@@ -91,16 +91,18 @@ class MendedFrames:
         place = self.layout.places[number] if self.layout.places else None
         if place and place.is_exact and any(self.layout.structure.has_rival(first - 8, last) for first, last in place.fragments):
             return Mended(FrameResult(number, "disputed", note="other items are as likely here"))
-        mended = self.mended_of_one_coding(number, streams, begin)
+        mended = self.mended_of_one_coding(number, streams, begin, place is not None and place.is_exact)
+        if mended.is_unpadded:
+            self.kept[number] = without_padding(self.kept.get(number, streams))
         others = self.others.get(number)
         return CodingsMender(self.mender).mend(mended, self.kept.get(number, streams), others) if others else mended
 
-    def mended_of_one_coding(self, number: int, streams: list[bytes], begin: int) -> Mended:
-        mended = self.mended_by_most(number, begin) or self.mender.mend(number, streams, begin)
+    def mended_of_one_coding(self, number: int, streams: list[bytes], begin: int, is_exact: bool) -> Mended:
+        mended = self.mended_by_most(number, begin) or self.mender.mend_padded(number, streams, begin, is_exact)
         kept = self.kept.get(number, streams)
         if mended.is_whole or not 0 < len(kept) < len(streams):
             return mended
-        other = self.mender.mend(number, kept, begin)
+        other = self.mender.mend_aside(number, kept, begin, KEPT)
         return other if other.is_whole else mended
 
     def searched(self, at: int) -> list[bytes]:

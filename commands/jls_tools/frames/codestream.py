@@ -3,6 +3,7 @@ from __future__ import annotations
 
 import re
 import struct
+from collections.abc import Sequence
 from dataclasses import dataclass
 from typing import Optional
 
@@ -63,6 +64,15 @@ def codestream_end(stream: bytes) -> Optional[int]:
 def unpadded(stream: bytes) -> bytes:
     """A codestream without the byte after EOI that makes its length even."""
     return stream[:-1] if stream.endswith(EOI_AND_PADDING) else stream
+
+
+def without_padding(streams: Sequence[bytes]) -> list[bytes]:
+    """Codestreams of a frame, those that have no EOI without a last byte 00: it can be what makes the length of their item even.
+
+    It is none where the EOI is only lost: there another codestream of this length has it.
+    """
+    ended = {len(stream) for stream in streams if codestream_end(stream) is not None or stream.endswith(EOI)}
+    return [stream[:-1] if stream.endswith(b"\0") and len(stream) not in ended else stream for stream in streams]
 
 
 def usual_thresholds(maxval: int) -> tuple[int, int, int]:

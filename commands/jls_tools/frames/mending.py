@@ -11,7 +11,7 @@ from typing import TypeVar
 from jls_tools.dicom.axis.bad_places import Range, parts_of
 from jls_tools.dicom.axis.media import SECTORS
 from jls_tools.dicom.result import FAILED, FrameResult, MendOptions
-from jls_tools.frames.codestream import EOI, Shape, has_usual_parameters, shape_of
+from jls_tools.frames.codestream import EOI, Shape, has_usual_parameters, shape_of, without_padding
 from jls_tools.frames.crossed import crossed
 from jls_tools.frames.likeness import shares_little
 from jls_tools.frames.unsupported import NOT_SUPPORTED, unsupported
@@ -19,6 +19,7 @@ from jls_tools.programs import Outcome, ProgramFailed, Programs, Report, Splice
 
 MOST_CROSSED = 40
 FEWEST_TRIES = 1
+KEPT, UNPADDED = 1 << 21, 1 << 22  # added to the number of a frame: so nothing of it is written over
 EOI_ADDED = "eoi added"
 GAVE_LINES = "copies of several codings gave each other lines"
 AnyOutcome = TypeVar("AnyOutcome", bound=Outcome)
@@ -33,6 +34,7 @@ class Mended:
     others: list[bytes] = field(default_factory=list)
     partial: str | None = None  # the path of the partial picture
     shape: str = ""
+    is_unpadded: bool = False  # whether it came of the streams without a last byte that can be padding
 
     @property
     def is_whole(self) -> bool:
@@ -100,6 +102,28 @@ class FrameMender:
             return mended if mended.is_whole else self.of_crossed(number, usable, names, begin) or mended
         finally:
             self.drop(names)
+
+    def mend_aside(self, number: int, streams: Sequence[bytes], begin: int, aside: int) -> Mended:
+        """As `mend`, in files of its own names: what came of the frame before stays."""
+        mended = self.mend(number + aside, streams, begin)
+        mended.result.number = number
+        return mended
+
+    def mend_padded(self, number: int, streams: Sequence[bytes], begin: int = 0, is_exact: bool = True) -> Mended:
+        """As `mend`, of streams from items: a last byte that can be their padding counts where all lines come with it.
+
+        Such a 00 behind a frame that is cut off is no code of it. With it no line of an interval can come, or one that is false. `is_exact`
+        says that the items end where they say.
+        """
+        mended, unpadded = self.mend(number, streams, begin), without_padding(streams)
+        result = mended.result
+        if mended.is_whole or unpadded == list(streams) or result.settled and not (result.missing or result.disputed):
+            return mended
+        other = self.mend_aside(number, unpadded, begin, UNPADDED)
+        further = other.result.settled - result.settled
+        has_more = further > 0 or further < 0 and is_exact and len(set(streams)) == 1
+        other.is_unpadded = other.is_whole or has_more and other.result.disputed <= result.disputed
+        return other if other.is_unpadded else mended
 
     def of_crossed(self, number: int, streams: Sequence[bytes], names: list[str], begin: int) -> Mended | None:
         """A Mended that is whole, from the streams and from what has one of two before a place and the other after it; or nothing."""

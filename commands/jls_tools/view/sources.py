@@ -8,7 +8,9 @@ from jls_tools import partial_picture
 from jls_tools.dicom import info
 from jls_tools.dicom.read.elements import begins_as_dicom
 from jls_tools.dicom.read.tags import SIGN
+from jls_tools.dicom.result import MendOptions
 from jls_tools.file_names import printable
+from jls_tools.frames.mending import FrameMender
 from jls_tools.partial_picture import PartialPicture
 from jls_tools.programs import Programs
 from jls_tools.view.splice import Splice
@@ -64,8 +66,9 @@ def put(path: str, frame: int, folder: str, name: str) -> tuple[bool, str]:
         raise NoPicture(refusal)
     if frame >= len(file.frames):
         raise NoPicture(f"{shown}: it has {len(file.frames)} frames, and --frame counts from 0", 2)
+    stream = file.stream(FrameMender(Programs(), folder, MendOptions()), frame)
     with open(os.path.join(folder, name), "wb") as out:
-        out.write(file.frames[frame][1])
+        out.write(stream)
     return file.number(SIGN) == 1, f"{shown}: frame {frame}"
 
 

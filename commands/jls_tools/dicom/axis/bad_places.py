@@ -11,6 +11,7 @@ from collections.abc import Iterable, Iterator, Sequence
 
 from jls_tools.dicom.axis.align import merged
 from jls_tools.dicom.axis.media import SECTOR
+from jls_tools.frames.codestream import without_padding
 
 Range = tuple[int, int]
 TEXT_BEGIN = re.compile(rb"[\t\n\r\x20-\x7e]{64}")
@@ -124,6 +125,8 @@ def parts_of(streams: Sequence[bytes], bad: Sequence[Range]) -> Iterator[list[by
         behind = end
     if bad and begins_anew(streams, bad[0][1], max(map(len, streams))):
         yield list(dict.fromkeys(plain))
+        if without_padding(plain) != plain:
+            yield list(dict.fromkeys(without_padding(plain)))
 
 
 def begins_anew(streams: Sequence[bytes], begin: int, end: int) -> bool:
