@@ -11,6 +11,7 @@ from typing import TypeVar
 from jls_tools.dicom.axis.bad_places import Range, parts_of
 from jls_tools.dicom.axis.media import SECTORS
 from jls_tools.dicom.result import FAILED, FrameResult, MendOptions
+from jls_tools.frames.by_sectors import by_sectors
 from jls_tools.frames.codestream import EOI, Shape, has_usual_parameters, shape_of, without_padding
 from jls_tools.frames.crossed import crossed
 from jls_tools.frames.likeness import shares_little
@@ -21,6 +22,7 @@ MOST_CROSSED = 40
 FEWEST_TRIES = 1
 KEPT, UNPADDED = 1 << 21, 1 << 22  # added to the number of a frame: so nothing of it is written over
 EOI_ADDED = "eoi added"
+BY_SECTORS = "picture if the true file has in each sector what one copy has there"
 GAVE_LINES = "copies of several codings gave each other lines"
 AnyOutcome = TypeVar("AnyOutcome", bound=Outcome)
 
@@ -99,7 +101,9 @@ class FrameMender:
             if len(usable) == 1:
                 return self.of_one(number, usable[0], names[0])
             mended = self.of_several(number, usable, names)
-            return mended if mended.is_whole else self.of_crossed(number, usable, names, begin) or mended
+            if mended.is_whole:
+                return mended
+            return self.of_crossed(number, usable, names, begin) or self.of_sectors(mended, usable, begin) or mended
         finally:
             self.drop(names)
 
@@ -141,6 +145,22 @@ class FrameMender:
             if mended.is_whole:
                 return mended
         return None
+
+    def of_sectors(self, mended: Mended, streams: Sequence[bytes], begin: int) -> Mended | None:
+        """A Mended that is whole, where the search was cut off and one file alone reads that has whole sectors of two streams."""
+        if mended.result.kind not in ("lines", "missing"):
+            return None
+        stream = by_sectors(streams, begin, self.programs.reads)
+        if stream is None or stream in streams and any(shares_little(stream, other) for other in streams):
+            return None
+        number = mended.result.number
+        names = [self.put(self.name(number, ".by-sectors.jls"), stream)]
+        try:
+            found = self.of_one(number, stream, names[0])
+        finally:
+            self.drop(names)
+        found.result.promise = BY_SECTORS
+        return found if found.is_whole else None
 
     def mend_beside(self, mended: Mended, streams: Sequence[bytes], bad: Sequence[Range], note: str, is_sure: bool = False) -> Mended:
         """What a frame came to, or what there is of it beside bytes that are bad in all its copies, if that is more.

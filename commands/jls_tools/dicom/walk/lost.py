@@ -11,7 +11,7 @@ from collections.abc import Iterator, Mapping, Sequence
 from typing import TYPE_CHECKING, Optional
 
 from jls_tools.dicom.axis.align import Copy, differing
-from jls_tools.dicom.axis.media import SECTORS
+from jls_tools.dicom.axis.media import SECTORS, SHARE
 from jls_tools.dicom.walk.frames import FramePlace
 from jls_tools.dicom.walk.structure import Structure
 from jls_tools.dicom.walk.ways import PIXELS, Step
@@ -19,8 +19,6 @@ from jls_tools.frames.likeness import shares_little
 
 if TYPE_CHECKING:
     from jls_tools.dicom.layout import Layout
-
-SHARE = 0.9  # of the bytes of a lost sector so many differ, at least
 
 
 def headers_of_items(structure: Structure) -> list[int]:
