@@ -5,15 +5,17 @@ from collections.abc import Sequence
 from typing import Optional
 
 from jls_tools.dicom.axis.align import merged
-from jls_tools.dicom.axis.bad_places import Range, clipped, in_all, note_of, within
+from jls_tools.dicom.axis.bad_places import Range, clipped, in_all, marked, note_of, within
 from jls_tools.dicom.axis.placed import in_no_copy
 from jls_tools.dicom.copies.given import Given
 from jls_tools.dicom.evidence.alone import Stranger
+from jls_tools.dicom.evidence.witnessed import resting, why_denied
 from jls_tools.dicom.layout import is_through, laid_out
 from jls_tools.dicom.read.elements import DELIMITER
 from jls_tools.dicom.result import NOT_SUPPORTED, FrameResult, Unsupported
 from jls_tools.dicom.walk.frames import FramePlace, by_search, paired_by_bytes
 from jls_tools.dicom.walk.lost import Lost, equal_in_most, most_of
+from jls_tools.dicom.witnessed_frames import WitnessedFrames
 from jls_tools.frames.codestream import EOI_AND_PADDING, without_padding
 from jls_tools.frames.likeness import is_connected, is_spliced
 from jls_tools.frames.mending import KEPT, FrameMender, Mended
@@ -47,13 +49,29 @@ class MendedFrames:
             self.own = [dict(enumerate(streams)) for streams in self.streams]
         self.bad_in_all, self.seen_in_all = in_no_copy(self.copies), in_no_copy(self.copies, True)
         self.take_others()
+        self.witnesses = WitnessedFrames(given.witnesses, mender)
         self.mended: list[Mended] = []
         for number, streams in enumerate(self.streams):
             begin = self.layout.places[number].begin if self.layout.places else 0
-            self.mended.append(self.beside_bad(self.mended_frame(number, streams, begin), streams))
+            beside = self.beside_bad(self.mended_frame(number, streams, begin), streams)
+            self.mended.append(self.witnessed(beside, streams))
             if given.options.progress:
                 given.options.progress(number + 1, len(self.streams))
         self.refuse_unsupported()
+        self.is_witnessed = is_alone and self.is_confirmed()
+        self.is_alone = is_alone and not self.is_witnessed
+
+    def is_confirmed(self) -> bool:
+        """Whether a witness confirms the header and the frames of the one copy of JPEG-LS."""
+        if len(self.given.paths) > 1 or len(self.chosen) != 1 or not self.layout.is_exact or self.given.tails.ways != [b""]:
+            return False
+        for witness in self.given.witnesses:
+            fault = why_denied(self.given.texts[0], witness, len(self.mended)) or self.witnesses.why_denied(witness, self.mended)
+            if fault is None:
+                self.given.result.notes += resting(self.given.texts[0], witness)
+                return True
+            self.given.result.notes.append(f"{witness.path} does not confirm {self.given.paths[0]}: {fault}")
+        return False
 
     def strangers(self) -> list[int]:
         """Of copies whose UIDs don't say what they are: those of which no frame equals, or is spliced with, one of a certain copy."""
@@ -89,13 +107,28 @@ class MendedFrames:
     def mended_frame(self, number: int, streams: list[bytes], begin: int) -> Mended:
         """A Mended: of all streams, or if it isn't whole of those that are of this file, if these are fewer and it is whole then."""
         place = self.layout.places[number] if self.layout.places else None
-        if place and place.is_exact and any(self.layout.structure.has_rival(first - 8, last) for first, last in place.fragments):
+        if self.has_rival(number):
             return Mended(FrameResult(number, "disputed", note="other items are as likely here"))
         mended = self.mended_of_one_coding(number, streams, begin, place is not None and place.is_exact)
         if mended.is_unpadded:
             self.kept[number] = without_padding(self.kept.get(number, streams))
         others = self.others.get(number)
         return CodingsMender(self.mender).mend(mended, self.kept.get(number, streams), others) if others else mended
+
+    def has_rival(self, number: int) -> bool:
+        """Whether other items are as likely as those of a frame."""
+        place = self.layout.places[number] if self.layout.places else None
+        rivals = self.layout.structure.has_rival
+        return place is not None and place.is_exact and any(rivals(first - 8, last) for first, last in place.fragments)
+
+    def witnessed(self, mended: Mended, streams: list[bytes]) -> Mended:
+        """A frame that isn't whole, with what witnesses have of it. Bytes that are bad in all copies confirm nothing."""
+        number = mended.result.number
+        if not self.layout.places or self.has_rival(number):
+            return mended
+        bad = within(self.seen_in_all, self.layout.places[number].fragments)
+        own = [marked(stream, bad) for stream in self.kept.get(number) or streams]
+        return self.witnesses.mend(mended, own, len(self.streams))
 
     def mended_of_one_coding(self, number: int, streams: list[bytes], begin: int, is_exact: bool) -> Mended:
         mended = self.mended_by_most(number, begin) or self.mender.mend_padded(number, streams, begin, is_exact)

@@ -2,6 +2,7 @@
 from __future__ import annotations
 
 from collections.abc import Sequence
+from typing import Optional
 
 from jls_tools.dicom.axis.align import Copy, merged
 from jls_tools.dicom.axis.bad_lists import BadList, of_copy
@@ -14,6 +15,8 @@ from jls_tools.dicom.copies.codings import moved as moved_to_coding
 from jls_tools.dicom.copies.instance import Instances, TwoInstances
 from jls_tools.dicom.copies.kinds import NoKind, other_kinds
 from jls_tools.dicom.copies.versions import versions_of
+from jls_tools.dicom.copies.witness import Witness, can_be, check_beside, witness_of
+from jls_tools.dicom.read.plain import Unread
 from jls_tools.dicom.result import MendOptions, MendResult, Refused, Unsupported
 from jls_tools.programs import Programs
 
@@ -39,6 +42,7 @@ class Given:
             self.instances = Instances(self.texts, options.same)
         except TwoInstances as fault:
             raise Refused(f"{fault}; --same takes them as copies of one") from fault
+        self.witnesses = [each for each in map(self.as_witness, self.uncompressed) if each is not None]
         result.left_out += [(self.paths[at], why) for at, why in sorted(self.instances.left_out.items())]
         self.look_at_versions()
 
@@ -66,6 +70,7 @@ class Given:
         except NoKind as fault:
             raise (Unsupported if fault.is_other else Refused)(str(fault)) from fault
         self.result.left_out = [(self.paths[at], why) for at, why in sorted(others.items())]
+        self.uncompressed = [(self.paths[at], self.texts[at]) for at in sorted(others) if can_be(self.texts[at])]
         self.paths = [path for at, path in enumerate(self.paths) if at not in others]
         self.bad = [ranges for at, ranges in enumerate(self.bad) if at not in others]
         texts = [text for at, text in enumerate(self.texts) if at not in others]
@@ -76,6 +81,20 @@ class Given:
         self.seen = [seen(text) for text in texts]
         self.tails = without_tails(self.in_one_coding(texts))
         self.texts = self.tails.texts
+
+    def as_witness(self, copy: tuple[str, bytes]) -> Optional[Witness]:
+        """A copy that is not compressed, as a witness; nothing, and why, if it can be none."""
+        path, text = copy
+        kind = next(why for other, why in self.result.left_out if other == path)
+        self.result.left_out.remove((path, kind))
+        try:
+            witness = witness_of(path, text)
+            check_beside(witness, self.texts, self.instances.uid, self.options.same)
+        except Unread as why:
+            self.result.left_out.append((path, f"{kind}, and is no witness: {why}"))
+            return None
+        self.result.notes.append(f"{path} is a witness, {witness.name}: what it says counts where the other copies confirm it")
+        return witness
 
     def cut_leads(self) -> None:
         """Cuts what stands before the preamble of a copy, where another one shows that it is no part of the file."""

@@ -11,7 +11,8 @@ from jls_tools.dicom.read.values import is_uid
 
 JPEG_LS = "1.2.840.10008.1.2.4.80"
 NEAR_LOSSLESS = "1.2.840.10008.1.2.4.81"
-IMPLICIT, DEFLATED, BIG_ENDIAN = "1.2.840.10008.1.2", "1.2.840.10008.1.2.1.99", "1.2.840.10008.1.2.2"  # not compressed
+EXPLICIT, IMPLICIT = "1.2.840.10008.1.2.1", "1.2.840.10008.1.2"  # not compressed, as are these
+DEFLATED, BIG_ENDIAN = "1.2.840.10008.1.2.1.99", "1.2.840.10008.1.2.2"
 UNDEFINED = 0xFFFFFFFF
 HEAD = 12  # bytes of an element's header, at most; that of Pixel Data has so many
 ITEM_TAG, DELIMITER = b"\xfe\xff\x00\xe0", b"\xfe\xff\xdd\xe0\0\0\0\0"  # of an item, and what ends Pixel Data
@@ -22,7 +23,7 @@ SHORT_VRS = frozenset(b"AE AS AT CS DA DS DT FD FL IS LO LT PN SH SL SS ST TM UI
 # {transfer syntax: (its name, what reads it)}
 SYNTAXES = {
     IMPLICIT: ("Implicit VR Little Endian, not compressed", "any DICOM program"),
-    "1.2.840.10008.1.2.1": ("Explicit VR Little Endian, not compressed", "any DICOM program"),
+    EXPLICIT: ("Explicit VR Little Endian, not compressed", "any DICOM program"),
     DEFLATED: ("Deflated Explicit VR Little Endian, not compressed", "dcmconv of DCMTK"),
     BIG_ENDIAN: ("Explicit VR Big Endian, not compressed", "dcmconv of DCMTK"),
     "1.2.840.10008.1.2.4.50": ("JPEG baseline, lossy", "dcmdjpeg of DCMTK"),

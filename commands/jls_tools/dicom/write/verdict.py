@@ -8,6 +8,7 @@ from jls_tools.dicom.copies.given import Given
 from jls_tools.dicom.evidence.denials import contradiction, forbidden
 from jls_tools.dicom.evidence.doubtful import change_at, ends_before, hole_in_text, lost_in_each, lost_in_most, stands_twice
 from jls_tools.dicom.evidence.header import Header
+from jls_tools.dicom.evidence.witnessed import why_odd
 from jls_tools.dicom.mended_frames import MendedFrames
 from jls_tools.dicom.result import NOT_SUPPORTED
 from jls_tools.dicom.write.finished import faults_of
@@ -83,6 +84,8 @@ class Verdict:
     def fault_of(self, data: bytes) -> Optional[str]:
         """What forbids status 0 in the finished file. What every copy has is its writer's: that is noted."""
         moved = len(data) - len(self.data)
+        if self.frames.is_witnessed and (odd := why_odd(data, len(self.frames.mended), moved)) is not None:
+            return odd
         for fault in faults_of(data, len(self.frames.mended)):
             if not (fault.can_be_writers and all(self.is_in_all(*part, moved) for part in fault.ranges)):
                 return fault.text
@@ -95,6 +98,8 @@ class Verdict:
 
     def is_in_all(self, begin: int, end: int, moved: int) -> bool:
         """Whether each copy has the bytes of this range of the finished file. What follows Pixel Data can have been moved."""
+        if self.frames.is_witnessed:  # one copy alone is no two that have a fault
+            return False
         shift = moved if begin >= self.layout.structure.end_of_pixels() + moved else 0
         begin, end = begin - shift, end - shift
         is_bad = any(first < end and begin < last for copy in self.frames.copies for first, last in [*copy.absent, *copy.bad])

@@ -9,6 +9,7 @@ from typing import Optional
 from jls_tools.dicom.axis.placed import alone
 from jls_tools.dicom.copies.given import Given
 from jls_tools.dicom.evidence.denials import has_shape, shape_said
+from jls_tools.dicom.evidence.witnessed import by_witnesses
 from jls_tools.dicom.mended_frames import MendedFrames
 from jls_tools.dicom.result import NOT_WHOLE, WHOLE, Refused
 from jls_tools.dicom.write.build import packed, put_frames, store
@@ -37,7 +38,8 @@ class Writing:
         self.shape = shapes_of(self.frames.mended, self.frames.streams)
         self.name_counts()
         self.header = self.layout.header(self.shape, len(self.frames.mended))
-        if not self.given.is_one:
+        by_witnesses(self.header, self.given.witnesses)
+        if not self.given.is_one and not self.frames.is_witnessed:
             self.header.find_alone(self.frames.strange)
         if self.options.header is not None:
             names = [copy.path for copy in self.frames.copies]
