@@ -20,7 +20,7 @@ mod texts;
 mod unfailed;
 mod writing;
 
-pub use files::{read_under, take_read};
+pub use files::{read_under, station_without_files, take_read};
 pub use known::{read_known, take_any_text, take_known};
 pub use marking::{insert_last, mark_later};
 pub use reading::{read_any, read_in_memory};

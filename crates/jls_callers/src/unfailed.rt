@@ -1,6 +1,6 @@
 //! Callers that read a source of known bytes in whose history growth no read failed.
 
-ghost use Rattle.std.specs.Prelude.{◌≡◌, ◌≤◌, ◌<◌, ◌++◌, ◌⊎◌, ℕ, List, None, Some, true, false, length, IfOk, IsErrOf};
+ghost use Rattle.std.specs.Prelude.{◌≡◌, ◌≤◌, ◌<◌, ◌++◌, ◌⊎◌, ℕ, List, None, Some, true, false, length, IfOk, IfErr, IsErrOf};
 ghost use Rattle.std.specs.List.{list_any};
 ghost use Rattle.jls_copy.specs.CopyReads.{CopyReads, CopyGivesNone};
 ghost use Rattle.jls_copy.specs.ReadCopy.{ReadCopy};
@@ -10,6 +10,8 @@ ghost use Rattle.jls_marker.specs.declared.fault.MarkerFault.{MarkerFault};
 ghost use Rattle.jls_partial.specs.Partial.{has_same_shape, union};
 ghost use Rattle.jls_partial.specs.declared.text_fault.TextFault.{TextFault};
 ghost use Rattle.jls_station.specs.Given.{marked};
+ghost use Rattle.jls_station.specs.Inputs.{ReadsGive, ReadsRefuse};
+ghost use Rattle.jls_station.specs.TakingCopies.{RefusesCopy, TakesCopy};
 ghost use Rattle.jls_station.specs.Texts.{is_text, IsNoText};
 ghost use Rattle.jls_station.specs.declared.input.InputFault.TheVariants as InputFault;
 ghost use Rattle.jls_station.specs.declared.input.ReadStop.{ReadStop};
@@ -43,6 +45,11 @@ pub fn take_unfailed<S: Source>(
     ensures not_read { (bytes : List ℕ) (stop : ReadStop) (count : ℕ) → S.remaining device.old ≡ Some bytes
         → IsErrOf result (TakeFault.Read stop count) → GrewBy (λ reads. list_any is_failed_read reads ≡ false
         → (stop ≡ Turns) × (4294967295 ≤ length bytes)) (S.history device.old) (S.history device.new) }
+    // Whether the bytes are known or not.
+    ensures takes { IfOk result (λ report.
+        GrewBy (TakesCopy source station.old station.new report) (S.history device.old) (S.history device.new)) }
+    ensures refused { IfErr result (λ fault.
+        GrewBy (RefusesCopy source station.old station.new fault) (S.history device.old) (S.history device.new)) }
 {
     copies_have_one_course();
     final_ends_stay();
@@ -71,6 +78,9 @@ pub fn read_unfailed<S: Source>(
     ensures not_read { (bytes : List ℕ) (stop : ReadStop) (count : ℕ) → S.remaining device.old ≡ Some bytes
         → IsErrOf result (InputFault.Read stop count) → GrewBy (λ reads. list_any is_failed_read reads ≡ false
         → (stop ≡ Turns) × (4294967295 ≤ length bytes)) (S.history device.old) (S.history device.new) }
+    // Whether the bytes are known or not.
+    ensures gives { IfOk result (λ given. GrewBy (ReadsGive source given) (S.history device.old) (S.history device.new)) }
+    ensures refused { IfErr result (λ fault. GrewBy (ReadsRefuse fault) (S.history device.old) (S.history device.new)) }
 {
     copies_have_one_course();
     final_ends_stay();

@@ -1,12 +1,14 @@
 //! Callers that write the picture of a station, and its report.
 
-ghost use Rattle.std.specs.Prelude.{◌≡◌, ℕ, List, IsTrue, Ok, IfOk};
+ghost use Rattle.std.specs.Prelude.{◌≡◌, ℕ, List, IsTrue, Ok, OnOk, IfOk, IfErr};
 ghost use Rattle.std.specs.List.{AllByRecursion};
 ghost use Rattle.jls_io.specs.Event.{GrewBy};
 ghost use Rattle.jls_io.specs.Writing.{Wrote};
+ghost use Rattle.jls_partial.specs.Status.{IsSettled};
 ghost use Rattle.jls_write.specs.Outcomes.{HandedOut};
 ghost use Rattle.jls_write.specs.Picture.{WholePicture, picture_of};
 ghost use Rattle.jls_write.specs.Pnm.{pnm};
+ghost use Rattle.jls_write.specs.Unsettled.{NamesFirstUnsettled};
 ghost use Rattle.jls_write.specs.WholePictures.{IsPicture};
 ghost use Rattle.jls_write.specs.WrittenFile.{written_file};
 ghost use Rattle.jls_report.specs.Report.{report_of};
@@ -58,8 +60,12 @@ pub fn write_station<W: Sink>(
 
 /// The picture of a station, if each line is settled.
 pub fn station_picture(station: &Station) -> Result<Picture<'_>, PictureFault>
-    ensures { (pic : WholePicture) (copies : List SourcedCopy) → IsPicture pic → CollectedFrom station.now copies
+    ensures damaged { (pic : WholePicture) (copies : List SourcedCopy) → IsPicture pic → CollectedFrom station.now copies
         → AllByRecursion (Damaged pic) (copies_of copies) → EachLineSurvives pic (copies_of copies) → result ≡ Ok pic }
+    // Whatever the station came from.
+    ensures settled { OnOk result (IsSettled station.now) }
+    ensures picture { IfOk result (λ picture. picture ≡ picture_of station.now) }
+    ensures unsettled { IfErr result (λ fault. NamesFirstUnsettled station.now fault) }
 {
     same_copies_give_the_picture();
     let held = station.partial();

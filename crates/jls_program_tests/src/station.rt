@@ -1,6 +1,7 @@
 //! Inputs read, and a station that takes what fits.
 
 mod copies;
+mod files;
 
 use jls_io::Counted;
 use jls_partial::Partial;

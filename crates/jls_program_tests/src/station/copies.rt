@@ -12,7 +12,7 @@ use std::process::Abort;
 use std::test::Fail;
 
 /// A copy of ten lines of one sample, 0 to 9, each in an interval of its own.
-const TEN: &str =
+pub const TEN: &str =
     "FF D8 FF F7 00 0B 08 00 0A 00 01 01 01 11 00 FF DD 00 04 00 01 FF DA 00 08 01 01 00 00 00 00 80 FF D0 50 FF D1 \
      70 FF D2 28 FF D3 38 FF D4 14 FF D5 1C FF D6 0A FF D7 0E FF D0 05 FF D9";
 
@@ -84,7 +84,7 @@ impl<'a> Read for Slices<'a> {
 }
 
 /// The bytes that hexadecimal digits spell.
-fn bytes_of(alloc: Global, text: &str) -> Result<Vec<u8>, Fail> {
+pub fn bytes_of(alloc: Global, text: &str) -> Result<Vec<u8>, Fail> {
     let mut bytes = Vec::new(alloc);
     for digits in text.split_whitespace() {
         bytes.push(u8::from_str_radix(digits, 16)?)?;
@@ -106,7 +106,11 @@ fn put_line(out: &mut String, partial: &Partial, line: u16) -> Result<(), Fail> 
     Ok(())
 }
 
-fn text_of(alloc: Global, partial: &Partial, report: Option<&TakeReport>) -> Result<String, Fail> {
+pub fn text_of(
+    alloc: Global,
+    partial: &Partial,
+    report: Option<&TakeReport>,
+) -> Result<String, Fail> {
     let mut out = String::new(alloc);
     for line in 0..partial.shape().height() {
         put_line(&mut out, partial, line)?;

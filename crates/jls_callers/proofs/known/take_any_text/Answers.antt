@@ -2,8 +2,8 @@ use Rattle.jls_partial.specs.TextMerging.{MergesText}
 use Rattle.jls_callers.proofs.Answered.{ok_both}
 use Rattle.jls_callers.proofs.known.take_any_text.Goals as goal
 
-pub returns : goal.returns
-returns c =
+pub returns-clause-taken : goal.returns-clause-taken
+returns-clause-taken c =
     let old = c.args.station.now in
     let new = c.take_text.new.self in
     let bytes = c.args.bytes.now in

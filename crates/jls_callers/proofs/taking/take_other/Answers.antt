@@ -1,4 +1,7 @@
-use Rattle.std.proofs.Common.{◌≡◌, ◌++◌, true, sym, subst}
+use Rattle.std.proofs.Common.{◌≡◌, ◌++◌, false, true, sym, subst}
+use Rattle.std.specs.Prelude.{◌↔◌, OnOk, IsErrOf}
+use Rattle.jls_values.specs.Join.{IsBetween}
+use Rattle.jls_values.specs.declared.merge.MergeFault.TheVariants.{ShapeDiffers, OutOfMemory}
 use Rattle.jls_partial.specs.Partial.{PartialPicture, has_same_shape, union}
 use Rattle.jls_headline.specs.Collected.{Collected, same_again, partial_taken, partial_ran_out}
 use Rattle.jls_callers.proofs.Answered.{ok_both}
@@ -21,3 +24,18 @@ returns-clause-ran_out c = λ known copies over more further g k e.
 
 pub returns-clause-refused : goal.returns-clause-refused
 returns-clause-refused c = λ known copies over g e. same_again c.args.station.now c.take.new.self copies over g (c.take.ensures.unchanged e)
+
+pub returns-clause-ok : goal.returns-clause-ok
+returns-clause-ok c =
+    subst (λ (p : PartialPicture). OnOk c.take.result (c.take.new.self ≡ union c.args.station.now p)) c.partial.ensures c.take.ensures.ok
+
+pub returns-clause-shape_differs : goal.returns-clause-shape_differs
+returns-clause-shape_differs c =
+    subst (λ (p : PartialPicture). IsErrOf c.take.result ShapeDiffers ↔ (has_same_shape c.args.station.now p ≡ false)) c.partial.ensures
+    c.take.ensures.shape_differs
+
+pub returns-clause-between : goal.returns-clause-between
+returns-clause-between c =
+    let old = c.args.station.now in
+    subst (λ (p : PartialPicture). IsErrOf c.take.result OutOfMemory → IsBetween union old c.take.new.self (union old p)) c.partial.ensures
+    c.take.ensures.out_of_memory

@@ -5,8 +5,8 @@ use Rattle.jls_headline.specs.Collected.{Collected, text_cut_short}
 use Rattle.jls_callers.proofs.Answered.{err_then}
 use Rattle.jls_callers.proofs.texts.take_cut_text.Goals as goal
 
-pub returns : goal.returns
-returns c = λ known following copies over more further is collected other's.
+pub returns-clause-collected : goal.returns-clause-collected
+returns-clause-collected c = λ known following copies over more further is collected other's.
     let old = c.args.station.now in
     let new = c.take_text.new.self in
     let other = c.args.other.now in

@@ -23,3 +23,6 @@ returns-clause-ran_out c = λ known copies over more further g k.
     err_then c.take_text.result (IsBetween union old new (union old other)) (Collected known new copies (over ++ (more ++ further)))
     (c.take_text.ensures.between other c.requires)
     (λ between. text_ran_out old new other copies over more further c.args.bytes.now g k c.requires between)
+
+pub returns-clause-between : goal.returns-clause-between
+returns-clause-between c = c.take_text.ensures.between c.args.other.now c.requires
