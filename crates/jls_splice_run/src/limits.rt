@@ -316,8 +316,25 @@ fn other_parts<'a>(
     }
 }
 
-/// Makes all searches over other parts of the copies, if those before found no file, and there are such parts. They count if they find a
-/// file.
+/// Whether what a search found counts, so that no other parts are searched. Where it was cut off among many fine parts, a few that are cut
+/// where copies go over from one to another can tell more.
+fn stands(before: &Searched, cutting: Cutting) -> bool {
+    if before.splices.is_empty() {
+        return false;
+    }
+    match cutting {
+        Cutting::Finer => true,
+        Cutting::WhereCopiesGoOver => !before.is_used_up,
+    }
+}
+
+/// Whether a search found files, and the one before none, or the one before alone was cut off.
+fn tells_more(new: &Searched, before: &Searched) -> bool {
+    !new.splices.is_empty() && (before.splices.is_empty() || !new.is_used_up)
+}
+
+/// Makes all searches over other parts of the copies, unless those before count, and if there are such parts. They count in place of those
+/// before if they tell more.
 fn search_others<'a, E: Sink>(
     alloc: Global,
     copies: &[&'a [u8]],
@@ -334,17 +351,17 @@ fn search_others<'a, E: Sink>(
     ensures counts { IfOk result (λ new. IsCounting options.ceiling new.parts new.all) }
     ensures told { GrewBy (IsTold options.tells) (E.history faults.old) (E.history faults.new) }
 {
-    if !before.all.searched.splices.is_empty() {
+    if stands(&before.all.searched, cutting) {
         return Ok(before);
     }
     let Some(others) = other_parts(alloc, copies, &before.parts, cutting, options.tries)? else {
         return Ok(before);
     };
     let new = search_over(alloc, copies, others, options, faults)?;
-    if new.all.searched.splices.is_empty() {
-        return Ok(before);
+    if tells_more(&new.all.searched, &before.all.searched) {
+        return Ok(new);
     }
-    Ok(new)
+    Ok(before)
 }
 
 /// The parts of copies over which their splices are searched. If the copies surely are of several codings, a mix of their bytes is no
@@ -359,8 +376,8 @@ fn parts_to_search<'a>(alloc: Global, copies: &[&'a [u8]]) -> Result<Parts<'a>, 
     Ok(parts)
 }
 
-/// Finds the parts of copies and makes all searches over them. If these find no file, they are made over finer ones, and if these find none
-/// either, over those that are cut where the copies go over from one to another.
+/// Finds the parts of copies and makes all searches over them. If these find no file, they are made over finer ones. If these find none
+/// either, or are cut off, they are made over parts that are cut where the copies go over from one to another.
 fn search_copies<'a, E: Sink>(
     alloc: Global,
     copies: &[&'a [u8]],
