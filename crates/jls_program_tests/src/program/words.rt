@@ -81,7 +81,7 @@ fn tells_its_version(rt: HostRuntime) -> Result<(), Fail> {
     let found = run_words(rt.alloc(), "--version", GOOD)?;
     assert!(rt;
         found.report.as_slice()
-            == b"jls-salvage 1.2.0 (rattle-kit-13b logic dac8208d650f15bf)\n".as_slice()
+            == b"jls-salvage 1.2.0 (rattle-kit-13f logic dac8208d650f15bf)\n".as_slice()
     );
     Ok(())
 }
