@@ -37,13 +37,6 @@ pub(crate) struct Chain {
     pub(crate) is_alive: bool,
 }
 
-/// How many bytes of a stretch stand in runs, and how many don't.
-#[derive(Clone, Copy)]
-pub(crate) struct Matched {
-    pub(crate) alike: usize,
-    pub(crate) others: usize,
-}
-
 /// How many of these numbers, which rise, are below a bound.
 fn count_below(ends: &[usize], bound: usize) -> usize {
     let mut low = 0usize;
@@ -84,24 +77,28 @@ impl Chain {
             .any(|run| run.begin <= begin && end <= run.end)
     }
 
-    /// How many bytes of the lines from one to another stand in runs.
-    pub(crate) fn matched(&self, first: usize, last: usize) -> Matched {
-        let begin = self.begin_of(first);
+    /// How many bytes of the lines from one to another don't stand in runs, and how many more the copy has between two runs than the code.
+    pub(crate) fn unmatched(&self, first: usize, last: usize) -> usize {
         let end = self.end_of(last);
-        let mut at = begin;
-        let mut alike = 0usize;
+        let mut at = self.begin_of(first);
+        let mut shift = None;
+        let mut count = 0usize;
         for run in self.runs.iter() {
             let from = run.begin.max(at);
             let to = run.end.min(end);
             if to > from {
-                alike = alike.saturating_add(to.saturating_sub(from));
+                let surplus = match shift {
+                    None => 0,
+                    Some(before) => run.shift.beyond(before),
+                };
+                count = count
+                    .saturating_add(from.saturating_sub(at))
+                    .saturating_add(surplus);
                 at = to;
+                shift = Some(run.shift);
             }
         }
-        Matched {
-            alike,
-            others: end.saturating_sub(begin).saturating_sub(alike),
-        }
+        count.saturating_add(end.saturating_sub(at))
     }
 }
 

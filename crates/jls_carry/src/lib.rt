@@ -28,7 +28,7 @@
 //! 2. One gap a round: lines are taken to the end of the first run behind a gap of the other copy. Then that copy is mended, and speaks
 //!    itself.
 //! 3. Where two readings of a line are confirmed, it is disputed. One is taken if it alone stands unbroken in two copies, or leaves under a
-//!    quarter of the other's unmatched bytes.
+//!    quarter of the other's unmatched bytes. Those that a copy has too many count too.
 //! 4. Lines are taken in order. A chain ends at the first that is not.
 //! 5. Behind a dispute each copy goes on with its own reading, and a later line wants both.
 //! 6. A reading that another copy has, and nobody tested, holds the line back. A sample that a coding can't say refutes it there. A reading

@@ -210,7 +210,7 @@ impl Settling<'_, '_> {
         rows
     }
 
-    /// How many bytes of a reading's code don't match, over so many rows, in the copy where most do.
+    /// How many bytes don't match of a reading's code and the copy, over so many rows, in the copy where most do.
     fn unmatched(&self, confirmed: &Confirmed, rows: usize) -> usize {
         let mut least = usize::MAX;
         for reached in confirmed.chains.iter() {
@@ -220,7 +220,7 @@ impl Settling<'_, '_> {
                     .line
                     .saturating_add(lines)
                     .min(chain.confirmed.saturating_sub(1));
-                least = least.min(chain.matched(reached.line, last).others);
+                least = least.min(chain.unmatched(reached.line, last));
             }
         }
         least
