@@ -1,6 +1,6 @@
 //! Chains: lines of one copy in the code of another, which confirms them as far as it has the same bytes.
 
-use crate::claims::{CopyState, bytes_of, code_of};
+use crate::claims::{CopyState, Speaker, bytes_of, code_of};
 use crate::code::FirstCode;
 use crate::picture::Picture;
 use crate::pieces::Piece;
@@ -114,11 +114,11 @@ struct Said {
     is_refuted: bool,
 }
 
-/// The one reading that other copies than this one have of a line in pieces that close.
-fn only_closed(copies: &[CopyState<'_>], place: usize, taker: usize) -> Option<usize> {
+/// The one reading of a line in pieces that close that other copies have than this one, and those that have none of its bytes.
+fn only_closed(copies: &[CopyState<'_>], place: usize, taker: Speaker) -> Option<usize> {
     let mut only = None;
     for copy in copies {
-        if copy.number == taker {
+        if copy.number == taker.number || copy.speaker.is_related(taker) {
             continue;
         }
         if let Some(claim) = copy.claim(place) {
@@ -150,7 +150,7 @@ fn said_by(
     picture: &Picture,
     copies: &[CopyState<'_>],
     giver: &CopyState<'_>,
-    taker: usize,
+    taker: Speaker,
     piece: &Piece,
 ) -> Result<Said, AllocError> {
     let mut said = Said {
@@ -298,7 +298,7 @@ pub(crate) fn compare(
     taker: &CopyState<'_>,
     piece: &Piece,
 ) -> Result<Compared, AllocError> {
-    let said = said_by(alloc, picture, copies, giver, taker.number, piece)?;
+    let said = said_by(alloc, picture, copies, giver, taker.speaker, piece)?;
     let refuted = if said.is_refuted {
         piece.interval.line_count()
     } else {

@@ -62,7 +62,7 @@ mod settling;
 mod shifts;
 mod strangers;
 
-use crate::claims::CopyState;
+use crate::claims::{CopyState, Speaker};
 use crate::edits::edits_between;
 use crate::layouts::{Layouts, layouts_of};
 use crate::mending::mended_file;
@@ -151,10 +151,16 @@ pub struct Carried {
 /// What copies in different codings bring back of each other: the lines that are settled, and a mended file of each coding. `codings` has a
 /// number for each copy, the same for those of one coding. A coding has no mended file if no copy of it has headers that read, or if these
 /// are of a picture of another shape. The shape is that of the first copy whose headers read, but for the precision. Nor has it one if its
-/// copies agree with no other. `Err` comes where memory is refused.
+/// copies agree with no other. Those behind the first `own` ones are no copies, but splices of copies of their coding: they confirm nothing
+/// that these say. `Err` comes where memory is refused.
 ///
 /// No contract speaks of what is found.
-pub fn carry(alloc: Global, copies: &[&[u8]], codings: &[usize]) -> Result<Carried, AllocError> {
+pub fn carry(
+    alloc: Global,
+    copies: &[&[u8]],
+    codings: &[usize],
+    own: usize,
+) -> Result<Carried, AllocError> {
     let Layouts {
         lines,
         layouts,
@@ -165,7 +171,12 @@ pub fn carry(alloc: Global, copies: &[&[u8]], codings: &[usize]) -> Result<Carri
     let mut ends = Vec::new(alloc);
     for (number, (bytes, layout)) in copies.iter().zip(layouts).enumerate() {
         ends.push(layout.as_ref().map(|layout| layout.has_eoi))?;
-        states.push(CopyState::new(alloc, number, bytes, layout, lines)?)?;
+        let speaker = Speaker {
+            number,
+            coding: codings.get(number).copied().unwrap_or(number),
+            is_splice: number >= own,
+        };
+        states.push(CopyState::new(alloc, speaker, bytes, layout, lines)?)?;
     }
     carry_on(alloc, &mut picture, &mut states)?;
     if !picture.has_settled() {

@@ -2,7 +2,7 @@
 
 use crate::between::{is_held_back, is_refuted};
 use crate::chains::Chain;
-use crate::claims::CopyState;
+use crate::claims::{CopyState, Speaker};
 use crate::picture::{OwnReading, Picture};
 use std::alloc::{AllocError, Global};
 
@@ -168,6 +168,33 @@ impl Settling<'_, '_> {
         Ok(all)
     }
 
+    /// Whether a copy or another splice of its coding, that is before a splice among these, speaks for it.
+    fn is_spoken_for(&self, splice: Speaker, place: usize, numbers: &[usize]) -> bool {
+        for (other_place, number) in numbers.iter().enumerate() {
+            if let Some(other) = self.copies.get(*number) {
+                let speaks_first = !other.speaker.is_splice || other_place < place;
+                if other.speaker.coding == splice.coding && speaks_first {
+                    return true;
+                }
+            }
+        }
+        false
+    }
+
+    /// How many of these speak for themselves. A splice has no byte of its own, so it adds nothing to the copies of its coding.
+    fn count_voices(&self, numbers: &[usize]) -> usize {
+        let mut count = 0usize;
+        for (place, number) in numbers.iter().enumerate() {
+            if let Some(copy) = self.copies.get(*number) {
+                let speaker = copy.speaker;
+                if !speaker.is_splice || !self.is_spoken_for(speaker, place, numbers) {
+                    count = count.saturating_add(1);
+                }
+            }
+        }
+        count
+    }
+
     /// How many copies have a reading: those that say it, and those in whose bytes its line stands unbroken.
     fn support(&self, confirmed: &Confirmed) -> Result<usize, AllocError> {
         let mut copies = Vec::new(self.alloc);
@@ -179,7 +206,7 @@ impl Settling<'_, '_> {
                 }
             }
         }
-        Ok(copies.len())
+        Ok(self.count_voices(&copies))
     }
 
     /// How many copies say a reading.
@@ -190,7 +217,7 @@ impl Settling<'_, '_> {
                 add_once(&mut copies, chain.giver)?;
             }
         }
-        Ok(copies.len())
+        Ok(self.count_voices(&copies))
     }
 
     /// How many rows all chains of these readings confirm from this line on.

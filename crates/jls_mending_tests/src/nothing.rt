@@ -7,7 +7,7 @@ use std::test::Fail;
 
 /// Whether copies of these codings bring back no line and no file, and all are said to agree with no other.
 fn are_strangers(alloc: Global, copies: &[&[u8]], codings: &[usize]) -> Result<bool, AllocError> {
-    let carried = carry(alloc, copies, codings)?;
+    let carried = carry(alloc, copies, codings, copies.len())?;
     for line in carried.lines.iter() {
         if line.is_some() {
             return Ok(false);
