@@ -9,6 +9,9 @@ use std::alloc::{AllocError, Global};
 /// A reading is taken over another where it leaves under a quarter of the other's bytes unmatched, and this many fewer.
 const CLEARLY: usize = 8;
 
+/// Or where it is confirmed for four times as many rows, and this many more.
+const ROWS_MORE: usize = 12;
+
 /// Which lines of which copies were compared with the bytes of another.
 #[derive(Drop)]
 pub(crate) struct Tested {
@@ -220,21 +223,79 @@ impl Settling<'_, '_> {
         Ok(self.count_voices(&copies))
     }
 
+    /// How many rows behind a line a chain confirms.
+    fn rows_behind(&self, reached: Reaching) -> usize {
+        let Some(chain) = self.chains.get(reached.chain) else {
+            return 0;
+        };
+        let lines = chain
+            .confirmed
+            .saturating_sub(1)
+            .saturating_sub(reached.line);
+        lines / usize::from(chain.piece.interval.components)
+    }
+
     /// How many rows all chains of these readings confirm from this line on.
     fn rows_in_common(&self, readings: &[Confirmed]) -> usize {
         let mut rows = usize::MAX;
         for confirmed in readings {
             for reached in confirmed.chains.iter() {
-                if let Some(chain) = self.chains.get(reached.chain) {
-                    let lines = chain
-                        .confirmed
-                        .saturating_sub(1)
-                        .saturating_sub(reached.line);
-                    rows = rows.min(lines / usize::from(chain.piece.interval.components));
-                }
+                rows = rows.min(self.rows_behind(*reached));
             }
         }
         rows
+    }
+
+    /// The reading of a chain so many rows behind a line.
+    fn reading_behind(&self, reached: Reaching, rows: usize) -> Option<usize> {
+        let chain = self.chains.get(reached.chain)?;
+        let lines = rows.saturating_mul(usize::from(chain.piece.interval.components));
+        chain
+            .readings
+            .get(reached.line.saturating_add(lines))
+            .copied()
+    }
+
+    /// Whether a chain of one reading says the same so many rows behind it as a chain of another.
+    fn are_one_again(&self, one: &Confirmed, other: &Confirmed, rows: usize) -> bool {
+        one.chains.iter().any(|reached| {
+            let reading = self.reading_behind(*reached, rows);
+            other
+                .chains
+                .iter()
+                .any(|others| self.reading_behind(*others, rows) == reading)
+        })
+    }
+
+    /// The reading that is confirmed for far more rows than each other, if the others never say the same again.
+    fn outlasting(&self, readings: &[Confirmed], rows: usize) -> Option<usize> {
+        let mut best: Option<&Confirmed> = None;
+        let mut most = 0usize;
+        let mut second = 0usize;
+        for confirmed in readings {
+            let mut last = 0usize;
+            for reached in confirmed.chains.iter() {
+                last = last.max(self.rows_behind(*reached));
+            }
+            if best.is_none() || last > most {
+                second = most;
+                most = last;
+                best = Some(confirmed);
+            } else {
+                second = second.max(last);
+            }
+        }
+        let best = best?;
+        for confirmed in readings {
+            if confirmed.reading != best.reading && self.are_one_again(best, confirmed, rows) {
+                return None;
+            }
+        }
+        if second.saturating_mul(4).saturating_add(ROWS_MORE) <= most {
+            Some(best.reading)
+        } else {
+            None
+        }
     }
 
     /// How many bytes don't match of a reading's code and the copy, over so many rows, in the copy where most do.
@@ -284,7 +345,7 @@ impl Settling<'_, '_> {
         if least.saturating_mul(4).saturating_add(CLEARLY) <= second {
             return Ok(best);
         }
-        Ok(None)
+        Ok(self.outlasting(readings, rows))
     }
 
     /// Whether only copies of one coding have a reading, and each of them is opposed. They can be copies of one damaged file, or of another

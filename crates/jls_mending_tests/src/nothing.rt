@@ -52,6 +52,18 @@ fn other_picture(rt: HostRuntime) -> Result<(), Fail> {
     Ok(())
 }
 
+/// Nor does a splice agree with the copy whose bytes it has.
+#[test]
+fn splice_of_a_copy(rt: HostRuntime) -> Result<(), Fail> {
+    let alloc = rt.alloc();
+    let damaged = zeroed(alloc, PLAIN, 70, 12)?;
+    let copies: [&[u8]; 2] = [&damaged, PLAIN];
+    let carried = carry(alloc, &copies, &[0, 0], 1)?;
+    assert!(rt; carried.lines.iter().all(|line| line.is_none()));
+    assert!(rt; carried.codings.is_empty());
+    Ok(())
+}
+
 /// Lines that stand behind a damaged place of both copies can't come back.
 #[test]
 fn damaged_alike(rt: HostRuntime) -> Result<(), Fail> {
