@@ -10,7 +10,7 @@ use std::alloc::{AllocError, Global};
 const CLEARLY: usize = 8;
 
 /// Or where it is confirmed for four times as many rows, and this many more.
-const ROWS_MORE: usize = 12;
+const ROWS_MORE: usize = 8;
 
 /// Which lines of which copies were compared with the bytes of another.
 #[derive(Drop)]
