@@ -3,6 +3,7 @@
 ghost use Rattle.std.specs.Prelude.{◌≡◌, ◌+◌, ◌-◌, ◌^◌, ◌≤◌, length, IfSome};
 ghost use Rattle.jls_diff.specs.PartsOf.{parts_of};
 
+use crate::pace::Pace;
 use jls_copy::WideReader;
 use jls_diff::Parts;
 use std::alloc::AllocError;
@@ -23,6 +24,8 @@ pub(crate) struct Life {
     pub(crate) bytes: usize,
     /// Whether it was found that no file without a fault begins so.
     pub(crate) is_dead: bool,
+    /// Its last bytes.
+    pub(crate) pace: Pace,
 }
 
 /// Feeds a reader. `Err` comes where memory is refused, and where it would be fed too much.
@@ -41,10 +44,11 @@ pub(crate) fn is_dead(reader: &WideReader) -> bool {
 
 impl Life {
     /// That of a reader that was fed nothing more.
-    pub(crate) fn new() -> Life {
+    pub(crate) fn new(pace: Pace) -> Life {
         Life {
             bytes: 0,
             is_dead: false,
+            pace,
         }
     }
 
@@ -64,6 +68,7 @@ impl Life {
             feed(reader, slice)?;
             self.bytes = self.bytes.saturating_add(step);
             self.is_dead = is_dead(reader);
+            self.pace.go_on(reader);
             rest = later;
         }
         Ok(())

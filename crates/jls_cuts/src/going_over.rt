@@ -4,12 +4,10 @@ ghost use Rattle.std.specs.Prelude.{◌≡◌, ◌<◌, ◌≤◌, length};
 ghost use Rattle.jls_diff.specs.PartsOf.{part_of, parts_of};
 
 use crate::feeding::{Life, feed, is_dead};
+use crate::pace::Pace;
+use crate::stretch::Stretch;
 use jls_copy::WideReader;
-use jls_diff::Parts;
 use std::alloc::{AllocError, Global};
-
-/// Clones of a reader are kept at multiples of so many bytes. These are tried first.
-const BLOCK: usize = 64;
 
 /// How many of these clones are kept at most: the last ones.
 const MOST_KEPT: usize = 129;
@@ -26,20 +24,6 @@ const MOST_LIVING: usize = 8;
 /// A reader that lives so many bytes counts as one try more.
 const BYTES_A_TRY: usize = 65536;
 
-/// A part in which copies differ, whose ways have one length.
-#[derive(Clone, Copy)]
-pub(crate) struct Stretch<'p, 'a> {
-    pub(crate) parts: &'p Parts<'a>,
-    /// The number of the part.
-    pub(crate) place: usize,
-    /// Its offset in the first copy.
-    pub(crate) offset: usize,
-    /// How many copies there are.
-    pub(crate) copies: usize,
-    /// How many bytes each has.
-    pub(crate) length: usize,
-}
-
 /// A reader that was fed a stretch up to a byte of it.
 #[derive(Drop)]
 struct Stop {
@@ -52,67 +36,46 @@ struct Stop {
 #[derive(Drop)]
 pub(crate) struct Through {
     pub(crate) reader: WideReader,
+    /// Its last bytes.
+    pub(crate) pace: Pace,
     /// Where it went over, as an offset in the first copy.
     pub(crate) cut: usize,
 }
 
 impl<'p, 'a> Stretch<'p, 'a> {
-    /// What a copy has.
-    fn way(self, copy: usize) -> &'a [u8] {
-        if self.place < self.parts.len() {
-            self.parts.way(self.place, copy)
-        } else {
-            &[]
-        }
-    }
-
-    /// What a copy has from a byte on.
-    fn way_from(self, copy: usize, at: usize) -> &'a [u8] {
-        let way = self.way(copy);
-        &way[at.min(way.len())..]
-    }
-
-    /// What a copy has from a byte on, up to another.
-    fn way_between(self, copy: usize, at: usize, end: usize) -> &'a [u8] {
-        let rest = self.way_from(copy, at);
-        &rest[..end.saturating_sub(at).min(rest.len())]
-    }
-
-    /// Whether a way is the first with its bytes.
-    pub(crate) fn is_first_way(self, copy: usize) -> bool {
-        for other in 0..copy {
-            if *self.way(other) == *self.way(copy) {
-                return false;
-            }
-        }
-        true
-    }
-
-    /// Whether two copies have another byte before this place.
-    fn differ_before(self, at: usize, copy: usize, other: usize) -> bool {
-        let Some(before) = at.checked_sub(1) else {
-            return false;
-        };
-        self.way(copy).get(before) != self.way(other).get(before)
-    }
-
     /// Feeds a reader a copy's bytes from a byte on, and what follows the stretch, until it is dead.
-    fn feed_rest(
+    pub(crate) fn feed_rest(
         self,
         reader: &mut WideReader,
         copy: usize,
         at: usize,
     ) -> Result<Life, AllocError> {
-        let mut life = Life::new();
+        let mut life = Life::new(Pace::new());
         life.go_on(reader, self.way_from(copy, at))?;
         life.go_through(reader, self.parts, self.place.saturating_add(1))?;
         Ok(life)
     }
 
-    /// Where the block ends in which a byte is.
-    fn block_end(self, at: usize) -> usize {
-        let begun = self.offset.saturating_add(at) % BLOCK;
-        at.saturating_add(BLOCK - begun).min(self.length)
+    /// Feeds a reader the rest of a copy's bytes, and of what follows the stretch, until it is dead. So many were fed.
+    pub(crate) fn feed_after(
+        self,
+        reader: &mut WideReader,
+        copy: usize,
+        read: usize,
+        pace: Pace,
+    ) -> Result<Life, AllocError> {
+        let mut life = Life::new(pace);
+        life.go_on(reader, self.way_from(copy, read))?;
+        let next = self.place.saturating_add(1);
+        if next < self.parts.len() && !self.parts.is_differ(next) {
+            let way = self.parts.way(next, 0);
+            life.go_on(
+                reader,
+                &way[read.saturating_sub(self.length).min(way.len())..],
+            )?;
+            life.go_through(reader, self.parts, next.saturating_add(1))?;
+        }
+        Ok(life)
     }
 
     /// The last clones of a reader that is fed a copy's bytes until it is dead, in their order.
@@ -172,9 +135,19 @@ impl Search {
         self.tries == 0 || self.after == Some(0) || self.living.len() >= MOST_LIVING
     }
 
+    /// Whether no more may be tried.
+    pub(crate) fn is_used_up(&self) -> bool {
+        self.tries == 0
+    }
+
+    /// Counts a try in which so many bytes were fed.
+    pub(crate) fn spend(&mut self, bytes: usize) {
+        self.tries = less(self.tries, (bytes / BYTES_A_TRY).saturating_add(1));
+    }
+
     /// Counts a try whose reader lived so long.
     fn count(&mut self, life: Life) {
-        self.tries = less(self.tries, (life.bytes / BYTES_A_TRY).saturating_add(1));
+        self.spend(life.bytes);
         self.after = match self.after {
             Some(after) => Some(after.saturating_sub(1)),
             None if !life.is_dead && life.bytes >= SURE => Some(TRIES_AFTER),
@@ -202,7 +175,11 @@ impl Search {
             self.count(life);
             if !life.is_dead {
                 let cut = stretch.offset.saturating_add(at);
-                self.living.push(Through { reader, cut })?;
+                self.living.push(Through {
+                    reader,
+                    pace: life.pace,
+                    cut,
+                })?;
             }
         }
         Ok(())

@@ -4,7 +4,10 @@ ghost use Rattle.std.specs.Prelude.{◌≡◌, ◌<◌, ◌≤◌, length};
 ghost use Rattle.jls_diff.specs.PartsOf.{part_of, parts_of};
 
 use crate::feeding::Life;
-use crate::going_over::{Search, Stretch, Through};
+use crate::going_over::{Search, Through};
+use crate::pace::Pace;
+use crate::seeking::seek;
+use crate::stretch::Stretch;
 use jls_copy::WideReader;
 use jls_diff::{Part, Parts};
 use std::alloc::{AllocError, Global};
@@ -15,11 +18,16 @@ const MOST_LIVING: usize = 8;
 /// Stretches of so many bytes or fewer are not gone over.
 const SHORT: usize = 16;
 
+/// Stretches of so many bytes or fewer are gone over without a look at what lines save: they may have few.
+const FEW_LINES: usize = 1024;
+
 /// A path through the first parts.
 #[derive(Drop)]
 struct Path {
     /// A reader that was fed its bytes.
     reader: WideReader,
+    /// Its last bytes.
+    pace: Pace,
     /// Where it goes over, as offsets in the first copy.
     cuts: Vec<usize>,
 }
@@ -109,16 +117,25 @@ fn go_on(
                 continue;
             }
             let mut reader = path.reader.try_clone()?;
-            let mut life = Life::new();
+            let mut life = Life::new(path.pace);
             life.go_on(&mut reader, way)?;
             life.go_through(&mut reader, parts, place.saturating_add(1))?;
             if !life.is_dead {
                 let cuts = path.cuts.clone()?;
-                add_path(&mut next, Path { reader, cuts })?;
+                let pace = life.pace;
+                add_path(&mut next, Path { reader, pace, cuts })?;
             }
         }
     }
     Ok(next)
+}
+
+/// The path that goes on from one, and goes over.
+fn path_on(path: &Path, through: Through) -> Result<Path, AllocError> {
+    let Through { reader, pace, cut } = through;
+    let mut cuts = path.cuts.clone()?;
+    cuts.push(cut)?;
+    Ok(Path { reader, pace, cuts })
 }
 
 /// The paths that go on from these, and go over in this stretch.
@@ -133,12 +150,45 @@ fn go_over(
             if !stretch.is_first_way(copy) {
                 continue;
             }
-            for Through { reader, cut } in search.through(stretch, &path.reader, copy)? {
-                let mut cuts = path.cuts.clone()?;
-                cuts.push(cut)?;
-                add_path(&mut next, Path { reader, cuts })?;
+            for through in search.through(stretch, &path.reader, copy)? {
+                add_path(&mut next, path_on(path, through)?)?;
             }
         }
+    }
+    Ok(next)
+}
+
+/// The paths that go on from these, and go over in this stretch where a copy ceases to save bits.
+fn go_over_where_it_ceases(
+    search: &mut Search,
+    stretch: Stretch<'_, '_>,
+    living: &[Path],
+    is_lived: bool,
+) -> Result<Vec<Path>, AllocError> {
+    let mut next = Vec::new(search.alloc);
+    for path in living {
+        for through in seek(search, stretch, &path.reader, path.pace, is_lived)? {
+            add_path(&mut next, path_on(path, through)?)?;
+        }
+    }
+    Ok(next)
+}
+
+/// The paths through a stretch. `next` are those that go through it with one copy's bytes.
+fn through_stretch(
+    search: &mut Search,
+    stretch: Stretch<'_, '_>,
+    living: &[Path],
+    next: Vec<Path>,
+) -> Result<Vec<Path>, AllocError> {
+    if stretch.length > FEW_LINES {
+        let over = go_over_where_it_ceases(search, stretch, living, !next.is_empty())?;
+        if !over.is_empty() {
+            return Ok(over);
+        }
+    }
+    if next.is_empty() {
+        return go_over(search, stretch, living);
     }
     Ok(next)
 }
@@ -146,11 +196,12 @@ fn go_over(
 /// The paths of no part but those that all copies have alike at the start.
 fn begin(alloc: Global, parts: &Parts<'_>) -> Result<Vec<Path>, AllocError> {
     let mut reader = WideReader::new(alloc);
-    let mut life = Life::new();
+    let mut life = Life::new(Pace::new());
     life.go_through(&mut reader, parts, 0)?;
     let mut living = Vec::new(alloc);
     living.push(Path {
         reader,
+        pace: life.pace,
         cuts: Vec::new(alloc),
     })?;
     Ok(living)
@@ -165,10 +216,8 @@ pub fn find_cuts(alloc: Global, parts: &Parts<'_>, tries: u32) -> Result<Vec<usi
     for place in 0..parts.len() {
         let mut next = go_on(alloc, parts, place, &living)?;
         if parts.is_differ(place) {
-            if next.is_empty() {
-                if let Some(stretch) = stretch_at(parts, place, offset) {
-                    next = go_over(&mut search, stretch, &living)?;
-                }
+            if let Some(stretch) = stretch_at(parts, place, offset) {
+                next = through_stretch(&mut search, stretch, &living, next)?;
             }
             if next.is_empty() {
                 break;
