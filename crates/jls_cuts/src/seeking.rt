@@ -243,7 +243,7 @@ impl Turn {
     ) -> Result<(), AllocError> {
         let stops = self.stops(search.alloc, stretch, from)?;
         tries.sure = None;
-        for ring in 0..=REACH / BLOCK {
+        for ring in 0..REACH / BLOCK + 1 {
             for stop in stops.iter() {
                 let end = stretch.block_end(stop.at);
                 let is_near = match tries.sure {
@@ -284,12 +284,11 @@ fn turns(
             end: change.last().saturating_add(REACH + AFTER),
             loss: 0,
         };
-        let height = change.strict.height;
         let place = turns
             .iter()
-            .take_while(|other| other.change.strict.height >= height)
+            .take_while(|other| other.change.strict.height >= change.strict.height)
             .count();
-        turns.insert(place, turn)?;
+        turns.insert(place.min(turns.len()), turn)?;
     }
     Ok(turns)
 }
@@ -346,7 +345,7 @@ fn proposed(
             read,
             ..
         } = best;
-        let mut reader = run.reader;
+        let Measured { mut reader, .. } = run;
         let life = stretch.feed_after(&mut reader, other, read, pace)?;
         search.spend(life.bytes);
         if !life.is_dead {
