@@ -1,3 +1,4 @@
 mod Answered
+mod StationFaults
 mod Stops
 mod WholeBytes
