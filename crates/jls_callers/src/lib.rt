@@ -30,4 +30,6 @@ pub use reading::{read_any, read_in_memory};
 pub use taking::{take_first, take_next, take_other};
 pub use texts::{read_back, take_cut_text, take_its_text, take_text_of_another_shape, text_of};
 pub use unfailed::{read_unfailed, take_unfailed};
-pub use writing::{StationFault, station_picture, station_report, write_station, write_station_pnm};
+pub use writing::{
+    StationFault, station_picture, station_report, write_station, write_station_pnm,
+};
