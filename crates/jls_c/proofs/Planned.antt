@@ -1,8 +1,10 @@
 -- The options of a plan fit the picture of samples that are not too large.
-use Rattle.std.proofs.Common.{◌≡◌, ℕ, ◌*◌, ◌^◌, ◌-◌, ◌<◌, ◌≤◌, Bool, true, false, cond, List, ◌++◌, length, Option, Some, None, Ok, Err}
+use Rattle.std.proofs.Common.{◌≡◌, ℕ, ◌*◌, ◌^◌, ◌-◌, ◌<◌, ◌≤◌, ◌==◌, min, if◌then◌else◌, Bool, true, false, cond, List, ◌++◌, length}
+use Rattle.std.proofs.Common.{Option, Some, None, Result, Ok, Err}
 use Rattle.std.proofs.Common.{ap, sym, subst, ◌∙◌, arith}
 use Rattle.std.specs.Prelude.{All, ◌↔◌, IsTrue, nat_le}
 use Rattle.std.specs.List.{AllByRecursion, list_any}
+use Rattle.std.proofs.lemmas.Bool.{false≢true}
 use Rattle.jls_values.specs.Params.{CodingParameters}
 use Rattle.jls_values.specs.ParamsOf.{in_force, param_fault, params_in_range, params_of}
 use Rattle.jls_values.specs.PresetParameters.{no_presets}
@@ -18,7 +20,7 @@ use Rattle.jls_write.specs.Samples.{line_in, picture_in, AreSamplesOf}
 use Rattle.jls_write.specs.WrittenFile.{written_file}
 use Rattle.jls_write.proofs.Lending.{all_below}
 use Rattle.jls_write.proofs.Sampled.{lent_line, line_fits}
-use Rattle.jls_c.specs.Written.{IsPlanOf, IsFileOf, ids_of}
+use Rattle.jls_c.specs.Written.{IsShapeOf, IsPlanOf, HasLargeInterval, HasLargeSample, IsFileOf, ids_of}
 use Rattle.jls_c.specs.declared.frame.JlsFrame.{JlsFrame}
 
 -- ---- a plan
@@ -85,6 +87,43 @@ tested_fits f shape options samples pic large plan in_range test none pic_is =
     subst (λ (p : WholePicture). OptionsFit p options) (sym pic_is)
     (plan_fits f (length samples) shape options samples plan (record { count = plan.count_is; in_range = in_range })
     (not_large large (2 ^ 28) (shape.width * components_of_scan shape options * rows_of_interval shape options) test none))
+
+-- ---- what is refused
+
+ok_same : {T E : Type 0} (r : Result T E) (x y : T) → r ≡ Ok x → r ≡ Ok y → x ≡ y
+ok_same r x y is again = cc
+
+one_shape : (f : JlsFrame) (shape other : PictureShape) → IsShapeOf f shape → IsShapeOf f other → shape ≡ other
+one_shape f shape other is again = ok_same (shape_of f.precision f.width f.height (ids_of f.components)) shape other is.shape_is again.shape_is
+
+-- how many samples the longest interval has
+abbrev longest : PictureShape → Bool → ℕ → ℕ
+longest shape line interval =
+    shape.width * (if line then length shape.ids else 1) * (if interval == 0 then shape.height else min interval shape.height)
+
+pub no_large_interval : (f : JlsFrame) (count : ℕ) (shape : PictureShape) (options : WriteOptions) (large : Bool)
+    → IsPlanOf f count shape options
+    → (IsTrue large ↔ (2 ^ 28 < shape.width * components_of_scan shape options * rows_of_interval shape options)) → large ≡ false
+    → HasLargeInterval f → ⊥
+no_large_interval f count shape options large plan test none has =
+    let same : has.shape ≡ shape = one_shape f has.shape shape has.is_shape plan.is_shape in
+    let line : has.options.line ≡ options.line = has.are_options.line_is ∙ sym plan.are_options.line_is in
+    let rows : has.options.restart_interval ≡ options.restart_interval = has.are_options.interval_is ∙ sym plan.are_options.interval_is in
+    let long : longest has.shape has.options.line has.options.restart_interval
+        ≡ longest shape options.line options.restart_interval =
+    ap (λ (s : PictureShape). longest s has.options.line has.options.restart_interval) same
+    ∙ (ap (λ (l : Bool). longest shape l has.options.restart_interval) line ∙ ap (λ (n : ℕ). longest shape options.line n) rows) in
+    false≢true (sym none ∙ test.1 (subst (λ (n : ℕ). 2 ^ 28 < n) long has.large))
+
+pub no_large_sample : (f : JlsFrame) (count : ℕ) (shape : PictureShape) (options : WriteOptions) (samples : List ℕ) (precision : ℕ)
+    (large : Bool)
+    → IsPlanOf f count shape options → precision ≡ shape.precision → large ≡ list_any (λ x. nat_le (2 ^ precision) x) samples
+    → large ≡ false → HasLargeSample f samples → ⊥
+no_large_sample f count shape options samples precision large plan precision_is test none has =
+    let same : has.shape.precision ≡ precision =
+    ap (λ (s : PictureShape). s.precision) (one_shape f has.shape shape has.is_shape plan.is_shape) ∙ sym precision_is in
+    let some = subst (λ (p : ℕ). list_any (λ x. nat_le (2 ^ p) x) samples ≡ true) same has.large in
+    false≢true (sym none ∙ (test ∙ some))
 
 -- ---- the file
 

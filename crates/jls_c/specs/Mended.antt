@@ -8,7 +8,7 @@ use Rattle.jls_mend.specs.Mending.{IsMendedOf, IsOfRun, Stops}
 use Rattle.jls_mend.specs.declared.mending.Mended.{Mended}
 use Rattle.jls_mend.specs.declared.mending.MendRefusal.{MendRefusal}
 use Rattle.jls_c.specs.Answers.{BeginsWith}
-use Rattle.jls_c.specs.Causes.{stopped_info}
+use Rattle.jls_c.specs.Causes.{mend_answer, stopped_info}
 use Rattle.jls_c.specs.Copies.{options_of}
 use Rattle.jls_c.specs.declared.copies.JlsMendOptions.{JlsMendOptions}
 use Rattle.jls_c.specs.declared.cause.JlsMendInfo.{JlsMendInfo}
@@ -79,8 +79,9 @@ pub record AreMendedLonger (o : JlsMendOptions) (copies : List (List ℕ)) (bad 
     pub of_run : IsOfRun (options_of o) copies bad v
     pub longer : IsTooLong v info room size_room
 
--- something stops the program on these copies and lists, and what it is is reported
+-- something stops the program on these copies and lists. It is no want of memory, for which the answer is another, and it is reported
 pub record AreNotMended (o : JlsMendOptions) (copies : List (List ℕ)) (bad : List BadPlaces) (info : JlsMendInfo) : Type 0 where
   pub refusal : MendRefusal
   pub stops : Stops (options_of o) copies bad refusal
+  pub no_want_of_memory : mend_answer refusal.cause ≡ 15
   pub info_is : info ≡ stopped_info refusal

@@ -32,7 +32,8 @@ fn put_file(found: &FileParts, file: &mut [u8], size: &mut u64) -> u32
 
 /// Writes samples as a JPEG-LS file, with the default parameters of their precision. The samples stand by component, then by line from top
 /// to bottom. `size` is how many bytes the file has, also at `SHORT_ROOM`, where nothing else is written. At any other answer but `DONE`
-/// nothing is written. `OUT_OF_MEMORY` comes where memory is refused; that it comes nowhere else is tested, and not proved.
+/// nothing is written. Of a bad frame, a large interval and a large sample the first is answered, before any memory is asked for.
+/// `OUT_OF_MEMORY` comes where memory is refused; that it comes for no file that could be written is tested, and not proved.
 #[unsafe(no_mangle)]
 pub extern "C" fn jls_write(
     alloc: Global,
@@ -45,8 +46,12 @@ pub extern "C" fn jls_write(
     ensures done { result ≡ DONE → IsWritten frame.now samples.now size.new file.old file.new }
     ensures short_room { result ≡ SHORT_ROOM → IsFileLonger frame.now samples.now size.new (length file.old) }
     ensures bad_frame { result ≡ BAD_FRAME → HasPlan frame.now (length samples.now) → ⊥ }
-    ensures large_sample { result ≡ LARGE_SAMPLE → HasLargeSample frame.now samples.now }
+    ensures good_frame { result ≢ BAD_FRAME → HasPlan frame.now (length samples.now) }
     ensures large_interval { result ≡ LARGE_INTERVAL → HasLargeInterval frame.now }
+    ensures small_intervals { result ≢ BAD_FRAME → result ≢ LARGE_INTERVAL → HasLargeInterval frame.now → ⊥ }
+    ensures large_sample { result ≡ LARGE_SAMPLE → HasLargeSample frame.now samples.now }
+    ensures small_samples { result ≢ BAD_FRAME → result ≢ LARGE_INTERVAL → result ≢ LARGE_SAMPLE
+        → HasLargeSample frame.now samples.now → ⊥ }
     ensures size_kept { result ≢ DONE → result ≢ SHORT_ROOM → size.new ≡ size.old }
     ensures kept { result ≢ DONE → file.new ≡ file.old }
 {

@@ -37,10 +37,11 @@ pub returns-in-Err-clause-not_mended : goal.returns-in-Err-clause-not_mended
 returns-in-Err-clause-not_mended c = λ not_mended.
     let copies = map (λ copy. copy.now) c.args.copies.now in
     let bad = map places_of c.args.bad.now in
+    let answer = sym c.refuse_mending.ensures.answer ∙ not_mended in
     record {
       refusal = c.in-Err.refusal;
       stops = stops_of _ copies bad c.in-Err.refusal
-          (subst (λ o. IsRefusedOf o copies bad c.in-Err.refusal) c.options_of.ensures c.in-Err.ensures.refused)
-          (sym c.refuse_mending.ensures.answer ∙ not_mended);
+          (subst (λ o. IsRefusedOf o copies bad c.in-Err.refusal) c.options_of.ensures c.in-Err.ensures.refused) answer;
+      no_want_of_memory = answer;
       info_is = c.refuse_mending.ensures.not_mended not_mended;
     }

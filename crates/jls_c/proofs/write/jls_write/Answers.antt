@@ -1,7 +1,7 @@
 use Rattle.std.proofs.Common.{◌++◌, refl, arith}
 use Rattle.jls_c.specs.Written.{IsFileOf}
 use Rattle.jls_c.proofs.Known.{of_write}
-use Rattle.jls_c.proofs.Planned.{all_in_range, tested_fits, tested_file}
+use Rattle.jls_c.proofs.Planned.{all_in_range, no_large_interval, no_large_sample, tested_fits, tested_file}
 use Rattle.jls_c.proofs.write.jls_write.Goals.{In-Ok}
 use Rattle.jls_c.proofs.write.jls_write.Goals as goal
 
@@ -61,3 +61,46 @@ returns-in-Ok-clause-short_room c = λ short. record {
   size_is = c.put_file.ensures.size;
   longer = c.put_file.ensures.short_room short;
 }
+
+-- ---- the order of refusals
+
+pub returns-then-has_large_interval-clause-good_frame : goal.returns-then-has_large_interval-clause-good_frame
+returns-then-has_large_interval-clause-good_frame c = λ good.
+    record { shape = c.in-Some.shape; options = c.in-Some.options; plan = c.in-Some.ensures.some }
+
+pub returns-then-has_large_sample-clause-good_frame : goal.returns-then-has_large_sample-clause-good_frame
+returns-then-has_large_sample-clause-good_frame c = λ good.
+    record { shape = c.in-Some.shape; options = c.in-Some.options; plan = c.in-Some.ensures.some }
+
+pub returns-in-Ok-clause-good_frame : goal.returns-in-Ok-clause-good_frame
+returns-in-Ok-clause-good_frame c = λ good.
+    record { shape = c.in-Some.shape; options = c.in-Some.options; plan = c.in-Some.ensures.some }
+
+pub returns-in-Err-clause-good_frame : goal.returns-in-Err-clause-good_frame
+returns-in-Err-clause-good_frame c = λ good.
+    record { shape = c.in-Some.shape; options = c.in-Some.options; plan = c.in-Some.ensures.some }
+
+pub returns-then-has_large_sample-clause-small_intervals : goal.returns-then-has_large_sample-clause-small_intervals
+returns-then-has_large_sample-clause-small_intervals c = λ good small.
+    no_large_interval c.args.frame.now _ c.in-Some.shape c.in-Some.options c.has_large_interval.result c.in-Some.ensures.some
+    c.has_large_interval.ensures c.if-has_large_interval.false
+
+pub returns-in-Ok-clause-small_intervals : goal.returns-in-Ok-clause-small_intervals
+returns-in-Ok-clause-small_intervals c = λ good small.
+    no_large_interval c.args.frame.now _ c.in-Some.shape c.in-Some.options c.has_large_interval.result c.in-Some.ensures.some
+    c.has_large_interval.ensures c.if-has_large_interval.false
+
+pub returns-in-Err-clause-small_intervals : goal.returns-in-Err-clause-small_intervals
+returns-in-Err-clause-small_intervals c = λ good small.
+    no_large_interval c.args.frame.now _ c.in-Some.shape c.in-Some.options c.has_large_interval.result c.in-Some.ensures.some
+    c.has_large_interval.ensures c.if-has_large_interval.false
+
+pub returns-in-Ok-clause-small_samples : goal.returns-in-Ok-clause-small_samples
+returns-in-Ok-clause-small_samples c = λ good small few.
+    no_large_sample c.args.frame.now _ c.in-Some.shape c.in-Some.options c.args.samples.now c.precision.result c.has_large_sample.result
+    c.in-Some.ensures.some c.precision.ensures.value c.has_large_sample.ensures c.if-has_large_sample.false
+
+pub returns-in-Err-clause-small_samples : goal.returns-in-Err-clause-small_samples
+returns-in-Err-clause-small_samples c = λ good small few.
+    no_large_sample c.args.frame.now _ c.in-Some.shape c.in-Some.options c.args.samples.now c.precision.result c.has_large_sample.result
+    c.in-Some.ensures.some c.precision.ensures.value c.has_large_sample.ensures c.if-has_large_sample.false
