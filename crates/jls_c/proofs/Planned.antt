@@ -110,7 +110,7 @@ no_large_interval f count shape options large plan test none has =
     let line : has.options.line ≡ options.line = has.are_options.line_is ∙ sym plan.are_options.line_is in
     let rows : has.options.restart_interval ≡ options.restart_interval = has.are_options.interval_is ∙ sym plan.are_options.interval_is in
     let long : longest has.shape has.options.line has.options.restart_interval
-        ≡ longest shape options.line options.restart_interval =
+    ≡ longest shape options.line options.restart_interval =
     ap (λ (s : PictureShape). longest s has.options.line has.options.restart_interval) same
     ∙ (ap (λ (l : Bool). longest shape l has.options.restart_interval) line ∙ ap (λ (n : ℕ). longest shape options.line n) rows) in
     false≢true (sym none ∙ test.1 (subst (λ (n : ℕ). 2 ^ 28 < n) long has.large))
