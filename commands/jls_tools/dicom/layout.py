@@ -4,9 +4,12 @@ from __future__ import annotations
 from collections.abc import Sequence
 from typing import Optional
 
+from jls_tools.dicom.axis import inserted
 from jls_tools.dicom.axis.align import SHIFTED, Copy, differing, on_one_axis, size_of
+from jls_tools.dicom.axis.bad_places import Range
 from jls_tools.dicom.axis.placed import placed
 from jls_tools.dicom.axis.runs import FINEST, Runs
+from jls_tools.dicom.axis.stuck import unstuck
 from jls_tools.dicom.evidence.header import Header
 from jls_tools.dicom.evidence.most import agreed
 from jls_tools.dicom.evidence.tables import Table
@@ -25,6 +28,7 @@ class Layout:
 
     def __init__(self, copies: Sequence[Copy]) -> None:
         self.copies = copies
+        self.put_in: list[tuple[str, int, int]] = []  # (a copy, where in it, how many) of bytes that are no part of the file
         self.ranges = differing([copy.data for copy in copies])
         self.agreed = agreed(copies, self.ranges)
         self.runs, self.structure = self.find()
@@ -69,6 +73,11 @@ class Layout:
         """Whether each header reads, so that frames can be put where they were."""
         return not self.breaks and not self.structure.is_cut and all(place.is_exact for place in self.places)
 
+    def is_in_frame(self, part: Range, parts: Sequence[Range]) -> bool:
+        """Whether a range that was cut out, as one of these, stood within a fragment of a frame."""
+        place = inserted.place_without(part[0], parts)
+        return any(begin < place < end for each in self.places for begin, end in each.fragments)
+
     def header(self, shape: Optional[Shape], count: int) -> Header:
         """The Header, decided as far as the file can say."""
         ranges = [fragment for place in self.places for fragment in place.fragments]
@@ -92,13 +101,55 @@ def rank(structure: Structure) -> tuple[bool, bool, bool, int]:
     return (not structure.is_found, bool(structure.jumps), structure.is_cut, structure.cost or 0)
 
 
-def laid_out(copies: Sequence[Copy]) -> tuple[list[Copy], Layout]:
+def laid_out(copies: Sequence[Copy], named: Optional[str] = None) -> tuple[list[Copy], Layout]:
+    """The copies on one axis, and their Layout. Where it breaks, one copy can have bytes that are no part of the file.
+
+    A copy that is `named` for its header keeps its bits.
+    """
+    found, layout = on_best_axis(copies, named)
+    if is_through(layout.structure):
+        return found, layout
+    shifted = unstuck(placed(on_one_axis(copies, True)), named)
+    ways = [found] if [copy.absent for copy in shifted] == [copy.absent for copy in found] else [found, shifted]
+    others = (without_inserted(way) for way in ways)
+    return next((other for other in others if other is not None), (found, layout))
+
+
+def without_inserted(copies: Sequence[Copy]) -> Optional[tuple[list[Copy], Layout]]:
+    """The copies without what was put into one of them, and their Layout, if one way to cut out so few ranges makes elements go on."""
+    ranges = inserted.held_alone(copies)
+    if not 0 < len(ranges) <= inserted.MOST_INSERTED or any(copy.foreign or copy.recoded for copy in copies):
+        return None
+    found: list[tuple[list[Copy], Layout]] = []
+    for parts in inserted.combinations(copies, ranges):
+        if found and len(found[0][1].put_in) < len(parts):
+            break
+        rest = inserted.without(copies, parts)
+        if goes_on(rest) and is_through((layout := Layout(rest)).structure):
+            if not all(layout.is_in_frame(part, parts) or inserted.is_put_in(copies, part) for part in parts):
+                return None
+            layout.put_in = [told_of(copies, part) for part in parts]
+            found.append((rest, layout))
+    return found[0] if len(found) == 1 else None
+
+
+def goes_on(copies: Sequence[Copy]) -> bool:
+    """Whether elements go on to the end with each range in which copies differ taken for itself: far faster than a Layout that does not."""
+    return is_through(Structure(Walk(Runs(copies, 1), [copy.data for copy in copies])))
+
+
+def told_of(copies: Sequence[Copy], part: Range) -> tuple[str, int, int]:
+    owner = inserted.owner_of(copies, part)
+    return owner.path, inserted.place_in(owner, part[0]), part[1] - part[0]
+
+
+def on_best_axis(copies: Sequence[Copy], named: Optional[str]) -> tuple[list[Copy], Layout]:
     """The copies on one axis, and their Layout. Where it breaks, or far fewer bytes differ then, they lost bytes at different places."""
-    found = placed(on_one_axis(copies))
+    found = unstuck(placed(on_one_axis(copies)), named)
     layout = Layout(found)
     apart = size_of(layout.ranges)
     if not is_through(layout.structure) or apart >= SHIFTED:
-        shifted = placed(on_one_axis(copies, True))
+        shifted = unstuck(placed(on_one_axis(copies, True)), named)
         if is_through(layout.structure) and size_of(differing([copy.data for copy in shifted])) * FAR_MORE > apart:
             return found, layout
         if [copy.absent for copy in shifted] != [copy.absent for copy in found]:
