@@ -36,7 +36,6 @@ def checks_of_bytes_put_in(bench: Any, made: File, rng: random.Random) -> Iterat
         "a loss and more bytes": (true, [more, changed(true, zeros)]),
         "two bytes in a header": (true, [put(true, made.name_at + 3, b"\x91\x3c"), changed(true, zeros)]),
         "a block of a private text twice": (text, [twice(text, begin + 300, 512), changed(text, hurt)]),
-        "noise in a private text": (text, [put(text, begin + 300, rng.randbytes(64)), text]),
     }
     for name, (wanted, copies) in cases.items():
         yield told(bench, name, copies, wanted)
@@ -47,6 +46,8 @@ def checks_of_bytes_put_in(bench: Any, made: File, rng: random.Random) -> Iterat
     lost = true[: true.index(bytes(range(64))) + 50] + true[true.index(bytes(range(64))) + 50 + size :]
     for name, copy in (("damage of its length", changed(true, broken)), ("of its VR", changed(true, (made.name_at - 4, b"\x91\x3c")))):
         yield told(bench, f"an element's bytes lost, and {name}", [lost, copy], true, False)
+    noise = changed(true, (made.name_at - 8, rng.randbytes(size)))
+    yield told(bench, "an element's bytes lost, and noise over that element", [lost, noise], true, False, 1)
     inner = true.index(b"Doe^Jane")
     yield told(bench, "a text of ten letters more", [put(true, inner + 3, b"anna^maria"), changed(true, zeros)], true, False)
     tail = [put(true, second + 70, b"\x91\x3c"), true + bytes(2)]

@@ -1,7 +1,7 @@
 """Bytes that one copy alone has and that were put into it: a block written twice, or bytes of something else.
 
 Elements and items go on only without them. But in a header the other copies can have lost as many bytes as an element has, and read on.
-So there the bytes have to be fewer than an element has, a second time what stands beside them, or noise.
+So there the bytes have to be fewer than an element has, or a second time what stands beside them. Noise can be over that element.
 """
 from __future__ import annotations
 
@@ -11,7 +11,6 @@ from dataclasses import replace
 
 from jls_tools.dicom.axis.align import Copy, merged
 from jls_tools.dicom.axis.bad_places import END, Range, in_all
-from jls_tools.dicom.axis.sectors import is_noise, is_plain
 from jls_tools.dicom.read.elements import PIXELS_BEGIN
 
 MOST_INSERTED = 4  # ranges, of which each combination is tried
@@ -79,15 +78,10 @@ def is_put_in(copies: Sequence[Copy], part: Range) -> bool:
     are_there = not any(copy.lacks(begin - BESIDE, begin) or copy.lacks(end, end + BESIDE) for copy in copies)
     if not are_there or any(own != around[0] for own in around):
         return False
-    return end - begin < SMALLEST_ELEMENT or stands_beside(data, begin, end) or is_noise_between(data, begin, end)
+    return end - begin < SMALLEST_ELEMENT or stands_beside(data, begin, end)
 
 
 def stands_beside(data: bytes, begin: int, end: int) -> bool:
     """Whether what stands in a range stands a second time just before it or behind it."""
     own, size = data[begin:end], end - begin
     return size >= LEAST_TWICE and own.strip(own[:1]) != b"" and own in (data[max(0, begin - size) : begin], data[end : end + size])
-
-
-def is_noise_between(data: bytes, begin: int, end: int) -> bool:
-    """Whether all of a range is noise, and what stands beside it is none."""
-    return is_noise(data[begin:end]) and is_plain(data[max(0, begin - BESIDE) : begin]) and is_plain(data[end : end + BESIDE])
