@@ -195,7 +195,7 @@ fn carry_with_splices(
     };
     let splices = splices_of_codings(alloc, copies, codings, bounds)?;
     if splices.is_empty() {
-        let carried = carry(alloc, copies, codings)?;
+        let carried = carry(alloc, copies, codings, copies.len())?;
         return proposed_of(alloc, carried, size, bounds.limit);
     }
     let numbers = numbers_with(alloc, codings, &splices)?;
@@ -204,7 +204,7 @@ fn carry_with_splices(
     for bytes in &all {
         slices.push(bytes)?;
     }
-    let carried = carry(alloc, &slices, &numbers)?;
+    let carried = carry(alloc, &slices, &numbers, copies.len())?;
     proposed_of(alloc, carried, size, bounds.limit)
 }
 

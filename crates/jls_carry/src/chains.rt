@@ -1,6 +1,6 @@
 //! Chains: lines of one copy in the code of another, which confirms them as far as it has the same bytes.
 
-use crate::claims::{CopyState, bytes_of, code_of};
+use crate::claims::{CopyState, Speaker, bytes_of, code_of};
 use crate::code::FirstCode;
 use crate::picture::Picture;
 use crate::pieces::Piece;
@@ -35,13 +35,6 @@ pub(crate) struct Chain {
     pub(crate) is_forked: bool,
     /// Whether each of its lines so far was settled as it says.
     pub(crate) is_alive: bool,
-}
-
-/// How many bytes of a stretch stand in runs, and how many don't.
-#[derive(Clone, Copy)]
-pub(crate) struct Matched {
-    pub(crate) alike: usize,
-    pub(crate) others: usize,
 }
 
 /// How many of these numbers, which rise, are below a bound.
@@ -84,24 +77,28 @@ impl Chain {
             .any(|run| run.begin <= begin && end <= run.end)
     }
 
-    /// How many bytes of the lines from one to another stand in runs.
-    pub(crate) fn matched(&self, first: usize, last: usize) -> Matched {
-        let begin = self.begin_of(first);
+    /// How many bytes of the lines from one to another don't stand in runs, and how many more the copy has between two runs than the code.
+    pub(crate) fn unmatched(&self, first: usize, last: usize) -> usize {
         let end = self.end_of(last);
-        let mut at = begin;
-        let mut alike = 0usize;
+        let mut at = self.begin_of(first);
+        let mut shift = None;
+        let mut count = 0usize;
         for run in self.runs.iter() {
             let from = run.begin.max(at);
             let to = run.end.min(end);
             if to > from {
-                alike = alike.saturating_add(to.saturating_sub(from));
+                let surplus = match shift {
+                    None => 0,
+                    Some(before) => run.shift.beyond(before),
+                };
+                count = count
+                    .saturating_add(from.saturating_sub(at))
+                    .saturating_add(surplus);
                 at = to;
+                shift = Some(run.shift);
             }
         }
-        Matched {
-            alike,
-            others: end.saturating_sub(begin).saturating_sub(alike),
-        }
+        count.saturating_add(end.saturating_sub(at))
     }
 }
 
@@ -117,11 +114,11 @@ struct Said {
     is_refuted: bool,
 }
 
-/// The one reading that other copies than this one have of a line in pieces that close.
-fn only_closed(copies: &[CopyState<'_>], place: usize, taker: usize) -> Option<usize> {
+/// The one reading of a line in pieces that close that other copies have than this one, and those that have none of its bytes.
+fn only_closed(copies: &[CopyState<'_>], place: usize, taker: Speaker) -> Option<usize> {
     let mut only = None;
     for copy in copies {
-        if copy.number == taker {
+        if copy.number == taker.number || copy.speaker.is_related(taker) {
             continue;
         }
         if let Some(claim) = copy.claim(place) {
@@ -153,7 +150,7 @@ fn said_by(
     picture: &Picture,
     copies: &[CopyState<'_>],
     giver: &CopyState<'_>,
-    taker: usize,
+    taker: Speaker,
     piece: &Piece,
 ) -> Result<Said, AllocError> {
     let mut said = Said {
@@ -301,7 +298,7 @@ pub(crate) fn compare(
     taker: &CopyState<'_>,
     piece: &Piece,
 ) -> Result<Compared, AllocError> {
-    let said = said_by(alloc, picture, copies, giver, taker.number, piece)?;
+    let said = said_by(alloc, picture, copies, giver, taker.speaker, piece)?;
     let refuted = if said.is_refuted {
         piece.interval.line_count()
     } else {

@@ -30,10 +30,28 @@ pub(crate) struct Progress {
     pub(crate) shift: Shift,
 }
 
+/// Who says something: a copy, or a splice of copies.
+#[derive(Clone, Copy)]
+pub(crate) struct Speaker {
+    pub(crate) number: usize,
+    /// The number of its coding.
+    pub(crate) coding: usize,
+    /// Whether it is a splice. Each of its bytes is one of a copy of its coding.
+    pub(crate) is_splice: bool,
+}
+
+impl Speaker {
+    /// Whether one of two has bytes of the other, or both can have bytes of one copy.
+    pub(crate) fn is_related(self, other: Speaker) -> bool {
+        self.coding == other.coding && (self.is_splice || other.is_splice)
+    }
+}
+
 /// A copy, and what it says.
 #[derive(Drop)]
 pub(crate) struct CopyState<'a> {
     pub(crate) number: usize,
+    pub(crate) speaker: Speaker,
     pub(crate) bytes: &'a [u8],
     pub(crate) pieces: Vec<Piece>,
     pub(crate) progress: Vec<Progress>,
@@ -169,7 +187,7 @@ impl<'a> CopyState<'a> {
     /// A copy that has said nothing, of a picture of so many lines.
     pub(crate) fn new(
         alloc: Global,
-        number: usize,
+        speaker: Speaker,
         bytes: &'a [u8],
         layout: Option<Layout>,
         lines: usize,
@@ -187,7 +205,8 @@ impl<'a> CopyState<'a> {
         };
         let progress = vec![in alloc; none; pieces.len()]?;
         Ok(CopyState {
-            number,
+            number: speaker.number,
+            speaker,
             bytes,
             pieces,
             progress,

@@ -28,7 +28,7 @@
 //! 2. One gap a round: lines are taken to the end of the first run behind a gap of the other copy. Then that copy is mended, and speaks
 //!    itself.
 //! 3. Where two readings of a line are confirmed, it is disputed. One is taken if it alone stands unbroken in two copies, or leaves under a
-//!    quarter of the other's unmatched bytes.
+//!    quarter of the other's unmatched bytes. Those that a copy has too many count too.
 //! 4. Lines are taken in order. A chain ends at the first that is not.
 //! 5. Behind a dispute each copy goes on with its own reading, and a later line wants both.
 //! 6. A reading that another copy has, and nobody tested, holds the line back. A sample that a coding can't say refutes it there. A reading
@@ -62,7 +62,7 @@ mod settling;
 mod shifts;
 mod strangers;
 
-use crate::claims::CopyState;
+use crate::claims::{CopyState, Speaker};
 use crate::edits::edits_between;
 use crate::layouts::{Layouts, layouts_of};
 use crate::mending::mended_file;
@@ -151,10 +151,16 @@ pub struct Carried {
 /// What copies in different codings bring back of each other: the lines that are settled, and a mended file of each coding. `codings` has a
 /// number for each copy, the same for those of one coding. A coding has no mended file if no copy of it has headers that read, or if these
 /// are of a picture of another shape. The shape is that of the first copy whose headers read, but for the precision. Nor has it one if its
-/// copies agree with no other. `Err` comes where memory is refused.
+/// copies agree with no other. Those behind the first `own` ones are no copies, but splices of copies of their coding: they confirm nothing
+/// that these say. `Err` comes where memory is refused.
 ///
 /// No contract speaks of what is found.
-pub fn carry(alloc: Global, copies: &[&[u8]], codings: &[usize]) -> Result<Carried, AllocError> {
+pub fn carry(
+    alloc: Global,
+    copies: &[&[u8]],
+    codings: &[usize],
+    own: usize,
+) -> Result<Carried, AllocError> {
     let Layouts {
         lines,
         layouts,
@@ -165,7 +171,12 @@ pub fn carry(alloc: Global, copies: &[&[u8]], codings: &[usize]) -> Result<Carri
     let mut ends = Vec::new(alloc);
     for (number, (bytes, layout)) in copies.iter().zip(layouts).enumerate() {
         ends.push(layout.as_ref().map(|layout| layout.has_eoi))?;
-        states.push(CopyState::new(alloc, number, bytes, layout, lines)?)?;
+        let speaker = Speaker {
+            number,
+            coding: codings.get(number).copied().unwrap_or(number),
+            is_splice: number >= own,
+        };
+        states.push(CopyState::new(alloc, speaker, bytes, layout, lines)?)?;
     }
     carry_on(alloc, &mut picture, &mut states)?;
     if !picture.has_settled() {

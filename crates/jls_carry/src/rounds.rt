@@ -28,7 +28,7 @@ fn compare_all(
     let mut tested = Tested::new(alloc, copies.len(), picture.len())?;
     for giver in copies {
         for taker in copies {
-            if giver.number == taker.number {
+            if giver.number == taker.number || giver.speaker.is_related(taker.speaker) {
                 continue;
             }
             for piece in taker.pieces.iter() {

@@ -2,12 +2,15 @@
 
 use crate::between::{is_held_back, is_refuted};
 use crate::chains::Chain;
-use crate::claims::CopyState;
+use crate::claims::{CopyState, Speaker};
 use crate::picture::{OwnReading, Picture};
 use std::alloc::{AllocError, Global};
 
 /// A reading is taken over another where it leaves under a quarter of the other's bytes unmatched, and this many fewer.
 const CLEARLY: usize = 8;
+
+/// Or where it is confirmed for four times as many rows, and this many more.
+const ROWS_MORE: usize = 8;
 
 /// Which lines of which copies were compared with the bytes of another.
 #[derive(Drop)]
@@ -168,6 +171,33 @@ impl Settling<'_, '_> {
         Ok(all)
     }
 
+    /// Whether a copy or another splice of its coding, that is before a splice among these, speaks for it.
+    fn is_spoken_for(&self, splice: Speaker, place: usize, numbers: &[usize]) -> bool {
+        for (other_place, number) in numbers.iter().enumerate() {
+            if let Some(other) = self.copies.get(*number) {
+                let speaks_first = !other.speaker.is_splice || other_place < place;
+                if other.speaker.coding == splice.coding && speaks_first {
+                    return true;
+                }
+            }
+        }
+        false
+    }
+
+    /// How many of these speak for themselves. A splice has no byte of its own, so it adds nothing to the copies of its coding.
+    fn count_voices(&self, numbers: &[usize]) -> usize {
+        let mut count = 0usize;
+        for (place, number) in numbers.iter().enumerate() {
+            if let Some(copy) = self.copies.get(*number) {
+                let speaker = copy.speaker;
+                if !speaker.is_splice || !self.is_spoken_for(speaker, place, numbers) {
+                    count = count.saturating_add(1);
+                }
+            }
+        }
+        count
+    }
+
     /// How many copies have a reading: those that say it, and those in whose bytes its line stands unbroken.
     fn support(&self, confirmed: &Confirmed) -> Result<usize, AllocError> {
         let mut copies = Vec::new(self.alloc);
@@ -179,7 +209,7 @@ impl Settling<'_, '_> {
                 }
             }
         }
-        Ok(copies.len())
+        Ok(self.count_voices(&copies))
     }
 
     /// How many copies say a reading.
@@ -190,7 +220,19 @@ impl Settling<'_, '_> {
                 add_once(&mut copies, chain.giver)?;
             }
         }
-        Ok(copies.len())
+        Ok(self.count_voices(&copies))
+    }
+
+    /// How many rows behind a line a chain confirms.
+    fn rows_behind(&self, reached: Reaching) -> usize {
+        let Some(chain) = self.chains.get(reached.chain) else {
+            return 0;
+        };
+        let lines = chain
+            .confirmed
+            .saturating_sub(1)
+            .saturating_sub(reached.line);
+        lines / usize::from(chain.piece.interval.components)
     }
 
     /// How many rows all chains of these readings confirm from this line on.
@@ -198,19 +240,65 @@ impl Settling<'_, '_> {
         let mut rows = usize::MAX;
         for confirmed in readings {
             for reached in confirmed.chains.iter() {
-                if let Some(chain) = self.chains.get(reached.chain) {
-                    let lines = chain
-                        .confirmed
-                        .saturating_sub(1)
-                        .saturating_sub(reached.line);
-                    rows = rows.min(lines / usize::from(chain.piece.interval.components));
-                }
+                rows = rows.min(self.rows_behind(*reached));
             }
         }
         rows
     }
 
-    /// How many bytes of a reading's code don't match, over so many rows, in the copy where most do.
+    /// The reading of a chain so many rows behind a line.
+    fn reading_behind(&self, reached: Reaching, rows: usize) -> Option<usize> {
+        let chain = self.chains.get(reached.chain)?;
+        let lines = rows.saturating_mul(usize::from(chain.piece.interval.components));
+        chain
+            .readings
+            .get(reached.line.saturating_add(lines))
+            .copied()
+    }
+
+    /// Whether a chain of one reading says the same so many rows behind it as a chain of another.
+    fn are_one_again(&self, one: &Confirmed, other: &Confirmed, rows: usize) -> bool {
+        one.chains.iter().any(|reached| {
+            let reading = self.reading_behind(*reached, rows);
+            other
+                .chains
+                .iter()
+                .any(|others| self.reading_behind(*others, rows) == reading)
+        })
+    }
+
+    /// The reading that is confirmed for far more rows than each other, if the others never say the same again.
+    fn outlasting(&self, readings: &[Confirmed], rows: usize) -> Option<usize> {
+        let mut best: Option<&Confirmed> = None;
+        let mut most = 0usize;
+        let mut second = 0usize;
+        for confirmed in readings {
+            let mut last = 0usize;
+            for reached in confirmed.chains.iter() {
+                last = last.max(self.rows_behind(*reached));
+            }
+            if best.is_none() || last > most {
+                second = most;
+                most = last;
+                best = Some(confirmed);
+            } else {
+                second = second.max(last);
+            }
+        }
+        let best = best?;
+        for confirmed in readings {
+            if confirmed.reading != best.reading && self.are_one_again(best, confirmed, rows) {
+                return None;
+            }
+        }
+        if second.saturating_mul(4).saturating_add(ROWS_MORE) <= most {
+            Some(best.reading)
+        } else {
+            None
+        }
+    }
+
+    /// How many bytes don't match of a reading's code and the copy, over so many rows, in the copy where most do.
     fn unmatched(&self, confirmed: &Confirmed, rows: usize) -> usize {
         let mut least = usize::MAX;
         for reached in confirmed.chains.iter() {
@@ -220,7 +308,7 @@ impl Settling<'_, '_> {
                     .line
                     .saturating_add(lines)
                     .min(chain.confirmed.saturating_sub(1));
-                least = least.min(chain.matched(reached.line, last).others);
+                least = least.min(chain.unmatched(reached.line, last));
             }
         }
         least
@@ -257,7 +345,7 @@ impl Settling<'_, '_> {
         if least.saturating_mul(4).saturating_add(CLEARLY) <= second {
             return Ok(best);
         }
-        Ok(None)
+        Ok(self.outlasting(readings, rows))
     }
 
     /// Whether only copies of one coding have a reading, and each of them is opposed. They can be copies of one damaged file, or of another

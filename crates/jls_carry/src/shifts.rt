@@ -63,6 +63,16 @@ impl Shift {
             Shift::Earlier(count) => at.checked_sub(count),
         }
     }
+
+    /// How much later the copy has bytes at this shift than at another, or 0.
+    pub(crate) fn beyond(self, other: Shift) -> usize {
+        match (other, self) {
+            (Shift::Later(before), Shift::Later(after)) => after.saturating_sub(before),
+            (Shift::Earlier(before), Shift::Earlier(after)) => before.saturating_sub(after),
+            (Shift::Earlier(before), Shift::Later(after)) => before.saturating_add(after),
+            (Shift::Later(_), Shift::Earlier(_)) => 0,
+        }
+    }
 }
 
 /// How many different bytes there are.

@@ -10,10 +10,10 @@ ghost use Rattle.jls_marker.specs.Profiles as profiles;
 use crate::codes::{APP0, APP15, COM, DRI, LSE, SOF55, SOS};
 use crate::fault::MarkerFault;
 use crate::profile::Profile;
-use crate::scan_head::{ScanHead, has_repeat};
+use crate::scan_head::ScanHead;
 use crate::segment::Segment;
 use arrayvec::ArrayVec;
-use jls_values::Shape;
+use jls_values::{Shape, has_repeat};
 
 /// A byte of Hi and Vi, four bits each, of a component that isn't subsampled.
 const ONE_BY_ONE: u8 = 0x11;

@@ -1,10 +1,8 @@
 //! Scan headers.
 
-ghost use Rattle.std.specs.Prelude.{◌≡◌};
-ghost use Rattle.jls_values.specs.Shape;
-
 use crate::fault::MarkerFault;
 use arrayvec::ArrayVec;
+use jls_values::has_repeat;
 use std::marker::Model;
 
 /// A scan header of lossless coding (ITU-T T.87, C.2.3). It has the identifiers of the scan's components, in the order in which they take
@@ -26,20 +24,6 @@ impl Model for ScanHead {
     ghost invariant = { λ h. IsScanSelection (record { ids = h.ids.items; line = h.line; by_sample = h.by_sample }) };
 
     ghost inverse = { λ s. record { ids = record { items = s.ids }; line = s.line; by_sample = s.by_sample } };
-}
-
-/// Whether an identifier stands twice.
-pub(crate) fn has_repeat(ids: &[u8]) -> bool
-    ensures { result ≡ Shape.has_repeat ids.now }
-{
-    let mut rest = ids;
-    while let [first, others @ ..] = rest {
-        if others.contains(first) {
-            return true;
-        }
-        rest = others;
-    }
-    false
 }
 
 impl ScanHead {

@@ -67,7 +67,7 @@ fn bring_back(
     codings: &[usize],
     files: &[&[u8]],
 ) -> Result<bool, AllocError> {
-    let carried = carry(alloc, copies, codings)?;
+    let carried = carry(alloc, copies, codings, copies.len())?;
     if !are_of_picture(&carried.lines) || carried.codings.len() != files.len() {
         return Ok(false);
     }
@@ -87,7 +87,7 @@ fn stranger(rt: HostRuntime) -> Result<(), Fail> {
     let second = zeroed(alloc, STEEP, 150, 12)?;
     let third = zeroed(alloc, OTHER, 120, 12)?;
     let copies: [&[u8]; 3] = [&first, &second, &third];
-    let carried = carry(alloc, &copies, &[0, 1, 2])?;
+    let carried = carry(alloc, &copies, &[0, 1, 2], copies.len())?;
     assert!(rt; are_of_picture(&carried.lines));
     assert!(rt; carried.codings.len() == 2);
     assert!(rt; carried.strangers.as_slice() == [2].as_slice());

@@ -7,7 +7,7 @@ use std::test::Fail;
 
 /// Whether copies of these codings bring back no line and no file, and all are said to agree with no other.
 fn are_strangers(alloc: Global, copies: &[&[u8]], codings: &[usize]) -> Result<bool, AllocError> {
-    let carried = carry(alloc, copies, codings)?;
+    let carried = carry(alloc, copies, codings, copies.len())?;
     for line in carried.lines.iter() {
         if line.is_some() {
             return Ok(false);
@@ -49,6 +49,18 @@ fn other_picture(rt: HostRuntime) -> Result<(), Fail> {
     assert!(rt; are_strangers(alloc, &[PLAIN, OTHER], &[0, 1])?);
     assert!(rt; are_strangers(alloc, &[PLAIN, OTHER, &damaged], &[0, 1, 1])?);
     assert!(rt; are_strangers(alloc, &[&damaged, OTHER, PLAIN], &[0, 0, 1])?);
+    Ok(())
+}
+
+/// Nor does a splice agree with the copy whose bytes it has.
+#[test]
+fn splice_of_a_copy(rt: HostRuntime) -> Result<(), Fail> {
+    let alloc = rt.alloc();
+    let damaged = zeroed(alloc, PLAIN, 70, 12)?;
+    let copies: [&[u8]; 2] = [&damaged, PLAIN];
+    let carried = carry(alloc, &copies, &[0, 0], 1)?;
+    assert!(rt; carried.lines.iter().all(|line| line.is_none()));
+    assert!(rt; carried.codings.is_empty());
     Ok(())
 }
 

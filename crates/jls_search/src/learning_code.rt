@@ -13,7 +13,7 @@ const CONTEXTS: usize = 16;
 const PARTS_OF_SAMPLE: i64 = 16;
 
 /// How many parts a bit is counted in.
-pub(crate) const PARTS_OF_BIT: u64 = 256;
+pub const PARTS_OF_BIT: u64 = 256;
 
 /// The bits after the point of a weight.
 const WEIGHT_BITS: u32 = 16;
@@ -52,7 +52,7 @@ type Neighbours = [i64; NEIGHBOURS];
 
 /// What the code has learned.
 #[derive(Clone, Copy)]
-pub(crate) struct LearningCode {
+pub struct LearningCode {
     /// The weight of each neighbour.
     weights: [i64; NEIGHBOURS],
     /// The mean error of each context, times `MEMORY`, in parts of a sample.
@@ -168,7 +168,7 @@ fn signed(size: u64) -> i64 {
 
 impl LearningCode {
     /// One that has learned nothing.
-    pub(crate) fn new() -> LearningCode {
+    pub fn new() -> LearningCode {
         let mut sums = [0; CONTEXTS];
         let mut sum = FIRST_MEAN.saturating_mul(MEMORY);
         for context in 0..CONTEXTS {
@@ -225,8 +225,8 @@ impl LearningCode {
         cost_of(size, usual)
     }
 
-    /// What a line costs below these two, in parts of a bit. The code learns of it.
-    pub(crate) fn cost_of_line(&mut self, line: &[u16], above: &[u16], two_above: &[u16]) -> u64 {
+    /// What a line costs below these two, in parts of a bit. The code learns of it. Where there is no such line, it is empty.
+    pub fn cost_of_line(&mut self, line: &[u16], above: &[u16], two_above: &[u16]) -> u64 {
         let mut cost: u64 = 0;
         for column in 0..line.len() {
             let near = neighbours(line, above, two_above, column);

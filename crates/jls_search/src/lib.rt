@@ -109,6 +109,7 @@ pub use found::{FoundSplices, GroupsReported, complete_by_groups};
 pub use group_search::{MOST_BY_GROUPS, SearchedGroups, search_groups};
 pub use kept::{Judge, KeptReader};
 pub use laws::{parts_can_be_searched, searches_come_to_each_splice};
+pub use learning_code::{LearningCode, PARTS_OF_BIT};
 pub use level_search::LevelSearch;
 pub use levels::lone_path;
 pub use next_level::{LevelRules, LivingPath};

@@ -312,7 +312,10 @@ fn other_parts<'a>(
     }
     match cutting {
         Cutting::Finer => find_finer_parts(alloc, copies, parts),
-        Cutting::WhereCopiesGoOver => cut_parts(alloc, copies, parts, tries),
+        Cutting::WhereCopiesGoOver => {
+            let uncut = find_parts(alloc, copies)?;
+            cut_parts(alloc, copies, &uncut, tries)
+        }
     }
 }
 

@@ -95,6 +95,11 @@ three codings: fives: 445+8=0 / tens 355+8=0 / reset 100+8=0: OUT 1 2 3: 0 narro
 coding 3, copies 3 | copy 1 differs 446 7 7 | copy 2 differs 355 8 8 | copy 3 differs 100 8 8
 two codings, one of two copies: fives: 445+8=0 / tens 355+8=0 / 447+4=85: OUT 1 2 3: 0 narrow: coding 1, copies 1 3 | \
 coding 2, copies 2 | copy 1 differs 446 7 7 | copy 3 differs 447 4 4 | copy 2 differs 355 8 8
+two codings, two copies of each, and a flipped bit that a splice has too: reset: 231+1=24 309+8=0 / narrow 208+8=0 / 78+8=0 / \
+narrow 283+8=0: OUT 1 2 3 4: 0 narrow: coding 1, copies 1 3 | coding 2, copies 2 4 | copy 1 differs 231 1 1 | copy 1 differs 309 8 8 | \
+copy 3 differs 78 8 8 | copy 2 differs 208 8 8 | copy 4 differs 283 8 8
+two codings, and a flipped bit behind which a copy is soon at odds with the other: narrow: 98+1=32 / reset 394+8=0: OUT 1 2: 0 narrow: \
+coding 1, copies 1 | coding 2, copies 2 | copy 1 differs 98 1 1 | copy 2 differs 394 8 8
 two codings, and another picture: fives: 445+8=0 / tens 355+8=0 / other 60+8=0: OUT 1 2 3: 1 narrow: coding 1, copies 1 | \
 coding 2, copies 2 | copy 3 agrees with no other | copy 1 differs 446 7 7 | copy 2 differs 355 8 8 | promise lines
 another picture, and two codings: fives: other 60+8=0 / 445+8=0 / tens 355+8=0: OUT 1 2 3: 1 narrow: coding 1, copies 2 | \

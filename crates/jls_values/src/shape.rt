@@ -50,7 +50,8 @@ impl Model for Shape {
     ghost inverse = { λ s. record { precision = s.precision; width = s.width; height = s.height; ids = record { items = s.ids } } };
 }
 
-fn has_repeat(ids: &[u8]) -> bool
+/// Whether an identifier stands twice, as none may in a frame (ITU-T T.81, B.2.2) or in a scan (B.2.3).
+pub fn has_repeat(ids: &[u8]) -> bool
     ensures { result ≡ Rattle.jls_values.specs.Shape.has_repeat ids.now }
 {
     let mut rest = ids;

@@ -106,6 +106,8 @@ fn put_line(out: &mut String, partial: &Partial, line: u16) -> Result<(), Fail> 
     Ok(())
 }
 
+/// The lines of a partial picture of one component, each with the first sample of each reading. Behind them stands what was reported, if
+/// there is a report: the pieces, where the copy ended, how many bytes were read, and what stopped that.
 pub fn text_of(
     alloc: Global,
     partial: &Partial,
