@@ -13,6 +13,7 @@ from jls_tools.dicom.axis.stuck import unstuck
 from jls_tools.dicom.evidence.header import Header
 from jls_tools.dicom.evidence.most import agreed
 from jls_tools.dicom.evidence.tables import Table
+from jls_tools.dicom.read.elements import UNDEFINED
 from jls_tools.dicom.read.tags import EXTENDED_LENGTHS, EXTENDED_TABLE, FRAMES
 from jls_tools.dicom.walk.frames import Fragments, FramePlace
 from jls_tools.dicom.walk.structure import Structure
@@ -73,10 +74,20 @@ class Layout:
         """Whether each header reads, so that frames can be put where they were."""
         return not self.breaks and not self.structure.is_cut and all(place.is_exact for place in self.places)
 
-    def is_in_frame(self, part: Range, parts: Sequence[Range]) -> bool:
-        """Whether a range that was cut out, as one of these, stood within a fragment of a frame."""
-        place = inserted.place_without(part[0], parts)
+    def is_in_frame(self, place: int) -> bool:
+        """Whether a place stands within a fragment of a frame."""
         return any(begin < place < end for each in self.places for begin, end in each.fragments)
+
+    def is_held_alike(self, place: int) -> bool:
+        """Whether all copies have the same headers of the elements and items that hold a place, and the same value, but for a frame's."""
+        for step in self.structure.steps:
+            element = step.element
+            if element is None or element.length == UNDEFINED or not element.start <= place <= element.end:
+                continue
+            begin, end = element.start, element.end if step.kind == "leaf" else element.value
+            if self.runs.touching(begin, end) or any(copy.lacks(begin, end) for copy in self.copies):
+                return False
+        return True
 
     def header(self, shape: Optional[Shape], count: int) -> Header:
         """The Header, decided as far as the file can say."""
@@ -106,10 +117,9 @@ def laid_out(copies: Sequence[Copy], named: Optional[str] = None) -> tuple[list[
 
     A copy that is `named` for its header keeps its bits.
     """
-    found, layout = on_best_axis(copies, named)
+    found, layout, shifted = on_best_axis(copies, named)
     if is_through(layout.structure):
         return found, layout
-    shifted = unstuck(placed(on_one_axis(copies, True)), named)
     ways = [found] if [copy.absent for copy in shifted] == [copy.absent for copy in found] else [found, shifted]
     others = (without_inserted(way) for way in ways)
     return next((other for other in others if other is not None), (found, layout))
@@ -121,21 +131,26 @@ def without_inserted(copies: Sequence[Copy]) -> Optional[tuple[list[Copy], Layou
     if not 0 < len(ranges) <= inserted.MOST_INSERTED or any(copy.foreign or copy.recoded for copy in copies):
         return None
     found: list[tuple[list[Copy], Layout]] = []
+    steps = 0
     for parts in inserted.combinations(copies, ranges):
-        if found and len(found[0][1].put_in) < len(parts):
+        if found and len(found[0][1].put_in) < len(parts) or steps > inserted.MOST_STEPS:
             break
         rest = inserted.without(copies, parts)
-        if goes_on(rest) and is_through((layout := Layout(rest)).structure):
-            if not all(layout.is_in_frame(part, parts) or inserted.is_put_in(copies, part) for part in parts):
+        walk = Walk(Runs(rest, 1), [copy.data for copy in rest])
+        goes_on = walk.goes_on()
+        steps += walk.looks + len(walk.steps)
+        if goes_on and is_through((layout := Layout(rest)).structure):
+            if not all(is_put_in(copies, layout, part, parts) for part in parts):
                 return None
             layout.put_in = [told_of(copies, part) for part in parts]
             found.append((rest, layout))
-    return found[0] if len(found) == 1 else None
+    return found[0] if len(found) == 1 and steps <= inserted.MOST_STEPS else None
 
 
-def goes_on(copies: Sequence[Copy]) -> bool:
-    """Whether elements go on to the end with each range in which copies differ taken for itself: far faster than a Layout that does not."""
-    return is_through(Structure(Walk(Runs(copies, 1), [copy.data for copy in copies])))
+def is_put_in(copies: Sequence[Copy], layout: Layout, part: Range, parts: Sequence[Range]) -> bool:
+    """Whether a range was put in that is cut out with others in a Layout."""
+    place = inserted.place_without(part[0], parts)
+    return layout.is_held_alike(place) and (layout.is_in_frame(place) or inserted.is_put_in(copies, part))
 
 
 def told_of(copies: Sequence[Copy], part: Range) -> tuple[str, int, int]:
@@ -143,17 +158,20 @@ def told_of(copies: Sequence[Copy], part: Range) -> tuple[str, int, int]:
     return owner.path, inserted.place_in(owner, part[0]), part[1] - part[0]
 
 
-def on_best_axis(copies: Sequence[Copy], named: Optional[str]) -> tuple[list[Copy], Layout]:
-    """The copies on one axis, and their Layout. Where it breaks, or far fewer bytes differ then, they lost bytes at different places."""
-    found = unstuck(placed(on_one_axis(copies)), named)
+def on_best_axis(copies: Sequence[Copy], named: Optional[str]) -> tuple[list[Copy], Layout, list[Copy]]:
+    """The copies on one axis, their Layout, and the copies on the other axis.
+
+    Where the Layout breaks, or far fewer bytes differ then, they lost bytes at different places.
+    """
+    found = shifted = unstuck(placed(on_one_axis(copies)), named)
     layout = Layout(found)
     apart = size_of(layout.ranges)
     if not is_through(layout.structure) or apart >= SHIFTED:
         shifted = unstuck(placed(on_one_axis(copies, True)), named)
         if is_through(layout.structure) and size_of(differing([copy.data for copy in shifted])) * FAR_MORE > apart:
-            return found, layout
+            return found, layout, shifted
         if [copy.absent for copy in shifted] != [copy.absent for copy in found]:
             other = Layout(shifted)
             if is_through(other.structure):
-                return shifted, other
-    return found, layout
+                return shifted, other, shifted
+    return found, layout, shifted

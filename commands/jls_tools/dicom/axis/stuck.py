@@ -1,7 +1,8 @@
 """A bit of a copy that is stuck: it has one value in each 64th byte of a page, as where a line of a bus or a cell of memory fails.
 
 There the other copies differ from it in this bit alone. And it is odd for a lane to have one value of a bit, where the other lanes of its
-page have both, or the other one: else the lane can be so in the file, and the other copy can be damaged.
+page have both, or the other one. But a file can have records, with such a lane in each: then another lane of the page is as odd, or this
+one is in the page before or behind. And one stretch of a lane in which the other copy differs can be damage of that copy.
 """
 from __future__ import annotations
 
@@ -17,7 +18,8 @@ from jls_tools.dicom.axis.bad_places import Range
 PAGE, LANE = 4096, 64
 LEAST = 4  # bytes of a lane that differ, at least: fewer cost no more as flipped bits, each for itself
 LEAST_KINDS = 8  # so many different bytes, at least, has a lane without its bit: else its bit can be so in the file
-MARGIN = 20.0  # by so many bits, at least, the lane is odder than that of the other copy
+MARGIN = 20.0  # bits: a lane is so odd by chance in one of a million
+BY_CHANCE = 1.0  # bits: that of the other copy is at most so odd, as one in two are by chance
 MOST_LANES = 2  # of a page: where more look so, it is damage of another kind
 
 
@@ -58,7 +60,7 @@ def places_stuck(copy: Copy, others: Sequence[Copy], first: int, last: int) -> l
         lanes = [(lane, bit) for lane, bit in bits.items() if bit is not None]
         found = [(at, bit) for lane, bit in lanes for at in range(lane, last, LANE) if other.data[at] == copy.data[at] ^ bit]
         is_denied = any(third.data[at] == copy.data[at] and not third.lacks(at, at + 1) for at, _ in found for third in others)
-        if 0 < len(lanes) <= MOST_LANES and not is_denied:
+        if 0 < len(lanes) <= MOST_LANES and not is_denied and not has_records(copy.data, other.data, (first, last), lanes):
             return found
     return []
 
@@ -69,15 +71,34 @@ def bit_of(page: bytes, model: bytes, lane: int) -> Optional[int]:
     if own == beside:
         return None
     bit, count = Counter(one ^ two for one, two in zip(own, beside) if one != two).most_common(1)[0]
-    if count < LEAST or bit & (bit - 1) or len({byte & ~bit for byte in own}) < LEAST_KINDS:
+    if count < LEAST or bit & (bit - 1) or len({byte & ~bit for byte in own}) < LEAST_KINDS or is_stretch(own, beside, bit):
         return None
-    return bit if oddness(page, lane, bit) - oddness(model, lane, bit) >= MARGIN else None
+    return bit if oddness(page, lane, bit) >= MARGIN and oddness(model, lane, bit) < BY_CHANCE else None
 
 
 def oddness(page: bytes, lane: int, bit: int) -> float:
     """By how many bits it is odd that a lane has one value of a bit alone, from how often the other lanes of its page have it."""
     own = page[lane::LANE]
-    if len({byte & bit for byte in own}) > 1:
+    if len({byte & bit for byte in own}) != 1:
         return 0.0
     alike = sum(byte & bit == own[0] & bit for at, byte in enumerate(page) if at % LANE != lane)
     return len(own) * math.log2((len(page) - len(own) + 1) / (alike + 1))
+
+
+def is_stretch(own: bytes, beside: bytes, bit: int) -> bool:
+    """Whether the places of a lane that differ in a bit follow each other, and others don't differ: one damage of the other copy does that."""
+    apart = [one ^ two == bit for one, two in zip(own, beside)]
+    begin, count = apart.index(True), sum(apart)
+    return count < len(apart) and all(apart[begin : begin + count])
+
+
+def has_records(data: bytes, model: bytes, page: Range, lanes: Sequence[tuple[int, int]]) -> bool:
+    """Whether a bit has one value in lanes of the file itself: in another lane of the page, or in these in the page before or behind."""
+    first, last = page
+    others = (lane for lane in range(first, min(first + LANE, last)) if data[lane:last:LANE] == model[lane:last:LANE])
+    if any(oddness(data[first:last], lane - first, 1 << bit) >= MARGIN for lane in others for bit in range(8)):
+        return True
+    for begin, end in ((max(0, first - PAGE), first), (last, last + PAGE)):
+        if any(oddness(data[begin:end], (lane - begin) % LANE, bit) >= MARGIN for lane, bit in lanes):
+            return True
+    return False
