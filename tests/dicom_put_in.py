@@ -3,12 +3,16 @@ from __future__ import annotations
 
 import random
 import struct
-from collections.abc import Iterator
+from collections.abc import Iterator, Sequence
 from typing import Any
 
-from dicom_files import File, changed, element, with_value
-from dicom_pairs import told
+import dicom_files
+import dicom_pairs
+from dicom_files import File, element
 
+changed: Any = dicom_files.changed  # of modules without types
+with_value: Any = dicom_files.with_value
+told: Any = dicom_pairs.told
 Check = tuple[str, bool]
 PAGE, LANE = 4096, 64
 
@@ -50,6 +54,14 @@ def checks_of_bytes_put_in(bench: Any, made: File, rng: random.Random) -> Iterat
     yield told(bench, "an element's bytes lost, and noise over that element", [lost, noise], true, False, 1)
     inner = true.index(b"Doe^Jane")
     yield told(bench, "a text of ten letters more", [put(true, inner + 3, b"anna^maria"), changed(true, zeros)], true, False)
+    begin = text.index(b"sSlice[0]")
+    lost = changed(text[: begin + 300] + text[begin + 302 :], (begin - 4, b"\x91\x3c\x77\x05"))
+    fewer = changed(text, (begin - 4, struct.pack("<I", struct.unpack_from("<I", text, begin - 4)[0] - 2)))
+    yield told(bench, "two bytes lost, and a length of each damaged, one so that it fits", [lost, fewer], text, False, 1)
+    fewer = changed(true, (second + 4, struct.pack("<I", struct.unpack_from("<I", true, second + 4)[0] - 2)))
+    lost = changed(true[: second + 60] + true[second + 62 :], (second, b"\x91\x3c\x77\x05"))
+    printed = bench.mend([lost, fewer])[2]
+    yield f"the same in a frame: not told ({printed})", "no part of the file" not in printed
     tail = [put(true, second + 70, b"\x91\x3c"), true + bytes(2)]
     yield told(bench, "two bytes in a frame, and two zeros behind the other copy", tail, true, False)
     yield told(bench, "these, and zeros behind a third", [*tail, changed(true, zeros) + bytes(2)], true, False)
@@ -91,4 +103,30 @@ def checks_of_stuck_bits(bench: Any, made: File, rng: random.Random) -> Iterator
     yield told(bench, "ones that are true in a table", [table, some], table, False)
 
 
-PUT_IN = [checks_of_bytes_put_in, checks_of_stuck_bits]
+def checks_of_records(bench: Any, made: File, rng: random.Random) -> Iterator[Check]:
+    """Records of 64 bytes, of which one or two have one value of a bit: another copy is damaged there."""
+    begin = with_value(made, b"")[1]
+    page = -(-begin // PAGE) * PAGE
+    for name, count, ways in (("a page", 1, (32,)), ("a page, in two bytes", 1, (32, 44)), ("three pages", 3, (32,))):
+        rows = b"".join(record(rng, ways) for _ in range(count * PAGE // LANE))
+        true = with_value(made, rng.randbytes(page - begin) + rows + rng.randbytes(PAGE))[0]
+        first = page + count // 2 * PAGE
+        part = stuck(true, first + 1024, ways[0], 16, False, 320)
+        yield told(bench, f"a bit of records of {name}, and a stretch of the other copy", [true, part], true, False)
+        if count > 1 or len(ways) > 1:
+            places = [first + ways[0] + LANE * row for row in (3, 9, 20, 33, 50)]
+            some = changed(true, *((at, bytes([true[at] ^ 16])) for at in places))
+            yield told(bench, f"a bit of records of {name}, and some of the other copy", [true, some], true, False)
+    words = b"".join(b"sSlice[%d].dFlow%d = %d\n" % (at, at % 9, rng.randrange(10**9)) for at in range(500))
+    true = with_value(made, words)[0]
+    for mask in (1, 2, 4):
+        both = [stuck(true, page, 17, mask, is_set) for is_set in (False, True)]
+        yield told(bench, f"a bit of both copies, of value {mask}, with each value", both, true, False, 1)
+
+
+def record(rng: random.Random, ways: Sequence[int]) -> bytes:
+    """64 bytes, of which these have a bit."""
+    return bytes(byte | 0x10 if at in ways else byte for at, byte in enumerate(rng.randbytes(LANE)))
+
+
+PUT_IN = [checks_of_bytes_put_in, checks_of_stuck_bits, checks_of_records]

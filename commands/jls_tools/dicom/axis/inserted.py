@@ -1,8 +1,8 @@
 """Bytes that one copy alone has and that were put into it: a block written twice, or bytes of something else.
 
-Elements and items go on only without them, and all copies have the same lengths there: so none of these is damaged, and each denies the
-bytes. But in a header the other copies can have lost as many bytes as an element has, and read on. So there the bytes have to be fewer than
-an element has, or a second time what stands beside them in each copy. Noise can be over that element.
+Elements and items go on only without them, by lengths that all copies have: so none of these is damaged. But in a header the other copies
+can have lost as many bytes as an element has, and read on. So there the bytes have to be fewer than an element has, or a second time what
+stands beside them. Noise can be over that element.
 """
 from __future__ import annotations
 
@@ -15,7 +15,7 @@ from jls_tools.dicom.axis.bad_places import END, Range, in_all
 from jls_tools.dicom.read.elements import PIXELS_BEGIN
 
 MOST_INSERTED = 4  # ranges, of which each combination is tried
-MOST_STEPS = 50000  # so many steps, of elements and items, are gone in all of these, and one try more: a large file has some thousands
+MOST_STEPS = 50000  # of elements and items, which all of these may take: those of a large file are some thousands
 SMALLEST_ELEMENT = 8  # bytes: a tag, a VR and a length
 LEAST_TWICE = 16  # so many bytes, at least, stand twice by no chance
 BESIDE = 32  # so many bytes before and behind are equal in all copies, where nothing else can hide what happened
@@ -75,18 +75,15 @@ def place_in(copy: Copy, place: int) -> int:
 
 def is_put_in(copies: Sequence[Copy], part: Range) -> bool:
     """Whether bytes of one copy can't be what the others lost of a header."""
-    begin, end = part
+    (begin, end), data = part, owner_of(copies, part).data
     around = [copy.data[max(0, begin - BESIDE) : begin] + copy.data[end : end + BESIDE] for copy in copies]
     are_there = not any(copy.lacks(begin - BESIDE, begin) or copy.lacks(end, end + BESIDE) for copy in copies)
     if not are_there or any(own != around[0] for own in around):
         return False
-    return end - begin < SMALLEST_ELEMENT or stands_beside(copies, begin, end)
+    return end - begin < SMALLEST_ELEMENT or stands_beside(data, begin, end)
 
 
-def stands_beside(copies: Sequence[Copy], begin: int, end: int) -> bool:
-    """Whether what stands in a range stands a second time just before it or behind it, where each copy has it."""
-    own, size = owner_of(copies, (begin, end)).data[begin:end], end - begin
-    if size < LEAST_TWICE or own.strip(own[:1]) == b"":
-        return False
-    beside = ((first, first + size) for first in (begin - size, end) if first >= 0)
-    return any(all(copy.data[first:last] == own and not copy.lacks(first, last) for copy in copies) for first, last in beside)
+def stands_beside(data: bytes, begin: int, end: int) -> bool:
+    """Whether what stands in a range stands a second time just before it or behind it."""
+    own, size = data[begin:end], end - begin
+    return size >= LEAST_TWICE and own.strip(own[:1]) != b"" and own in (data[max(0, begin - size) : begin], data[end : end + size])

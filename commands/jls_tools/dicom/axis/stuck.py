@@ -2,7 +2,7 @@
 
 There the other copies differ from it in this bit alone. And it is odd for a lane to have one value of a bit, where the other lanes of its
 page have both, or the other one. But a file can have records, with such a lane in each: then another lane of the page is as odd, or this
-one is in the page before or behind. And one stretch of a lane in which the other copy differs can be damage of that copy.
+one is in the page before or after. And one stretch of a lane in which the other copy differs can be damage of that copy.
 """
 from __future__ import annotations
 
@@ -86,7 +86,7 @@ def oddness(page: bytes, lane: int, bit: int) -> float:
 
 
 def is_stretch(own: bytes, beside: bytes, bit: int) -> bool:
-    """Whether the places of a lane that differ in a bit follow each other, and others don't differ: one damage of the other copy does that."""
+    """Whether the places of a lane that differ in a bit follow each other, and others don't: one damage of the other copy does that."""
     apart = [one ^ two == bit for one, two in zip(own, beside)]
     begin, count = apart.index(True), sum(apart)
     return count < len(apart) and all(apart[begin : begin + count])
