@@ -62,6 +62,11 @@ def checks_of_bytes_put_in(bench: Any, made: File, rng: random.Random) -> Iterat
     lost = changed(true[: second + 60] + true[second + 62 :], (second, b"\x91\x3c\x77\x05"))
     printed = bench.mend([lost, fewer])[2]
     yield f"the same in a frame: not told ({printed})", "no part of the file" not in printed
+    # The value takes the next element in, which has as many bytes, and whose header no copy has
+    block = b"again and again "
+    both, at = with_value(made, b"a" * 100 + block * 2 + b"e" * 100)
+    both = changed(both, (both.index(b"Doe^Jane") - 8, bytes(8)))
+    yield told(bench, "a block lost, and a header zeroed in both", [both[: at + 100] + both[at + 100 + len(block) :], both], true, False, 1)
     tail = [put(true, second + 70, b"\x91\x3c"), true + bytes(2)]
     yield told(bench, "two bytes in a frame, and two zeros behind the other copy", tail, true, False)
     yield told(bench, "these, and zeros behind a third", [*tail, changed(true, zeros) + bytes(2)], true, False)

@@ -6,7 +6,8 @@ from typing import Optional
 
 from jls_tools.dicom.axis import inserted
 from jls_tools.dicom.axis.align import SHIFTED, Copy, differing, on_one_axis, size_of
-from jls_tools.dicom.axis.bad_places import Range
+from jls_tools.dicom.axis.bad_places import TEXT, Range
+from jls_tools.dicom.axis.inserted import SMALLEST_ELEMENT
 from jls_tools.dicom.axis.placed import placed
 from jls_tools.dicom.axis.runs import FINEST, Runs
 from jls_tools.dicom.axis.stuck import unstuck
@@ -89,6 +90,19 @@ class Layout:
                 return False
         return True
 
+    def can_hide_element(self, place: int, sizes: dict[int, int]) -> bool:
+        """Whether the value that holds a place can end with an element whose header is damaged in each copy.
+
+        It takes that in if other copies lost as many bytes of the value. `sizes` are those of what was cut out, by place. No header is text.
+        """
+        for element in (step.element for step in self.structure.steps if step.kind == "leaf"):
+            if element is not None and element.value <= place <= element.end:
+                size = sum(own for at, own in sizes.items() if element.value <= at <= element.end)
+                tail = self.copies[0].data[element.end - size : element.end].rstrip(b"\0")
+                if SMALLEST_ELEMENT <= size <= element.length and not TEXT.match(tail):
+                    return True
+        return False
+
     def header(self, shape: Optional[Shape], count: int) -> Header:
         """The Header, decided as far as the file can say."""
         ranges = [fragment for place in self.places for fragment in place.fragments]
@@ -150,7 +164,13 @@ def without_inserted(copies: Sequence[Copy]) -> Optional[tuple[list[Copy], Layou
 def is_put_in(copies: Sequence[Copy], layout: Layout, part: Range, parts: Sequence[Range]) -> bool:
     """Whether a range was put in that is cut out with others in a Layout."""
     place = inserted.place_without(part[0], parts)
-    return layout.is_held_alike(place) and (layout.is_in_frame(place) or inserted.is_put_in(copies, part))
+    if not layout.is_held_alike(place):
+        return False
+    sizes: dict[int, int] = {}
+    for begin, end in parts:
+        at = inserted.place_without(begin, parts)
+        sizes[at] = sizes.get(at, 0) + end - begin
+    return layout.is_in_frame(place) or inserted.is_put_in(copies, part) and not layout.can_hide_element(place, sizes)
 
 
 def told_of(copies: Sequence[Copy], part: Range) -> tuple[str, int, int]:
