@@ -93,7 +93,7 @@ class Layout:
     def can_hide_element(self, place: int, sizes: dict[int, int]) -> bool:
         """Whether the value that holds a place can end with an element whose header is damaged in each copy.
 
-        It takes that in if other copies lost as many bytes of the value. `sizes` are those of what was cut out, by place. No header is text.
+        It has taken that in if other copies lost as many bytes of it. `sizes` are those that were cut out, by place. No header is text.
         """
         for element in (step.element for step in self.structure.steps if step.kind == "leaf"):
             if element is not None and element.value <= place <= element.end:

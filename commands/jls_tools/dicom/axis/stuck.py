@@ -2,7 +2,8 @@
 
 There the other copies differ from it in this bit alone. And it is odd for a lane to have one value of a bit, where the other lanes of its
 page have both, or the other one. But a file can have records, with such a lane in each: then another lane of the page is as odd, or this
-one is in the page before or after. And one stretch of a lane in which the other copy differs can be damage of that copy.
+one is in the page before or after, or it has the bit so in the other copy too. And one stretch of a lane in which the other copy differs
+can be damage of that copy.
 """
 from __future__ import annotations
 
@@ -19,7 +20,8 @@ PAGE, LANE = 4096, 64
 LEAST = 4  # bytes of a lane that differ, at least: fewer cost no more as flipped bits, each for itself
 LEAST_KINDS = 8  # so many different bytes, at least, has a lane without its bit: else its bit can be so in the file
 MARGIN = 20.0  # bits: a lane is so odd by chance in one of a million
-BY_CHANCE = 1.0  # bits: that of the other copy is at most so odd, as one in two are by chance
+BY_CHANCE = 1.0  # bits: a lane that has one value alone is at most so odd, as one in two are, where that is usual in its page
+MOST_APART = 10.0  # bits: that of the other copy has the bit so often as its page, as all but one in a thousand have
 MOST_LANES = 2  # of a page: where more look so, it is damage of another kind
 
 
@@ -73,7 +75,7 @@ def bit_of(page: bytes, model: bytes, lane: int) -> Optional[int]:
     bit, count = Counter(one ^ two for one, two in zip(own, beside) if one != two).most_common(1)[0]
     if count < LEAST or bit & (bit - 1) or len({byte & ~bit for byte in own}) < LEAST_KINDS or is_stretch(own, beside, bit):
         return None
-    return bit if oddness(page, lane, bit) >= MARGIN and oddness(model, lane, bit) < BY_CHANCE else None
+    return bit if oddness(page, lane, bit) >= MARGIN and is_usual(model, lane, bit) else None
 
 
 def oddness(page: bytes, lane: int, bit: int) -> float:
@@ -83,6 +85,15 @@ def oddness(page: bytes, lane: int, bit: int) -> float:
         return 0.0
     alike = sum(byte & bit == own[0] & bit for at, byte in enumerate(page) if at % LANE != lane)
     return len(own) * math.log2((len(page) - len(own) + 1) / (alike + 1))
+
+
+def is_usual(page: bytes, lane: int, bit: int) -> bool:
+    """Whether a lane has a bit about as often as the other lanes of its page."""
+    own, count = page[lane::LANE], sum(byte & bit > 0 for byte in page)
+    ones = sum(byte & bit > 0 for byte in own)
+    found, share = ones / len(own), (count - ones + 1) / (len(page) - len(own) + 2)
+    apart = sum(part * math.log2(part / usual) for part, usual in ((found, share), (1 - found, 1 - share)) if part)
+    return len(own) * apart < (BY_CHANCE if ones in (0, len(own)) else MOST_APART)
 
 
 def is_stretch(own: bytes, beside: bytes, bit: int) -> bool:
