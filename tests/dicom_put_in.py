@@ -116,21 +116,28 @@ def checks_of_records(bench: Any, made: File, rng: random.Random) -> Iterator[Ch
         rows = b"".join(record(rng, ways) for _ in range(count * PAGE // LANE))
         true = with_value(made, rng.randbytes(page - begin) + rows + rng.randbytes(PAGE))[0]
         first = page + count // 2 * PAGE
-        part = stuck(true, first + 1024, ways[0], 16, False, 320)
-        yield told(bench, f"a bit of records of {name}, and a stretch of the other copy", [true, part], true, False)
+        for size in (320, 2048):
+            part = stuck(true, first + 1024, ways[0], 16, False, size)
+            yield told(bench, f"a bit of records of {name}, and {size} bytes of the other copy", [true, part], true, False)
         places = [first + ways[0] + LANE * row for row in (3, 9, 20, 33, 50)]
         some = changed(true, *((at, bytes([true[at] ^ 16])) for at in places))
         yield told(bench, f"a bit of records of {name}, and some of the other copy", [true, some], true, False)
+        if count > 1 or len(ways) > 1:
+            rows = b"".join(record(rng, ways, 0x7F, 0x80) for _ in range(count * PAGE // LANE))
+            true = with_value(made, rng.randbytes(page - begin) + rows + rng.randbytes(PAGE))[0]
+            other = stuck(true, first, ways[0], 0x80, False)
+            yield told(bench, f"the highest bit of records of {name}, stuck in the other copy", [true, other], true, False)
     words = b"".join(b"sSlice[%d].dFlow%d = %d\n" % (at, at % 9, rng.randrange(10**9)) for at in range(500))
     true = with_value(made, words)[0]
-    for mask in (1, 2, 4):
+    for mask in (1, 2, 4, 32):
         both = [stuck(true, page, 17, mask, is_set) for is_set in (False, True)]
         yield told(bench, f"a bit of both copies, of value {mask}, with each value", both, true, False, 1)
 
 
-def record(rng: random.Random, ways: Sequence[int]) -> bytes:
-    """64 bytes, of which these have a bit."""
-    return bytes(byte | 0x10 if at in ways else byte for at, byte in enumerate(rng.randbytes(LANE)))
+def record(rng: random.Random, ways: Sequence[int], mask: int = 0xFF, first: int = 16) -> bytes:
+    """64 bytes of some bits, of which the first of these has one bit and the others another one."""
+    bits = {at: 16 if number else first for number, at in enumerate(ways)}
+    return bytes(byte & mask | bits.get(at, 0) for at, byte in enumerate(rng.randbytes(LANE)))
 
 
 PUT_IN = [checks_of_bytes_put_in, checks_of_stuck_bits, checks_of_records]
