@@ -1,9 +1,9 @@
 """A bit of a copy that is stuck: it has one value in each 64th byte of a page, as where a line of a bus or a cell of memory fails.
 
 There the other copies differ from it in this bit alone. And it is odd for a lane to have one value of a bit, where the other lanes of its
-page have both, or the other one. But a file can have records, with such a lane in each: then another lane of the page is as odd, or this
-one is in the page before or after, or it has the bit so in the other copy too. And one stretch of a lane in which the other copy differs
-can be damage of that copy.
+page have both, or the other one. But a file can have records, with such a lane in each. Then another lane of the page is as odd, this one
+is so in the page before or after, or the other copy has the bit there more often than in the page. And one stretch of a lane in which the
+other copy differs can be damage of that copy.
 """
 from __future__ import annotations
 
