@@ -328,6 +328,9 @@ def checks_of_doubtful(bench, made, rng):
     hole, noise = changed(true, (begin + 100, bytes(64))), rng.randbytes(SECTOR)
     yield from told("a hole in a text, and noise there", hole, [[], [(begin, noise)]], 1, f"a text has a hole at {begin + 100}")
     yield from told("a hole that both have", hole, both, 0)
+    for size in (16, 64, 256):
+        places = [[(begin + 100, bytes(size))], [(begin, bytes(SECTOR))]]
+        yield from told(f"a hole of {size} bytes, and the sector lost in the other", true, places, 1, f"a text has a hole at {begin + 100}")
     yield from told("a hole that two of three have", hole, [[], [(frames[0], bytes(8))], [(begin, noise)]], 0)
     short = changed(true, (begin + 100, bytes(15)))
     yield from told("a short one, and noise there", short, [[], [(begin, noise)]], 0)

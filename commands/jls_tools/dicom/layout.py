@@ -4,12 +4,17 @@ from __future__ import annotations
 from collections.abc import Sequence
 from typing import Optional
 
+from jls_tools.dicom.axis import inserted
 from jls_tools.dicom.axis.align import SHIFTED, Copy, differing, on_one_axis, size_of
+from jls_tools.dicom.axis.bad_places import TEXT, Range
+from jls_tools.dicom.axis.inserted import SMALLEST_ELEMENT
 from jls_tools.dicom.axis.placed import placed
 from jls_tools.dicom.axis.runs import FINEST, Runs
+from jls_tools.dicom.axis.stuck import unstuck
 from jls_tools.dicom.evidence.header import Header
 from jls_tools.dicom.evidence.most import agreed
 from jls_tools.dicom.evidence.tables import Table
+from jls_tools.dicom.read.elements import UNDEFINED
 from jls_tools.dicom.read.tags import EXTENDED_LENGTHS, EXTENDED_TABLE, FRAMES
 from jls_tools.dicom.walk.frames import Fragments, FramePlace
 from jls_tools.dicom.walk.structure import Structure
@@ -25,6 +30,7 @@ class Layout:
 
     def __init__(self, copies: Sequence[Copy]) -> None:
         self.copies = copies
+        self.put_in: list[tuple[str, int, int]] = []  # (a copy, where in it, how many) of bytes that are no part of the file
         self.ranges = differing([copy.data for copy in copies])
         self.agreed = agreed(copies, self.ranges)
         self.runs, self.structure = self.find()
@@ -69,6 +75,34 @@ class Layout:
         """Whether each header reads, so that frames can be put where they were."""
         return not self.breaks and not self.structure.is_cut and all(place.is_exact for place in self.places)
 
+    def is_in_frame(self, place: int) -> bool:
+        """Whether a place stands within a fragment of a frame."""
+        return any(begin < place < end for each in self.places for begin, end in each.fragments)
+
+    def is_held_alike(self, place: int) -> bool:
+        """Whether all copies have the same headers of the elements and items that hold a place, and the same value, but for a frame's."""
+        for step in self.structure.steps:
+            element = step.element
+            if element is None or element.length == UNDEFINED or not element.start <= place <= element.end:
+                continue
+            begin, end = element.start, element.end if step.kind == "leaf" else element.value
+            if self.runs.touching(begin, end) or any(copy.lacks(begin, end) for copy in self.copies):
+                return False
+        return True
+
+    def can_hide_element(self, place: int, sizes: dict[int, int]) -> bool:
+        """Whether the value that holds a place can end with an element whose header is damaged in each copy.
+
+        It has taken that in if other copies lost as many bytes of it. `sizes` are those that were cut out, by place. No header is text.
+        """
+        for element in (step.element for step in self.structure.steps if step.kind == "leaf"):
+            if element is not None and element.value <= place <= element.end:
+                size = sum(own for at, own in sizes.items() if element.value <= at <= element.end)
+                tail = self.copies[0].data[element.end - size : element.end].rstrip(b"\0")
+                if SMALLEST_ELEMENT <= size <= element.length and not TEXT.match(tail):
+                    return True
+        return False
+
     def header(self, shape: Optional[Shape], count: int) -> Header:
         """The Header, decided as far as the file can say."""
         ranges = [fragment for place in self.places for fragment in place.fragments]
@@ -92,17 +126,72 @@ def rank(structure: Structure) -> tuple[bool, bool, bool, int]:
     return (not structure.is_found, bool(structure.jumps), structure.is_cut, structure.cost or 0)
 
 
-def laid_out(copies: Sequence[Copy]) -> tuple[list[Copy], Layout]:
-    """The copies on one axis, and their Layout. Where it breaks, or far fewer bytes differ then, they lost bytes at different places."""
-    found = placed(on_one_axis(copies))
+def laid_out(copies: Sequence[Copy], named: Optional[str] = None) -> tuple[list[Copy], Layout]:
+    """The copies on one axis, and their Layout. Where it breaks, one copy can have bytes that are no part of the file.
+
+    A copy that is `named` for its header keeps its bits.
+    """
+    found, layout, shifted = on_best_axis(copies, named)
+    if is_through(layout.structure):
+        return found, layout
+    ways = [found] if [copy.absent for copy in shifted] == [copy.absent for copy in found] else [found, shifted]
+    others = (without_inserted(way) for way in ways)
+    return next((other for other in others if other is not None), (found, layout))
+
+
+def without_inserted(copies: Sequence[Copy]) -> Optional[tuple[list[Copy], Layout]]:
+    """The copies without what was put into one of them, and their Layout, if one way to cut out so few ranges makes elements go on."""
+    ranges = inserted.held_alone(copies)
+    if not 0 < len(ranges) <= inserted.MOST_INSERTED or any(copy.foreign or copy.recoded for copy in copies):
+        return None
+    found: list[tuple[list[Copy], Layout]] = []
+    steps = 0
+    for parts in inserted.combinations(copies, ranges):
+        if found and len(found[0][1].put_in) < len(parts) or steps > inserted.MOST_STEPS:
+            break
+        rest = inserted.without(copies, parts)
+        walk = Walk(Runs(rest, 1), [copy.data for copy in rest])
+        goes_on = walk.goes_on()
+        steps += walk.looks + len(walk.steps)
+        if goes_on and is_through((layout := Layout(rest)).structure):
+            if not all(is_put_in(copies, layout, part, parts) for part in parts):
+                return None
+            layout.put_in = [told_of(copies, part) for part in parts]
+            found.append((rest, layout))
+    return found[0] if len(found) == 1 and steps <= inserted.MOST_STEPS else None
+
+
+def is_put_in(copies: Sequence[Copy], layout: Layout, part: Range, parts: Sequence[Range]) -> bool:
+    """Whether a range was put in that is cut out with others in a Layout."""
+    place = inserted.place_without(part[0], parts)
+    if not layout.is_held_alike(place):
+        return False
+    sizes: dict[int, int] = {}
+    for begin, end in parts:
+        at = inserted.place_without(begin, parts)
+        sizes[at] = sizes.get(at, 0) + end - begin
+    return layout.is_in_frame(place) or inserted.is_put_in(copies, part) and not layout.can_hide_element(place, sizes)
+
+
+def told_of(copies: Sequence[Copy], part: Range) -> tuple[str, int, int]:
+    owner = inserted.owner_of(copies, part)
+    return owner.path, inserted.place_in(owner, part[0]), part[1] - part[0]
+
+
+def on_best_axis(copies: Sequence[Copy], named: Optional[str]) -> tuple[list[Copy], Layout, list[Copy]]:
+    """The copies on one axis, their Layout, and the copies on the other axis.
+
+    Where the Layout breaks, or far fewer bytes differ then, they lost bytes at different places.
+    """
+    found = shifted = unstuck(placed(on_one_axis(copies)), named)
     layout = Layout(found)
     apart = size_of(layout.ranges)
     if not is_through(layout.structure) or apart >= SHIFTED:
-        shifted = placed(on_one_axis(copies, True))
+        shifted = unstuck(placed(on_one_axis(copies, True)), named)
         if is_through(layout.structure) and size_of(differing([copy.data for copy in shifted])) * FAR_MORE > apart:
-            return found, layout
+            return found, layout, shifted
         if [copy.absent for copy in shifted] != [copy.absent for copy in found]:
             other = Layout(shifted)
             if is_through(other.structure):
-                return shifted, other
-    return found, layout
+                return shifted, other, shifted
+    return found, layout, shifted

@@ -31,7 +31,7 @@ class MendedFrames:
         self.mender = mender
         self.chosen = chosen
         self.is_alone = is_alone
-        self.copies, self.layout = laid_out([given.copy_at(at) for at in chosen])
+        self.copies, self.layout = laid_out([given.copy_at(at) for at in chosen], given.options.header)
         named = enumerate(zip(given.paths, given.texts))
         self.strange = [Stranger(path, text, at in given.instances.uncertain) for at, (path, text) in named if at not in chosen]
         self.own = [self.own_streams(place, [copy.data for copy in self.copies]) for place in self.layout.places]

@@ -34,7 +34,8 @@ class Copy:
     """A copy on the axis. `absent` are the ranges of the axis that it has not; `foreign` is what was written over its beginning.
 
     `bad` are ranges that a list names as bad, and `seen` those that look so: of the copy itself, and on the axis once they are `placed`.
-    `recoded` are those of `absent` that the copy has in another coding: there it lost nothing.
+    `recoded` are those of `absent` that the copy has in another coding: there it lost nothing. `stuck` are its pages in which a bit is
+    stuck: where each begins in the copy, and how many bytes are taken from others.
     """
 
     path: str
@@ -44,6 +45,7 @@ class Copy:
     bad: Sequence[tuple[int, int]] = ()
     seen: Sequence[tuple[int, int]] = ()
     recoded: Sequence[tuple[int, int]] = ()
+    stuck: Sequence[tuple[int, int]] = ()
 
     @property
     def lost(self) -> list[tuple[int, int]]:

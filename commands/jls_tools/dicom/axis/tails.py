@@ -44,14 +44,17 @@ def without_tails(texts: list[bytes]) -> Tails:
     end = next((end for text, end in zip(texts, ends) if end is not None and end < len(text)), None)
     if end is None or any(other not in (None, end) for other in ends):
         return found
-    tails = list(dict.fromkeys(text[end:] for text in texts if len(text) > end))
+    # One that does not read whole can be longer and end as a file does: bytes were put into it, and it has no tail
+    longer = [at for at, text in enumerate(texts) if len(text) > end]
+    with_tails = [at for at in longer if ends[at] is not None or likely[at] != len(texts[at])]
+    tails = list(dict.fromkeys(texts[at][end:] for at in longer))
     if len(tails) == 1:
-        found.is_decided = len(texts) == 1 or sum(len(text) > end for text in texts) > 1
+        found.is_decided = len(texts) == 1 or len(with_tails) == len(longer) > 1
     elif any(own is None and len(text) > end for own, text in zip(ends, texts)) or are_of_one_element(tails):
         return found
     else:
         found.is_decided = False
-    found.texts = [text[:end] for text in texts]
+    found.texts = [text[:end] if at in with_tails else text for at, text in enumerate(texts)]
     found.ways = [*tails, b""] if found.is_decided else [b"", *tails]
     return found
 

@@ -30,7 +30,7 @@ HOLE = re.compile(rb"(?<=[\t\n\r\x20-\x7e]{32})([\0\x7f-\xff])\1{15,}(?=[\t\n\r\
 NEAR = 8  # so many equal bytes between two places, at least, show that damage ends there
 LONG = 16  # bytes on each side of a change
 LEAST_REST = 64  # bytes of a sector that the file ends in, at least, if it is compared with others
-BESIDE = 64  # bytes of the file beside a place, in which the text around a hole stands
+BESIDE = SECTOR + 64  # bytes of the file beside a place, in which a hole and the text around it stand
 
 
 def lost_in_each(copies: Sequence[Copy], frames: Sequence[Range], data: bytes) -> Optional[int]:
@@ -56,14 +56,14 @@ def ends_at_borders(data: bytes, begin: int, end: int) -> bool:
 
 
 def hole_in_text(places: Iterable[Place], data: bytes) -> Optional[int]:
-    """Where a hole stands in a text, in what was taken of one copy alone."""
+    """Where a hole stands in a text, in what was taken of one copy alone or beside it, where another copy lost it too."""
     for place in places:
         if place.taken is None or len(place.values) < 2 or len(place.values[place.taken][0]) != 1:
             continue
         first = max(0, place.offset - BESIDE)
         for found in HOLE.finditer(data[first : place.offset + place.length + BESIDE]):
             begin, end = first + found.start(), first + found.end()
-            if begin < place.offset + place.length and place.offset < end:
+            if begin <= place.offset + place.length and place.offset <= end:
                 return begin
     return None
 

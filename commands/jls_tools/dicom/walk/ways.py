@@ -95,9 +95,18 @@ class Walk:
             stack = stack[:-1]
         return place, stack, last, self.going_on(place, chosen)
 
+    def start(self) -> State:
+        return FIRST, ((DATA_SET, self.total, 0),), 0, ()
+
+    def goes_on(self) -> bool:
+        """Whether elements go on to the end on any way, without a jump."""
+        start = self.start()
+        self.go_on([start], {start}, [])
+        return bool(self.goals)
+
     def explore(self) -> State:
         """Goes all ways. Where all are dead before the end, it jumps to what can begin after them."""
-        start = (FIRST, ((DATA_SET, self.total, 0),), 0, ())
+        start = self.start()
         seen: set[State] = {start}
         dead: list[State] = []
         self.go_on([start], seen, dead)

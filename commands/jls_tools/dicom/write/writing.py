@@ -87,6 +87,11 @@ class Writing:
         for number, ranges in alone(self.frames.copies, self.frames.fragments()).items():
             size, path = sum(end - begin for begin, end in ranges), self.frames.copies[number].path
             self.result.notes.append(f"{size} bytes outside of frames, the first at {ranges[0][0]}, rest on {path}: others are bad there")
+        for copy in self.frames.copies:
+            for at, count in copy.stuck:
+                self.result.notes.append(f"a bit of {copy.path} is stuck in the page at {at}: {count} bytes rest on the other copies")
+        for path, at, size in self.layout.put_in:
+            self.result.notes.append(f"{size} bytes at {at} of {path} are no part of the file: elements and items go on only without them")
         for begin, end in self.layout.breaks:
             self.result.notes.append(f"no copy has what stands at {begin}: the next that reads is at {end}")
         if self.layout.structure.is_cut:

@@ -1,0 +1,115 @@
+"""A bit of a copy that is stuck: it has one value in each 64th byte of a page, as where a line of a bus or a cell of memory fails.
+
+There the other copies differ from it in this bit alone. And it is odd for a lane to have one value of a bit, where the other lanes of its
+page have both, or the other one. But a file can have records, with such a lane in each. Then another lane of the page is as odd, this one
+is so in the page before or after, or the other copy has the bit there more often than in the page. And one stretch of a lane in which the
+other copy differs can be damage of that copy.
+"""
+from __future__ import annotations
+
+import math
+from collections import Counter
+from collections.abc import Iterator, Sequence
+from dataclasses import replace
+from typing import Optional
+
+from jls_tools.dicom.axis.align import Copy
+from jls_tools.dicom.axis.bad_places import Range
+
+PAGE, LANE = 4096, 64
+LEAST = 4  # bytes of a lane that differ, at least: fewer cost no more as flipped bits, each for itself
+LEAST_KINDS = 8  # so many different bytes, at least, has a lane without its bit: else its bit can be so in the file
+MARGIN = 20.0  # bits: a lane is so odd by chance in one of a million
+BY_CHANCE = 1.0  # bits: a lane that has one value alone is at most so odd, as one in two are, where that is usual in its page
+MOST_APART = 10.0  # bits: that of the other copy has the bit so often as its page, as all but one in a thousand have
+MOST_LANES = 2  # of a page: where more look so, it is damage of another kind
+
+
+def unstuck(copies: Sequence[Copy], named: Optional[str] = None) -> list[Copy]:
+    """The copies on one axis, with what the others have where a bit of one is stuck, but for one that is named."""
+    found = list(copies)
+    for number, copy in ((at, copy) for at, copy in enumerate(copies) if copy.path != named):
+        others = [other for at, other in enumerate(copies) if at != number]
+        data, pages = bytearray(copy.data), []
+        for begin, (first, last) in pages_of(copy):
+            places = places_stuck(copy, others, first, last)
+            if places:
+                pages.append((begin, len(places)))
+            for place, bit in places:
+                data[place] ^= bit
+        if pages:
+            found[number] = replace(copy, data=bytes(data), stuck=pages)
+    return found
+
+
+def pages_of(copy: Copy) -> Iterator[tuple[int, Range]]:
+    """The pages of a copy by its own offsets, with where each stands on the axis, as far as no loss is in it."""
+    own = len(copy.foreign)
+    borders = [0, *(place for pair in copy.absent for place in pair), len(copy.data)]
+    for first, last in zip(borders[::2], borders[1::2]):
+        for begin in range(-(-own // PAGE) * PAGE, own + last - first, PAGE):
+            at = first + begin - own
+            yield begin, (at, min(at + PAGE, last))
+        own += last - first
+
+
+def places_stuck(copy: Copy, others: Sequence[Copy], first: int, last: int) -> list[tuple[int, int]]:
+    """[(place, bit)] of the bytes of a page that a stuck bit has changed, as another copy shows and no third one denies."""
+    for other in others:
+        if other.data[first:last] == copy.data[first:last] or other.lacks(first, last):
+            continue
+        bits = {lane: bit_of(copy.data[first:last], other.data[first:last], lane - first) for lane in range(first, min(first + LANE, last))}
+        lanes = [(lane, bit) for lane, bit in bits.items() if bit is not None]
+        found = [(at, bit) for lane, bit in lanes for at in range(lane, last, LANE) if other.data[at] == copy.data[at] ^ bit]
+        is_denied = any(third.data[at] == copy.data[at] and not third.lacks(at, at + 1) for at, _ in found for third in others)
+        if 0 < len(lanes) <= MOST_LANES and not is_denied and not has_records(copy.data, other.data, (first, last), lanes):
+            return found
+    return []
+
+
+def bit_of(page: bytes, model: bytes, lane: int) -> Optional[int]:
+    """The bit that is stuck in a lane of a page, if the page of another copy shows that."""
+    own, beside = page[lane::LANE], model[lane::LANE]
+    if own == beside:
+        return None
+    bit, count = Counter(one ^ two for one, two in zip(own, beside) if one != two).most_common(1)[0]
+    if count < LEAST or bit & (bit - 1) or len({byte & ~bit for byte in own}) < LEAST_KINDS or is_stretch(own, beside, bit):
+        return None
+    return bit if oddness(page, lane, bit) >= MARGIN and is_usual(model, lane, bit) else None
+
+
+def oddness(page: bytes, lane: int, bit: int) -> float:
+    """By how many bits it is odd that a lane has one value of a bit alone, from how often the other lanes of its page have it."""
+    own = page[lane::LANE]
+    if len({byte & bit for byte in own}) != 1:
+        return 0.0
+    alike = sum(byte & bit == own[0] & bit for at, byte in enumerate(page) if at % LANE != lane)
+    return len(own) * math.log2((len(page) - len(own) + 1) / (alike + 1))
+
+
+def is_usual(page: bytes, lane: int, bit: int) -> bool:
+    """Whether a lane has a bit about as often as the other lanes of its page."""
+    own, count = page[lane::LANE], sum(byte & bit > 0 for byte in page)
+    ones = sum(byte & bit > 0 for byte in own)
+    found, share = ones / len(own), (count - ones + 1) / (len(page) - len(own) + 2)
+    apart = sum(part * math.log2(part / usual) for part, usual in ((found, share), (1 - found, 1 - share)) if part)
+    return len(own) * apart < (BY_CHANCE if ones in (0, len(own)) else MOST_APART)
+
+
+def is_stretch(own: bytes, beside: bytes, bit: int) -> bool:
+    """Whether the places of a lane that differ in a bit follow each other, and others don't: one damage of the other copy does that."""
+    apart = [one ^ two == bit for one, two in zip(own, beside)]
+    begin, count = apart.index(True), sum(apart)
+    return count < len(apart) and all(apart[begin : begin + count])
+
+
+def has_records(data: bytes, model: bytes, page: Range, lanes: Sequence[tuple[int, int]]) -> bool:
+    """Whether a bit has one value in lanes of the file itself: in another lane of the page, or in these in the page before or behind."""
+    first, last = page
+    others = (lane for lane in range(first, min(first + LANE, last)) if data[lane:last:LANE] == model[lane:last:LANE])
+    if any(oddness(data[first:last], lane - first, 1 << bit) >= MARGIN for lane in others for bit in range(8)):
+        return True
+    for begin, end in ((max(0, first - PAGE), first), (last, last + PAGE)):
+        if any(oddness(data[begin:end], (lane - begin) % LANE, bit) >= MARGIN for lane, bit in lanes):
+            return True
+    return False

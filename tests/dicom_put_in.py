@@ -1,0 +1,143 @@
+"""Checks of bytes that were put into a copy, and of a bit that is stuck in a page, each with cases in which the rule would be wrong."""
+from __future__ import annotations
+
+import random
+import struct
+from collections.abc import Iterator, Sequence
+from typing import Any
+
+import dicom_files
+import dicom_pairs
+from dicom_files import File, element
+
+changed: Any = dicom_files.changed  # of modules without types
+with_value: Any = dicom_files.with_value
+told: Any = dicom_pairs.told
+Check = tuple[str, bool]
+PAGE, LANE = 4096, 64
+
+
+def put(data: bytes, at: int, new: bytes) -> bytes:
+    return data[:at] + new + data[at:]
+
+
+def twice(data: bytes, at: int, size: int) -> bytes:
+    return put(data, at, data[at : at + size])
+
+
+def checks_of_bytes_put_in(bench: Any, made: File, rng: random.Random) -> Iterator[Check]:
+    """One copy has bytes too many: elements and items go on only without them."""
+    true, first, second, third = made.bytes, *made.items[:3]
+    text, begin = with_value(made, b"".join(b"sSlice[%d].dTra = %d\n" % (at, at * 7) for at in range(200)))
+    zeros, broken = (first + 70, bytes(8)), (made.name_at - 3, b"\7")
+    more, hurt = put(true[: second + 60] + true[second + 90 :], third + 60, b"\x91\x77\x13"), (text.index(made.frames[0]) + 70, bytes(8))
+    cases = {
+        "two bytes in a frame": (true, [put(true, second + 70, b"\x91\x3c"), changed(true, zeros)]),
+        "a block of a frame twice": (true, [changed(true, zeros), twice(true, second + 60, 100)]),
+        "in a frame of each": (true, [put(true, first + 70, b"\x91"), put(true, third + 60, rng.randbytes(9))]),
+        "as many in a frame of each": (true, [put(true, first + 70, b"\x91\x3c"), put(true, third + 60, b"\x17\x21")]),
+        "in three copies": (true, [put(true, at + 60, rng.randbytes(5 + size)) for size, at in enumerate((first, second, third))]),
+        "a loss and more bytes": (true, [more, changed(true, zeros)]),
+        "two bytes in a header": (true, [put(true, made.name_at + 3, b"\x91\x3c"), changed(true, zeros)]),
+        "a block of a private text twice": (text, [twice(text, begin + 300, 512), changed(text, hurt)]),
+    }
+    for name, (wanted, copies) in cases.items():
+        yield told(bench, name, copies, wanted)
+    printed = bench.mend(cases["two bytes in a frame"][1])[2]
+    yield f"they are told ({printed})", f"2 bytes at {second + 70} of " in printed and "no part of the file" in printed
+    # The element before goes on with the bytes of this one, if as many were lost
+    size = len(element(0x100010, "PN", "Doe^Jane"))
+    lost = true[: true.index(bytes(range(64))) + 50] + true[true.index(bytes(range(64))) + 50 + size :]
+    for name, copy in (("damage of its length", changed(true, broken)), ("of its VR", changed(true, (made.name_at - 4, b"\x91\x3c")))):
+        yield told(bench, f"an element's bytes lost, and {name}", [lost, copy], true, False)
+    noise = changed(true, (made.name_at - 8, rng.randbytes(size)))
+    yield told(bench, "an element's bytes lost, and noise over that element", [lost, noise], true, False, 1)
+    inner = true.index(b"Doe^Jane")
+    yield told(bench, "a text of ten letters more", [put(true, inner + 3, b"anna^maria"), changed(true, zeros)], true, False)
+    begin = text.index(b"sSlice[0]")
+    lost = changed(text[: begin + 300] + text[begin + 302 :], (begin - 4, b"\x91\x3c\x77\x05"))
+    fewer = changed(text, (begin - 4, struct.pack("<I", struct.unpack_from("<I", text, begin - 4)[0] - 2)))
+    yield told(bench, "two bytes lost, and a length of each damaged, one so that it fits", [lost, fewer], text, False, 1)
+    fewer = changed(true, (second + 4, struct.pack("<I", struct.unpack_from("<I", true, second + 4)[0] - 2)))
+    lost = changed(true[: second + 60] + true[second + 62 :], (second, b"\x91\x3c\x77\x05"))
+    printed = bench.mend([lost, fewer])[2]
+    yield f"the same in a frame: not told ({printed})", "no part of the file" not in printed
+    # The value takes the next element in, which has as many bytes, and whose header no copy has
+    block = b"again and again "
+    both, at = with_value(made, b"a" * 100 + block * 2 + b"e" * 100)
+    both = changed(both, (both.index(b"Doe^Jane") - 8, bytes(8)))
+    yield told(bench, "a block lost, and a header zeroed in both", [both[: at + 100] + both[at + 100 + len(block) :], both], true, False, 1)
+    tail = [put(true, second + 70, b"\x91\x3c"), true + bytes(2)]
+    yield told(bench, "two bytes in a frame, and two zeros behind the other copy", tail, true, False)
+    yield told(bench, "these, and zeros behind a third", [*tail, changed(true, zeros) + bytes(2)], true, False)
+
+
+def stuck(data: bytes, begin: int, lane: int, mask: int, is_set: bool, until: int = PAGE) -> bytes:
+    """A copy with a bit that is stuck in a page."""
+    copy = bytearray(data)
+    for at in range(begin + lane, min(begin + until, len(copy)), LANE):
+        copy[at] = copy[at] | mask if is_set else copy[at] & ~mask
+    return bytes(copy)
+
+
+def checks_of_stuck_bits(bench: Any, made: File, rng: random.Random) -> Iterator[Check]:
+    """A bit that is stuck in a lane of a page, in texts and in frames; and what only looks so."""
+    words = b"".join(b"sSlice[%d].dFlow%d = %d\n" % (at, at % 9, rng.randrange(10**9)) for at in range(500))
+    true, begin = with_value(made, words)
+    frame = true.index(made.frames[0])
+    zeros, page = (frame + 70, bytes(8)), -(-begin // PAGE) * PAGE
+    assert page + 2 * PAGE < begin + len(words)
+    for name, mask, is_set in (("set", 4, True), ("not set", 2, False), ("set, the highest", 0x80, True)):
+        yield told(bench, f"a bit of a text is {name}", [changed(true, zeros), stuck(true, page, 17, mask, is_set)], true)
+    both = [stuck(true, page, 17, 4, True), stuck(true, page + PAGE, 40, 1, False)]
+    yield told(bench, "a bit of each copy", both, true)
+    yield told(bench, "of two of three copies", [*both, changed(true, zeros)], true)
+    printed = bench.mend(both)[2]
+    yield f"it is told ({printed})", f"is stuck in the page at {page}: " in printed
+    last = frame // PAGE * PAGE
+    noisy = [stuck(true, last, 5, 16, True), stuck(true, last, 9, 8, False)]
+    yield told(bench, "a bit of frames of each copy", noisy, true)
+    part = stuck(true, page, 17, 0x80, True, 1024)
+    yield told(bench, "the highest bit in a part of a page of text: it is not that of the other copy", [true, part], true, False)
+    filled, at = with_value(made, b"\xff" * 9000)
+    first = -(-at // PAGE) * PAGE
+    seven = changed(filled, (first + 100, b"\x7f" * 512))
+    yield told(bench, "seven bits of ones", [filled, seven], filled, False)
+    table, at = with_value(made, b"".join(struct.pack("<16I", 1, *range(n, n + 15)) for n in range(150)))
+    some = changed(table, *((at + 64 * n, b"\0") for n in range(70, 76)))
+    yield told(bench, "ones that are true in a table", [table, some], table, False)
+
+
+def checks_of_records(bench: Any, made: File, rng: random.Random) -> Iterator[Check]:
+    """Records of 64 bytes, of which one or two have one value of a bit: another copy is damaged there."""
+    begin = with_value(made, b"")[1]
+    page = -(-begin // PAGE) * PAGE
+    for name, count, ways in (("a page", 1, (32,)), ("a page, in two bytes", 1, (32, 44)), ("three pages", 3, (32,))):
+        rows = b"".join(record(rng, ways) for _ in range(count * PAGE // LANE))
+        true = with_value(made, rng.randbytes(page - begin) + rows + rng.randbytes(PAGE))[0]
+        first = page + count // 2 * PAGE
+        for size in (320, 2048):
+            part = stuck(true, first + 1024, ways[0], 16, False, size)
+            yield told(bench, f"a bit of records of {name}, and {size} bytes of the other copy", [true, part], true, False)
+        places = [first + ways[0] + LANE * row for row in (3, 9, 20, 33, 50)]
+        some = changed(true, *((at, bytes([true[at] ^ 16])) for at in places))
+        yield told(bench, f"a bit of records of {name}, and some of the other copy", [true, some], true, False)
+        if count > 1 or len(ways) > 1:
+            rows = b"".join(record(rng, ways, 0x7F, 0x80) for _ in range(count * PAGE // LANE))
+            true = with_value(made, rng.randbytes(page - begin) + rows + rng.randbytes(PAGE))[0]
+            other = stuck(true, first, ways[0], 0x80, False)
+            yield told(bench, f"the highest bit of records of {name}, stuck in the other copy", [true, other], true, False)
+    words = b"".join(b"sSlice[%d].dFlow%d = %d\n" % (at, at % 9, rng.randrange(10**9)) for at in range(500))
+    true = with_value(made, words)[0]
+    for mask in (1, 2, 4, 32):
+        both = [stuck(true, page, 17, mask, is_set) for is_set in (False, True)]
+        yield told(bench, f"a bit of both copies, of value {mask}, with each value", both, true, False, 1)
+
+
+def record(rng: random.Random, ways: Sequence[int], mask: int = 0xFF, first: int = 16) -> bytes:
+    """64 bytes of some bits, of which the first of these has one bit and the others another one."""
+    bits = {at: 16 if number else first for number, at in enumerate(ways)}
+    return bytes(byte & mask | bits.get(at, 0) for at, byte in enumerate(rng.randbytes(LANE)))
+
+
+PUT_IN = [checks_of_bytes_put_in, checks_of_stuck_bits, checks_of_records]
