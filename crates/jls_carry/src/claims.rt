@@ -30,20 +30,20 @@ pub(crate) struct Progress {
     pub(crate) shift: Shift,
 }
 
-/// Who says something: a copy, or a splice of copies.
+/// Who says something: a copy, a witness, or a splice of copies.
 #[derive(Clone, Copy)]
 pub(crate) struct Speaker {
     pub(crate) number: usize,
     /// The number of its coding.
     pub(crate) coding: usize,
-    /// Whether it is a splice. Each of its bytes is one of a copy of its coding.
-    pub(crate) is_splice: bool,
+    /// Whether each of its bytes is one of other copies of its coding: it is a splice of these, or is one of them over again.
+    pub(crate) is_echo: bool,
 }
 
 impl Speaker {
     /// Whether one of two has bytes of the other, or both can have bytes of one copy.
     pub(crate) fn is_related(self, other: Speaker) -> bool {
-        self.coding == other.coding && (self.is_splice || other.is_splice)
+        self.coding == other.coding && (self.is_echo || other.is_echo)
     }
 }
 

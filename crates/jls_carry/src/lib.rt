@@ -28,7 +28,7 @@
 //! 2. One gap a round: lines are taken to the end of the first run behind a gap of the other copy. Then that copy is mended, and speaks
 //!    itself.
 //! 3. Where two readings of a line are confirmed, it is disputed. One is taken if it alone stands unbroken in two copies, or leaves under a
-//!    quarter of the other's unmatched bytes. Those that a copy has too many count too.
+//!    quarter of the other's unmatched bytes, or is confirmed for four times as many rows. Bytes that a copy has too many count too.
 //! 4. Lines are taken in order. A chain ends at the first that is not.
 //! 5. Behind a dispute each copy goes on with its own reading, and a later line wants both.
 //! 6. A reading that another copy has, and nobody tested, holds the line back. A sample that a coding can't say refutes it there. A reading
@@ -39,8 +39,9 @@
 //!    may say otherwise.
 //!
 //! Where two copies have the same code, that code anew says nothing of its truth: garbage, coded anew, is the same garbage. There only what
-//! agrees from the start of an interval on is taken. It isn't, if the two agree with no other coding, and a copy of one says otherwise.
-//! They can be copies of one damaged file, or of another picture.
+//! agrees from the start of an interval on is taken, where nothing else goes on, and no copy of another coding says otherwise. It gives way
+//! to what copies of several codings have. The two can be copies of one damaged file, or of another picture. A copy that has the bytes of
+//! one before it confirms nothing.
 //!
 //! A copy agrees with no other if no line is settled, or if it has scan data and no run of its mended file. It is left out of that file.
 #![tactic(auto)]
@@ -135,6 +136,14 @@ fn with_headers(alloc: Global, ends: &[Option<bool>]) -> Result<Vec<usize>, Allo
     Ok(numbers)
 }
 
+/// Whether a copy has the bytes of one before it.
+fn is_repeated(copies: &[&[u8]], number: usize) -> bool {
+    match copies.get(number) {
+        Some(bytes) => copies.iter().take(number).any(|copy| **copy == **bytes),
+        None => false,
+    }
+}
+
 /// What copies bring back of each other.
 #[derive(Drop)]
 pub struct Carried {
@@ -152,7 +161,7 @@ pub struct Carried {
 /// number for each copy, the same for those of one coding. A coding has no mended file if no copy of it has headers that read, or if these
 /// are of a picture of another shape. The shape is that of the first copy whose headers read, but for the precision. Nor has it one if its
 /// copies agree with no other. Those behind the first `own` ones are no copies, but splices of copies of their coding: they confirm nothing
-/// that these say. `Err` comes where memory is refused.
+/// that these say. Nor does a copy that has the bytes of one before it. `Err` comes where memory is refused.
 ///
 /// No contract speaks of what is found.
 pub fn carry(
@@ -174,7 +183,7 @@ pub fn carry(
         let speaker = Speaker {
             number,
             coding: codings.get(number).copied().unwrap_or(number),
-            is_splice: number >= own,
+            is_echo: number >= own || is_repeated(copies, number),
         };
         states.push(CopyState::new(alloc, speaker, bytes, layout, lines)?)?;
     }

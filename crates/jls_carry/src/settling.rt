@@ -171,12 +171,12 @@ impl Settling<'_, '_> {
         Ok(all)
     }
 
-    /// Whether a copy or another splice of its coding, that is before a splice among these, speaks for it.
-    fn is_spoken_for(&self, splice: Speaker, place: usize, numbers: &[usize]) -> bool {
+    /// Whether a copy of its coding, or another echo that is before an echo among these, speaks for it.
+    fn is_spoken_for(&self, echo: Speaker, place: usize, numbers: &[usize]) -> bool {
         for (other_place, number) in numbers.iter().enumerate() {
             if let Some(other) = self.copies.get(*number) {
-                let speaks_first = !other.speaker.is_splice || other_place < place;
-                if other.speaker.coding == splice.coding && speaks_first {
+                let speaks_first = !other.speaker.is_echo || other_place < place;
+                if other.speaker.coding == echo.coding && speaks_first {
                     return true;
                 }
             }
@@ -184,13 +184,13 @@ impl Settling<'_, '_> {
         false
     }
 
-    /// How many of these speak for themselves. A splice has no byte of its own, so it adds nothing to the copies of its coding.
+    /// How many of these speak for themselves. An echo has no byte of its own, so it adds nothing to the copies of its coding.
     fn count_voices(&self, numbers: &[usize]) -> usize {
         let mut count = 0usize;
         for (place, number) in numbers.iter().enumerate() {
             if let Some(copy) = self.copies.get(*number) {
                 let speaker = copy.speaker;
-                if !speaker.is_splice || !self.is_spoken_for(speaker, place, numbers) {
+                if !speaker.is_echo || !self.is_spoken_for(speaker, place, numbers) {
                     count = count.saturating_add(1);
                 }
             }
@@ -198,8 +198,19 @@ impl Settling<'_, '_> {
         count
     }
 
-    /// How many copies have a reading: those that say it, and those in whose bytes its line stands unbroken.
-    fn support(&self, confirmed: &Confirmed) -> Result<usize, AllocError> {
+    /// Of how many codings these are.
+    fn count_codings(&self, numbers: &[usize]) -> Result<usize, AllocError> {
+        let mut codings = Vec::new(self.alloc);
+        for number in numbers {
+            if let Some(copy) = self.copies.get(*number) {
+                add_once(&mut codings, copy.speaker.coding)?;
+            }
+        }
+        Ok(codings.len())
+    }
+
+    /// The copies that have a reading: those that say it, and those in whose bytes its line stands unbroken.
+    fn holders(&self, confirmed: &Confirmed) -> Result<Vec<usize>, AllocError> {
         let mut copies = Vec::new(self.alloc);
         for reached in confirmed.chains.iter() {
             if let Some(chain) = self.chains.get(reached.chain) {
@@ -209,7 +220,16 @@ impl Settling<'_, '_> {
                 }
             }
         }
-        Ok(self.count_voices(&copies))
+        Ok(copies)
+    }
+
+    /// Whether a reading is firm among others: copies of two codings have it, or two copies where only copies of one coding have any.
+    fn is_firm(&self, confirmed: &Confirmed, is_any_across: bool) -> Result<bool, AllocError> {
+        let holders = self.holders(confirmed)?;
+        if is_any_across {
+            return Ok(self.count_codings(&holders)? >= 2);
+        }
+        Ok(self.count_voices(&holders) >= 2)
     }
 
     /// How many copies say a reading.
@@ -236,7 +256,7 @@ impl Settling<'_, '_> {
     }
 
     /// How many rows all chains of these readings confirm from this line on.
-    fn rows_in_common(&self, readings: &[Confirmed]) -> usize {
+    fn rows_in_common(&self, readings: &[&Confirmed]) -> usize {
         let mut rows = usize::MAX;
         for confirmed in readings {
             for reached in confirmed.chains.iter() {
@@ -268,11 +288,11 @@ impl Settling<'_, '_> {
     }
 
     /// The reading that is confirmed for far more rows than each other, if the others never say the same again.
-    fn outlasting(&self, readings: &[Confirmed], rows: usize) -> Option<usize> {
+    fn outlasting(&self, readings: &[&Confirmed], rows: usize) -> Option<usize> {
         let mut best: Option<&Confirmed> = None;
         let mut most = 0usize;
         let mut second = 0usize;
-        for confirmed in readings {
+        for confirmed in readings.iter().copied() {
             let mut last = 0usize;
             for reached in confirmed.chains.iter() {
                 last = last.max(self.rows_behind(*reached));
@@ -286,7 +306,7 @@ impl Settling<'_, '_> {
             }
         }
         let best = best?;
-        for confirmed in readings {
+        for confirmed in readings.iter().copied() {
             if confirmed.reading != best.reading && self.are_one_again(best, confirmed, rows) {
                 return None;
             }
@@ -314,16 +334,19 @@ impl Settling<'_, '_> {
         least
     }
 
-    /// Of several readings the only one that stands unbroken in two copies, or the one that leaves far fewer bytes unmatched.
-    fn chosen(&self, readings: &[Confirmed]) -> Result<Option<usize>, AllocError> {
-        let mut strong = Vec::new(self.alloc);
-        for confirmed in readings {
-            if self.support(confirmed)? >= 2 {
-                strong.push(confirmed.reading)?;
+    /// Of several readings the only one that is firm, or the one that leaves far fewer bytes unmatched, or is confirmed for far more rows.
+    fn chosen(&self, readings: &[&Confirmed]) -> Result<Option<usize>, AllocError> {
+        let is_any_across = readings
+            .iter()
+            .any(|confirmed| !self.is_of_one_coding(confirmed));
+        let mut firm = Vec::new(self.alloc);
+        for confirmed in readings.iter().copied() {
+            if self.is_firm(confirmed, is_any_across)? {
+                firm.push(confirmed.reading)?;
             }
         }
-        if !strong.is_empty() {
-            return Ok(match strong.as_slice() {
+        if !firm.is_empty() {
+            return Ok(match firm.as_slice() {
                 [only] => Some(*only),
                 _ => None,
             });
@@ -332,7 +355,7 @@ impl Settling<'_, '_> {
         let mut best = None;
         let mut least = usize::MAX;
         let mut second = usize::MAX;
-        for confirmed in readings {
+        for confirmed in readings.iter().copied() {
             let unmatched = self.unmatched(confirmed, rows);
             if best.is_none() || unmatched < least {
                 second = least;
@@ -346,6 +369,50 @@ impl Settling<'_, '_> {
             return Ok(best);
         }
         Ok(self.outlasting(readings, rows))
+    }
+
+    /// Whether copies of one coding alone have a reading. They can be copies of one damaged file.
+    fn is_of_one_coding(&self, confirmed: &Confirmed) -> bool {
+        confirmed.chains.iter().all(|reached| {
+            self.chains
+                .get(reached.chain)
+                .is_some_and(|chain| chain.is_twin)
+        })
+    }
+
+    /// The readings that are heard. Those that copies of one coding alone have aren't, where copies of several have another.
+    fn heard<'x>(&self, readings: &'x [Confirmed]) -> Result<Vec<&'x Confirmed>, AllocError> {
+        let is_any_across = readings
+            .iter()
+            .any(|confirmed| !self.is_of_one_coding(confirmed));
+        let mut heard = Vec::new(self.alloc);
+        for confirmed in readings {
+            if !is_any_across || !self.is_of_one_coding(confirmed) {
+                heard.push(confirmed)?;
+            }
+        }
+        Ok(heard)
+    }
+
+    /// Whether copies of one coding alone have a reading of this line, and a copy of another says otherwise.
+    fn is_denied(&self, confirmed: &Confirmed, place: usize) -> bool {
+        if !self.is_of_one_coding(confirmed) {
+            return false;
+        }
+        let Some(giver) = confirmed
+            .chains
+            .first()
+            .and_then(|reached| self.chains.get(reached.chain))
+            .and_then(|chain| self.copies.get(chain.giver))
+        else {
+            return false;
+        };
+        self.copies.iter().any(|copy| {
+            copy.speaker.coding != giver.speaker.coding
+                && copy
+                    .claim(place)
+                    .is_some_and(|claim| claim.reading != confirmed.reading)
+        })
     }
 
     /// Whether only copies of one coding have a reading, and each of them is opposed. They can be copies of one damaged file, or of another
@@ -371,14 +438,15 @@ impl Settling<'_, '_> {
         place: usize,
         readings: &[Confirmed],
     ) -> Result<Option<usize>, AllocError> {
-        let [only] = readings else {
-            return self.chosen(readings);
+        let heard = self.heard(readings)?;
+        let [only] = heard.as_slice() else {
+            return self.chosen(&heard);
         };
         let reading = only.reading;
-        if self.is_opposed(only) {
+        if self.is_opposed(only) || self.is_denied(only, place) {
             return Ok(None);
         }
-        if self.support(only)? < 2
+        if self.count_voices(&self.holders(only)?) < 2
             && (is_held_back(self.copies, self.tested, place, reading)
                 || is_refuted(picture, self.copies, place, reading))
         {
@@ -420,13 +488,21 @@ impl Settling<'_, '_> {
         Ok(own)
     }
 
-    /// What comes of a line. Behind a dispute two copies have to say it.
+    /// What comes of a line. Behind a dispute two copies have to say it. What copies of one coding alone have can wait.
     fn judge(
         &self,
         picture: &Picture,
         place: usize,
         readings: &[Confirmed],
+        waits: bool,
     ) -> Result<Verdict, AllocError> {
+        if waits
+            && readings
+                .iter()
+                .all(|confirmed| self.is_of_one_coding(confirmed))
+        {
+            return Ok(Verdict::Open);
+        }
         match self.taken(picture, place, readings)? {
             None => {
                 if readings.len() > 1 {
@@ -512,11 +588,23 @@ impl Settling<'_, '_> {
         }
     }
 
-    /// Settles the lines of the picture that chains confirm. Answers whether one was settled or disputed.
+    /// Settles the lines of the picture that chains confirm. Answers whether one was settled or disputed. What copies of one coding alone
+    /// have counts where nothing else goes on: a copy of another coding can say otherwise once it is mended before that.
     pub(crate) fn settle(&mut self, picture: &mut Picture) -> Result<bool, AllocError> {
-        let mut is_any = false;
         self.link_across();
         self.oppose()?;
+        if self.settle_lines(picture, true)? {
+            return Ok(true);
+        }
+        for chain in self.chains.iter_mut() {
+            chain.is_alive = true;
+        }
+        self.settle_lines(picture, false)
+    }
+
+    /// Settles lines, without what copies of one coding alone have if that waits. Answers whether one was settled or disputed.
+    fn settle_lines(&mut self, picture: &mut Picture, waits: bool) -> Result<bool, AllocError> {
+        let mut is_any = false;
         let reaching = self.reaching(picture.len())?;
         for (place, reached) in reaching.iter().enumerate() {
             if !picture.is_open(place) || reached.is_empty() {
@@ -526,7 +614,7 @@ impl Settling<'_, '_> {
             if readings.is_empty() {
                 continue;
             }
-            match self.judge(picture, place, &readings)? {
+            match self.judge(picture, place, &readings, waits)? {
                 Verdict::Settled(reading) => {
                     picture.settle(place, reading);
                     self.follow(&readings, Some(reading));
