@@ -10,8 +10,8 @@ _jls_splice() {
             return
             ;;
     esac
-    if [[ $word == -* && $before != --file && $before != --files ]]; then
-        mapfile -t COMPREPLY < <(compgen -W '--source --tries --max --progress --file --files --bad --help --version' -- "$word")
+    if [[ $word == -* && $before != --file && $before != --files && $before != --witness ]]; then
+        mapfile -t COMPREPLY < <(compgen -W '--source --tries --max --progress --file --files --bad --witness --help --version' -- "$word")
     else
         mapfile -t COMPREPLY < <(compgen -f -- "$word")
         compopt -o filenames 2> /dev/null

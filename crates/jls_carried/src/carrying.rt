@@ -46,7 +46,7 @@ fn edits_of(alloc: Global, proposed: Vec<Edit>) -> Result<Vec<CopyEdit>, AllocEr
     Ok(edits)
 }
 
-/// The copies of a coding with their edits, as they are judged. Numbers from `count` on are those of its splices, which aren't.
+/// The copies of a coding with their edits, as they are judged. Numbers from `count` on are those of witnesses and splices, which aren't.
 fn edited_copies(
     alloc: Global,
     coding: MendedCoding,
@@ -90,7 +90,7 @@ struct Proposed {
     is_doubtful: bool,
 }
 
-/// The copies to be carried: how many they are without the splices behind them, and how many components their picture has.
+/// The copies to be carried: how many they are without witnesses and splices behind them, and how many components their picture has.
 #[derive(Clone, Copy)]
 struct CarriedSize {
     copies: usize,
@@ -181,30 +181,75 @@ fn numbers_with(
     Ok(numbers)
 }
 
-/// What copies in several codings give each other, where the splices of each coding speak beside its copies.
-fn carry_with_splices(
+/// Copies with witnesses behind them.
+fn with_witnesses<'a>(
+    alloc: Global,
+    copies: &[&'a [u8]],
+    witnesses: &[&'a [u8]],
+) -> Result<Vec<&'a [u8]>, AllocError> {
+    let mut speakers: Vec<&'a [u8]> = copies.iter().copied().collect(alloc)?;
+    for witness in witnesses {
+        speakers.push(*witness)?;
+    }
+    Ok(speakers)
+}
+
+/// The numbers of the codings of copies, which are given, and of the witnesses behind them. A witness of a coding of its own has its own
+/// place among all as its number.
+fn numbers_of_all(
+    alloc: Global,
+    speakers: &[&[u8]],
+    codings: &[usize],
+) -> Result<Vec<usize>, AllocError> {
+    let mut numbers: Vec<usize> = codings.iter().copied().collect(alloc)?;
+    if speakers.len() <= codings.len() {
+        return Ok(numbers);
+    }
+    let parts = find_parts(alloc, speakers)?;
+    let all = codings_of(alloc, speakers, &parts)?;
+    for first in all.iter().copied().skip(codings.len()) {
+        let number = codings.get(first).copied().unwrap_or(first);
+        numbers.push(number)?;
+    }
+    Ok(numbers)
+}
+
+/// Whether some of these witnesses is of another coding than each of the copies, as far as can be told. Lines of the others can't be told
+/// from those of damaged copies. No contract speaks of it.
+pub fn are_of_other_codings(
     alloc: Global,
     copies: &[&[u8]],
+    witnesses: &[&[u8]],
+) -> Result<bool, AllocError> {
+    if witnesses.is_empty() {
+        return Ok(false);
+    }
+    let speakers = with_witnesses(alloc, copies, witnesses)?;
+    let codings = codings_of(alloc, &speakers, &find_parts(alloc, &speakers)?)?;
+    Ok(codings.iter().any(|coding| *coding >= copies.len()))
+}
+
+/// What these copies give each other, and the witnesses behind the first ones give them. `codings` has a number for each. The splices of
+/// each coding of copies speak beside them.
+fn carry_with_splices(
+    alloc: Global,
+    speakers: &[&[u8]],
     codings: &[usize],
-    components: usize,
+    size: CarriedSize,
     bounds: SearchBounds,
 ) -> Result<Proposed, AllocError> {
-    let size = CarriedSize {
-        copies: copies.len(),
-        components,
-    };
-    let splices = splices_of_codings(alloc, copies, codings, bounds)?;
+    let splices = splices_of_codings(alloc, speakers, codings, bounds)?;
     if splices.is_empty() {
-        let carried = carry(alloc, copies, codings, copies.len())?;
+        let carried = carry(alloc, speakers, codings, speakers.len())?;
         return proposed_of(alloc, carried, size, bounds.limit);
     }
     let numbers = numbers_with(alloc, codings, &splices)?;
-    let all = with_splices(alloc, copies, splices)?;
+    let all = with_splices(alloc, speakers, splices)?;
     let mut slices: Vec<&[u8]> = Vec::new(alloc);
     for bytes in &all {
         slices.push(bytes)?;
     }
-    let carried = carry(alloc, &slices, &numbers, copies.len())?;
+    let carried = carry(alloc, &slices, &numbers, speakers.len())?;
     proposed_of(alloc, carried, size, bounds.limit)
 }
 
@@ -220,16 +265,17 @@ pub struct Between {
     pub is_doubtful: bool,
 }
 
-/// What copies give each other, for a picture of this shape: mended files, one for each coding, with the edits
-/// that make it of its copies, and the lines that these files hold. `None` comes where the copies are of one coding, as far as
-/// can be told. Nothing is proposed that has a sample above the limit, if there is one. The splices of each coding are searched, and speak
-/// beside its copies. `Err` comes where memory is refused.
+/// What copies give each other, for a picture of this shape: mended files, one for each coding of copies, with the edits that make it of
+/// them, and the lines that these files hold. Witnesses give the copies lines, and hold none. `None` comes where all are of one coding, as
+/// far as can be told. Nothing is proposed that has a sample above the limit, if there is one. The
+/// splices of each coding are searched, and speak beside its copies. `Err` comes where memory is refused.
 ///
 /// No contract speaks of what is found, but that it is as judged.
 pub fn carry_between(
     alloc: Global,
     shape: Shape,
     copies: &[&[u8]],
+    witnesses: &[&[u8]],
     bounds: SearchBounds,
 ) -> Result<Option<Between>, AllocError>
     ensures shape { IfOk result (λ carried. IfSome carried (λ between. between.judged.held.shape ≡ shape)) }
@@ -240,16 +286,21 @@ pub fn carry_between(
         AreReadingsHeld (map file_of between.judged.files.items) between.judged.held)) }
 {
     let parts = find_parts(alloc, copies)?;
-    let numbers = codings_of(alloc, copies, &parts)?;
+    let codings = codings_of(alloc, copies, &parts)?;
+    let speakers = with_witnesses(alloc, copies, witnesses)?;
+    let numbers = numbers_of_all(alloc, &speakers, &codings)?;
     if !are_several(&numbers) {
         return Ok(None);
     }
-    let components = shape.ids().len();
+    let size = CarriedSize {
+        copies: copies.len(),
+        components: shape.ids().len(),
+    };
     let Proposed {
         codings,
         strangers,
         is_doubtful,
-    } = carry_with_splices(alloc, copies, &numbers, components, bounds)?;
+    } = carry_with_splices(alloc, &speakers, &numbers, size, bounds)?;
     let judged = judge(alloc, shape, copies, codings)?;
     Ok(Some(Between {
         judged,

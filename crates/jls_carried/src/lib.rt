@@ -1,4 +1,4 @@
-//! What copies of one picture in different codings give each other, judged, and its lines.
+//! What copies of one picture in different codings give each other, and witnesses give them, judged, and its lines.
 //!
 //! - `carrying`: finds it by jls_carry, and judges it by jls_held
 //! - `own_splices`: the files without a fault that the copies of one coding make
@@ -13,6 +13,6 @@ mod carrying;
 mod coding_lines;
 mod own_splices;
 
-pub use carrying::{Between, carry_between};
+pub use carrying::{Between, are_of_other_codings, carry_between};
 pub use coding_lines::{are_all_printed, put_all_codings};
 pub use own_splices::SearchBounds;

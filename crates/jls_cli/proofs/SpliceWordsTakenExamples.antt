@@ -13,7 +13,7 @@ with_words words = codes "jls-splice" ∷ (words ++ codes "OUT" ∷ codes "A" �
 
 -- these options, OUT, and the copies A and B
 abbrev two_copies : Options → Asked
-two_copies options = record { options = options; out = codes "OUT"; copies = codes "A" ∷ codes "B" ∷ []; bad = [] }
+two_copies options = record { options = options; out = codes "OUT"; copies = codes "A" ∷ codes "B" ∷ []; bad = []; witnesses = [] }
 
 -- 4096 tries, where there is no option
 abbrev default : Options
@@ -25,7 +25,7 @@ no_option-asked = record { taken = refl; asks = refl }
 
 -- `jls-splice - A B C`
 three_copies-asked : AskFor (codes "jls-splice" ∷ codes "-" ∷ codes "A" ∷ codes "B" ∷ codes "C" ∷ [])
-    (record { options = default; out = codes "-"; copies = codes "A" ∷ codes "B" ∷ codes "C" ∷ []; bad = [] })
+    (record { options = default; out = codes "-"; copies = codes "A" ∷ codes "B" ∷ codes "C" ∷ []; bad = []; witnesses = [] })
 unfolding clap_on_literals
 three_copies-asked = record { taken = refl; asks = refl }
 
@@ -61,7 +61,7 @@ all_options-asked = record { taken = refl; asks = refl }
 -- `jls-splice --bad 1:L --bad 1:M OUT A`: one copy, with two lists of its bad places
 one_copy_and_lists-asked : AskFor
     (codes "jls-splice" ∷ codes "--bad" ∷ codes "1:L" ∷ codes "--bad" ∷ codes "1:M" ∷ codes "OUT" ∷ codes "A" ∷ [])
-    (record { options = default; out = codes "OUT"; copies = codes "A" ∷ []; bad = codes "1:L" ∷ codes "1:M" ∷ [] })
+    (record { options = default; out = codes "OUT"; copies = codes "A" ∷ []; bad = codes "1:L" ∷ codes "1:M" ∷ []; witnesses = [] })
 unfolding clap_on_literals
 one_copy_and_lists-asked = record { taken = refl; asks = refl }
 
@@ -74,11 +74,18 @@ lists_among_copies-asked = record { taken = refl; asks = refl }
 
 -- `jls-splice --bad x OUT A`: clap takes any value, and what it names is judged later
 any_list-asked : AskFor (codes "jls-splice" ∷ codes "--bad" ∷ codes "x" ∷ codes "OUT" ∷ codes "A" ∷ [])
-    (record { options = default; out = codes "OUT"; copies = codes "A" ∷ []; bad = codes "x" ∷ [] })
+    (record { options = default; out = codes "OUT"; copies = codes "A" ∷ []; bad = codes "x" ∷ []; witnesses = [] })
 unfolding clap_on_literals
 any_list-asked = record { taken = refl; asks = refl }
 
--- `jls-splice OUT A`: one copy alone, and no list of its bad places
+-- `jls-splice OUT A --witness W --witness=V`: one copy, and two witnesses
+one_copy_and_witnesses-asked : AskFor
+    (codes "jls-splice" ∷ codes "OUT" ∷ codes "A" ∷ codes "--witness" ∷ codes "W" ∷ codes "--witness=V" ∷ [])
+    (record { options = default; out = codes "OUT"; copies = codes "A" ∷ []; bad = []; witnesses = codes "W" ∷ codes "V" ∷ [] })
+unfolding clap_on_literals
+one_copy_and_witnesses-asked = record { taken = refl; asks = refl }
+
+-- `jls-splice OUT A`: one copy alone, no list of its bad places, and no witness
 one_copy-nothing_asked : AskForNothing (codes "jls-splice" ∷ codes "OUT" ∷ codes "A" ∷ [])
 unfolding clap_on_literals
 one_copy-nothing_asked = record { taken = refl; asks = refl }

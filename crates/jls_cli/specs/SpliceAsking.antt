@@ -19,12 +19,13 @@ pub record Options : Type 0 where
   pub files : Option Text
 
 -- the output, the copies in their order, and the values of `--bad` in theirs: each is to name a copy by its number, and a file that lists
--- places of it that are bad
+-- places of it that are bad; and the files of `--witness` in theirs, whose lines bear witness
 pub record Asked : Type 0 where
   pub options : Options
   pub out : Text
   pub copies : List Text
   pub bad : List Text
+  pub witnesses : List Text
 
 -- ---- by the values of the arguments
 
@@ -59,15 +60,16 @@ abbrev pub options_of : Option Text → Option Text → Option Text → Option T
 options_of source tries ceiling progress file files =
     options_with (is_set progress) file files (source_of source) (tries_of tries) (ceiling_of ceiling)
 
--- what is asked for, if there is a second COPY, or a value of `--bad`
-abbrev pub asked_among : Options → Text → Text → List Text → List Text → Option Asked
-asked_among options out first [] [] = None
-asked_among options out first others bad = Some (record { options = options; out = out; copies = first ∷ others; bad = bad })
+-- what is asked for, if there is a second COPY, or a value of `--bad` or `--witness`
+abbrev pub asked_among : Options → Text → Text → List Text → List Text → List Text → Option Asked
+asked_among options out first [] [] [] = None
+asked_among options out first others bad witnesses =
+    Some (record { options = options; out = out; copies = first ∷ others; bad = bad; witnesses = witnesses })
 
--- OUT, the first COPY, the others, and the values of `--bad`
-abbrev pub asked_with : Option Options → Option Text → Option Text → List Text → List Text → Option Asked
-asked_with (Some options) (Some out) (Some first) others bad = asked_among options out first others bad
-asked_with _ _ _ others bad = None
+-- OUT, the first COPY, the others, and the values of `--bad` and `--witness`
+abbrev pub asked_with : Option Options → Option Text → Option Text → List Text → List Text → List Text → Option Asked
+asked_with (Some options) (Some out) (Some first) others bad witnesses = asked_among options out first others bad witnesses
+asked_with _ _ _ others bad witnesses = None
 
 -- ---- by what clap reads
 
@@ -81,6 +83,7 @@ asked_by rows =
     asked_with (options_of (first_of (codes "source") rows) (first_of (codes "tries") rows) (first_of (codes "max") rows)
     (first_of (codes "progress") rows) (first_of (codes "file") rows) (first_of (codes "files") rows))
     (first_of (codes "OUT") rows) (first_of (codes "COPY") rows) (values_of (codes "OTHERS") rows) (values_of (codes "bad") rows)
+    (values_of (codes "witness") rows)
 
 -- what the words ask for, by the values that clap reads in them
 abbrev pub asked_in : List Text → Option Asked
@@ -114,4 +117,5 @@ asked_of a = record {
   out = a.out.now;
   copies = a.first.now ∷ map (λ f. f.now) a.others.now;
   bad = map (λ f. f.now) a.bad.now;
+  witnesses = map (λ f. f.now) a.witnesses.now;
 }

@@ -29,6 +29,10 @@ files_rule = option_rule (codes "files")
 abbrev pub bad_rule : Rule
 bad_rule = record (option_rule (codes "bad")) { action = Some Append }
 
+-- --witness FILE, which need not be there, and may be there again
+abbrev pub witness_rule : Rule
+witness_rule = record (option_rule (codes "witness")) { action = Some Append }
+
 -- COPY.., after the first one: any number of words
 abbrev pub others_rule : Rule
 others_rule = record (new_rule (codes "OTHERS")) { value_names = 1; action = Some Append }
@@ -41,11 +45,16 @@ bare_app = let app = new_app (codes "jls-splice") in record app { top = record a
 abbrev pub numbers_app : App
 numbers_app = with_rule (with_rule (with_rule bare_app source_rule) tries_rule) ceiling_rule
 
+-- and with those of what it prints and writes
+abbrev pub outputs_app : App
+outputs_app = with_rule (with_rule (with_rule numbers_app progress_rule) file_rule) files_rule
+
 -- the program with its options
 abbrev pub options_app : App
-options_app = with_rule (with_rule (with_rule (with_rule numbers_app progress_rule) file_rule) files_rule) bad_rule
+options_app = with_rule (with_rule outputs_app bad_rule) witness_rule
 
--- jls-splice [--source N] [--tries N] [--max N] [--progress] [--file NAME] [--files PREFIX] [--bad N:LIST].. OUT COPY [COPY..]
+-- jls-splice [--source N] [--tries N] [--max N] [--progress] [--file NAME] [--files PREFIX] [--bad N:LIST].. [--witness FILE]..
+-- OUT COPY [COPY..]
 abbrev pub splice_app : App
 splice_app = with_rule (with_rule (with_rule options_app (word_rule (codes "OUT"))) (word_rule (codes "COPY"))) others_rule
 

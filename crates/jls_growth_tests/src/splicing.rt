@@ -169,7 +169,7 @@ fn splice_by_groups(rt: HostRuntime) {
 #[test]
 fn splice_two_codings(rt: HostRuntime) {
     let row = Row {
-        line: "jls-splice --file NAME OUT 1 2",
+        line: "jls-splice --file NAME --witness 2 OUT 1 2",
         pair: Which::Coded,
         lines: CODED_LINES,
         has_file: true,
@@ -180,5 +180,10 @@ fn splice_two_codings(rt: HostRuntime) {
             picture 10x10, 8 bits, components 1\nsettled 10, missing 0, disputed 0\n",
         ..FOUR_BACK
     };
-    run_row(&rt, rt.alloc(), "run of jls-splice over two codings", &row);
+    run_row(
+        &rt,
+        rt.alloc(),
+        "run of jls-splice over two codings, with a witness",
+        &row,
+    );
 }

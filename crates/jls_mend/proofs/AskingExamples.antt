@@ -38,6 +38,7 @@ all_asked first second =
       out = codes "OUT";
       copies = names;
       bad = [];
+      witnesses = [];
     })) names_are (record { taken = refl; asks = refl })
 
 -- `jls-splice --file FILE --tries 4096 OUT 1 2`
@@ -61,4 +62,5 @@ file_asked first second =
       out = codes "OUT";
       copies = names;
       bad = [];
+      witnesses = [];
     })) names_are (record { taken = refl; asks = refl })

@@ -18,13 +18,14 @@ use Rattle.jls_cli.specs.BadValues.{BadList}
 use Rattle.jls_cli.specs.SpliceAsking.{Asked}
 use Rattle.jls_bad.specs.Known.{AreKnownCopies}
 use Rattle.jls_cli.specs.declared.outcome.Done.{Done}
-use Rattle.jls_splice_run.specs.BadLists.{AreInputs, AreSearched, copies_with, list_names}
+use Rattle.jls_splice_run.specs.BadLists.{AreSearched, copies_with, list_names}
+use Rattle.jls_splice_run.specs.Inputs.{AreInputs}
 use Rattle.jls_splice_run.specs.Copies.{AreWhole, bytes_read}
 use Rattle.jls_splice_run.specs.Handing.{HandsAll}
 use Rattle.jls_splice_run.specs.Listing.{IsNumbered, numbered}
 use Rattle.jls_splice_run.specs.Making.{IsMade, Made, is_of_picture, lines, promise_on}
 use Rattle.jls_splice_run.specs.Runs.{Run, Splices, texts, came_of, performed}
-use Rattle.jls_splice_run.specs.Runs.{at_copies, at_lists, not_made, not_handed, done}
+use Rattle.jls_splice_run.specs.Runs.{at_inputs, not_made, not_handed, done}
 use Rattle.jls_mend.specs.Asking.{AreMendable, BadPlaces, IsNumberOf, asked_for, inputs_of, inputs_with, lists_of, values_of}
 use Rattle.jls_mend.specs.Mending.{AreSearchedOf, IsMendedOf, IsOfRun, IsReadOf, file_made, numbered_made}
 use Rattle.jls_mend.specs.Running.{IsRun}
@@ -62,8 +63,7 @@ whole_in (Err r) = false
 
 is_finished : (a : Asked) (d : Done) (outcome : Outcome) (desk report faults : List Event) → outcome ≡ Ok d
     → Splices a outcome desk report faults → Finished a d desk report
-is_finished a d _ _ _ _ e (at_copies r desk stops) = absurd cc
-is_finished a d _ _ _ _ e (at_lists r read reading listing are stops) = absurd cc
+is_finished a d _ _ _ _ e (at_inputs r desk stops) = absurd cc
 is_finished a d _ _ _ _ e (not_made r read copies desk faults inputs cant tells) = absurd cc
 is_finished a d _ _ _ _ e (not_handed r read copies m reading desk report faults noting inputs made tells noted stops) = absurd cc
 is_finished a d _ _ _ _ e (done read copies m whole reading desk report faults noting inputs made tells noted handed is_read) = record {
@@ -108,13 +108,20 @@ listing_without [] read searched listing more s = ap (λ (es : List Event). outp
 listing_without (value ∷ values) read searched listing more s =
     reading_without (list_names (value ∷ values)) s.lists listing more s.lists_read
 
+-- what follows the three kinds of inputs, which were read one after another
+inputs_apart : (reading listing witnessing more : List Event)
+    → (((reading ++ listing) ++ witnessing) ++ more) ≡ (reading ++ (listing ++ (witnessing ++ more)))
+inputs_apart reading listing witnessing more =
+    append_assoc (reading ++ listing) witnessing more ∙ append_assoc reading listing (witnessing ++ more)
+
 inputs_without : (a : Asked) (read searched : List CopyBytes) (reading more : List Event) → AreInputs a read searched reading
     → outputs_of (reading ++ more) ≡ outputs_of more
 inputs_without a read searched reading more h =
     ap (λ (es : List Event). outputs_of (es ++ more)) h.events_are
-    ∙ (ap outputs_of (append_assoc h.reading h.listing more)
-    ∙ (reading_without a.copies read h.reading (h.listing ++ more) h.copies_read
-    ∙ listing_without a.bad read searched h.listing more h.are_searched))
+    ∙ (ap outputs_of (inputs_apart h.reading h.listing h.witnessing more)
+    ∙ (reading_without a.copies read h.reading (h.listing ++ (h.witnessing ++ more)) h.copies_read
+    ∙ (listing_without a.bad read searched h.listing (h.witnessing ++ more) h.are_searched
+    ∙ reading_without a.witnesses h.witnesses h.witnessing more h.witnesses_read)))
 
 -- ---- names that are apart
 
@@ -157,13 +164,17 @@ module _ (hold : OutputsHoldWhatIsHandedOut) (o : MendOptions) (copies : List (L
     f : Finished asked d run.desk run.report
     f = is_finished asked d ran.outcome run.desk run.report run.faults is run.splices
 
+    -- what is done after the lists
+    abbrev behind : List Event
+    behind = f.inputs.witnessing ++ f.writing
+
     -- the copies are read first, and then the lists
-    reads : Reads (inputs_with copies bad) [] run.reads.0 (f.inputs.reading ++ (f.inputs.listing ++ f.writing))
+    reads : Reads (inputs_with copies bad) [] run.reads.0 (f.inputs.reading ++ (f.inputs.listing ++ behind))
     reads =
         subst (λ (es : List Event). Reads (inputs_with copies bad) [] run.reads.0 es)
         (f.desk_is
         ∙ (ap (λ (es : List Event). es ++ f.writing) f.inputs.events_are
-        ∙ append_assoc f.inputs.reading f.inputs.listing f.writing)) run.reads.1
+        ∙ inputs_apart f.inputs.reading f.inputs.listing f.inputs.witnessing f.writing)) run.reads.1
 
     printed_lines : v.lines.items ≡ lines asked (bytes_read f.searched) f.made
     printed_lines =
@@ -174,14 +185,14 @@ module _ (hold : OutputsHoldWhatIsHandedOut) (o : MendOptions) (copies : List (L
 
     pub is_mended : IsMendedOf o copies bad v
     is_mended =
-        let then_lists = reads_behind (inputs_with copies bad) [] run.reads.0 f.inputs.reading (f.inputs.listing ++ f.writing) reads in
+        let then_lists = reads_behind (inputs_with copies bad) [] run.reads.0 f.inputs.reading (f.inputs.listing ++ behind) reads in
         record {
           read = f.read;
           read_of = subst (λ (cs : List (List ℕ)). AllZip IsReadOf cs f.read) (bytes_in 1 copies)
-              (all_read (inputs_with copies bad) (inputs_of copies) f.read [] run.reads.0 f.inputs.reading (f.inputs.listing ++ f.writing)
+              (all_read (inputs_with copies bad) (inputs_of copies) f.read [] run.reads.0 f.inputs.reading (f.inputs.listing ++ behind)
               (copies_found copies bad small) f.inputs.copies_read reads);
           searched = bytes_read f.searched;
-          are_searched = searched_of copies bad small few can.of_copies f.read f.searched then_lists.0 run.reads.0 f.inputs.listing f.writing
+          are_searched = searched_of copies bad small few can.of_copies f.read f.searched then_lists.0 run.reads.0 f.inputs.listing behind
               f.inputs.are_searched then_lists.1;
           made = f.made;
           is_made = f.is_made;

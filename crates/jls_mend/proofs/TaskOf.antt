@@ -36,9 +36,10 @@ some_name copies bad names can are =
 -- so the run is of what the options ask for
 pub is_run_of : (o : MendOptions) (copies : List (List ℕ)) (bad : List BadPlaces) (a : Asked) (fs : List File) (ran : Ran)
     → a.options ≡ (asked_for o [] []).options → a.out ≡ codes "OUT" → a.copies ≡ names_in (inputs_of copies) → a.bad ≡ values_of bad
-    → fs ≡ inputs_with copies bad → IsRun a fs ran → IsRun (asked_for o copies bad) (inputs_with copies bad) ran
-is_run_of o copies bad a fs ran options out named values inputs run =
-    let asked : a ≡ asked_for o copies bad = λ i. record { options = options i; out = out i; copies = named i; bad = values i } in
+    → a.witnesses ≡ [] → fs ≡ inputs_with copies bad → IsRun a fs ran → IsRun (asked_for o copies bad) (inputs_with copies bad) ran
+is_run_of o copies bad a fs ran options out named values none inputs run =
+    let asked : a ≡ asked_for o copies bad =
+    λ i. record { options = options i; out = out i; copies = named i; bad = values i; witnesses = none i } in
     subst (λ (fs : List File). IsRun (asked_for o copies bad) fs ran) inputs (subst (λ (a : Asked). IsRun a fs ran) asked run)
 
 -- the place of a name

@@ -85,6 +85,7 @@ asked_for o copies bad = record {
   out = codes "OUT";
   copies = names_in (inputs_of copies);
   bad = values_of bad;
+  witnesses = [];
 }
 
 -- ---- which copies and lists there may be

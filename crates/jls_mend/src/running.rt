@@ -68,6 +68,7 @@ pub(crate) fn run_named<'a>(
         out: OUT,
         names: &numbers,
         bad: &values,
+        witnesses: &[],
     };
     let ran = run_over(alloc, &inputs, &task)?;
     Ok(ran)

@@ -51,7 +51,7 @@ use Rattle.jls_splice_run.specs.Handing.{HandsAll, none_handed}
 use Rattle.jls_splice_run.specs.Making.{Made, IsMade, lines}
 use Rattle.jls_splice_run.specs.ReadsAs.{EachReadsAs}
 use Rattle.jls_cli.specs.Outcomes.{finished}
-use Rattle.jls_splice_run.specs.BadLists.{AreInputs}
+use Rattle.jls_splice_run.specs.Inputs.{AreInputs}
 use Rattle.jls_splice_run.specs.Runs.{Performs, Run, came_of, done, performed, texts}
 use Rattle.jls_splice_run.proofs.StrictCourses.{wide, wide_course, wide_reading}
 use Rattle.jls_splice_laws.specs.CarryLaws.{AreCodingsOf, PromisesHeld}
@@ -400,9 +400,18 @@ are_read = (
   ),
 )
 
--- without lists of bad places, the copies are searched
+-- without lists of bad places, the copies are searched; there is no witness
 are_inputs : AreInputs asked copies_given copies_given reading
-are_inputs = record { reading = reading; listing = []; events_are = refl; copies_read = are_read; are_searched = (refl, refl) }
+are_inputs = record {
+  reading = reading;
+  listing = [];
+  witnesses = [];
+  witnessing = [];
+  events_are = refl;
+  copies_read = are_read;
+  are_searched = (refl, refl);
+  witnesses_read = refl;
+}
 
 abbrev writing : List Event
 writing = created (codes "o") ∷ one_by_one (text what_was_made.picture)

@@ -27,7 +27,8 @@ use Rattle.jls_splice_run.specs.Carrying.{Carried, IsCarried, are_sound, carried
 use Rattle.jls_cli.specs.SpliceAsking.{Asked, AskFor, Options, asked_with}
 use Rattle.jls_cli.specs.Outcomes.{exit_status, finished}
 use Rattle.jls_splice_run.specs.Completing.{IsCompleted}
-use Rattle.jls_splice_run.specs.BadLists.{AreInputs, AreSearched}
+use Rattle.jls_splice_run.specs.BadLists.{AreSearched}
+use Rattle.jls_splice_run.specs.Inputs.{AreInputs}
 use Rattle.jls_splice_run.specs.Copies.{AreWhole, bytes_read, stops_read}
 use Rattle.jls_splice_run.specs.Handing.{HandsAll}
 use Rattle.jls_splice_run.specs.Limits.{has_some}
@@ -39,10 +40,10 @@ use Rattle.jls_splice_run.specs.Telling.{IsTold}
 use Rattle.jls_splice_run.specs.declared.found.Promise.{Promise}
 use Rattle.jls_splice_run.specs.declared.found.Promise.TheVariants.{Held, Picture, Lines}
 use Rattle.jls_copy_laws.proofs.Members.{none_in}
-use Rattle.jls_splice_run.specs.Runs.{Performs, came_of, no_names, at_copies, at_lists, not_made, not_handed, done, texts}
+use Rattle.jls_splice_run.specs.Runs.{Performs, came_of, no_names, at_inputs, not_made, not_handed, done, texts}
 use Rattle.jls_splice_run.specs.Runs.{performed, named_twice, numbered_out, no_list, misused, helped, help_cut, nothing_begun, nothing_asked}
 use Rattle.jls_splice_laws.proofs.HandedFiles.{is_named_if_few}
-use Rattle.jls_splice_laws.proofs.StoppedRuns.{copies_above, handing_above, lists_above, unmade_above}
+use Rattle.jls_splice_laws.proofs.StoppedRuns.{handing_above, inputs_above, unmade_above}
 use Rattle.jls_splice_laws.specs.CutLaws.{WereCut}
 use Rattle.jls_splice_laws.specs.SplicingLaws.{SplicedCopiesGiveNoOther}
 use Rattle.jls_splice_laws.specs.RunLaws.{DidMake, DidStop, FailedReadsCauseStatus4, IsWholeSplice, SplicedRunsAreDone}
@@ -107,9 +108,7 @@ module _ (words : List Text) (a : Asked) (asks : AskFor words a) where
   did_make : (status : ℕ) (desk report faults : List Event) → Performs a status desk report faults → status ≤ 1
       → (did : DidMake words a desk report faults) × AreWhole did.copies_read × (status ≡ 0 ↔ IsTrue (is_of_picture (promise_on did.made)))
   unfolding was_done
-  did_make _ _ _ _ (came_of _ _ _ _ line (at_copies r desk stops) told) e = absurd (not_done _ (copies_above _ r desk stops) e)
-  did_make _ _ _ _ (came_of _ _ _ _ line (at_lists r read reading listing are stops) told) e =
-      absurd (not_done _ (lists_above a r listing stops) e)
+  did_make _ _ _ _ (came_of _ _ _ _ line (at_inputs r desk stops) told) e = absurd (not_done _ (inputs_above a r desk stops) e)
   did_make _ _ _ _ (came_of _ _ _ _ line (not_made r read copies desk faults inputs cant tells) told) e =
       absurd (not_done _ (unmade_above a copies r cant) e)
   did_make _ _ _ _ (came_of _ _ _ _ line (not_handed r read copies m reading desk report faults noting inputs made tells noted stops) told) e =
@@ -125,17 +124,8 @@ module _ (words : List Text) (a : Asked) (asks : AskFor words a) where
   did_fail : (status : ℕ) (desk report faults : List Event) → Performs a status desk report faults → status ≡ 4
       → ((did : DidMake words a desk report faults) × (AreWhole did.copies_read → ⊥)) ⊎ DidStop a desk report faults
   unfolding was_done
-  did_fail _ _ _ _ (came_of _ _ _ _ line (at_copies r desk stops) told) e =
-      inr (record { refusal = r; stopping = []; line = line; faults_are = refl; stopped = at_copies r desk stops; told = told })
-  did_fail _ _ _ _ (came_of _ _ _ _ line (at_lists r read reading listing are stops) told) e =
-      inr (record {
-        refusal = r;
-        stopping = [];
-        line = line;
-        faults_are = refl;
-        stopped = at_lists r read reading listing are stops;
-        told = told;
-      })
+  did_fail _ _ _ _ (came_of _ _ _ _ line (at_inputs r desk stops) told) e =
+      inr (record { refusal = r; stopping = []; line = line; faults_are = refl; stopped = at_inputs r desk stops; told = told })
   did_fail _ _ _ _ (came_of _ _ _ _ line (not_made r read copies desk faults inputs cant tells) told) e =
       inr (record {
         refusal = r;
@@ -196,18 +186,21 @@ failed_reads_cause_status_4 words a _ _ _ _ asks (nothing_asked faults nothing l
 -- ---- what was made
 
 -- words ask for some copy
-asked_some : (o : Option Options) (out first : Option Text) (others bad : List Text) (a : Asked)
-    → asked_with o out first others bad ≡ Some a → 0 < length a.copies
-asked_some (Some o) (Some out) (Some first) [] [] a e = absurd cc
-asked_some (Some o) (Some out) (Some first) [] (value ∷ bad) a e =
-    let same : a ≡ record { options = o; out = out; copies = first ∷ []; bad = value ∷ bad } = cc in
+asked_some : (o : Option Options) (out first : Option Text) (others bad witnesses : List Text) (a : Asked)
+    → asked_with o out first others bad witnesses ≡ Some a → 0 < length a.copies
+asked_some (Some o) (Some out) (Some first) [] [] [] a e = absurd cc
+asked_some (Some o) (Some out) (Some first) [] [] (witness ∷ more) a e =
+    let same : a ≡ record { options = o; out = out; copies = first ∷ []; bad = []; witnesses = witness ∷ more } = cc in
     subst (λ (x : Asked). 0 < length x.copies) (sym same) (omega arith)
-asked_some (Some o) (Some out) (Some first) (second ∷ others) bad a e =
-    let same : a ≡ record { options = o; out = out; copies = first ∷ second ∷ others; bad = bad } = cc in
+asked_some (Some o) (Some out) (Some first) [] (value ∷ bad) witnesses a e =
+    let same : a ≡ record { options = o; out = out; copies = first ∷ []; bad = value ∷ bad; witnesses = witnesses } = cc in
     subst (λ (x : Asked). 0 < length x.copies) (sym same) (omega arith)
-asked_some (Some o) (Some out) None others bad a e = absurd cc
-asked_some (Some o) None first others bad a e = absurd cc
-asked_some None out first others bad a e = absurd cc
+asked_some (Some o) (Some out) (Some first) (second ∷ others) bad witnesses a e =
+    let same : a ≡ record { options = o; out = out; copies = first ∷ second ∷ others; bad = bad; witnesses = witnesses } = cc in
+    subst (λ (x : Asked). 0 < length x.copies) (sym same) (omega arith)
+asked_some (Some o) (Some out) None others bad witnesses a e = absurd cc
+asked_some (Some o) None first others bad witnesses a e = absurd cc
+asked_some None out first others bad witnesses a e = absurd cc
 
 -- as many copies were read as there are names
 some_copy : (names : List (List ℕ)) (copies : List CopyBytes) (events : List Event) → AreCopiesRead names copies events → 0 < length names
@@ -328,7 +321,7 @@ module _ (are_faultless : WholeFilesAreFaultless) (words : List Text) (a : Asked
   IsTrueFile pic file = IsWholeSplice d.made.ceiling (bytes_read d.copies) d.made pic file
 
   copy_read : 0 < length (bytes_read d.copies)
-  copy_read = some_searched a d.copies_read d.copies d.reading d.read (asked_some _ _ _ _ _ a d.asks.asks)
+  copy_read = some_searched a d.copies_read d.copies d.reading d.read (asked_some _ _ _ _ _ _ a d.asks.asks)
 
   module _ (enough : d.made.found.is_used_up ≡ false) (pic : WholePicture) (file : List ℕ) (is : IsTrueFile pic file) where
     abbrev copies : List (List ℕ)

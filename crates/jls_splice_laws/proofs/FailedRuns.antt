@@ -30,16 +30,18 @@ use Rattle.jls_cli.specs.SpliceAsking.{Asked, AskFor}
 use Rattle.jls_cli.specs.declared.outcome.Cause.{Cause}
 use Rattle.jls_cli.specs.declared.outcome.Cause.TheVariants as cause
 use Rattle.jls_cli.specs.declared.outcome.Refusal.{Refusal}
-use Rattle.jls_splice_run.specs.BadLists.{AreInputs, IsListRefused, IsStoppedBy, StopsAtLists, list_names, none_read, not_read, not_taken, no_memory}
+use Rattle.jls_splice_run.specs.BadLists.{IsListRefused, IsStoppedBy, StopsAtLists, list_names, none_read, not_read, not_taken, no_memory}
 use Rattle.jls_splice_run.specs.BadLists.{not_whole as not_whole_list, not_understood}
 use Rattle.jls_splice_run.specs.Copies.{AreWhole, StopsAtCopies, bytes_read, cause_of, stops_read}
 use Rattle.jls_splice_run.specs.Handing.{StopsInHanding, StopsAtNumber, StopsAtSingleFile, Texts, at_file, at_files, at_output, at_report}
 use Rattle.jls_splice_run.specs.Handing.{number_cut, number_not_there}
+use Rattle.jls_splice_run.specs.Inputs.{AreInputs, StopsAtInputs, at_copies, at_lists, at_witnesses}
 use Rattle.jls_splice_run.specs.Listing.{NamedFile}
 use Rattle.jls_splice_run.specs.Making.{CantMake, IsRefusedFor, is_of_picture, no_picture_cause, promise_on}
-use Rattle.jls_splice_run.specs.Runs.{Performs, came_of, no_names, at_copies, at_lists, not_made, not_handed, done}
+use Rattle.jls_splice_run.specs.Runs.{Performs, came_of, no_names, at_inputs, not_made, not_handed, done}
 use Rattle.jls_splice_run.specs.Runs.{performed, named_twice, numbered_out, no_list, misused, helped, help_cut, nothing_begun, nothing_asked}
-use Rattle.jls_splice_laws.specs.Failures.{StopsAtUnopenedList, StopsAtUnreadList, StopsOverReads, StopsUnopened, StopsUnread, StopsWith4}
+use Rattle.jls_splice_laws.specs.Failures.{StopsAtUnopenedList, StopsAtUnreadList, StopsOverOpening, StopsOverReads, StopsUnopened, StopsUnread}
+use Rattle.jls_splice_laws.specs.Failures.{StopsWith4}
 use Rattle.jls_splice_laws.specs.Failures.{IsToldLast, DidInPart, RunsEndWith4}
 use Rattle.jls_splice_laws.specs.Failures.{is_failure, HadFailure, NothingElseFailed}
 use Rattle.jls_splice_laws.specs.Failures.{SplicedFailuresCauseStatus4, SplicedBrokenReadsCauseStatus4}
@@ -163,6 +165,27 @@ stops_in_lists a r read reading _ are (not_taken lists listing lists_are stopped
 stops_in_lists a r read reading _ are (no_memory lists listing lists_are want) e =
     not_4 r cause.OutOfMemory 5 want.1 refl e (λ x. omega (arith, x))
 
+stops_at_inputs : (a : Asked) (r : Refusal) (desk : List Event) → StopsAtInputs a r desk → status_of_cause r.cause ≡ 4
+    → StopsOverOpening a r desk ⊎ StopsAtUnreadList a r desk
+stops_at_inputs a r _ (at_copies reading stops) e = inl (inl (inl (stops_unopened a.copies r reading stops e)))
+stops_at_inputs a r _ (at_lists read reading listing are stops) e =
+    elim (stops_in_lists a r read reading listing are stops e) [
+      | inl s ↦ inl (inl (inr s))
+      | inr s ↦ inr s
+    ]
+stops_at_inputs a r _ (at_witnesses read searched reading listing witnessing are are_searched stops) e =
+    inl (inr (record {
+      copies = read;
+      searched = searched;
+      reading = reading;
+      listing = listing;
+      witnessing = witnessing;
+      desk_is = refl;
+      read = are;
+      are_searched = are_searched;
+      unopened = stops_unopened a.witnesses r witnessing stops e;
+    }))
+
 module _ (words : List Text) (a : Asked) (asks : AskFor words a) where
   abbrev EndsWith4 : List Event → List Event → List Event → Type 0
   EndsWith4 desk report faults =
@@ -171,11 +194,9 @@ module _ (words : List Text) (a : Asked) (asks : AskFor words a) where
   ends_with_4 : (status : ℕ) (desk report faults : List Event) → Performs a status desk report faults → status ≡ 4
       → EndsWith4 desk report faults
   unfolding was_done
-  ends_with_4 _ _ _ _ (came_of _ _ _ _ line (at_copies r desk stops) told) e =
-      inr (r, ([], line, refl, told), inl (inl (inl (stops_unopened a.copies r desk stops e)), refl))
-  ends_with_4 _ _ _ _ (came_of _ _ _ _ line (at_lists r read reading listing are stops) told) e =
-      elim (stops_in_lists a r read reading listing are stops e) [
-        | inl s ↦ inr (r, ([], line, refl, told), inl (inl (inr s), refl))
+  ends_with_4 _ _ _ _ (came_of _ _ _ _ line (at_inputs r desk stops) told) e =
+      elim (stops_at_inputs a r desk stops e) [
+        | inl s ↦ inr (r, ([], line, refl, told), inl (inl s, refl))
         | inr s ↦ inr (r, ([], line, refl, told), inl (inr (inl s), refl))
       ]
   ends_with_4 _ _ _ _ (came_of _ _ _ _ line (not_made r read copies desk faults inputs cant tells) told) e =
@@ -278,8 +299,9 @@ failed_in_part (name ∷ names) (c ∷ copies) events (mine, more, e, is, rest) 
 inputs_in_part : (a : Asked) (read searched : List CopyBytes) (events : List Event) → AreInputs a read searched events
     → (AreWhole read → ⊥) → HadFailure events
 inputs_in_part a read searched events h not =
-    failed_as events (h.reading ++ h.listing) h.events_are
-    (failed_left h.reading h.listing (failed_in_part a.copies read h.reading h.copies_read not))
+    failed_as events ((h.reading ++ h.listing) ++ h.witnessing) h.events_are
+    (failed_left (h.reading ++ h.listing) h.witnessing
+    (failed_left h.reading h.listing (failed_in_part a.copies read h.reading h.copies_read not)))
 
 first_not_whole : (copies : List CopyBytes) → (get_or (stops_read copies) 0 Whole ≡ Whole → ⊥) → AreWhole copies → ⊥
 first_not_whole [] not are = not refl
@@ -329,10 +351,13 @@ over_reads_failed a r desk (inr h) =
     inputs_in_part a h.copies_read h.copies desk h.read (first_not_whole h.copies_read h.first_in_part)
 
 stops_failed : (a : Asked) (r : Refusal) (desk report : List Event) → StopsWith4 a r desk report → HadFailure desk ⊎ HadFailure report
-stops_failed a r desk report (inl (inl (inl h), none)) = inl (unopened_failed a.copies r desk h)
-stops_failed a r desk report (inl (inl (inr h), none)) =
+stops_failed a r desk report (inl (inl (inl (inl h)), none)) = inl (unopened_failed a.copies r desk h)
+stops_failed a r desk report (inl (inl (inl (inr h)), none)) =
     inl (failed_as desk (h.reading ++ h.listing) h.desk_is
     (failed_right h.reading h.listing (unopened_failed (list_names a.bad) r h.listing h.unopened)))
+stops_failed a r desk report (inl (inl (inr h), none)) =
+    inl (failed_as desk ((h.reading ++ h.listing) ++ h.witnessing) h.desk_is
+    (failed_right (h.reading ++ h.listing) h.witnessing (unopened_failed a.witnesses r h.witnessing h.unopened)))
 stops_failed a r desk report (inl (inr h, none)) = inl (over_reads_failed a r desk h)
 stops_failed a r desk report (inr h) =
     elim (handing_failed _ r h.handing report h.stops) [
@@ -393,10 +418,13 @@ not_unopened names r desk h fine =
 
 only_unread : (a : Asked) (r : Refusal) (desk report : List Event) → StopsWith4 a r desk report → NothingElseFailed desk
     → NothingElseFailed report → StopsOverReads a r desk × (report ≡ [])
-only_unread a r desk report (inl (inl (inl h), none)) fine quiet = absurd (not_unopened a.copies r desk h fine)
-only_unread a r desk report (inl (inl (inr h), none)) fine quiet =
+only_unread a r desk report (inl (inl (inl (inl h)), none)) fine quiet = absurd (not_unopened a.copies r desk h fine)
+only_unread a r desk report (inl (inl (inl (inr h)), none)) fine quiet =
     absurd (not_unopened (list_names a.bad) r h.listing h.unopened
     (parts_fine h.reading h.listing (subst NothingElseFailed h.desk_is fine)).1)
+only_unread a r desk report (inl (inl (inr h), none)) fine quiet =
+    absurd (not_unopened a.witnesses r h.witnessing h.unopened
+    (parts_fine (h.reading ++ h.listing) h.witnessing (subst NothingElseFailed h.desk_is fine)).1)
 only_unread a r desk report (inl (inr h, none)) fine quiet = (h, none)
 only_unread a r desk report (inr h) fine quiet =
     absurd (not_in_handing _ r h.handing report h.stops

@@ -50,7 +50,7 @@ use Rattle.jls_cli.specs.Outcomes.{finished}
 use Rattle.jls_cli.specs.SpliceAsking.{Asked, AskFor}
 use Rattle.jls_splice_run.specs.Handing.{HandsAll, none_handed}
 use Rattle.jls_splice_run.specs.Making.{Made, IsMade, lines}
-use Rattle.jls_splice_run.specs.BadLists.{AreInputs}
+use Rattle.jls_splice_run.specs.Inputs.{AreInputs}
 use Rattle.jls_splice_run.specs.Runs.{Performs, Run, came_of, done, performed, texts}
 use Rattle.jls_splice_run.proofs.StrictCourses.{wide, wide_course, wide_reading}
 use Rattle.jls_splice_laws.specs.RunLaws.{DidMake}
@@ -248,6 +248,7 @@ asked = record {
   out = codes "o";
   copies = codes "a" ∷ codes "b" ∷ [];
   bad = [];
+  witnesses = [];
 }
 
 pub asks : AskFor words asked
@@ -302,9 +303,18 @@ are_read = (
   ),
 )
 
--- without lists of bad places, the copies are searched
+-- without lists of bad places, the copies are searched; there is no witness
 are_inputs : AreInputs asked copies copies reading
-are_inputs = record { reading = reading; listing = []; events_are = refl; copies_read = are_read; are_searched = (refl, refl) }
+are_inputs = record {
+  reading = reading;
+  listing = [];
+  witnesses = [];
+  witnessing = [];
+  events_are = refl;
+  copies_read = are_read;
+  are_searched = (refl, refl);
+  witnesses_read = refl;
+}
 
 abbrev what_was_made : Made
 what_was_made = record {

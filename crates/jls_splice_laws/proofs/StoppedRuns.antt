@@ -21,6 +21,7 @@ use Rattle.jls_splice_run.specs.BadLists.{not_whole, not_understood}
 use Rattle.jls_splice_run.specs.Copies.{StopsAtCopies, cause_of, stops_read}
 use Rattle.jls_splice_run.specs.Handing.{StopsAtSingleFile, StopsAtNumber, StopsInHanding, Texts, at_file, at_files, at_output, at_report}
 use Rattle.jls_splice_run.specs.Handing.{number_cut, number_not_there}
+use Rattle.jls_splice_run.specs.Inputs.{StopsAtInputs, at_copies, at_lists, at_witnesses}
 use Rattle.jls_splice_run.specs.Listing.{NamedFile}
 use Rattle.jls_splice_run.specs.Making.{CantMake, IsRefusedFor, IsWantOfMemory, no_picture_cause}
 
@@ -33,7 +34,7 @@ copy_above copy.NotOpened = omega arith
 copy_above copy.PartialPicture = omega arith
 copy_above copy.OutOfMemory = omega arith
 
-pub copies_above : (names : List (List ℕ)) (r : Refusal) (events : List Event) → StopsAtCopies names r events → 1 < status_of_cause r.cause
+copies_above : (names : List (List ℕ)) (r : Refusal) (events : List Event) → StopsAtCopies names r events → 1 < status_of_cause r.cause
 copies_above names r events h = above_1 r (cause_of h.refusal.cause) h.cause_is (copy_above h.refusal.cause)
 
 no_picture_above : (stop : ReadStop) (f : MarkerFault) (offset : ℕ) → 1 < status_of_cause (no_picture_cause stop f offset)
@@ -55,11 +56,17 @@ list_above : (file : CopyBytes) (c : Cause) → IsListRefused file c → 1 < sta
 list_above file _ (not_whole part) = omega arith
 list_above file _ (not_understood line whole fault) = omega arith
 
-pub lists_above : (a : Asked) (r : Refusal) (events : List Event) → StopsAtLists a r events → 1 < status_of_cause r.cause
+lists_above : (a : Asked) (r : Refusal) (events : List Event) → StopsAtLists a r events → 1 < status_of_cause r.cause
 lists_above a r _ (none_read want) = memory_above a r want
 lists_above a r _ (not_read events stops) = copies_above (list_names a.bad) r events stops
 lists_above a r _ (not_taken lists events are stopped) = list_above stopped.file r.cause stopped.refused
 lists_above a r _ (no_memory lists events are want) = memory_above a r want
+
+pub inputs_above : (a : Asked) (r : Refusal) (events : List Event) → StopsAtInputs a r events → 1 < status_of_cause r.cause
+inputs_above a r _ (at_copies reading stops) = copies_above a.copies r reading stops
+inputs_above a r _ (at_lists read reading listing are stops) = lists_above a r listing stops
+inputs_above a r _ (at_witnesses read searched reading listing witnessing are are_searched stops) =
+    copies_above a.witnesses r witnessing stops
 
 pub unmade_above : (a : Asked) (copies : List CopyBytes) (r : Refusal) → CantMake a copies r → 1 < status_of_cause r.cause
 unmade_above a copies r (inl want) = memory_above a r want

@@ -11,10 +11,11 @@ use Rattle.jls_cli.specs.FaultLines.{fault_line}
 use Rattle.jls_cli.specs.SpliceAsking.{Asked, AskFor}
 use Rattle.jls_cli.specs.declared.outcome.Cause.TheVariants as cause
 use Rattle.jls_cli.specs.declared.outcome.Refusal.{Refusal}
-use Rattle.jls_splice_run.specs.BadLists.{AreInputs, IsStoppedBy, list_names}
+use Rattle.jls_splice_run.specs.BadLists.{AreSearched, IsStoppedBy, list_names}
 use Rattle.jls_splice_run.specs.Copies.{AreWhole, bytes_read, stops_read}
 use Rattle.jls_splice_run.specs.FaultLines.{program}
 use Rattle.jls_splice_run.specs.Handing.{StopsInHanding}
+use Rattle.jls_splice_run.specs.Inputs.{AreInputs}
 use Rattle.jls_splice_run.specs.Making.{Made, IsMade}
 use Rattle.jls_splice_run.specs.Runs.{Run, texts}
 use Rattle.jls_splice_laws.specs.RunLaws.{DidMake}
@@ -40,6 +41,18 @@ pub record StopsAtUnopenedList (a : Asked) (r : Refusal) (desk : List Event) : T
   pub desk_is : desk ≡ reading ++ listing
   pub read : AreCopiesRead a.copies copies reading
   pub unopened : StopsUnopened (list_names a.bad) r listing
+
+-- the copies were read, and the lists of bad places, and then a witness was not opened
+pub record StopsAtUnopenedWitness (a : Asked) (r : Refusal) (desk : List Event) : Type 0 where
+  pub copies : List CopyBytes
+  pub searched : List CopyBytes
+  pub reading : List Event
+  pub listing : List Event
+  pub witnessing : List Event
+  pub desk_is : desk ≡ (reading ++ listing) ++ witnessing
+  pub read : AreCopiesRead a.copies copies reading
+  pub are_searched : AreSearched a.bad copies searched listing
+  pub unopened : StopsUnopened a.witnesses r witnessing
 
 -- the copies were read, and the lists of bad places. The first that isn't taken was not read to its end, and has the name
 pub record StopsAtUnreadList (a : Asked) (r : Refusal) (desk : List Event) : Type 0 where
@@ -81,11 +94,14 @@ pub record StopsAtAnOutput (a : Asked) (r : Refusal) (desk report : List Event) 
 abbrev pub StopsOverReads : Asked → Refusal → List Event → Type 0
 StopsOverReads a r desk = StopsAtUnreadList a r desk ⊎ StopsUnread a r desk
 
+-- a copy, a list of bad places or a witness was not opened
+abbrev pub StopsOverOpening : Asked → Refusal → List Event → Type 0
+StopsOverOpening a r desk = (StopsUnopened a.copies r desk ⊎ StopsAtUnopenedList a r desk) ⊎ StopsAtUnopenedWitness a r desk
+
 -- a run stops for one of these reasons. Only at an output is anything printed or handed out
 abbrev pub StopsWith4 : Asked → Refusal → List Event → List Event → Type 0
 StopsWith4 a r desk report =
-    (((StopsUnopened a.copies r desk ⊎ StopsAtUnopenedList a r desk) ⊎ StopsOverReads a r desk) × (report ≡ []))
-    ⊎ StopsAtAnOutput a r desk report
+    ((StopsOverOpening a r desk ⊎ StopsOverReads a r desk) × (report ≡ [])) ⊎ StopsAtAnOutput a r desk report
 
 -- the line of a refusal is the last on the fault output
 abbrev pub IsToldLast : Refusal → List Event → Type 0

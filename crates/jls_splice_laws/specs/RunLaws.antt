@@ -15,11 +15,11 @@ use Rattle.jls_splice_laws.specs.WholeFiles.{IsWholeFileUnder}
 use Rattle.jls_cli.specs.FaultLines.{fault_line}
 use Rattle.jls_cli.specs.SpliceAsking.{Asked, AskFor}
 use Rattle.jls_cli.specs.declared.outcome.Refusal.{Refusal}
-use Rattle.jls_splice_run.specs.BadLists.{AreInputs}
 use Rattle.jls_splice_run.specs.Completing.{IsCompleted}
 use Rattle.jls_splice_run.specs.Copies.{AreWhole, bytes_read}
 use Rattle.jls_splice_run.specs.FaultLines.{program}
 use Rattle.jls_splice_run.specs.Handing.{HandsAll}
+use Rattle.jls_splice_run.specs.Inputs.{AreInputs}
 use Rattle.jls_splice_run.specs.Limits.{has_some}
 use Rattle.jls_splice_run.specs.Listing.{is_named}
 use Rattle.jls_splice_run.specs.Making.{Made, IsMade, is_of_picture, notes, promise_on}

@@ -59,6 +59,7 @@ asked = record {
   out = codes "o";
   copies = codes "a" ∷ codes "b" ∷ [];
   bad = [];
+  witnesses = [];
 }
 
 all_are_lists : bad_value_among asked (codes "2:m" ∷ codes "1:n" ∷ codes "1:n1" ∷ []) ≡ None

@@ -10,13 +10,14 @@ use Rattle.jls_station.specs.CopyFiles.{AreCopiesRead, CopyBytes}
 use Rattle.jls_cli.specs.SpliceAsking.{Asked}
 use Rattle.jls_cli.specs.Outcomes.{Outcome, finished}
 use Rattle.jls_cli.specs.declared.outcome.Refusal.{Refusal}
-use Rattle.jls_splice_run.specs.BadLists.{AreInputs, AreSearched, StopsAtLists}
+use Rattle.jls_splice_run.specs.BadLists.{AreSearched, StopsAtLists}
 use Rattle.jls_splice_run.specs.Copies.{AreWhole, bytes_read, StopsAtCopies}
 use Rattle.jls_splice_run.specs.Handing.{HandsAll, StopsInHanding, Texts}
+use Rattle.jls_splice_run.specs.Inputs.{AreInputs, StopsAtInputs, at_copies, at_lists, at_witnesses}
 use Rattle.jls_splice_run.specs.Listing.{prefix_in}
 use Rattle.jls_splice_run.specs.Making.{AreTextsOf, CantMake, HoldsMade, Made, is_of_picture, notes}
 use Rattle.jls_splice_run.specs.Telling.{IsTold}
-use Rattle.jls_splice_run.specs.Runs.{GrewAll, Splices, at_copies, at_lists, done, not_handed, not_made, texts, texts_held}
+use Rattle.jls_splice_run.specs.Runs.{GrewAll, Splices, at_inputs, done, not_handed, not_made, texts, texts_held}
 use Rattle.jls_splice_run.specs.declared.found.Promise.{Promise}
 use Rattle.jls_splice_run.specs.declared.made.Made.{Made as MadeValue}
 
@@ -28,20 +29,45 @@ read_count [] (c ∷ cs) events h = absurd h
 read_count (n ∷ ns) [] events h = absurd h
 read_count (n ∷ ns) (c ∷ cs) events h = ap suc (read_count ns cs h.1 h.4)
 
--- the copies were read, and then what is searched was made of them
-pub inputs_of : (a : Asked) (read copies : List CopyBytes) (desk mid after : History) → GrewBy (AreCopiesRead a.copies read) desk mid
-    → GrewBy (AreSearched a.bad read copies) mid after → GrewBy (AreInputs a read copies) desk after
-inputs_of a read copies desk mid after h k = record {
-  events = h.events ++ k.events;
-  grew = grew_twice desk mid after h.events k.events h.grew k.grew;
-  they_are = record {
-    reading = h.events;
-    listing = k.events;
-    events_are = refl;
-    copies_read = h.they_are;
-    are_searched = k.they_are;
-  };
-}
+-- what was read, one kind after another
+module _ (a : Asked) (desk mid : History) where
+  pub inputs_of : {after last : History} (read copies witnesses : List CopyBytes) → GrewBy (AreCopiesRead a.copies read) desk mid
+      → GrewBy (AreSearched a.bad read copies) mid after → GrewBy (AreCopiesRead a.witnesses witnesses) after last
+      → GrewBy (AreInputs a read copies) desk last
+  inputs_of {after} {last} read copies witnesses h k l = record {
+    events = (h.events ++ k.events) ++ l.events;
+    grew = grew_twice desk after last (h.events ++ k.events) l.events (grew_twice desk mid after h.events k.events h.grew k.grew) l.grew;
+    they_are = record {
+      reading = h.events;
+      listing = k.events;
+      witnesses = witnesses;
+      witnessing = l.events;
+      events_are = refl;
+      copies_read = h.they_are;
+      are_searched = k.they_are;
+      witnesses_read = l.they_are;
+    };
+  }
+
+  pub copies_stop : (r : Refusal) → GrewBy (StopsAtCopies a.copies r) desk mid → GrewBy (StopsAtInputs a r) desk mid
+  copies_stop r h = record { events = h.events; grew = h.grew; they_are = at_copies h.events h.they_are }
+
+  pub lists_stop : {after : History} (r : Refusal) (read : List CopyBytes) → GrewBy (AreCopiesRead a.copies read) desk mid
+      → GrewBy (StopsAtLists a r) mid after → GrewBy (StopsAtInputs a r) desk after
+  lists_stop {after} r read h k = record {
+    events = h.events ++ k.events;
+    grew = grew_twice desk mid after h.events k.events h.grew k.grew;
+    they_are = at_lists read h.events k.events h.they_are k.they_are;
+  }
+
+  pub witnesses_stop : {after last : History} (r : Refusal) (read copies : List CopyBytes) → GrewBy (AreCopiesRead a.copies read) desk mid
+      → GrewBy (AreSearched a.bad read copies) mid after → GrewBy (StopsAtCopies a.witnesses r) after last
+      → GrewBy (StopsAtInputs a r) desk last
+  witnesses_stop {after} {last} r read copies h k l = record {
+    events = (h.events ++ k.events) ++ l.events;
+    grew = grew_twice desk after last (h.events ++ k.events) l.events (grew_twice desk mid after h.events k.events h.grew k.grew) l.grew;
+    they_are = at_witnesses read copies h.events k.events l.events h.they_are k.they_are l.they_are;
+  }
 
 -- what is searched are as many copies
 pub searched_count : (values : List Text) (read copies : List CopyBytes) (events : List Event) → AreSearched values read copies events
@@ -67,28 +93,16 @@ texts_are a copies m v h = λ i. record {
 }
 
 module _ (a : Asked) (desk mid report faults : History) where
-  pub stops_at_copies : (r : Refusal) → GrewBy (StopsAtCopies a.copies r) desk mid
+  pub stops_at_inputs : (r : Refusal) → GrewBy (StopsAtInputs a r) desk mid
       → GrewAll (Splices a (Err r)) desk mid report report faults faults
-  stops_at_copies r h = record {
+  stops_at_inputs r h = record {
     desk_events = h.events;
     report_events = [];
     fault_events = [];
     desk_is = h.grew;
     report_is = sym (append-nil report);
     faults_are = sym (append-nil faults);
-    they_are = at_copies r h.events h.they_are;
-  }
-
-  pub stops_at_lists : {after : History} (r : Refusal) (read : List CopyBytes) → GrewBy (AreCopiesRead a.copies read) desk mid
-      → GrewBy (StopsAtLists a r) mid after → GrewAll (Splices a (Err r)) desk after report report faults faults
-  stops_at_lists {after} r read h k = record {
-    desk_events = h.events ++ k.events;
-    report_events = [];
-    fault_events = [];
-    desk_is = grew_twice desk mid after h.events k.events h.grew k.grew;
-    report_is = sym (append-nil report);
-    faults_are = sym (append-nil faults);
-    they_are = at_lists r read h.events k.events h.they_are k.they_are;
+    they_are = at_inputs r h.events h.they_are;
   }
 
   module _ (faults' : History) (read_copies copies : List CopyBytes) (read : GrewBy (AreInputs a read_copies copies) desk mid) where

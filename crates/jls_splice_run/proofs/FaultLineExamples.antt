@@ -22,5 +22,5 @@ bad_value : bad_value_line (codes "3:m")
 unfolding chars encode_utf8
 bad_value = refl
 
-not_understood : not_understood_line ≡ codes "jls-splice: one COPY is enough only with --bad N:LIST\n"
+not_understood : not_understood_line ≡ codes "jls-splice: one COPY is enough only with --bad N:LIST or --witness FILE\n"
 not_understood = refl

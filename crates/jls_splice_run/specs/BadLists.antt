@@ -72,14 +72,6 @@ abbrev pub AreSearched : List Text → List CopyBytes → List CopyBytes → Lis
 AreSearched [] read searched listing = (searched ≡ read) × (listing ≡ [])
 AreSearched (value ∷ values) read searched listing = AreKnownBy (value ∷ values) read searched listing
 
--- the copies were read, and then the lists. This is what is searched
-pub record AreInputs (a : Asked) (read searched : List CopyBytes) (events : List Event) : Type 0 where
-  pub reading : List Event
-  pub listing : List Event
-  pub events_are : events ≡ reading ++ listing
-  pub copies_read : AreCopiesRead a.copies read reading
-  pub are_searched : AreSearched a.bad read searched listing
-
 -- ---- why lists stop a run
 
 -- a list isn't taken: it was not read to its end, or this is its first line that isn't understood

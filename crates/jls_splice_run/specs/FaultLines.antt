@@ -8,7 +8,7 @@ program = codes "jls-splice"
 
 -- the fault line of words that ask for nothing that there is
 abbrev pub not_understood_line : List ℕ
-not_understood_line = plain_line program (codes "one COPY is enough only with --bad N:LIST")
+not_understood_line = plain_line program (codes "one COPY is enough only with --bad N:LIST or --witness FILE")
 
 -- the second line of a run that would replace a JPEG file of this name
 abbrev pub not_replaced_line : List ℕ → List ℕ

@@ -11,6 +11,7 @@ pub mod BadLists
 pub mod Copies
 pub mod Files
 pub mod Handing
+pub mod Inputs
 pub mod Listing
 pub mod Making
 pub mod ReadsAs

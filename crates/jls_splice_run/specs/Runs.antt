@@ -10,7 +10,7 @@ use Rattle.clap.specs.declared.error.kind.ErrorKind.{ErrorKind}
 use Rattle.jls_io.specs.Event.{Event, History}
 use Rattle.jls_io.specs.Writing.{Wrote, WrotePrefix, Printed}
 use Rattle.jls_partial.specs.Text.{text}
-use Rattle.jls_station.specs.CopyFiles.{AreCopiesRead, CopyBytes}
+use Rattle.jls_station.specs.CopyFiles.{CopyBytes}
 use Rattle.jls_cli.specs.BadValues.{BadList, bad_list_of}
 use Rattle.jls_cli.specs.SpliceAsking.{Asked, AskFor, AskForNothing}
 use Rattle.jls_cli.specs.SpliceWords.{AreRefused}
@@ -20,9 +20,9 @@ use Rattle.jls_cli.specs.FaultLines.{fault_line}
 use Rattle.jls_cli.specs.Outcomes.{Outcome, exit_status, finished}
 use Rattle.jls_splice_run.specs.FaultLines.{bad_value_line, named_twice_line, not_understood_line, numbered_out_line, program}
 use Rattle.jls_cli.specs.declared.outcome.Refusal.{Refusal}
-use Rattle.jls_splice_run.specs.BadLists.{AreInputs, StopsAtLists}
-use Rattle.jls_splice_run.specs.Copies.{AreWhole, bytes_read, StopsAtCopies}
+use Rattle.jls_splice_run.specs.Copies.{AreWhole, bytes_read}
 use Rattle.jls_splice_run.specs.Handing.{HandsAll, StopsInHanding, Texts}
+use Rattle.jls_splice_run.specs.Inputs.{AreInputs, StopsAtInputs}
 use Rattle.jls_splice_run.specs.Listing.{IsNumbered, named_files, prefix_in}
 use Rattle.jls_splice_run.specs.Making.{CantMake, IsMade, Made, is_of_picture, lines, notes, promise_on}
 use Rattle.jls_splice_run.specs.Telling.{IsTold}
@@ -62,15 +62,13 @@ texts_held a v = record {
   files = named_files v.files.items;
 }
 
--- What comes of what was asked, by the events of the desk, of the report output and of the fault output. A copy stops the run, or a list of
--- bad places does; or all were read, and nothing can be made of what is searched; or something is, and one of the outputs stops the run; or
+-- What comes of what was asked, by the events of the desk, of the report output and of the fault output. A copy, a list of bad places or a
+-- witness stops the run; or all were read, and nothing can be made of what is searched; or something is, and one of the outputs stops the run; or
 -- all of it is handed out. Then it is said whether the promise is of the picture, and whether each copy was read to its end. So the status
 -- is 0 exactly where both are so. The searches tell how far they are, if that is asked for.
 -- If the output is standard output, what was found is noted on the fault output
 pub data Splices (a : Asked) : Outcome → List Event → List Event → List Event → Type 0 where
-  at_copies : (r : Refusal) (desk : List Event) → StopsAtCopies a.copies r desk → Splices a (Err r) desk [] []
-  at_lists : (r : Refusal) (read : List CopyBytes) (reading listing : List Event) → AreCopiesRead a.copies read reading
-      → StopsAtLists a r listing → Splices a (Err r) (reading ++ listing) [] []
+  at_inputs : (r : Refusal) (desk : List Event) → StopsAtInputs a r desk → Splices a (Err r) desk [] []
   not_made : (r : Refusal) (read copies : List CopyBytes) (desk faults : List Event) → AreInputs a read copies desk
       → CantMake a copies r → IsTold a.options.progress faults → Splices a (Err r) desk [] faults
   not_handed : (r : Refusal) (read copies : List CopyBytes) (m : Made) (reading desk report faults noting : List Event)

@@ -15,4 +15,5 @@ task_of t = record {
   out = t.out.now;
   copies = texts_of t.names.now;
   bad = texts_of t.bad.now;
+  witnesses = texts_of t.witnesses.now;
 }

@@ -23,6 +23,7 @@ ghost use Rattle.jls_station.specs.Given.{marked};
 
 use crate::beside::{mended_slices, put_beside};
 use crate::completing::{completed, completed_in};
+use crate::copies::slices_of;
 use crate::files::{count_new, is_eoi_added};
 use crate::found::{Promise, SearchReport};
 use crate::limits::FoundInTurn;
@@ -36,6 +37,7 @@ use jls_diff::find_parts;
 use jls_held::{EditedCopy, Judged, MendedCopy};
 use jls_partial::Partial;
 use jls_search::{Files, HeldFiles, are_surely_of_several_codings};
+use jls_station::CopyFile;
 use jls_values::Merge;
 use std::alloc::{AllocError, Global};
 
@@ -365,12 +367,13 @@ fn can_be_doubted(
     are_surely_of_several_codings(alloc, files.copies, &parts)
 }
 
-/// What is handed out of copies in several codings, where no file taken is without a fault, or what the copies gave each other speaks
-/// against one that is. `None` comes where a cut file was taken, and where the copies are of one coding, as far as can be told.
+/// What is handed out of copies in several codings, or beside witnesses, where no file taken is without a fault, or what the copies gave
+/// each other speaks against one that is. `None` comes where a cut file was taken, and where all are of one coding, as far as can be told.
 pub(crate) fn carried_texts(
     alloc: Global,
     task: &Task<'_, '_>,
     files: &Files<'_, '_>,
+    witnesses: &[CopyFile],
     all: &FoundInTurn<'_>,
     held: &HeldFiles,
 ) -> Result<Option<Made>, AllocError>
@@ -394,7 +397,8 @@ pub(crate) fn carried_texts(
         limit: task.options.ceiling,
         tries: task.options.tries,
     };
-    let Some(between) = carry_between(alloc, shape, files.copies, bounds)? else {
+    let witnesses = slices_of(alloc, witnesses)?;
+    let Some(between) = carry_between(alloc, shape, files.copies, &witnesses, bounds)? else {
         return Ok(None);
     };
     let Some(made) = texts_of_judged(alloc, task, files, all, held, between, is_alone)? else {

@@ -2,7 +2,8 @@
 //!
 //! - `program`: `run`: from the words to the exit status
 //! - `task`: what is asked for, as one value
-//! - `splicing`: a run that is asked for: copies are read, files made, and all is handed out
+//! - `splicing`: a run that is asked for: what it reads, the files that are made, and that all is handed out
+//! - `inputs`: what it reads: copies, lists of their bad places, and witnesses
 //! - `copies`, `made`, `settling`: the copies that are read; what is made of them; their station
 //! - `bad_lists`: the lists of bad places that are read, and what is searched by them in place of the copies
 //! - `carried`, `coding_lines`: what is made of what copies in several codings give each other; its lines
@@ -20,7 +21,7 @@
 //! - `hosted`: the program as `run_program` of jls_host runs it
 //! - `printing`: the lines on the fault output that this program alone has
 //!
-//! Definitions: `Tasks`, `Copies`, `BadLists`, `Making`, `Carrying`, `ReadsAs`, `Completing`, `Single`, `Files`, `Listing`, `Handing`,
+//! Definitions: `Tasks`, `Copies`, `BadLists`, `Inputs`, `Making`, `Carrying`, `ReadsAs`, `Completing`, `Single`, `Files`, `Listing`, `Handing`,
 //! `Runs`; `Limits`, `Telling`; `Differences`, `Lines`, `CodingLines`; `FaultLines`. `PrintedLineExamples` of `proofs/` has each line, and
 //! all lines of three runs, worked by hand. What came of a run, why it stopped, its exit status and its fault line are in jls_cli.
 //!
@@ -44,6 +45,7 @@ mod files;
 mod found;
 mod handing;
 mod hosted;
+mod inputs;
 mod limits;
 mod lines;
 mod listing;

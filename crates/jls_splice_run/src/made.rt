@@ -36,6 +36,7 @@ use crate::printed_lines::{lines_of, notes_of};
 use crate::settling::settle;
 use crate::single::single_file;
 use crate::task::{Task, has_lists, want_of_memory};
+use jls_carried::are_of_other_codings;
 use jls_cli::Refusal;
 use jls_io::Sink;
 use jls_search::{Files, FoundSplices, GroupsReported, HeldFiles, lone_path};
@@ -59,10 +60,12 @@ pub struct Made {
     pub promise: Promise,
 }
 
-/// The choices of the cut file, if one is sought and found.
+/// The choices of the cut file, if one is sought and found. Witnesses of another coding tell more than it does.
 fn find_cut(
     alloc: Global,
     found: &FoundInTurn<'_>,
+    copies: &[&[u8]],
+    witnesses: &[CopyFile],
     limit: u32,
 ) -> Result<Option<Vec<usize>>, AllocError>
     requires some_way { AllByRecursion HasSomeWay found.now.splices.parts }
@@ -72,6 +75,10 @@ fn find_cut(
     ensures lone { IfOk result (λ cut. IfSome cut (λ path. IsCutFile found.now.cut_limit (found_of found.now.splices) path.items)) }
 {
     if found.splices.whole != 0 || !found.seeks_cut {
+        return Ok(None);
+    }
+    let witnesses = slices_of(alloc, witnesses)?;
+    if are_of_other_codings(alloc, copies, &witnesses)? {
         return Ok(None);
     }
     if found.cut_limit.is_none() {
@@ -264,11 +271,12 @@ fn search_options(task: &Task<'_, '_>) -> SearchOptions
 }
 
 /// What is made of the copies of a task. The search tells how far it is, if that is asked for. Where no file taken is without a fault,
-/// copies of several codings give each other lines. These may also speak against a file that is.
+/// copies of several codings give each other lines, and witnesses give them lines. These may also speak against a file that is.
 pub(crate) fn make<'a, E: Sink>(
     alloc: Global,
     task: &Task<'_, 'a>,
     copies: &[CopyFile],
+    witnesses: &[CopyFile],
     faults: &mut E,
 ) -> Result<Made, Refusal<'a>>
     requires some_copy { 0 < length copies.now }
@@ -285,18 +293,18 @@ pub(crate) fn make<'a, E: Sink>(
         Ok(found) => found,
         Err(_) => return Err(want_of_memory(task)),
     };
-    let cut = match find_cut(alloc, &found, task.options.tries) {
-        Ok(cut) => cut,
-        Err(_) => return Err(want_of_memory(task)),
-    };
     let files = Files {
         copies: &slices,
         parts: &found.splices.parts,
         splices: &found.splices.splices,
         reader: &found.splices.reader,
     };
+    let cut = match find_cut(alloc, &found, files.copies, witnesses, task.options.tries) {
+        Ok(cut) => cut,
+        Err(_) => return Err(want_of_memory(task)),
+    };
     let held = settle(alloc, task, copies, &files, cut)?;
-    match carried_texts(alloc, task, &files, &found, &held) {
+    match carried_texts(alloc, task, &files, witnesses, &found, &held) {
         Ok(Some(made)) => return Ok(made),
         Ok(None) => {}
         Err(_) => return Err(want_of_memory(task)),

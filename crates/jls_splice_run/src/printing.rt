@@ -39,5 +39,9 @@ pub fn print_bad_value<E: Sink>(faults: &mut E, value: &str)
 pub fn print_not_understood<E: Sink>(faults: &mut E)
     ensures { GrewBy (Printed not_understood_line) (E.history faults.old) (E.history faults.new) }
 {
-    print_plain(faults, PROGRAM, "one COPY is enough only with --bad N:LIST");
+    print_plain(
+        faults,
+        PROGRAM,
+        "one COPY is enough only with --bad N:LIST or --witness FILE",
+    );
 }

@@ -6,9 +6,10 @@ ghost use Rattle.jls_splice_run.specs.Runs.{GrewAll, Splices, texts_held};
 ghost use Rattle.jls_splice_run.specs.Tasks.{task_of};
 ghost use Rattle.jls_io.specs.Event.{GrewBoth};
 
-use crate::bad_lists::{files_searched, searched_copies};
-use crate::copies::{are_whole, read_all};
+use crate::bad_lists::files_searched;
+use crate::copies::are_whole;
 use crate::handing::{print_lines, print_notes, write_file, write_files};
+use crate::inputs::{Inputs, read_inputs};
 use crate::made::{Made, make};
 use crate::task::{Task, prefix_of};
 use jls_cli::{Done, Refusal, write_output};
@@ -55,7 +56,7 @@ fn hand_out<'a, D: Desk, W: Sink>(
     }
 }
 
-/// Reads the copies, and lists of their bad places if these are asked for. Searches their splices, takes all files that decode, and hands
+/// Reads the copies, and lists of their bad places and witnesses if these are asked for. Searches their splices, takes all files that decode, and hands
 /// out what comes of it. If no file taken is without a fault, the cut file may be taken too.
 ///
 /// Copies with bad places are searched as known copies: bytes of other copies stand in these places. First come the lines, on the report
@@ -73,15 +74,21 @@ pub fn splice<'a, D: Desk, W: Sink, E: Sink>(
     ensures { GrewAll (Splices (task_of task.now) result) (D.history desk.old) (D.history desk.new)
         (W.history report.old) (W.history report.new) (E.history faults.old) (E.history faults.new) }
 {
-    let read = match read_all(alloc, desk, task.names) {
-        Ok(read) => read,
+    let Inputs {
+        read,
+        known,
+        witnesses,
+    } = match read_inputs(alloc, desk, task) {
+        Ok(inputs) => inputs,
         Err(refusal) => return Err(refusal),
     };
-    let known = match searched_copies(alloc, desk, task, &read) {
-        Ok(known) => known,
-        Err(refusal) => return Err(refusal),
-    };
-    let made = match make(alloc, task, files_searched(&known, &read), faults) {
+    let made = match make(
+        alloc,
+        task,
+        files_searched(&known, &read),
+        &witnesses,
+        faults,
+    ) {
         Ok(made) => made,
         Err(refusal) => return Err(refusal),
     };

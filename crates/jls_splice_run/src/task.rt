@@ -15,7 +15,7 @@ use jls_cli::splice::{Asked, BadList, Options};
 use jls_cli::{Cause, Refusal};
 use std::alloc::{AllocError, Global};
 
-/// What a run is to do: its options, the output, the copies in their order, and lists of their bad places.
+/// What a run is to do: its options, the output, the copies in their order, lists of their bad places, and witnesses.
 #[derive(Clone, Copy)]
 pub struct Task<'m, 'a> {
     pub options: Options<'a>,
@@ -23,6 +23,8 @@ pub struct Task<'m, 'a> {
     pub names: &'m [&'a str],
     /// The values of `--bad`, in their order. One that names no list is passed over.
     pub bad: &'m [&'a str],
+    /// The values of `--witness`, in their order: files whose lines help to mend the copies.
+    pub witnesses: &'m [&'a str],
 }
 
 /// The names of the copies, in their order.

@@ -23,7 +23,7 @@ struct Row {
     reported: &'static str,
 }
 
-const ROWS: [Row; 16] = [
+const ROWS: [Row; 17] = [
     Row {
         file: "eight",
         copies: "100+8=0 / 400+8=0",
@@ -43,6 +43,16 @@ const ROWS: [Row; 16] = [
         numbered: &["eight", "other"],
         count: 2,
         reported: "files 2",
+    },
+    Row {
+        file: "narrow",
+        copies: "300+8=0 / reset",
+        words: "--files NAME --witness 2 OUT 1",
+        prefix: "NAME",
+        status: 1,
+        numbered: &["narrow"],
+        count: 1,
+        reported: "coding 1, copies 1",
     },
     Row {
         file: "eight",

@@ -100,6 +100,31 @@ narrow 283+8=0: OUT 1 2 3 4: 0 narrow: coding 1, copies 1 3 | coding 2, copies 2
 copy 3 differs 78 8 8 | copy 2 differs 208 8 8 | copy 4 differs 283 8 8
 two codings, and a flipped bit behind which a copy is soon at odds with the other: narrow: 98+1=32 / reset 394+8=0: OUT 1 2: 0 narrow: \
 coding 1, copies 1 | coding 2, copies 2 | copy 1 differs 98 1 1 | copy 2 differs 394 8 8
+two codings, two copies of one damaged file, and more damage in one: narrow: 150+8=85 / reset 300+8=0 / 150+8=85 380+4=0: OUT 1 2 3: \
+0 narrow: coding 1, copies 1 3 | coding 2, copies 2 | copy 1 differs 150 8 8 | copy 3 differs 150 8 8 | copy 3 differs 381 3 3 | \
+copy 2 differs 300 8 8
+two codings, and a copy with a flipped bit twice: narrow: 98+1=32 / reset 394+8=0 / 98+1=32: OUT 1 2 3: 0 narrow: coding 1, copies 1 3 | \
+coding 2, copies 2 | copy 1 differs 98 1 1 | copy 3 differs 98 1 1 | copy 2 differs 394 8 8
+a witness: fives: 445+8=0 / tens: --witness 2 OUT 1: 1 other: coding 1, copies 1 | copy 1 differs 446 7 7 | promise lines | missing 1 18-19
+a witness that is damaged elsewhere: narrow: 300+8=0 / reset 200+8=0: --witness 2 OUT 1: 1 other: coding 1, copies 1 | \
+copy 1 differs 300 8 8 | promise lines
+a witness of two copies: narrow: 300+8=0 / 300+8=85 / reset: --witness 3 OUT 1 2: 1 other: coding 1, copies 1 2 | \
+copy 1 differs 300 8 8 | copy 2 differs 300 8 8 | promise lines
+two codings, and one of the copies as a witness: narrow: 98+1=32 / reset 394+8=0: --witness 2 OUT 1 2: 0 narrow: coding 1, copies 1 | \
+coding 2, copies 2 | copy 1 differs 98 1 1 | copy 2 differs 394 8 8
+a witness of the same coding: narrow: 300+8=0 / 300+8=85 / 100+8=0: --witness 3 OUT 1 2: 1 other: before 300 | promise lines
+a witness of another picture: fives: 445+8=0 / other: --witness 2 OUT 1: 1 other: copy 1 agrees with no other | promise lines
+a witness of another size: fives: 445+8=0 / sixteen: --witness 2 OUT 1: 1 other: copy 1 agrees with no other | promise lines
+an undamaged copy, and another picture as a witness: eight: whole / other: --witness 2 OUT 1: 0 eight: splices 0
+two copies that mend each other, and a witness: eight: 100+8=0 / 400+8=0 / other: --witness 3 OUT 1 2: 0 eight: splices 1
+a witness without bytes: eight: 300+8=0 / 0+999=lost: --witness 2 OUT 1: 1 other: promise lines
+no copy with a frame, and a witness: eight: 0+999=lost / whole: --witness 2 OUT 1: 3 nothing: jls-splice: 1: no picture, fault 19 at 0
+a witness that is not there: eight: whole: --witness absent OUT 1: 4 nothing: jls-splice: absent: cannot be opened
+a second witness that is not there: eight: whole / whole: --witness 2 --witness absent OUT 1: 4 nothing: \
+jls-splice: absent: cannot be opened
+a partial picture as a witness: eight: whole / text: --witness 2 OUT 1: 3 nothing: jls-splice: 2: is a partial picture
+a list before a witness: eight: whole / whole: --witness absent --bad 1:words OUT 1: 3 nothing: \
+jls-splice: words: is no list of bad places, by line 2
 two codings, and another picture: fives: 445+8=0 / tens 355+8=0 / other 60+8=0: OUT 1 2 3: 1 narrow: coding 1, copies 1 | \
 coding 2, copies 2 | copy 3 agrees with no other | copy 1 differs 446 7 7 | copy 2 differs 355 8 8 | promise lines
 another picture, and two codings: fives: other 60+8=0 / 445+8=0 / tens 355+8=0: OUT 1 2 3: 1 narrow: coding 1, copies 2 | \
@@ -146,7 +171,7 @@ one copy, up to a bad place: eight: 300+8=0: --bad 1:place OUT 1: 1 other: missi
 one copy, and a bad place in an interval: restarts: 70+3=0: --bad 1:interval OUT 1: 1 other: missing 1 0-3
 a header that is bad in all: eight: whole / whole: --bad 1:header --bad 2:header OUT 1 2: 3 nothing: \
 jls-splice: 1: no picture, fault 19 at 6
-one copy alone: eight: whole: OUT 1: 2 nothing: jls-splice: one COPY is enough only with --bad N:LIST
+one copy alone: eight: whole: OUT 1: 2 nothing: jls-splice: one COPY is enough only with --bad N:LIST or --witness FILE
 bad places of no copy: eight: whole / whole: --bad 3:place OUT 1 2: 2 nothing: \
 jls-splice: 3:place: --bad wants N:LIST, with the number of a COPY, and a LIST that is no output and not -
 bad places of copy 0: eight: whole / whole: --bad 0:place OUT 1 2: 2 nothing: \

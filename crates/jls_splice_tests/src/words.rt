@@ -64,6 +64,7 @@ fn words_are_read(rt: HostRuntime) -> Result<(), Fail> {
             first: "1",
             others: &["2", "3"],
             bad: &[],
+            witnesses: &[],
         };
         assert_eq!(rt; asked, expected, "{line}");
     }
@@ -81,6 +82,24 @@ fn one_copy_is_read_with_its_bad_places(rt: HostRuntime) -> Result<(), Fail> {
         first: "1",
         others: &[],
         bad: &["1:places", "1:more"],
+        witnesses: &[],
+    };
+    assert_eq!(rt; asked, expected);
+    Ok(())
+}
+
+#[test]
+fn one_copy_is_read_with_witnesses(rt: HostRuntime) -> Result<(), Fail> {
+    let words = words_of(rt.alloc(), "--witness=line OUT --witness other 1")?;
+    let matches = matches(rt.alloc(), &words)?;
+    let asked = asked_splice(&matches).ok_or("nothing asked")?;
+    let expected = Asked {
+        options: PLAIN,
+        out: "OUT",
+        first: "1",
+        others: &[],
+        bad: &[],
+        witnesses: &["line", "other"],
     };
     assert_eq!(rt; asked, expected);
     Ok(())
@@ -111,6 +130,7 @@ fn words_are_refused(rt: HostRuntime) -> Result<(), Fail> {
         "--file OUT 1 2 --file",
         "--files OUT 1 2 --files",
         "--bad OUT 1 2 --bad",
+        "--witness OUT 1 2 --witness",
         "--files A --files B OUT 1 2",
         "--groups OUT 1 2",
     ];

@@ -25,7 +25,7 @@ pub struct Options<'a> {
     pub files: Option<&'a str>,
 }
 
-/// The output, the copies to splice, and the values of `--bad`. There is a second copy, or a value of `--bad`.
+/// The output, the copies to splice, the values of `--bad`, and those of `--witness`. There is a second copy, or one of these values.
 #[derive(Clone, Copy, Debug, PartialEq, Eq)]
 pub struct Asked<'m, 'a> {
     pub options: Options<'a>,
@@ -33,6 +33,7 @@ pub struct Asked<'m, 'a> {
     pub first: &'a str,
     pub others: &'m [&'a str],
     pub bad: &'m [&'a str],
+    pub witnesses: &'m [&'a str],
 }
 
 /// Whether a flag has the value that it gets where it is given.
@@ -88,15 +89,17 @@ fn asked_with<'m, 'a>(
     copy: Option<&'a str>,
     others: &'m [&'a str],
     bad: &'m [&'a str],
+    witnesses: &'m [&'a str],
 ) -> Option<Asked<'m, 'a>>
     ensures { option_map asked_of result
         ≡ spec.asked_with (option_map options_in options.entry) (option_map (λ s. s.now) out.entry)
-        (option_map (λ s. s.now) copy.entry) (map (λ f. f.now) others.entry.now) (map (λ f. f.now) bad.entry.now) }
+        (option_map (λ s. s.now) copy.entry) (map (λ f. f.now) others.entry.now) (map (λ f. f.now) bad.entry.now)
+        (map (λ f. f.now) witnesses.entry.now) }
 {
     let (Some(options), Some(out), Some(first)) = (options, out, copy) else {
         return None;
     };
-    if others.is_empty() && bad.is_empty() {
+    if others.is_empty() && bad.is_empty() && witnesses.is_empty() {
         return None;
     }
     Some(Asked {
@@ -105,6 +108,7 @@ fn asked_with<'m, 'a>(
         first,
         others,
         bad,
+        witnesses,
     })
 }
 
@@ -130,5 +134,13 @@ pub fn asked_splice<'m, 'a>(matches: &'m ArgMatches<'a>) -> Option<Asked<'m, 'a>
     let out = matches.get_str("OUT");
     let first = matches.get_str("COPY");
     let others = values_of(matches, "OTHERS");
-    asked_with(options, out, first, others, values_of(matches, "bad"))
+    let bad = values_of(matches, "bad");
+    asked_with(
+        options,
+        out,
+        first,
+        others,
+        bad,
+        values_of(matches, "witness"),
+    )
 }

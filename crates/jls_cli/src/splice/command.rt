@@ -5,7 +5,7 @@ ghost use Rattle.std.specs.String.{string_bytes};
 ghost use Rattle.clap.specs.Words.{app_of, found_of, kind_of, matches_of, rows_of, rule_of};
 ghost use Rattle.clap.specs.declared.builder.command.Command.TheViews.{out-Command};
 ghost use Rattle.jls_cli.specs.SpliceWords.{AreRefused, bad_rule, bare_app, ceiling_rule, file_rule, files_rule, numbers_app};
-ghost use Rattle.jls_cli.specs.SpliceWords.{options_app, others_rule, progress_rule, splice_app, tries_rule};
+ghost use Rattle.jls_cli.specs.SpliceWords.{options_app, others_rule, outputs_app, progress_rule, splice_app, tries_rule, witness_rule};
 ghost use Rattle.jls_cli.specs.Words.{TakesWords};
 
 use crate::arguments::{number, option, source, word};
@@ -75,6 +75,15 @@ fn bad<'a>(alloc: Global) -> Arg<'a>
     lists.help(texts::BAD_HELP)
 }
 
+/// The files whose lines bear witness.
+fn witness<'a>(alloc: Global) -> Arg<'a>
+    ensures rule { rule_of result ≡ witness_rule }
+    ensures local { result.global ≡ false }
+{
+    let files = option(alloc, "witness", "FILE").action(ArgAction::Append);
+    files.help(texts::WITNESS_HELP)
+}
+
 /// The command without arguments.
 fn bare<'a>(alloc: Global) -> Command<'a>
     ensures app { app_of result ≡ bare_app }
@@ -94,16 +103,25 @@ fn with_numbers<'a>(alloc: Global) -> Result<Command<'a>, AllocError>
     bounded.arg(ceiling(alloc))
 }
 
-/// The command with its options.
-fn with_options<'a>(alloc: Global) -> Result<Command<'a>, AllocError>
-    ensures app { IfOk result (λ c. app_of c ≡ options_app) }
+/// The command with the options of what it prints and writes.
+fn with_outputs<'a>(alloc: Global) -> Result<Command<'a>, AllocError>
+    ensures app { IfOk result (λ c. app_of c ≡ outputs_app) }
     ensures local { IfOk result (λ c. (out-Command c).has_globals ≡ false) }
 {
     let bounded = with_numbers(alloc)?;
     let reported = bounded.arg(progress(alloc))?;
     let named = reported.arg(file(alloc))?;
-    let numbered = named.arg(files(alloc))?;
-    numbered.arg(bad(alloc))
+    named.arg(files(alloc))
+}
+
+/// The command with its options.
+fn with_options<'a>(alloc: Global) -> Result<Command<'a>, AllocError>
+    ensures app { IfOk result (λ c. app_of c ≡ options_app) }
+    ensures local { IfOk result (λ c. (out-Command c).has_globals ≡ false) }
+{
+    let numbered = with_outputs(alloc)?;
+    let listed = numbered.arg(bad(alloc))?;
+    listed.arg(witness(alloc))
 }
 
 /// The command of the program.

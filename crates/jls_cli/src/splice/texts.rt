@@ -4,13 +4,14 @@ pub(crate) const ABOUT: &str =
     "Mends JPEG-LS files: splices damaged copies of one file, and joins what can be decoded.";
 
 pub(crate) const NOTES: &str = "\
-The COPYs are two or more damaged copies of one JPEG-LS file, or one copy if --bad is given. At each place
-where they differ, a splice of them has what one of them has there. The program takes the COPYs, and each
-splice that decodes whole. It writes all their readings to OUT: a partial picture, as jls-salvage join
+The COPYs are two or more damaged copies of one JPEG-LS file, or one if --bad or --witness is given. At each
+place where they differ, a splice of them has what one of them has there. The program takes the COPYs, and
+each splice that decodes whole. It writes all their readings to OUT: a partial picture, as jls-salvage join
 writes it. The program neither guesses nor chooses: if two readings of a line differ, it is disputed.
 
 COPYs of one picture in different codings have hardly a byte in common: with other thresholds, restart
-intervals or scans, or with 12 bits in 16. Then lines that one gives mend the others.
+intervals or scans, or with 12 bits in 16. Then lines that one gives mend the others. Those of a witness do
+too, but OUT has no reading that it alone gives.
 
 It prints
   differ OFFSET LENGTH, for each place where the copies differ, as the first COPY has it
@@ -25,7 +26,7 @@ It prints
   files N, if --files was given: N files are written, at most 64
   no single file, if --file was given and writes nothing
   eoi added, if a file that --file or --files writes ended without the marker EOI, and got it
-  coding N, copies NUMBERS, if there are several codings, for each of them: its copies, counted from 1
+  coding N, copies NUMBERS, if there are several codings or a witness: the copies of each, counted from 1
   copy N left out, if its headers don't read, and copy N agrees with no other, if its lines are nobody's
   copy N differs OFFSET LENGTH NEW, for each place where its mended file has NEW bytes for LENGTH of it
   copy N differs more COUNT, if there are more than 4,096 such places: COUNT of them are not listed
@@ -43,7 +44,8 @@ Exit status:
   2  the command line is wrong
   3  no COPY and no splice has a picture, a COPY is a partial picture, or the pictures differ in width,
      height, precision or components; OUT was not created
-  4  a COPY can't be opened or read, an output can't be created, or a write failed
+  4  a COPY or LIST can't be opened or read, a FILE can't be opened, an output can't be created, or a write
+     failed
   5  out of memory
 
 Examples:
@@ -72,9 +74,13 @@ pub(crate) const FILES_HELP: &str =
 pub(crate) const BAD_HELP: &str =
     "Bytes of COPY N, from 1, that are bad: LIST has lines OFFSET LENGTH, or is a ddrescue map; can be given again";
 
+pub(crate) const WITNESS_HELP: &str =
+    "A JPEG-LS file whose lines help to mend the COPYs, and are not taken themselves; can be given again";
+
 pub(crate) const OUT_HELP: &str =
     "The partial picture to write, created or replaced after the search; - is standard output";
 
 pub(crate) const COPY_HELP: &str = "The first copy; - is standard input";
 
-pub(crate) const OTHERS_HELP: &str = "The other copies, at least one if --bad is not given";
+pub(crate) const OTHERS_HELP: &str =
+    "The other copies, at least one if neither --bad nor --witness is given";

@@ -18,5 +18,5 @@ returns c =
     c.deref.ensures.value c.in_ok-numbers.ensures c.deref-3.ensures.value)
     (shown c.args.names.now.values.items c.deref-2.result.now c.in_ok-values.values.items c.deref-4.result.now _ c.requires.names.values_are
     c.deref-2.ensures.value c.in_ok-values.ensures c.deref-4.ensures.value)
-    (ap (map input_file) c.deref-5.ensures.value ∙ c.in_ok-inputs.ensures)
+    refl (ap (map input_file) c.deref-5.ensures.value ∙ c.in_ok-inputs.ensures)
     c.in_ok-ran.ensures

@@ -20,7 +20,14 @@ returns g c =
     let faults = g.E.Device.history in
     let asked = c.args.asked.now in
     let bad = texts_of asked.bad.now in
-    let same = ap (λ (names : List (List ℕ)). record { options = options_in asked.options; out = asked.out.now; copies = names; bad = bad })
+    let witnesses = texts_of asked.witnesses.now in
+    let same = ap (λ (names : List (List ℕ)). record {
+      options = options_in asked.options;
+      out = asked.out.now;
+      copies = names;
+      bad = bad;
+      witnesses = witnesses;
+    })
     (ap texts_of c.deref.ensures.value ∙ c.in-Ok.ensures) in
     performs (asked_of asked) c.exit_status.result c.splice-outcome.result c.exit_status.ensures
     (subst (λ (a : Asked). GrewAll (Splices a c.splice-outcome.result) (desk c.args.desk.now) (desk c.splice-outcome.new.desk)

@@ -16,4 +16,5 @@ returns c =
     let out = c.get_str-out.ensures ∙ first_value-rows found (codes "OUT") in
     let copy = c.get_str-first.ensures ∙ first_value-rows found (codes "COPY") in
     let options = c.options_of-options.ensures ∙ (λ i. spec.options_of (source i) (tries i) (ceiling i) (progress i) (file i) (files i)) in
-    c.asked_with.ensures ∙ (λ i. spec.asked_with (options i) (out i) (copy i) (c.values_of-others.ensures i) (c.values_of.ensures i))
+    c.asked_with.ensures ∙ (λ i. spec.asked_with (options i) (out i) (copy i) (c.values_of-others.ensures i) (c.values_of-bad.ensures i)
+    (c.values_of.ensures i))
