@@ -192,6 +192,29 @@ def bad_places(program: str) -> None:
     differ("a list without a copy", kind(raised(lambda: jls_salvage.mend([], bad=[(0, b"")]))), ValueError)
 
 
+def witnesses() -> None:
+    """A witness's lines stand in the mended file, and in nothing else."""
+    chance = random.Random(11)
+    true, samples = made(chance)
+    info = jls_salvage.read(true).info
+    other = jls_salvage.write(samples, info.precision, info.width, info.height, info.components, restart_interval=1)
+    begin = true.index(b"\xff\xda") + 20
+    at = begin + (len(true) - begin) // 2
+    damaged = true[:at] + bytes(6) + true[at + 6 :]
+    mended = jls_salvage.mend([damaged], witnesses=[memoryview(other)])
+    differ("a witness: the mended file", list(mended.files), [true])
+    differ("a witness: nothing is promised", (mended.is_promised, mended.file, list(mended.codings)), (False, None, [[0]]))
+    differ("a witness: edits are where bytes were lost", all(at <= edit.offset < at + 6 for edit in mended.edits), True)
+    differ("a witness: no line behind the damage", mended.picture.info.settled < mended.picture.info.lines, True)
+    name: Any = "file"
+    differ("a name as a witness", kind(raised(lambda: jls_salvage.mend([true], witnesses=[name]))), TypeError)
+    differ("names as witnesses", kind(raised(lambda: jls_salvage.mend([true], witnesses=name))), TypeError)
+    partial = jls_salvage.partial(true, 1)
+    wanted = (jls_salvage.NotMendable, "witness 0: is a partial picture")
+    differ("a partial picture as a witness", raised(lambda: jls_salvage.mend([true], witnesses=[partial])), wanted)
+    differ("an undamaged copy", jls_salvage.mend([true], witnesses=[b""]).file == true, True)
+
+
 def codings(program: str) -> None:
     """A coding that isn't read is refused where all copies say it. Where one alone says it, the other mends it."""
     true = jls_salvage.write(list(range(60)), 8, 10, 6)
@@ -413,6 +436,7 @@ def main() -> int:
         refusals()
         codings(program)
         bad_places(program)
+        witnesses()
         helped()
         stand_ins(folder)
         differ("files that are left behind", os.listdir(place), [])

@@ -58,8 +58,8 @@ def _words(tries: Optional[int], max_sample: Optional[int], source: Optional[int
 
 def _refused(ended: Ended) -> NoReturn:
     """Raises what the status of the program says."""
-    kinds = {"jls": "copy", "bad": "list"}
-    named = re.compile(r"^jls-splice: (?:(\d+)\.(jls|bad))?")
+    kinds = {"jls": "copy", "bad": "list", "seen": "witness"}
+    named = re.compile(r"^jls-splice: (?:(\d+)\.(jls|bad|seen))?")
     said = named.sub(lambda found: f"{kinds[found[2]]} {found[1]}" if found[1] else "", ended.faults.strip())
     no_picture = NO_PICTURE.search(said)
     if ended.status == 5:
@@ -104,6 +104,7 @@ def mend(
     copies: Sequence[Bytes],
     *,
     bad: Sequence[Tuple[int, Bytes]] = (),
+    witnesses: Sequence[Bytes] = (),
     tries: Optional[int] = None,
     max_sample: Optional[int] = None,
     source: Optional[int] = None,
@@ -113,9 +114,10 @@ def mend(
 
     It calls the program jls-splice, of which JLS_SPLICE can name the path, in a folder of its own that `tempfile` makes and that goes
     again. `bad` has lists of bad places, each behind the number of its copy, from 0: the bytes of GNU ddrescue's mapfile, or of lines
-    `OFFSET LENGTH`. Bytes of other copies stand in these places, and with a list one copy is enough. `tries` is the most that each search
-    tries, 4,096 if it isn't given. `max_sample` looks only for files whose samples are no larger. `source` is a number of 32 bits for the
-    readings. After `timeout` seconds the search is stopped, and TimeoutError raised.
+    `OFFSET LENGTH`. Bytes of other copies stand in these places. `witnesses` are JPEG-LS files whose lines help to mend the copies, in
+    another coding. What comes of it stands in `files`: the picture has no reading that they alone give. With a list or a witness one copy
+    is enough. `tries` is the most that each search tries, 4,096 if it isn't given. `max_sample` looks only for files whose samples are no
+    larger. `source` is a number of 32 bits for the readings. After `timeout` seconds the search is stopped, and TimeoutError raised.
 
     Raises `NoPicture` where no copy and no splice has a picture, `Unsupported` where all copies have one coding that isn't read and no
     line came back, `ShapesDiffer`, `NotMendable`, `MissingProgram`, OSError where the folder can't be written, and MemoryError.
@@ -123,27 +125,31 @@ def mend(
     if isinstance(copies, (bytes, bytearray, memoryview)):
         raise TypeError("a list of copies is wanted, and these are the bytes of one")
     refuse_name(copies)
-    copies, bad, words = list(copies), list(bad), _words(tries, max_sample, source)
-    for copy in copies:
-        refuse_name(copy)
-    if len(copies) < (1 if bad else 2):
+    refuse_name(witnesses)
+    copies, bad, witnesses, words = list(copies), list(bad), list(witnesses), _words(tries, max_sample, source)
+    for file in [*copies, *witnesses]:
+        refuse_name(file)
+    if len(copies) < (1 if bad or witnesses else 2):
         raise ValueError("two copies or more are wanted: read takes one")
     lists = _lists(bad, len(copies))
     with tempfile.TemporaryDirectory(prefix="jls_salvage-") as folder:
         names = [f"{number}.jls" for number in range(len(copies))]
         listed = [f"{number}.bad" for number in range(len(lists))]
-        for name, text in zip([*names, *listed], [*copies, *lists]):
-            _put(os.path.join(folder, name), text)
+        seen = [f"{number}.seen" for number in range(len(witnesses))]
+        for name, content in zip([*names, *listed, *seen], [*copies, *lists, *witnesses]):
+            _put(os.path.join(folder, name), content)
         for name, (copy_number, _) in zip(listed, bad):
             words += ["--bad", f"{operator.index(copy_number) + 1}:{name}"]
+        for name in seen:
+            words += ["--witness", name]
         ended = called(PROGRAM, [*words, OUT, *names], folder, timeout, is_inside=True)
         partial = _got(folder, OUT)
         if ended.status not in (0, 1) or partial is None:
             _refused(ended)
-        file, files = _got(folder, FILE), _found(folder)
+        single, files = _got(folder, FILE), _found(folder)
     picture = lines(partial)
     _refuse_coding(copies, picture)
-    return _mended(Report(ended.printed, ended.status == 0), picture, partial, file, files)
+    return _mended(Report(ended.printed, ended.status == 0), picture, partial, single, files)
 
 
 def _mended(report: Report, picture: Picture, partial: bytes, file: Optional[bytes], files: Sequence[bytes]) -> Mended:
