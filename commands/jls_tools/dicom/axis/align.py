@@ -18,6 +18,7 @@ ANCHOR_KINDS = 8
 STEPS = (0, 16, 48, 128, 256, 512, 768, 1024, 2048, 4096, 6144, 8192, 16384, 32768, 65536)
 BLOCK = 1 << 16
 WINDOW = 256
+FURTHER = 384  # so many bytes show whether two copies go on alike
 LEAST_GAIN = 8  # so many bytes of a window differ, at least, where bytes before it are lost
 MOST_LOOKS = 256  # so often it is looked whether bytes are lost where most of what comes is equal
 SHARE_APART = 64  # fewer than one in so many bytes differ where copies of one length were damaged in place
@@ -107,17 +108,23 @@ def anchor_at(data: bytes, at: int) -> Optional[bytes]:
 def meet_again(one: bytes, other: bytes, at: int, beside: int) -> Optional[tuple[int, int]]:
     """The next offsets (in both) from which they are equal again, with bytes lost between or not; nothing if there are none.
 
-    Of several the nearest is taken: what is lost may stand a second time further on.
+    Of several from which both go on alike the nearest is taken, as what is lost may stand a second time further on. If there is none, what
+    follows is damaged too, and the nearest is taken.
     """
-    best, least = None, 0
+    found: list[tuple[bool, int, tuple[int, int]]] = []
     for step in STEPS:
-        if best is not None and step >= least:
+        if found and found[0][:2] <= (False, step):
             break
         for meet in meetings(one, other, at, beside, step):
-            skipped = meet[0] - at + meet[1] - beside
-            if best is None or skipped < least:
-                best, least = meet, skipped
-    return best
+            found.append((not go_on_alike(one, other, *meet), max(meet[0] - at, meet[1] - beside), meet))
+        found = sorted(found)[:1]
+    return found[0][2] if found else None
+
+
+def go_on_alike(one: bytes, other: bytes, at: int, beside: int) -> bool:
+    """Whether most bytes are equal for long at these offsets: words stand a second time, but seldom so much."""
+    left, right = one[at : at + FURTHER], other[beside : beside + FURTHER]
+    return sum(a == b for a, b in zip(left, right)) * 4 >= 3 * max(len(left), len(right))
 
 
 def meetings(one: bytes, other: bytes, at: int, beside: int, step: int) -> Iterator[tuple[int, int]]:
