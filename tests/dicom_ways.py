@@ -58,4 +58,19 @@ def checks_of_words_again(bench: Any, made: File) -> Iterator[Check]:
     yield "a loss that has in it the words behind it", meet_again(own[0] + word + own[2], whole, begin, begin) == (begin, end)
 
 
-WAYS = [checks_of_swallowed, checks_of_words_again]
+def checks_of_own_codings(bench: Any, single: File, made: File) -> Iterator[Check]:
+    """A mode of interleaving that no scan has is no coding, and codestreams beside the items of a copy don't say its coding."""
+    true, stream = single.bytes, single.frames[0]
+    begin = single.items[0] + 8
+    scan = begin + stream.index(b"\xff\xda")
+    until = scan + (len(stream) - stream.index(b"\xff\xda")) // 3
+    flipped = changed(true, (scan + 8, bytes([true[scan + 8] ^ 0x5A])))
+    rest = changed(true, (until, bytes(begin + len(stream) - until)))
+    for order in ([flipped, rest], [rest, flipped]):
+        yield told(bench, "a mode of interleaving that no scan has", order, true)
+    foreign = b"".join(made.frames[:2])
+    zeros = changed(true, (single.items[0], bytes(8)), (scan + 40, bytes(range(1, 90))))
+    yield told(bench, "codestreams behind the end of one copy", [true + foreign, zeros], true)
+
+
+WAYS = [checks_of_swallowed, checks_of_words_again, checks_of_own_codings]
