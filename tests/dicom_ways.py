@@ -13,6 +13,7 @@ from dicom_files import File, element
 from jls_tools.dicom.axis.align import meet_again
 
 told: Any = dicom_pairs.told  # the other checks have no types
+csa_header: Any = dicom_rules.csa_header
 put: Any = dicom_rules.put_before
 changed: Any = dicom_files.changed
 with_value: Any = dicom_files.with_value
@@ -73,4 +74,54 @@ def checks_of_own_codings(bench: Any, single: File, made: File) -> Iterator[Chec
     yield told(bench, "codestreams behind the end of one copy", [true + foreign, zeros], true)
 
 
-WAYS = [checks_of_swallowed, checks_of_words_again, checks_of_own_codings]
+def checks_of_letters(bench: Any, made: File, rng: random.Random) -> Iterator[Check]:
+    """In a long text of a CSA header bytes beyond ASCII are damage, unless they are few among letters, or UTF-8."""
+    true = with_value(made, csa_header(rng))[0]
+    at = true.index(b"sSlice[60]")
+    name = changed(true, (at, "Prüfung".encode()))
+    pairs: dict[str, tuple[bytes, bytes, bool]] = {
+        "a byte": (true, changed(true, (at, b"\xcd")), True),
+        "noise": (true, changed(true, (at, b"\xf9\x93\x96T\xc5\x92Y\xa5")), True),
+        "a letter of UTF-8": (changed(true, (at, "ü".encode())), true, False),
+        "a name in UTF-8": (name, changed(name, (at, b"Another1")), False),
+        "a line with a letter": (changed(true, (at - 9, b"of the Pr\xfcfung")), changed(true, (at - 9, b"a sector again!!")), False),
+        "a byte near the begin of a text": (true, changed(true, (true.index(b"sSlice[3]"), b"\xcd")), False),
+    }
+    for name, (whole, other, is_back) in pairs.items():
+        for order in ([whole, other], [other, whole]):
+            yield told(bench, f"{name} in a CSA header", order, whole, is_back)
+    sector = -(-true.index(b"sSlice[20]") // 512) * 512
+    begins = [true.index(b"sSlice[%d]" % line) for line in (1, 7, 13, 55, 61, 67, 73, 79)]
+    many = changed(true, *((place, b"\1") for place in begins), (sector, rng.randbytes(512)))
+    yield told(bench, "a CSA header with control characters and a sector of noise", [many, true], true)
+
+
+def checks_of_sectors_of_text(bench: Any, made: File, rng: random.Random) -> Iterator[Check]:
+    """A sector of one text again and again was lost, from border to border; elsewhere, or if it goes on, it can be true."""
+    lines = b"".join(b"<Step.%d> sSlice[%d].dTra = -%d.%03d\n" % (at % 7, at % 40, at % 91, at * 7 % 1000) for at in range(200))
+    true, fill = with_value(made, lines)[0], (b"BAD-SECTOR \n" * 43)[:512]
+    text = b"BAD-SECTOR \n" * 90
+    goes_on = changed(true, (2048 - 36, text[: 512 + 36]))
+    flip, other = (true.index(lines[-400:-390]), b"Q"), changed(true, (true.index(made.frames[0]) + 70, bytes(8)))
+    both = changed(true, (2048, fill), (1024, fill))
+    csa, noise = with_value(made, csa_header(rng))[0], rng.randbytes(512)
+    strange = b"".join(element(0x180050 + at, "DS", str(at * 7919)) for at in range(60))[:512]
+    begin = -(-csa.index(b"sSlice[10]") // 512) * 512
+    for name, wanted, copies, is_back in (
+        ("a sector", true, [changed(true, (2048, fill)), other], True),
+        ("two sectors", true, [both, other], True),
+        ("a sector in each", true, [changed(true, (2048, fill)), changed(true, (4096, fill))], True),
+        ("a range that is no sector", true, [changed(true, (2100, fill)), other], False),
+        ("a text that goes on before a sector", goes_on, [goes_on, changed(goes_on, (2048, lines[:512]))], False),
+        ("a sector, and zeros in the other copy", true, [changed(true, (2048, fill)), changed(true, (2048, bytes(512)))], False),
+        ("a sector, and noise in the other copy", true, [changed(true, (2048, fill)), changed(true, (2048, noise))], False),
+        ("a sector, and elements in the other copy", true, [changed(true, (2048, fill)), changed(true, (2048, strange))], False),
+        ("zeros, and elements in the other copy", true, [changed(true, (2048, bytes(512))), changed(true, (2048, strange))], False),
+        ("a sector, and damage behind it in a CSA header", csa, [changed(csa, (begin, fill)), changed(csa, (begin + 640, b"\1"))], True),
+        ("a sector, and a letter", true, [changed(true, (2048, fill)), changed(true, flip)], False),
+    ):
+        for order in (copies, copies[::-1]):
+            yield told(bench, f"{name} (sectors of one text)", order, wanted, is_back)
+
+
+WAYS = [checks_of_swallowed, checks_of_words_again, checks_of_own_codings, checks_of_letters, checks_of_sectors_of_text]

@@ -16,8 +16,9 @@ from collections.abc import Iterable, Iterator, Sequence
 from typing import TYPE_CHECKING, Optional
 
 from jls_tools.dicom.axis.align import Copy
-from jls_tools.dicom.axis.bad_places import Range, in_both, outside, period_of
+from jls_tools.dicom.axis.bad_places import Range, in_both, outside
 from jls_tools.dicom.axis.media import SECTOR
+from jls_tools.dicom.axis.periods import period_of
 from jls_tools.dicom.axis.placed import in_no_copy
 from jls_tools.dicom.read.elements import DELIMITER
 from jls_tools.dicom.result import Place
