@@ -106,6 +106,7 @@ def checks_of_sectors_of_text(bench: Any, made: File, rng: random.Random) -> Ite
     both = changed(true, (2048, fill), (1024, fill))
     csa, noise = with_value(made, csa_header(rng))[0], rng.randbytes(512)
     strange = b"".join(element(0x180050 + at, "DS", str(at * 7919)) for at in range(60))[:512]
+    words = (b"sSlice[7].dTra = -7.7\n" * 24)[:512]
     begin = -(-csa.index(b"sSlice[10]") // 512) * 512
     for name, wanted, copies, is_back in (
         ("a sector", true, [changed(true, (2048, fill)), other], True),
@@ -116,6 +117,7 @@ def checks_of_sectors_of_text(bench: Any, made: File, rng: random.Random) -> Ite
         ("a sector, and zeros in the other copy", true, [changed(true, (2048, fill)), changed(true, (2048, bytes(512)))], False),
         ("a sector, and noise in the other copy", true, [changed(true, (2048, fill)), changed(true, (2048, noise))], False),
         ("a sector, and elements in the other copy", true, [changed(true, (2048, fill)), changed(true, (2048, strange))], False),
+        ("words of the value, and elements", true, [changed(true, (2048, words)), changed(true, (2048, strange))], False),
         ("zeros, and elements in the other copy", true, [changed(true, (2048, bytes(512))), changed(true, (2048, strange))], False),
         ("a sector, and damage behind it in a CSA header", csa, [changed(csa, (begin, fill)), changed(csa, (begin + 640, b"\1"))], True),
         ("a sector, and a letter", true, [changed(true, (2048, fill)), changed(true, flip)], False),
