@@ -118,6 +118,7 @@ def checks_of_sectors_of_text(bench: Any, made: File, rng: random.Random) -> Ite
         ("a sector, and noise in the other copy", true, [changed(true, (2048, fill)), changed(true, (2048, noise))], False),
         ("a sector, and elements in the other copy", true, [changed(true, (2048, fill)), changed(true, (2048, strange))], False),
         ("words of the value, and elements", true, [changed(true, (2048, words)), changed(true, (2048, strange))], False),
+        ("noise, and elements in the other copy", true, [changed(true, (2048, noise)), changed(true, (2048, strange))], False),
         ("zeros, and elements in the other copy", true, [changed(true, (2048, bytes(512))), changed(true, (2048, strange))], False),
         ("a sector, and damage behind it in a CSA header", csa, [changed(csa, (begin, fill)), changed(csa, (begin + 640, b"\1"))], True),
         ("a sector, and a letter", true, [changed(true, (2048, fill)), changed(true, flip)], False),

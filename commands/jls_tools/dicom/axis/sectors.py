@@ -156,6 +156,8 @@ class Pair:
         edges = (self.own[begin : begin + BESIDE], self.own[end - BESIDE : end])
         if not (all(map(is_plain, beside)) and all(map(is_noise, edges)) and is_plain(other) and self.agree_beside(begin, end)):
             return False
+        if self.is_of_another_kind(self.other, begin, end):
+            return False
         if other.strip(other[:1]):
             return all(map(self.is_other_plain, range(begin, end, SECTOR)))
         return beside[0].endswith(other[:1] * LEAST) or beside[1].startswith(other[:1] * LEAST)
@@ -184,6 +186,8 @@ class Pair:
     def ends_as_noise(self, begin: int, end: int) -> bool:
         """Whether noise of a copy begins or ends at a border of sectors, where the other copy has none."""
         if not all(is_noise(self.own[at : min(at + SECTOR, end)]) and self.is_other_plain(at) for at in range(begin, end, SECTOR)):
+            return False
+        if self.is_of_another_kind(self.other, begin, end):
             return False
         before, after = self.own[max(0, begin - BESIDE) : begin], self.own[end : end + BESIDE]
         begins = is_plain(before) and is_noise(self.own[begin : begin + BESIDE]) and self.agree(begin - BESIDE, begin)
