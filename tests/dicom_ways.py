@@ -9,6 +9,7 @@ from typing import Any
 import dicom_files
 import dicom_pairs
 import dicom_rules
+import dicom_truth
 from dicom_files import File, element
 from jls_tools.dicom.axis.align import meet_again
 
@@ -17,7 +18,10 @@ csa_header: Any = dicom_rules.csa_header
 put: Any = dicom_rules.put_before
 changed: Any = dicom_files.changed
 with_value: Any = dicom_files.with_value
+case: Any = dicom_truth.case
 Check = tuple[str, bool]
+# 200 lines of 8 samples 0 of 12 bits: with the header of its item it has 64 bytes, so that all sectors of such frames are equal
+BLANK = bytes.fromhex("ffd8fff7000b0c00c8000801011100ffda0008010100000000ff7fff7fff7fff7fff7fff7fff7fff7fff7fff7fff7fff7fff7fff7effd9")
 
 
 def checks_of_swallowed(bench: Any, made: File) -> Iterator[Check]:
@@ -127,4 +131,15 @@ def checks_of_sectors_of_text(bench: Any, made: File, rng: random.Random) -> Ite
             yield told(bench, f"{name} (sectors of one text)", order, wanted, is_back)
 
 
+def checks_of_even_frames(bench: Any) -> Iterator[Check]:
+    """Sectors of even frames stand in the file again and again. That of one copy is at its place where most of it is in another one too."""
+    true = File([BLANK] * 40, 12, 8, 200)
+    for size, status in ((40, 0), (400, 1)):
+        begin = true.items[20] - true.items[20] % 512 + 60
+        other = changed(true.bytes, (begin, random.Random(6).randbytes(size)))
+        words = "" if status == 0 else "stands elsewhere in the file too"
+        yield case(bench, f"even frames, and {size} bytes of noise", [true.bytes, other], status, b"" if status else true.bytes, words)
+
+
 WAYS = [checks_of_swallowed, checks_of_words_again, checks_of_own_codings, checks_of_letters, checks_of_sectors_of_text]
+WAYS += [checks_of_even_frames]
