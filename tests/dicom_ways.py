@@ -60,6 +60,8 @@ def checks_of_words_again(bench: Any, made: File) -> Iterator[Check]:
     word = b"sCoil[3].dGain = 0.70710678 and sCoil[4].dGain = 0.70710678\n"
     whole, begin = own[0] + own[1][:300] + word + own[1][300:] + word + own[2], len(own[0])
     end = whole.rindex(word)
+    returned = own[0] + b"\r" + own[1][:130] + b"\r" + own[2]
+    yield "bytes put in near each other", meet_again(own[0] + own[1][:130] + own[2], returned, begin, begin) == (begin, begin + 1)
     yield "a loss that has in it the words behind it", meet_again(own[0] + word + own[2], whole, begin, begin) == (begin, end)
 
 

@@ -108,17 +108,38 @@ def anchor_at(data: bytes, at: int) -> Optional[bytes]:
 def meet_again(one: bytes, other: bytes, at: int, beside: int) -> Optional[tuple[int, int]]:
     """The next offsets (in both) from which they are equal again, with bytes lost between or not; nothing if there are none.
 
-    Of several from which both go on alike the nearest is taken, as what is lost may stand a second time further on. If there is none, what
-    follows is damaged too, and the nearest is taken.
+    Of several from which both go on alike the nearest is taken, as what is lost may stand a second time further on. A nearer one counts
+    where more is lost or damaged behind it, if fewer bytes are lost and differ on the way through it.
     """
-    found: list[tuple[bool, int, tuple[int, int]]] = []
+    alike: Optional[tuple[int, tuple[int, int]]] = None
+    near: Optional[tuple[int, tuple[int, int]]] = None
     for step in STEPS:
-        if found and found[0][:2] <= (False, step):
+        if alike is not None and alike[0] <= step:
             break
         for meet in meetings(one, other, at, beside, step):
-            found.append((not go_on_alike(one, other, *meet), max(meet[0] - at, meet[1] - beside), meet))
-        found = sorted(found)[:1]
-    return found[0][2] if found else None
+            found = max(meet[0] - at, meet[1] - beside), meet
+            if go_on_alike(one, other, *meet):
+                alike = min(found, alike or found)
+            else:
+                near = min(found, near or found)
+    if alike is None or near is None:
+        best = alike or near
+        return best[1] if best is not None else None
+    is_through = near < alike and is_shorter_through(one, other, (at, beside), near[1], alike[1])
+    return near[1] if is_through else alike[1]
+
+
+def is_shorter_through(one: bytes, other: bytes, begin: tuple[int, int], near: tuple[int, int], far: tuple[int, int]) -> bool:
+    """Whether fewer bytes are lost and differ up to a place where both go on alike, by way of a nearer one where they meet."""
+    (shift, apart), (last, until) = (shift_to(begin, near), shift_to(begin, far))
+    behind = max(0, until - apart - equal_length(one, other, *near))
+    return abs(shift) + abs(last - shift) + apart + behind < abs(last) + until
+
+
+def shift_to(begin: tuple[int, int], meet: tuple[int, int]) -> tuple[int, int]:
+    """How many bytes more one of two skips than the other up to a place, and how many both do."""
+    one, other = meet[0] - begin[0], meet[1] - begin[1]
+    return one - other, min(one, other)
 
 
 def go_on_alike(one: bytes, other: bytes, at: int, beside: int) -> bool:
