@@ -12,6 +12,11 @@ import dicom_rules
 import dicom_truth
 from dicom_files import File, element
 from jls_tools.dicom.axis.align import meet_again
+from jls_tools.dicom.axis.leads import leads
+from jls_tools.dicom.copies.instance import shares_pieces
+from jls_tools.dicom.evidence.doubtful import hole_in_text
+from jls_tools.dicom.result import Place
+from jls_tools.frames.codings import PIECE, PIECES
 
 told: Any = dicom_pairs.told  # the other checks have no types
 csa_header: Any = dicom_rules.csa_header
@@ -143,5 +148,20 @@ def checks_of_even_frames(bench: Any) -> Iterator[Check]:
         yield case(bench, f"even frames, and {size} bytes of noise", [true.bytes, other], status, b"" if status else true.bytes, words)
 
 
+def checks_of_likeness(made: File) -> Iterator[Check]:
+    """Where a copy begins, whether files share pieces of scans, and whether a hole stands beside what one copy alone has."""
+    rng, model = random.Random(13), made.bytes
+    yield "a beginning in another file is no begin of it", leads([bytes(2048) + model[:700] + rng.randbytes(len(model)), model]) == {}
+    yield "bytes before the preamble", leads([bytes(2048) + model, model]) == {0: 2048}
+    scan, other = (bytes(rng.randrange(0x80) for _ in range(PIECE * PIECES * 3)) for _ in range(2))
+    yield "scans that share nothing", not shares_pieces(scan, other, 0)
+    yield "one piece at its place", shares_pieces(scan, other[:PIECE] + scan[PIECE : 2 * PIECE] + other[2 * PIECE :], 0)
+    yield "an even scan says nothing", shares_pieces(bytes(1000), other, 0)
+    data = b"a" * 100 + bytes(20) + b"b" * 100
+    for begin, end, found in ((90, 100, 100), (120, 130, 100), (88, 99, None), (121, 130, None)):
+        place = Place(begin, end - begin, "", [(["one"], b"a"), (["other"], b"b")], 0)
+        yield f"a hole beside {begin} to {end}", hole_in_text([place], data) == found
+
+
 WAYS = [checks_of_swallowed, checks_of_words_again, checks_of_own_codings, checks_of_letters, checks_of_sectors_of_text]
-WAYS += [checks_of_even_frames]
+WAYS += [checks_of_even_frames, checks_of_likeness]
