@@ -3,6 +3,7 @@ from __future__ import annotations
 
 import random
 import struct
+import types
 from collections.abc import Iterator
 from typing import Any
 
@@ -14,7 +15,9 @@ from dicom_files import File, element
 from jls_tools.dicom.axis.align import meet_again
 from jls_tools.dicom.axis.leads import leads
 from jls_tools.dicom.copies.instance import shares_pieces
+from jls_tools.dicom.copies.witness import Witness
 from jls_tools.dicom.evidence.doubtful import hole_in_text
+from jls_tools.dicom.read.tags import ALLOCATED, SIGN, STORED
 from jls_tools.dicom.result import Place
 from jls_tools.frames.codings import PIECE, PIECES
 
@@ -163,5 +166,19 @@ def checks_of_likeness(made: File) -> Iterator[Check]:
         yield f"a hole beside {begin} to {end}", hole_in_text([place], data) == found
 
 
+def checks_of_signed_samples() -> Iterator[Check]:
+    """Samples below zero of a copy that is not compressed: other bits above them are no samples."""
+    sizes = {ALLOCATED: 16, STORED: 12, SIGN: 1}
+    copy: Any = types.SimpleNamespace(number=sizes.__getitem__)
+    for samples, precision, found in (
+        ([5, 0xFFFF], 12, [5, 0xFFF]),
+        ([5, 0xFFFF], 16, [5, 0xFFFF]),
+        ([5, 0x0FFF], 12, [5, 0xFFF]),
+        ([5, 0x1005], 12, None),
+        ([5, 0xFFFF], 14, None),
+    ):
+        yield f"{samples} in {precision} bits", Witness.in_bits(copy, samples, precision) == found
+
+
 WAYS = [checks_of_swallowed, checks_of_words_again, checks_of_own_codings, checks_of_letters, checks_of_sectors_of_text]
-WAYS += [checks_of_even_frames, checks_of_likeness]
+WAYS += [checks_of_even_frames, checks_of_likeness, checks_of_signed_samples]
