@@ -18,6 +18,7 @@ ANCHOR_KINDS = 8
 STEPS = (0, 16, 48, 128, 256, 512, 768, 1024, 2048, 4096, 6144, 8192, 16384, 32768, 65536)
 BLOCK = 1 << 16
 WINDOW = 256
+CLOSE = 16  # a place where both meet after so few bytes counts, whatever follows it
 FURTHER = 384  # so many bytes show whether two copies go on alike
 LEAST_GAIN = 8  # so many bytes of a window differ, at least, where bytes before it are lost
 MOST_LOOKS = 256  # so often it is looked whether bytes are lost where most of what comes is equal
@@ -114,7 +115,7 @@ def meet_again(one: bytes, other: bytes, at: int, beside: int) -> Optional[tuple
     alike: Optional[tuple[int, tuple[int, int]]] = None
     near: Optional[tuple[int, tuple[int, int]]] = None
     for step in STEPS:
-        if alike is not None and alike[0] <= step:
+        if alike is not None and alike[0] <= step or near is not None and near[0] <= CLOSE:
             break
         for meet in meetings(one, other, at, beside, step):
             found = max(meet[0] - at, meet[1] - beside), meet
