@@ -93,8 +93,11 @@ def checks_of_transfers(bench, made):
         later = changed(sent, (sent.index(made.frames[0][:8]) + 70, bytes(8)))
         for copies in ([sent, other], [other, sent], [later, other], [later, other, changed(true, (at, b"\0\0"))]):
             yield case(bench, f"{name}, one copy sent as text", copies, 0, true, "carriage return before each line feed")
-        printed = bench.mend([sent, later])[2]
-        yield f"{name}, each copy sent as text: nothing is undone ({printed})", "carriage return" not in printed
+        for copies in ([sent, later], [sent, true[: len(true) // 2]], [later, later, sent]):
+            yield case(bench, f"{name}, each copy sent as text", copies, 0, true, "carriage return before each line feed")
+        both = [changed(later, (sent.index(b"MONOCHROME2") - 4, b"??")), changed(sent, (sent.index(b"MONOCHROME2") - 4, b"!!"))]
+        printed = bench.mend(both)[2]
+        yield f"{name}, and neither copy reads: nothing is undone ({printed})", "carriage return" not in printed
     true, at = with_value(made, 4 * lines.replace(b"\n", b"\r\n"))
     copies = [sent_as_text(true), damaged_value(true, at)]
     yield case(bench, "carriage returns and line feeds alone, one copy sent as text", copies, 0, true, "carriage return before each")

@@ -176,6 +176,13 @@ def checks_of_tails(bench, made, neighbour):
     sums = ["--sha256", hashlib.sha256(true).hexdigest()]
     yield case(bench, "the same, and a sum without it", alone, 0, true, "matched", sums)
     yield case(bench, "two tails that differ", [true + zeros, true + noise], 1, b"", "what stands after the last element")
+    rests = [random.Random(seed).randbytes(-len(true) % 4096) for seed in (5, 6)]
+    for order in (rests, rests[::-1]):
+        yield case(bench, "rests of other files up to a border", [true + order[0], damaged(made) + order[1]], 0, true, "they were cut from")
+    both = [true + rests[0], damaged(made) + rests[1][:-2]]
+    yield case(bench, "rests of other files, of which one ends at no border", both, 1, b"", "what stands after the last element")
+    both = [true + rests[0], damaged(made) + zeros]
+    yield case(bench, "the rest of another file, and zeros", both, 1, b"", "what stands after the last element")
     padding = changed(true, (len(true) - 42, b"\x13\x57\x9b\xdf"))
     yield case(bench, "the last element's tag is damaged", [padding, damaged(made)], 0, true)
     both = [changed(true, (len(true) - 38, b"z")), changed(true, (len(true) - 36, b"\x07"))]

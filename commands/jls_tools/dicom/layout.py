@@ -6,8 +6,9 @@ from typing import Optional
 
 from jls_tools.dicom.axis import inserted
 from jls_tools.dicom.axis.align import SHIFTED, Copy, differing, on_one_axis, size_of
-from jls_tools.dicom.axis.bad_places import TEXT, Range
+from jls_tools.dicom.axis.bad_places import Range
 from jls_tools.dicom.axis.inserted import SMALLEST_ELEMENT
+from jls_tools.dicom.axis.periods import TEXT
 from jls_tools.dicom.axis.placed import placed
 from jls_tools.dicom.axis.runs import FINEST, Runs
 from jls_tools.dicom.axis.stuck import unstuck

@@ -8,6 +8,7 @@ from typing import NamedTuple, Optional
 from jls_tools.frames.codestream import HEADERS, USUAL_RESET, usual_thresholds
 
 PIECE, KINDS, PIECES = 16, 8, 64  # bytes of a piece, different bytes of it at least, and how many are sought in another codestream
+INTERLEAVES = (0, 1, 2)  # none, by line, by sample
 SAME = 0.66  # such a share of pieces stands in a codestream of the same coding, after the first difference. With other restarts half do
 
 
@@ -46,9 +47,14 @@ def coding_of(stream: bytes) -> Optional[Coding]:
             given = struct.unpack_from(">5H", segment, 1)
         elif code == 0xDD:
             rows = int.from_bytes(segment, "big")
-        elif code == 0xDA and len(segment) >= 4 and 2 <= precision <= 16:
+        elif code == 0xDA and len(segment) >= 4 and 2 <= precision <= 16 and is_interleave(segment[0], segment[-2]):
             return Coding(precision, presets(precision, given), rows, (segment[0], segment[-2]))
     return None
+
+
+def is_interleave(components: int, mode: int) -> bool:
+    """Whether a scan of so many components can be interleaved so (T.87, C.2.3): one alone is in mode 0."""
+    return mode in INTERLEAVES and (components > 1 or mode == 0)
 
 
 def presets(precision: int, given: tuple[int, ...]) -> tuple[int, ...]:

@@ -18,6 +18,8 @@ ANCHOR_KINDS = 8
 STEPS = (0, 16, 48, 128, 256, 512, 768, 1024, 2048, 4096, 6144, 8192, 16384, 32768, 65536)
 BLOCK = 1 << 16
 WINDOW = 256
+CLOSE = 16  # a place where both meet after so few bytes counts, whatever follows it
+FURTHER = 384  # so many bytes show whether two copies go on alike
 LEAST_GAIN = 8  # so many bytes of a window differ, at least, where bytes before it are lost
 MOST_LOOKS = 256  # so often it is looked whether bytes are lost where most of what comes is equal
 SHARE_APART = 64  # fewer than one in so many bytes differ where copies of one length were damaged in place
@@ -107,17 +109,44 @@ def anchor_at(data: bytes, at: int) -> Optional[bytes]:
 def meet_again(one: bytes, other: bytes, at: int, beside: int) -> Optional[tuple[int, int]]:
     """The next offsets (in both) from which they are equal again, with bytes lost between or not; nothing if there are none.
 
-    Of several the nearest is taken: what is lost may stand a second time further on.
+    Of several from which both go on alike the nearest is taken, as what is lost may stand a second time further on. A nearer one counts
+    where more is lost or damaged behind it, if fewer bytes are lost and differ on the way through it.
     """
-    best, least = None, 0
+    alike: Optional[tuple[int, tuple[int, int]]] = None
+    near: Optional[tuple[int, tuple[int, int]]] = None
     for step in STEPS:
-        if best is not None and step >= least:
+        if alike is not None and alike[0] <= step or near is not None and near[0] <= CLOSE:
             break
         for meet in meetings(one, other, at, beside, step):
-            skipped = meet[0] - at + meet[1] - beside
-            if best is None or skipped < least:
-                best, least = meet, skipped
-    return best
+            found = max(meet[0] - at, meet[1] - beside), meet
+            if go_on_alike(one, other, *meet):
+                alike = min(found, alike or found)
+            else:
+                near = min(found, near or found)
+    if alike is None or near is None:
+        best = alike or near
+        return best[1] if best is not None else None
+    is_through = near < alike and is_shorter_through(one, other, (at, beside), near[1], alike[1])
+    return near[1] if is_through else alike[1]
+
+
+def is_shorter_through(one: bytes, other: bytes, begin: tuple[int, int], near: tuple[int, int], far: tuple[int, int]) -> bool:
+    """Whether fewer bytes are lost and differ up to a place where both go on alike, by way of a nearer one where they meet."""
+    (shift, apart), (last, until) = (shift_to(begin, near), shift_to(begin, far))
+    behind = max(0, until - apart - equal_length(one, other, *near))
+    return abs(shift) + abs(last - shift) + apart + behind < abs(last) + until
+
+
+def shift_to(begin: tuple[int, int], meet: tuple[int, int]) -> tuple[int, int]:
+    """How many bytes more one of two skips than the other up to a place, and how many both do."""
+    one, other = meet[0] - begin[0], meet[1] - begin[1]
+    return one - other, min(one, other)
+
+
+def go_on_alike(one: bytes, other: bytes, at: int, beside: int) -> bool:
+    """Whether most bytes are equal for long at these offsets: words stand a second time, but seldom so much."""
+    left, right = one[at : at + FURTHER], other[beside : beside + FURTHER]
+    return sum(a == b for a, b in zip(left, right)) * 4 >= 3 * max(len(left), len(right))
 
 
 def meetings(one: bytes, other: bytes, at: int, beside: int, step: int) -> Iterator[tuple[int, int]]:

@@ -11,31 +11,17 @@ from collections.abc import Iterable, Iterator, Sequence
 
 from jls_tools.dicom.axis.align import merged
 from jls_tools.dicom.axis.media import SECTOR
+from jls_tools.dicom.axis.periods import period_of
 from jls_tools.frames.codestream import without_padding
 
 Range = tuple[int, int]
-TEXT_BEGIN = re.compile(rb"[\t\n\r\x20-\x7e]{64}")
-TEXT = re.compile(rb"[\t\n\r\x20-\x7e]+\Z")
 # what `ddrescue --fill-mode=l` puts before the fill
 LOCATION = re.compile(rb"\n# position 0x[0-9A-Fa-f]{1,16} sector 0x[0-9A-Fa-f]{1,16} status . ")
-LONGEST_TEXT = 128  # bytes, after which a fill text begins anew
-KNOWN_BY = 16  # so many bytes of a text are sought behind it
 LEAST_REST = 64  # bytes of one value behind the last border of sectors, if the sector before them is not bad
 NO_CODE = b"\xff\x80"  # neither code nor a marker (T.87, A.1): an interval with it never decodes
 RESTART = re.compile(rb"\xff[\xd0-\xd7\xda]")  # a restart marker, or a scan header
 END = 1 << 62  # behind all
 MOST_PARTS = 32  # of a codestream that are read
-
-
-def period_of(sector: bytes) -> int:
-    """After how many bytes a sector repeats, if it is one value, 1, or one short text again and again; else 0."""
-    if sector.count(sector[:1]) == len(sector):
-        return 1
-    if not TEXT_BEGIN.match(sector):
-        return 0
-    period = sector.find(sector[:KNOWN_BY], 1, LONGEST_TEXT + KNOWN_BY)
-    is_again = period > 0 and sector[period:] == sector[:-period] and bool(TEXT.match(sector))
-    return period if is_again else 0
 
 
 def is_filled(sector: bytes) -> bool:

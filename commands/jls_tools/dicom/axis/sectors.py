@@ -11,6 +11,7 @@ from collections.abc import Iterable, Iterator, Sequence
 from typing import Optional
 
 from jls_tools.dicom.axis.media import MOST_LOST, SECTOR
+from jls_tools.dicom.axis.periods import period_of
 from jls_tools.dicom.read.elements import Element
 
 NEAR = 3  # so many bytes of the one value can stand before a border of sectors by chance
@@ -23,6 +24,7 @@ SHARE = len(PLAIN) / 256
 FITS, STRANGE, LEAST_MORE, MOST_BITS = 1.0, 2.0, 3.0, 5.0  # bits a byte
 LOST_VALUES = (b"\0", b"\xff")  # what stands where bytes were lost
 IS_VALUE, IS_NOISE = "others are one value, from border to border of sectors", "others are noise"
+IS_TEXT = "others are one text again and again, from border to border of sectors"
 IS_STRANGE = "others are of another kind, from border to border of sectors"
 LONGEST_SUM = 64  # bytes, of SHA-512
 
@@ -107,12 +109,25 @@ class Pair:
         value = own[:1]
         if own.strip(value) or len(other) - other.count(value) < LEAST or is_noise(other):
             return False
-        if not self.agree_beside(begin, end):
+        if not self.agree_beside(begin, end) or self.is_of_another_kind(self.other, begin, end):
             return False
         before = run_length(self.own[max(0, begin - WINDOW) : begin][::-1], value)
         after = run_length(self.own[end : end + WINDOW], value)
         sides = (self.side(before, run_length(other, value), begin), self.side(after, run_length(other[::-1], value), end))
         return None not in sides and ("exact" in sides or sides == ("near", "near"))
+
+    def is_one_text(self, begin: int, end: int) -> bool:
+        """Whether a copy has one text again and again from border to border, and neither beyond nor in the other copy."""
+        period = period_of(self.own[begin : begin + SECTOR])
+        if period < 2 or self.own[begin + period : end] != self.own[begin : end - period] or begin == 0 or end == self.total:
+            return False
+        first, last = max(0, begin - NEAR - 1), min(self.total, end + NEAR + 1)
+        is_before = self.own[first:begin] == self.own[first + period : begin + period]
+        goes_on = is_before or self.own[end:last] == self.own[end - period : last - period]
+        others = [self.other[at : min(at + SECTOR, end)] for at in range(begin, end, SECTOR)]
+        if goes_on or any(period_of(part) or is_noise(part) for part in others) or not self.agree_beside(begin, end):
+            return False
+        return not self.is_of_another_kind(self.other, begin, end)
 
     def side(self, outside: int, inside: int, border: int) -> Optional[str]:
         """What speaks for it that one value begins at a border of sectors: how many stand outside, and inside of the other copy.
@@ -141,29 +156,38 @@ class Pair:
         edges = (self.own[begin : begin + BESIDE], self.own[end - BESIDE : end])
         if not (all(map(is_plain, beside)) and all(map(is_noise, edges)) and is_plain(other) and self.agree_beside(begin, end)):
             return False
+        if self.is_of_another_kind(self.other, begin, end):
+            return False
         if other.strip(other[:1]):
-            return all(is_plain(self.other[at : min(at + SECTOR, end)]) for at in range(begin, end, SECTOR))
+            return all(map(self.is_other_plain, range(begin, end, SECTOR)))
         return beside[0].endswith(other[:1] * LEAST) or beside[1].startswith(other[:1] * LEAST)
 
     def is_strange(self, begin: int, end: int) -> bool:
         """Whether a copy has bytes of another kind from border to border than the value has before and after, and the other has not."""
-        left, right = self.beside(begin, end)
-        if len(left) < CONTEXT or len(right) < CONTEXT:
-            return False
-        limit, kind = self.limit(left, right)
-        inner = (self.own[begin : begin + BESIDE], self.own[end - BESIDE : end], self.own[begin:end])
-        if limit > MOST_BITS or any(kind.bits(part) < limit + STRANGE for part in inner):
-            return False
         sectors = range(begin, end, SECTOR)
+        if not self.is_of_another_kind(self.own, begin, end) or any(period_of(self.other[at : at + SECTOR]) > 1 for at in sectors):
+            return False
+        limit, kind = self.limit(*self.beside(begin, end))
         others = [kind.bits(self.other[at : at + SECTOR]) for at in sectors]
         owns = [kind.bits(self.own[at : at + SECTOR]) for at in sectors]
         if sum(others) > (limit + FITS) * len(sectors) or sum(owns) < sum(others) + LEAST_MORE * len(sectors):
             return False
         return all(other < own for own, other in zip(owns, others))
 
+    def is_of_another_kind(self, data: bytes, begin: int, end: int) -> bool:
+        """Whether one of both has bytes of another kind in a range than the value has before and after, from its first to its last."""
+        left, right = self.beside(begin, end)
+        if len(left) < CONTEXT or len(right) < CONTEXT:
+            return False
+        limit, kind = self.limit(left, right)
+        inner = (data[begin : begin + BESIDE], data[end - BESIDE : end], data[begin:end])
+        return limit <= MOST_BITS and all(kind.bits(part) >= limit + STRANGE for part in inner)
+
     def ends_as_noise(self, begin: int, end: int) -> bool:
         """Whether noise of a copy begins or ends at a border of sectors, where the other copy has none."""
         if not all(is_noise(self.own[at : min(at + SECTOR, end)]) and self.is_other_plain(at) for at in range(begin, end, SECTOR)):
+            return False
+        if self.is_of_another_kind(self.other, begin, end):
             return False
         before, after = self.own[max(0, begin - BESIDE) : begin], self.own[end : end + BESIDE]
         begins = is_plain(before) and is_noise(self.own[begin : begin + BESIDE]) and self.agree(begin - BESIDE, begin)
@@ -242,7 +266,9 @@ class Pair:
         return (begin - before) % SECTOR <= NEAR and (end + after) % SECTOR <= NEAR
 
     def is_other_plain(self, begin: int) -> bool:
-        return is_plain(self.other[begin : begin + SECTOR])
+        """Whether the other copy has neither noise in a sector nor one text again and again, which can have been written over it."""
+        sector = self.other[begin : begin + SECTOR]
+        return is_plain(sector) and period_of(sector) < 2
 
     def limit(self, left: bytes, right: bytes) -> tuple[float, Kind]:
         """The bits that a byte costs of what stands beside a range, and the kind of what stands farther from it."""
@@ -267,6 +293,8 @@ class Pair:
             for first, last in blocks(self.own, begin, end):
                 if self.is_one_value(first, last):
                     yield first, last, IS_VALUE, False
+                elif self.is_one_text(first, last):
+                    yield first, last, IS_TEXT, False
                 elif self.is_own_noise(first, last):
                     yield first, last, IS_NOISE, False
                 elif self.ends_as_noise(first, last):
@@ -300,12 +328,14 @@ def apart(one: bytes, other: bytes, places: Iterable[int]) -> list[tuple[int, in
 
 
 def form_of(data: bytes) -> Optional[bytes]:
-    """One value, noise, or neither."""
-    return data[:1] if not data.strip(data[:1]) else b"noise" if is_noise(data) else None
+    """One value, one text again and again, noise, or none of these."""
+    if not data.strip(data[:1]):
+        return data[:1]
+    return b"text" if period_of(data) else b"noise" if is_noise(data) else None
 
 
 def blocks(data: bytes, begin: int, end: int) -> list[tuple[int, int]]:
-    """The parts of a range of sectors that are one value or noise, and the range itself."""
+    """The parts of a range of sectors that are one value, one text or noise, and the range itself."""
     found = {(begin, end): None}
     first, form = begin, form_of(data[begin : min(begin + SECTOR, end)])
     for at in range(begin + SECTOR, end + SECTOR, SECTOR):

@@ -1,6 +1,7 @@
 """Bytes after the last element of a copy: the rest of a sector, of a block of a tape, or of an older file.
 
-A tail is cut where a copy that reads whole lacks it, where most copies lack it, or where another copy ends just where the elements do. One
+A tail is cut where a copy that reads whole lacks it, where most copies lack it, or where another copy ends just where the elements do. If
+all copies read to one place, and go on to the end of a sector with bytes of their own that are no padding, these are cut from all. A tail
 that all copies have stays. Another one is undecided: then a SHA-256 alone can say which file is true.
 """
 from __future__ import annotations
@@ -9,9 +10,11 @@ from collections import Counter
 from dataclasses import dataclass, field
 from typing import Optional
 
+from jls_tools.dicom.axis.media import SECTOR
 from jls_tools.dicom.read.elements import DELIMITER, UNDEFINED, has_prefix, walk
 from jls_tools.dicom.read.reading import Reading
 
+BEGIN = 8  # so many bytes of a tail, or fewer, differ from those of others that have nothing to do with it
 BESIDE = 64  # so many bytes before the end of a whole copy are equal in one that goes on behind it
 
 
@@ -44,6 +47,8 @@ def without_tails(texts: list[bytes]) -> Tails:
     end = next((end for text, end in zip(texts, ends) if end is not None and end < len(text)), None)
     if end is None or any(other not in (None, end) for other in ends):
         return found
+    if None not in ends and are_strange(texts, end):
+        return Tails([text[:end] for text in texts], list(range(len(texts))), [b"", *(text[end:] for text in texts)])
     # One that does not read whole can be longer and end as a file does: bytes were put into it, and it has no tail
     longer = [at for at, text in enumerate(texts) if len(text) > end]
     with_tails = [at for at in longer if ends[at] is not None or likely[at] != len(texts[at])]
@@ -57,6 +62,17 @@ def without_tails(texts: list[bytes]) -> Tails:
     found.texts = [text[:end] if at in with_tails else text for at, text in enumerate(texts)]
     found.ways = [*tails, b""] if found.is_decided else [b"", *tails]
     return found
+
+
+def are_strange(texts: list[bytes], end: int) -> bool:
+    """Whether all copies go on to the end of a sector with something of their own that is no padding.
+
+    Else it can be an element whose header is damaged in each copy.
+    """
+    tails = [text[end:] for text in texts]
+    begins = {tail[:BEGIN] for tail in tails}
+    are_own = len(tails) == len(begins) > 1 and not are_of_one_element(tails)
+    return are_own and all(len(text) % SECTOR == 0 for text in texts) and all(tail.strip(tail[:1]) for tail in tails)
 
 
 def are_of_one_element(tails: list[bytes]) -> bool:

@@ -37,6 +37,12 @@ def streams_in(text: bytes, begin: int) -> Iterator[bytes]:
         yield text[at : min(end, at + MOST_COMPARED)]
 
 
+def streams_of_items(text: bytes) -> list[bytes]:
+    """The beginnings of the codestreams with which items begin: a foreign sector, or what stands after the end, can have others."""
+    begins = [item for item in Reading(text).items if BEGIN.match(text, item.value)]
+    return [text[item.value : min(item.end, item.value + MOST_COMPARED)] for item in begins[:MOST_LOOKED_AT]]
+
+
 @dataclass
 class Pixels:
     """Pixel Data of a copy: where it begins, where it ends if that is clear, and beginnings of its codestreams by coding."""
@@ -54,7 +60,8 @@ def pixels(text: bytes) -> Optional[Pixels]:
     is_through = end is not None
     if begin is None:
         return None
-    found = [(coding_of(stream[:HEADERS]), stream) for stream in streams_in(text, begin)]
+    streams = streams_of_items(text) if is_through else []
+    found = [(coding_of(stream[:HEADERS]), stream) for stream in streams or streams_in(text, begin)]
     known = {coding: stream for coding, stream in reversed(found) if coding is not None}
     counts = Counter(coding for coding, _ in found if coding is not None)
     if end is None and end_behind(text) == len(text) and text.rfind(DELIMITER) > begin:

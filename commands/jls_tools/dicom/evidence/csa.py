@@ -1,7 +1,8 @@
 """What a Siemens CSA header can be, as MR files have it in (0029,1010) and (0029,1020): a chain of tags and items that reaches its end.
 
 The layout is as NiBabel and GDCM read it ("SV10"). Each tag has a name, a VR and a count of items; each item says its length three times,
-and is a text with zeros after it. So bytes that were overwritten are seen, but in what stands after the end of a name.
+and is a text with zeros after it. So bytes that were overwritten are seen, but in what stands after the end of a name. A long text has only
+ASCII, but for names in it: they have few other letters, or are in UTF-8.
 """
 from __future__ import annotations
 
@@ -26,6 +27,9 @@ VRS = LONG_VRS | SHORT_VRS
 # Open places nearer than that are first taken together, but not across borders of sectors of this size, where there is one
 TOGETHER = ((128, None), *((128, sector) for sector in SECTORS), (16, SECTOR), (0, SECTOR))
 MOST_GROUPS = 8
+ASCII, BESIDE = re.compile(rb"[\t\n\r\x20-\x7e]*\Z"), 512  # so many bytes of ASCII stand before and after a place in a long text
+TEXT = bytes([9, 10, 13, *range(0x20, 0x7F)])
+SHARE = 8  # one byte in so many of damage in it, at least, is none of ASCII
 
 
 def is_chain(value: bytes) -> bool:
@@ -71,6 +75,16 @@ def behind_item(value: bytes, at: int) -> Optional[int]:
     return None if NOT_IN_TEXT.search(text) else behind
 
 
+def is_no_text(part: bytes) -> bool:
+    """Whether many of some bytes are no ASCII, and they are no UTF-8."""
+    others = len(part.translate(None, TEXT))
+    try:
+        part.decode("utf-8")
+    except UnicodeDecodeError:
+        return others * SHARE >= len(part)
+    return False
+
+
 class Chains:
     """Takes from a Header what makes a CSA header reach its end."""
 
@@ -82,6 +96,8 @@ class Chains:
             numbers = self.header.open_runs(leaf.value, leaf.end)
             if numbers and any(leaf.bytes_of(copy.data)[:8] == BEGIN for copy in self.header.copies):
                 self.decide_one(leaf, numbers)
+                for number in self.header.open_runs(leaf.value, leaf.end):
+                    self.decide_letters(leaf, number)
 
     def decide_one(self, leaf: Element, numbers: Sequence[int]) -> None:
         """Leaves of each place what some true chain has there, if it is no true chain with another way of this place alone."""
@@ -95,6 +111,18 @@ class Chains:
                         left.setdefault(number, set()).add(way)
         for number, ways in left.items():
             self.header.keep(number, ways, "its tags and items go on so")
+
+    def decide_letters(self, leaf: Element, number: int) -> None:
+        """Leaves the ways of ASCII of a place in a long text, if the others are neither mostly ASCII nor UTF-8."""
+        header, run = self.header, self.header.runs.runs[number]
+        first, last = max(leaf.value, run.begin - BESIDE), min(leaf.end, run.end + BESIDE)
+        chosen = header.chosen()
+        before, behind = (header.runs.bytes_with(*part, chosen) for part in ((first, run.begin), (run.end, last)))
+        ways = {way: run.part(way, leaf.value, leaf.end) for way in header.left[number]}
+        letters = {way for way, part in ways.items() if ASCII.match(part)}
+        are_long = len(before) == len(behind) == BESIDE and bool(ASCII.match(before + behind))
+        if are_long and all(is_no_text(part) for way, part in ways.items() if way not in letters):
+            header.keep(number, letters, "its tags and items go on so")
 
     def is_chain(self, leaf: Element, chosen: Mapping[int, int]) -> bool:
         return is_chain(self.header.runs.bytes_with(leaf.value, leaf.end, {**self.header.chosen(), **chosen}))

@@ -13,11 +13,13 @@ from __future__ import annotations
 import re
 from collections import Counter
 from collections.abc import Iterable, Iterator, Sequence
+from operator import ne
 from typing import TYPE_CHECKING, Optional
 
 from jls_tools.dicom.axis.align import Copy
-from jls_tools.dicom.axis.bad_places import Range, in_both, outside, period_of
+from jls_tools.dicom.axis.bad_places import Range, in_both, outside
 from jls_tools.dicom.axis.media import SECTOR
+from jls_tools.dicom.axis.periods import period_of
 from jls_tools.dicom.axis.placed import in_no_copy
 from jls_tools.dicom.read.elements import DELIMITER
 from jls_tools.dicom.result import Place
@@ -30,6 +32,7 @@ HOLE = re.compile(rb"(?<=[\t\n\r\x20-\x7e]{32})([\0\x7f-\xff])\1{15,}(?=[\t\n\r\
 NEAR = 8  # so many equal bytes between two places, at least, show that damage ends there
 LONG = 16  # bytes on each side of a change
 LEAST_REST = 64  # bytes of a sector that the file ends in, at least, if it is compared with others
+DAMAGED = 4  # one byte in so many of a sector of frames, at most, can be damaged where it is seen to be at its place
 BESIDE = SECTOR + 64  # bytes of the file beside a place, in which a hole and the text around it stand
 
 
@@ -90,7 +93,7 @@ def ends_before(copies: Sequence[Copy], end: int) -> Optional[int]:
 def stands_twice(header: Header, data: bytes) -> Optional[int]:
     """Where a sector begins in which copies differ and that the file has elsewhere too, as if a disk had written it to a wrong place.
 
-    Where most of it is of frames, and two copies have it, the frames show that it is at its place.
+    Where most of it is of frames, and two copies have it or nearly so, the frames show that it is at its place.
     """
     for border in sorted({begin // SECTOR * SECTOR for parts in header.parts.values() for begin, _ in parts}):
         sector = data[border : border + SECTOR]
@@ -101,9 +104,13 @@ def stands_twice(header: Header, data: bytes) -> Optional[int]:
 
 
 def are_frames(header: Header, border: int, sector: bytes) -> bool:
-    """Whether most of a sector is of frames, and two copies have it."""
+    """Whether most of a sector is of frames, and two copies have it, of which one may have damage in a part of it."""
     beside = sum(last - first for first, last in header.outside(border, border + len(sector)))
-    return beside * 2 < len(sector) and sum(copy.has_only(border, border + SECTOR) == sector for copy in header.copies) > 1
+    return beside * 2 < len(sector) and sum(is_nearly(copy.has_only(border, border + SECTOR), sector) for copy in header.copies) > 1
+
+
+def is_nearly(own: bytes, sector: bytes) -> bool:
+    return len(own) == len(sector) and sum(map(ne, own, sector)) * DAMAGED <= len(sector)
 
 
 def places_of(sector: bytes, data: bytes) -> Iterator[int]:

@@ -140,6 +140,7 @@ class Header:
         by_neighbours(self)
         self.keep_values(PADDING, lambda value: not value.strip(b"\0"), IS_PADDING)
         Decider(self).decide()
+        Chains(self).decide()  # with the sectors that were decided its items can go on
         by_most(self)
         by_frames_alone(self)
         by_preamble(self)

@@ -13,7 +13,7 @@ from collections.abc import Iterable, Iterator, Mapping, Sequence
 from typing import Any, Optional
 
 from jls_tools.dicom.axis.runs import Runs
-from jls_tools.dicom.read.elements import LONG_VRS, PIXELS_BEGIN, SHORT_VRS, UNDEFINED, Element, header_of
+from jls_tools.dicom.read.elements import HEAD, LONG_VRS, PIXELS_BEGIN, SHORT_VRS, UNDEFINED, Element, header_of
 from jls_tools.dicom.read.tags import FIRST, ITEM, ITEM_END, PIXEL_DATA, SEQUENCE_END
 from jls_tools.dicom.read.values import TEXTS, allows, is_written, strangeness
 
@@ -23,6 +23,7 @@ MOST_LOOKS = 100000  # so many ways through a header or value are looked at, at 
 MOST_JUMPS = 40
 MOST_JUMPERS = 12
 FORBIDDEN, ZEROED, UNORDERED, ODD, CUT, JUMP = 3, 2, 8, 4, 4, 1000
+MOST_STRANGE = 2  # of elements that show by themselves that elements stand there
 # what stands on the stack: the data set, a sequence, an item; s and i are those with an implicit VR; P is Pixel Data
 DATA_SET, SEQUENCE, OBJECT, PIXELS = "D", "S", "I", "P"
 ITEM_OR_END = re.compile(rb"\xfe\xff(?:\x00\xe0|\xdd\xe0\0\0\0\0)")
@@ -134,7 +135,7 @@ class Walk:
             if state[0] == self.total and len(state[1]) == 1:
                 self.goals.add(state)
                 continue
-            self.steps[state] = list(self.steps_from(state))
+            self.steps[state] = self.without_swallowed(list(self.steps_from(state)))
             if not self.steps[state]:
                 dead.append(state)
             for step in self.steps[state]:
@@ -149,6 +150,18 @@ class Walk:
                 self.cut(state, cost, chosen, None)
                 continue
             yield from self.steps_after(state, head, chosen, cost)
+
+    def without_swallowed(self, steps: list[Step]) -> list[Step]:
+        """These steps without those along values that have swallowed elements: they follow where a shorter value of the element ends."""
+        leaves = {(step.element.tag, step.element.end): step.element for step in steps if step.kind == "leaf" and step.element}
+        if len(leaves) < 2:
+            return steps
+        swallowing = {
+            (long.tag, long.end)
+            for short, long in itertools.permutations(leaves.values(), 2)
+            if short.tag == long.tag and short.end < long.end and any(has_swallowed(text, short, long) for text in self.texts)
+        }
+        return [step for step in steps if step.element is None or (step.element.tag, step.element.end) not in swallowing]
 
     def cut(self, state: State, cost: int, chosen: Chosen, element: Optional[Element]) -> None:
         """The file ends inside this header or value."""
@@ -290,12 +303,36 @@ def is_filled(vr: bytes, value: bytes) -> bool:
     return vr in TEXTS and len(value) - len(text) > 1 and allows(vr, text + b"\0" * (len(text) % 2))
 
 
+def has_swallowed(text: bytes, short: Element, long: Element) -> bool:
+    """Whether a copy that has the longer value has elements in it from where the shorter one ends."""
+    own = header_of(text[long.start : long.start + HEAD], long.start)
+    return own is not None and own.tag == long.tag and own.end == long.end and follows_until(text, short.end, long.end, long.tag)
+
+
+def follows_until(text: bytes, place: int, until: int, last: int) -> bool:
+    """Whether one element or more follow each other from a place to another, with tags that ascend beyond it too."""
+    while place < until:
+        element = header_of(text[place : place + 12], place)
+        if element is None or element.tag <= last or strangeness(element.tag, element.vr) > MOST_STRANGE:
+            return False
+        last, place = element.tag, element.end
+    following = tag_at(text, until)
+    return place == until and (following is None or following > last)
+
+
+def tag_at(text: bytes, place: int) -> Optional[int]:
+    """The tag that stands at a place, unless the file ends there."""
+    if place + 4 > len(text):
+        return None
+    return int.from_bytes(text[place : place + 2], "little") << 16 | int.from_bytes(text[place + 2 : place + 4], "little")
+
+
 def follows(text: bytes, place: int, count: int) -> bool:
     """Whether so many elements follow each other here, with ascending tags of one group or the next."""
     last = 0
     for _ in range(count):
         element = header_of(text[place : place + 12], place)
-        if element is None or element.tag <= last or element.tag >> 16 > 0x7FE0 or strangeness(element.tag, element.vr) > 2:
+        if element is None or element.tag <= last or element.tag >> 16 > 0x7FE0 or strangeness(element.tag, element.vr) > MOST_STRANGE:
             return False
         if element.length == UNDEFINED:
             return element.vr == b"SQ"
