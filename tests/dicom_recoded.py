@@ -112,6 +112,21 @@ def checks_of_codings_of_frames(bench: Any, rng: random.Random) -> Iterator[Chec
     yield f"frames that can't be paired ({status}, {printed})", status in (0, 1) and is_told and out in (None, one.bytes)
 
 
+def checks_of_codings_flipped(bench: Any) -> Iterator[Check]:
+    """A flipped bit that no decoder notices, and a copy in another coding that gives other lines, but not all: no file of either."""
+    bits, width, height = 16, 48, 60
+    for seed in (652, 657, 672):
+        rng = random.Random(seed)
+        lines = some_lines(rng, bits, width, height, 1)
+        one, other = (make_file([coded(coding, bits, 1, lines)], bits, width, height, samples=1) for coding in (USUAL, Coding(rows=7)))
+        begin = one.items[0] + 68 + rng.randrange(len(one.frames[0]) // 2)
+        flipped = changed(one.bytes, (begin, bytes([one.bytes[begin] ^ 1 << rng.randrange(8)])))
+        begin = other.items[0] + 8 + int(len(other.frames[0]) * 0.55)
+        noisy = changed(other.bytes, (begin, rng.randbytes(24)))
+        status, out, printed, _, _ = bench.mend([bytes(flipped), bytes(noisy)])
+        yield f"an unnoticed flip, seed {seed} ({status}, {printed})", (status, out) == (1, None)
+
+
 def checks_of_codings_refused(bench: Any, rng: random.Random) -> Iterator[Check]:
     """Other instances are refused as ever, and a header that lies makes no other coding."""
     one, other = files(rng, [USUAL, OTHER])
@@ -156,6 +171,7 @@ CODINGS = [
     checks_of_codings_beside,
     checks_of_codings_undamaged,
     checks_of_codings_of_frames,
+    checks_of_codings_flipped,
     checks_of_codings_refused,
     checks_of_headers_of_codings,
 ]

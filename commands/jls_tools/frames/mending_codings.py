@@ -88,7 +88,7 @@ class CodingsMender:
         with self.named(number, [whole, *others], "whole") as names:
             lines = self.lines_of(names[0])
             given = [self.lines_of(name) for name in names[1:]]
-            if any(len(each) == len(lines) and each != lines for each in given):
+            if any(lines.get(line, samples) != samples for each in given for line, samples in each.items()):
                 return self.against(mended, names, note=OTHER_LINES)
             if whole in own and lines in given:
                 return mended
