@@ -125,31 +125,24 @@ fn say_the_same(first: &Coding, second: &Coding) -> bool {
     true
 }
 
-/// Whether the bytes from this place on, so many as are compared, are there, and repeat nothing that stands shortly before them.
-fn is_news(bytes: &[u8], at: usize) -> bool {
-    let Some(window) = bytes.get(at..at.saturating_add(WINDOW)) else {
-        return false;
-    };
-    for period in 1..LONGEST_PERIOD + 1 {
-        if period > at {
-            return true;
-        }
-        let from = at.saturating_sub(period);
-        if let Some(before) = bytes.get(from..from.saturating_add(WINDOW)) {
-            if *before == *window {
-                return false;
-            }
-        }
-    }
-    true
-}
-
-/// At how many places of a stretch there is news that doesn't go past it.
+/// At how many places of a stretch there is news that doesn't go past it: bytes, so many as are compared, that don't stand at one of the
+/// places shortly before them.
 fn count_news(bytes: &[u8], from: usize, end: usize) -> usize {
+    let start = from.saturating_sub(LONGEST_PERIOD);
+    let mut before = [0u64; LONGEST_PERIOD];
+    let mut window = 0u64;
     let mut count = 0usize;
-    for at in from..end.saturating_sub(WINDOW - 1) {
-        if is_news(bytes, at) {
+    for (at, byte) in bytes.get(start..end).unwrap_or(&[]).iter().enumerate() {
+        window = (window << 8) | u64::from(*byte);
+        let Some(seen) = at.checked_sub(WINDOW - 1) else {
+            continue;
+        };
+        let is_repeated = before.iter().take(seen).any(|other| *other == window);
+        if !is_repeated && start.saturating_add(seen) >= from {
             count = count.saturating_add(1);
+        }
+        if let Some(slot) = before.get_mut(seen % LONGEST_PERIOD) {
+            *slot = window;
         }
     }
     count

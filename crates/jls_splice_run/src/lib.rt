@@ -21,9 +21,9 @@
 //! - `hosted`: the program as `run_program` of jls_host runs it
 //! - `printing`: the lines on the fault output that this program alone has
 //!
-//! Definitions: `Tasks`, `Copies`, `BadLists`, `Inputs`, `Making`, `Carrying`, `ReadsAs`, `Completing`, `Single`, `Files`, `Listing`, `Handing`,
-//! `Runs`; `Limits`, `Telling`; `Differences`, `Lines`, `CodingLines`; `FaultLines`. `PrintedLineExamples` of `proofs/` has each line, and
-//! all lines of three runs, worked by hand. What came of a run, why it stopped, its exit status and its fault line are in jls_cli.
+//! Definitions: `Tasks`, `Copies`, `BadLists`, `Inputs`, `Making`, `Carrying`, `ReadsAs`, `Completing`, `Single`, `Files`, `Listing`,
+//! `Handing`, `Runs`; `Limits`, `Telling`; `Differences`, `Lines`, `CodingLines`; `FaultLines`. `PrintedLineExamples` of `proofs/` has each
+//! line, and all lines of three runs, worked by hand. What came of a run, why it stopped, its exit status and its fault line are in jls_cli.
 //!
 //! Not proved:
 //!

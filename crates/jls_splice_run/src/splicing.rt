@@ -56,8 +56,8 @@ fn hand_out<'a, D: Desk, W: Sink>(
     }
 }
 
-/// Reads the copies, and lists of their bad places and witnesses if these are asked for. Searches their splices, takes all files that decode, and hands
-/// out what comes of it. If no file taken is without a fault, the cut file may be taken too.
+/// Reads the copies, and lists of their bad places and witnesses if these are asked for. Searches their splices, takes all files that
+/// decode, and hands out what comes of it. If no file taken is without a fault, the cut file may be taken too.
 ///
 /// Copies with bad places are searched as known copies: bytes of other copies stand in these places. First come the lines, on the report
 /// output. Then comes the text of the union of what the files taken give, then the single file, and last the files that have numbers, if
