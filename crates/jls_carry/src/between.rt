@@ -170,7 +170,22 @@ enum Proposal {
     Conflict,
 }
 
-/// Proposes the open lines that a piece reads between settled ones.
+/// Whether some copy says otherwise of an open line than a piece, and nobody has tested that.
+fn is_line_held_back(
+    picture: &Picture,
+    copies: &[CopyState<'_>],
+    tested: &Tested,
+    copy: &CopyState<'_>,
+    index: usize,
+    place: usize,
+) -> bool {
+    match reading_by(copy, index, place) {
+        Some(reading) => picture.is_open(place) && is_held_back(copies, tested, place, reading),
+        None => true,
+    }
+}
+
+/// Proposes the open lines that a piece reads between settled ones, all of them or none.
 fn propose(
     proposals: &mut [Proposal],
     picture: &Picture,
@@ -185,15 +200,24 @@ fn propose(
         return;
     };
     for line in first..end {
-        let place = piece.interval.place(line);
-        if !picture.is_open(place) {
-            continue;
+        if is_line_held_back(
+            picture,
+            copies,
+            tested,
+            copy,
+            index,
+            piece.interval.place(line),
+        ) {
+            return;
         }
+    }
+    for line in first..end {
+        let place = piece.interval.place(line);
         let Some(reading) = reading_by(copy, index, place) else {
             return;
         };
-        if is_held_back(copies, tested, place, reading) {
-            return;
+        if !picture.is_open(place) {
+            continue;
         }
         if let Some(proposal) = proposals.get_mut(place) {
             *proposal = match *proposal {

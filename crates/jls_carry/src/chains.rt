@@ -1,11 +1,10 @@
 //! Chains: lines of one copy in the code of another, which confirms them as far as it has the same bytes.
 
 use crate::claims::{CopyState, Speaker, bytes_of, code_of};
-use crate::code::FirstCode;
+use crate::coded::{Coded, Runs};
 use crate::picture::Picture;
 use crate::pieces::Piece;
-use crate::runs::{Run, add_runs};
-use crate::shifts::{Shift, shifts_of};
+use crate::runs::Run;
 use std::alloc::{AllocError, Global};
 
 /// First lines of an interval of one copy, as another copy says them, and what confirms them.
@@ -27,6 +26,8 @@ pub(crate) struct Chain {
     runs: Vec<Run>,
     /// How many lines are confirmed.
     pub(crate) confirmed: usize,
+    /// How many are if hints count as runs do.
+    pub(crate) hinted: usize,
     /// The first line that nothing is decided of.
     pub(crate) fresh: usize,
     /// Whether both copies have the same code here. Then the same bytes say nothing, except without a gap.
@@ -35,23 +36,6 @@ pub(crate) struct Chain {
     pub(crate) is_forked: bool,
     /// Whether each of its lines so far was settled as it says.
     pub(crate) is_alive: bool,
-}
-
-/// How many of these numbers, which rise, are below a bound.
-fn count_below(ends: &[usize], bound: usize) -> usize {
-    let mut low = 0usize;
-    let mut high = ends.len();
-    for _ in 0..usize::BITS {
-        if low >= high {
-            break;
-        }
-        let middle = low.saturating_add(high.saturating_sub(low) / 2);
-        match ends.get(middle) {
-            Some(end) if *end < bound => low = middle.saturating_add(1),
-            _ => high = middle,
-        }
-    }
-    low
 }
 
 impl Chain {
@@ -187,104 +171,15 @@ fn said_by(
     Ok(said)
 }
 
-/// Lines in the code of a copy.
-#[derive(Drop)]
-struct Coded {
-    bytes: Vec<u8>,
-    /// How many whole bytes stand before the end of each line.
-    ends: Vec<usize>,
-    /// Whether they are all lines of their interval, with the byte that ends them.
-    is_whole: bool,
-}
-
-impl Coded {
-    /// All lines of a piece, or the first of them. The byte that ends a whole piece is the copy's own, if it can be.
-    fn of(code: FirstCode, is_whole: bool, own: &[u8]) -> Result<Coded, AllocError> {
-        let last = if is_whole { code.last_byte(own) } else { None };
-        let FirstCode {
-            mut bytes,
-            ends,
-            ..
-        } = code;
-        if let Some(byte) = last {
-            bytes.push(byte)?;
-        }
-        Ok(Coded {
-            bytes,
-            ends,
-            is_whole,
-        })
-    }
-
-    /// How many lines end before a place.
-    fn lines_before(&self, place: usize) -> usize {
-        if self.is_whole && place >= self.bytes.len() {
-            self.ends.len()
-        } else {
-            count_below(&self.ends, place)
-        }
-    }
-
-    /// Whether a run has whole lines in it: one of each component. The last bits of the last one can stand in the byte behind the run.
-    fn has_lines(&self, run: &Run, components: usize) -> bool {
-        let begun = count_below(&self.ends, run.begin);
-        let count = count_below(&self.ends, run.end.saturating_add(1)).saturating_sub(begun);
-        count > components || (count == components && run.begin == 0)
-    }
-
-    /// The runs of the code and a copy that have whole lines in them, in order. The code of known lines ends at `known`.
-    fn runs(
-        &self,
-        alloc: Global,
-        bytes: &[u8],
-        components: usize,
-        known: usize,
-        is_twin: bool,
-    ) -> Result<Vec<Run>, AllocError> {
-        let shifts = if is_twin {
-            vec![in alloc; Shift::NONE]?
-        } else {
-            shifts_of(alloc, &self.bytes, bytes, known)?
-        };
-        let mut all = Vec::new(alloc);
-        for shift in shifts {
-            add_runs(&mut all, &self.bytes, bytes, shift)?;
-        }
-        let mut runs: Vec<Run> = Vec::new(alloc);
-        for run in all {
-            if self.has_lines(&run, components) && (!is_twin || run.begin == 0) {
-                runs.push(run)?;
-            }
-        }
-        runs.sort_by_key(|run| (run.begin, run.end))?;
-        Ok(runs)
-    }
-
-    /// How many lines runs confirm, of which nothing is decided from a byte on. Only one gap is passed: what the copy gives behind that gap
-    /// is to be heard first.
-    fn count_confirmed(&self, runs: &[Run], fresh: usize) -> usize {
-        let mut first = None;
-        for run in runs {
-            if run.end <= fresh {
-                continue;
-            }
-            if first.is_some() || run.begin > fresh {
-                return self.lines_before(run.end);
-            }
-            first = Some(run.end);
-        }
-        match first {
-            None => 0,
-            Some(end) => self.lines_before(end),
-        }
-    }
-}
-
 /// What came of lines that a copy says in the code of another.
 #[derive(Drop)]
 pub(crate) struct Compared {
     /// How many lines of the piece were compared with the bytes of the taker.
     pub(crate) tested: usize,
+    /// How many of them are decided, or confirmed.
+    pub(crate) passed: usize,
+    /// The first line that the taker denies.
+    pub(crate) failing: usize,
     /// The chain, unless all is decided already.
     pub(crate) chain: Option<Chain>,
 }
@@ -304,26 +199,40 @@ pub(crate) fn compare(
     } else {
         0
     };
+    let without_chain = Compared {
+        tested: refuted,
+        passed: said.readings.len(),
+        failing: said.readings.len(),
+        chain: None,
+    };
     let Some(fresh) = said.fresh else {
-        return Ok(Compared {
-            tested: refuted,
-            chain: None,
-        });
+        return Ok(without_chain);
     };
     let Some(code) = code_of(alloc, picture, &piece.interval, &said.readings)? else {
-        return Ok(Compared {
-            tested: refuted,
-            chain: None,
-        });
+        return Ok(without_chain);
     };
     let components = usize::from(piece.interval.components);
     let bytes = bytes_of(taker.bytes, piece);
     let begin = code.begin_of(fresh);
     let is_whole = said.readings.len() == piece.interval.line_count();
     let code = Coded::of(code, is_whole, bytes)?;
-    let runs = code.runs(alloc, bytes, components, begin, said.is_twin)?;
+    let Runs {
+        runs,
+        with_hints,
+        all,
+    } = code.runs(alloc, bytes, components, begin, said.is_twin)?;
     let confirmed = code.count_confirmed(&runs, begin);
+    let hinted = code.count_confirmed(&with_hints, begin);
     let tested = refuted.max(said.readings.len());
+    let passed = confirmed.max(fresh);
+    let closes = giver
+        .claim(piece.interval.place(passed))
+        .is_some_and(|claim| claim.closes);
+    let failing = if closes {
+        code.first_denied(&all, passed, components)
+    } else {
+        passed
+    };
     let chain = Chain {
         giver: giver.number,
         taker: taker.number,
@@ -333,6 +242,7 @@ pub(crate) fn compare(
         length: code.bytes.len(),
         runs,
         confirmed,
+        hinted,
         fresh,
         is_twin: said.is_twin,
         is_forked: said.is_forked,
@@ -340,6 +250,8 @@ pub(crate) fn compare(
     };
     Ok(Compared {
         tested,
+        passed,
+        failing,
         chain: Some(chain),
     })
 }

@@ -219,6 +219,14 @@ impl<'a> CopyState<'a> {
         self.claims.get(place).copied().flatten()
     }
 
+    /// Whether it says two lines in one piece. If the first of them is wrong, the second says nothing.
+    pub(crate) fn has_in_one_piece(&self, first: usize, second: usize) -> bool {
+        match (self.claim(first), self.claim(second)) {
+            (Some(first), Some(second)) => first.piece == second.piece,
+            _ => false,
+        }
+    }
+
     fn set_claim(&mut self, place: usize, claim: Option<Claim>) {
         if let Some(slot) = self.claims.get_mut(place) {
             *slot = claim;

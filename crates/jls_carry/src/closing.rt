@@ -4,7 +4,9 @@ use crate::between::is_refuted;
 use crate::chains::Chain;
 use crate::claims::{CopyState, bytes_of, code_of};
 use crate::code::read_lines;
+use crate::interval::Interval;
 use crate::picture::Picture;
+use crate::pieces::Piece;
 use crate::runs::{FIRM, Run, add_runs};
 use crate::settling::Links;
 use crate::shifts::shifts_of;
@@ -55,7 +57,7 @@ fn add_mixed(
         let mut all = Vec::from_slice(alloc, code.bytes.get(..place).unwrap_or(&[]))?;
         all.extend_from_slice(rest)?;
         let read = read_lines(alloc, interval, &all)?;
-        if read.closes {
+        if read.closes && are_as_settled(picture, interval, &read.lines) {
             for (line, samples) in read.lines.into_iter().enumerate() {
                 let place = interval.place(line);
                 if picture.is_open(place) {
@@ -68,15 +70,53 @@ fn add_mixed(
     Ok(())
 }
 
-/// Adds the lines that a copy has from pieces that close.
+/// Whether lines that a piece gives are those that are settled.
+fn are_as_settled(picture: &Picture, interval: &Interval, lines: &[Vec<u16>]) -> bool {
+    lines.iter().enumerate().all(|(line, samples)| {
+        let place = interval.place(line);
+        match picture.settled(place) {
+            None => true,
+            Some(reading) => *picture.samples(place, reading) == *samples.as_slice(),
+        }
+    })
+}
+
+/// Whether a piece of a copy says otherwise of a line that is settled.
+fn is_otherwise(picture: &Picture, copy: &CopyState<'_>, index: usize, piece: &Piece) -> bool {
+    (0..piece.interval.line_count()).any(|line| {
+        let place = piece.interval.place(line);
+        let settled = picture.settled(place);
+        copy.claim(place).is_some_and(|claim| {
+            claim.piece == index && settled.is_some_and(|reading| reading != claim.reading)
+        })
+    })
+}
+
+/// For each piece of a copy whether it says otherwise of a line that is settled.
+fn which_say_otherwise(
+    alloc: Global,
+    picture: &Picture,
+    copy: &CopyState<'_>,
+) -> Result<Vec<bool>, AllocError> {
+    let mut all = Vec::new(alloc);
+    for (index, piece) in copy.pieces.iter().enumerate() {
+        all.push(is_otherwise(picture, copy, index, piece))?;
+    }
+    Ok(all)
+}
+
+/// Adds the lines that a copy has from pieces that close, and say what is settled.
 fn add_closed(
+    alloc: Global,
     picture: &Picture,
     copy: &CopyState<'_>,
     closed: &mut Vec<Closed>,
 ) -> Result<(), AllocError> {
+    let otherwise = which_say_otherwise(alloc, picture, copy)?;
     for (place, claim) in copy.claims.iter().enumerate() {
         if let Some(claim) = claim {
-            if claim.closes && picture.is_open(place) {
+            let is_otherwise = otherwise.get(claim.piece).copied().unwrap_or(false);
+            if claim.closes && !is_otherwise && picture.is_open(place) {
                 closed.push(Closed {
                     place,
                     reading: claim.reading,
@@ -107,7 +147,7 @@ pub(crate) fn settle_closed(
     }
     for copy in copies {
         if is_linked(copy.number) {
-            add_closed(picture, copy, &mut closed)?;
+            add_closed(alloc, picture, copy, &mut closed)?;
         }
     }
     let mut only: Vec<Option<usize>> = vec![in alloc; None; picture.len()]?;
@@ -134,4 +174,27 @@ pub(crate) fn settle_closed(
         }
     }
     Ok(is_any)
+}
+
+/// Whether pieces of two copies in different codings close, and say two things of a line.
+fn close_otherwise(copy: &CopyState<'_>, other: &CopyState<'_>, place: usize) -> bool {
+    let (Some(claim), Some(others)) = (copy.claim(place), other.claim(place)) else {
+        return false;
+    };
+    copy.speaker.coding != other.speaker.coding
+        && claim.closes
+        && others.closes
+        && claim.reading != others.reading
+}
+
+/// Whether pieces that close in copies of different codings say several things of a line that is open.
+pub(crate) fn has_contradiction(picture: &Picture, copies: &[CopyState<'_>]) -> bool {
+    (0..picture.len()).any(|place| {
+        picture.is_open(place)
+            && copies.iter().any(|copy| {
+                copies
+                    .iter()
+                    .any(|other| close_otherwise(copy, other, place))
+            })
+    })
 }

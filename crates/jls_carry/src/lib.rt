@@ -11,7 +11,7 @@
 //! - `code`: the code of first lines, and the lines that bytes begin with
 //! - `picture`: what copies say of each line, and what is settled
 //! - `claims`: what a copy says by itself, behind what is known
-//! - `shifts`, `runs`: by how much bytes of a copy are moved. Where a code and a copy have the same bytes
+//! - `shifts`, `runs`, `coded`: by how much bytes of a copy are moved. Where the code of lines and a copy have the same bytes
 //! - `chains`: lines of one copy in the code of another, and how many of them its bytes confirm
 //! - `settling`, `between`, `closing`: which lines are settled. Lines between settled ones, and pieces that close by themselves
 //! - `rounds`: all of that, until nothing more is decided
@@ -24,7 +24,8 @@
 //! In each round every copy is read on behind the lines that are known. For each ordered pair of copies, the lines that one gives are coded
 //! with the parameters of the other, and compared with its bytes.
 //!
-//! 1. A run counts from 8 equal bytes on that no period up to 16 foretells, with a whole line of each component in it.
+//! 1. A run counts from 8 equal bytes on that no period up to 16 foretells, with a whole line of each component in it. What stands
+//!    behind one flipped bit is a run too, if the whole code and the copy end alike there.
 //! 2. One gap a round: lines are taken to the end of the first run behind a gap of the other copy. Then that copy is mended, and speaks
 //!    itself.
 //! 3. Where two readings of a line are confirmed, it is disputed. One is taken if it alone stands unbroken in two copies, or leaves under a
@@ -35,7 +36,9 @@
 //!    is refuted too if another copy says otherwise, and its piece goes on for two rows as a copy of another coding says.
 //! 7. Where nothing else goes on, lines that a copy reads in one piece between settled ones are taken. Two rows behind them have to be
 //!    settled as it says.
-//! 8. Pieces that close by themselves count only where nothing else goes on, and in copies that agree with another somewhere. No such piece
+//! 8. Where nothing else goes on, 24 such bytes are a hint without a whole line in them: lines up to a hint are taken, four rows behind
+//!    the known ones at most.
+//! 9. Pieces that close by themselves count only where nothing else goes on, and in copies that agree with another somewhere. No such piece
 //!    may say otherwise.
 //!
 //! Where two copies have the same code, that code anew says nothing of its truth: garbage, coded anew, is the same garbage. There only what
@@ -51,6 +54,7 @@ mod chains;
 mod claims;
 mod closing;
 mod code;
+mod coded;
 mod edits;
 mod interval;
 mod layouts;
@@ -64,6 +68,7 @@ mod shifts;
 mod strangers;
 
 use crate::claims::{CopyState, Speaker};
+use crate::closing::has_contradiction;
 use crate::edits::edits_between;
 use crate::layouts::{Layouts, layouts_of};
 use crate::mending::mended_file;
@@ -153,7 +158,8 @@ pub struct Carried {
     pub strangers: Vec<usize>,
     /// The lines of the picture that are settled, row by row, and in a row by component.
     pub lines: Vec<Option<Vec<u16>>>,
-    /// Whether a line isn't settled because copies confirm several readings of it.
+    /// Whether a line isn't settled because copies confirm several readings of it, or copies of different codings read to their ends and
+    /// say several things of it.
     pub has_disputed: bool,
 }
 
@@ -188,11 +194,12 @@ pub fn carry(
         states.push(CopyState::new(alloc, speaker, bytes, layout, lines)?)?;
     }
     carry_on(alloc, &mut picture, &mut states)?;
+    let has_disputed = picture.has_disputed() || has_contradiction(&picture, &states);
     if !picture.has_settled() {
         return Ok(Carried {
             codings: Vec::new(alloc),
             strangers: with_headers(alloc, &ends)?,
-            has_disputed: picture.has_disputed(),
+            has_disputed,
             lines: picture.into_lines()?,
         });
     }
@@ -221,7 +228,7 @@ pub fn carry(
     Ok(Carried {
         codings: mended,
         strangers,
-        has_disputed: picture.has_disputed(),
+        has_disputed,
         lines: picture.into_lines()?,
     })
 }

@@ -33,8 +33,14 @@ fn compare_all(
             }
             for piece in taker.pieces.iter() {
                 let compared = compare(alloc, picture, copies, giver, taker, piece)?;
+                let failing = piece.interval.place(compared.failing);
                 for line in 0..compared.tested {
-                    tested.add(giver.number, piece.interval.place(line));
+                    let place = piece.interval.place(line);
+                    let is_denied = line >= compared.failing
+                        && giver.has_in_one_piece(failing, place);
+                    if line < compared.passed || is_denied {
+                        tested.add(giver.number, place);
+                    }
                 }
                 if let Some(chain) = compared.chain {
                     chains.push(chain)?;
@@ -64,14 +70,16 @@ fn go_on(
         links: Vec::from_slice(alloc, links)?,
         opposed: Vec::new(alloc),
     };
-    let is_any = settling.settle(picture)?;
+    let is_any = settling.settle(picture)?
+        || settle_between(alloc, picture, copies, &tested)?
+        || settling.settle_hinted(picture)?;
     let Settling {
         chains,
         links: now,
         ..
     } = settling;
     *links = now;
-    if is_any || settle_between(alloc, picture, copies, &tested)? {
+    if is_any {
         return Ok(true);
     }
     settle_closed(alloc, picture, copies, &chains, links)

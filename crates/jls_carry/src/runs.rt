@@ -6,6 +6,9 @@ use std::alloc::AllocError;
 /// How many bytes a run has at least, that no period foretells.
 pub(crate) const FIRM: usize = 8;
 
+/// How many it has at least if no whole line is in it.
+const HINT: usize = 24;
+
 /// Bytes that repeat what stands so many bytes before them, or fewer, say nothing: black lines have the same code in many codings.
 const LONGEST_PERIOD: usize = 16;
 
@@ -38,17 +41,27 @@ fn is_foretold(code: &[u8], at: usize) -> bool {
 }
 
 /// Whether so many bytes of a stretch are not foretold.
-pub(crate) fn has_news(code: &[u8], begin: usize, end: usize) -> bool {
+fn has_so_much_news(code: &[u8], begin: usize, end: usize, wanted: usize) -> bool {
     let mut news = 0usize;
     for at in begin..end {
         if !is_foretold(code, at) {
             news = news.saturating_add(1);
-            if news >= FIRM {
+            if news >= wanted {
                 return true;
             }
         }
     }
     false
+}
+
+/// Whether as many bytes of a stretch are not foretold as a run has at least.
+pub(crate) fn has_news(code: &[u8], begin: usize, end: usize) -> bool {
+    has_so_much_news(code, begin, end, FIRM)
+}
+
+/// Whether a stretch says something even if no whole line is in it.
+pub(crate) fn is_hint(code: &[u8], run: &Run) -> bool {
+    has_so_much_news(code, run.begin, run.end, HINT)
 }
 
 /// Adds a run, if it is one.

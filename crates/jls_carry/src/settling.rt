@@ -12,6 +12,9 @@ const CLEARLY: usize = 8;
 /// Or where it is confirmed for four times as many rows, and this many more.
 const ROWS_MORE: usize = 8;
 
+/// How many rows behind those that are known hints can confirm.
+const ROWS_HINTED: usize = 4;
+
 /// Which lines of which copies were compared with the bytes of another.
 #[derive(Drop)]
 pub(crate) struct Tested {
@@ -597,6 +600,18 @@ impl Settling<'_, '_> {
             return Ok(true);
         }
         for chain in self.chains.iter_mut() {
+            chain.is_alive = true;
+        }
+        self.settle_lines(picture, false)
+    }
+
+    /// Settles lines up to the first hints behind what is known, if these are near. Answers whether one was settled or disputed.
+    pub(crate) fn settle_hinted(&mut self, picture: &mut Picture) -> Result<bool, AllocError> {
+        for chain in self.chains.iter_mut() {
+            let near = usize::from(chain.piece.interval.components).saturating_mul(ROWS_HINTED);
+            if chain.hinted <= chain.fresh.saturating_add(near) {
+                chain.confirmed = chain.confirmed.max(chain.hinted);
+            }
             chain.is_alive = true;
         }
         self.settle_lines(picture, false)
