@@ -32,11 +32,11 @@ use crate::made::{Made, files_asked, files_reported, groups_reported, lacks_file
 use crate::printed_lines::{lines_of_carried, notes_of_carried};
 use crate::reading_as::{are_one_picture, each_reads_as};
 use crate::task::{Task, has_lists};
+use crate::telling_apart::is_one_bit_wrong;
 use jls_carried::{Between, SearchBounds, are_all_printed, carry_between};
-use jls_diff::find_parts;
 use jls_held::{EditedCopy, Judged, MendedCopy};
 use jls_partial::Partial;
-use jls_search::{Files, HeldFiles, are_surely_of_several_codings};
+use jls_search::{Files, HeldFiles};
 use jls_station::CopyFile;
 use jls_values::Merge;
 use std::alloc::{AllocError, Global};
@@ -260,6 +260,7 @@ fn are_read_as(
 
 /// What is handed out of what copies in several codings gave each other. If a file taken may be without a fault, `None` comes unless
 /// that speaks against it: a promised picture is another one, or a line has several readings, or was left open before one that is settled.
+/// If such files differ, it comes unless a picture is promised, and one bit is all that is wrong then.
 fn texts_of_judged(
     alloc: Global,
     task: &Task<'_, '_>,
@@ -295,9 +296,14 @@ fn texts_of_judged(
     if !is_alone && promise == Promise::Held && are_one_picture(&held, given) {
         return Ok(None);
     }
+    let is_told = promise == Promise::Held && is_one_bit_wrong(files.copies, &codings);
+    if !is_alone && !given.is_settled() && !is_told {
+        return Ok(None);
+    }
     let picture = handed(held, given, promise, task.options.source)?;
     let is_settled = picture.is_settled();
-    if !is_alone && promise == Promise::Lines && is_settled && !is_doubtful {
+    let is_unopposed = is_settled && !is_doubtful;
+    if !is_alone && promise == Promise::Lines && is_unopposed {
         return Ok(None);
     }
     let file = single_file(alloc, task.options.file, promise, &mended, is_alone)?;
@@ -354,19 +360,6 @@ fn texts_of_judged(
     }))
 }
 
-/// Whether copies may speak against files that settle each line: they surely are of several codings.
-fn can_be_doubted(
-    alloc: Global,
-    files: &Files<'_, '_>,
-    given: &Partial,
-) -> Result<bool, AllocError> {
-    if !given.is_settled() {
-        return Ok(false);
-    }
-    let parts = find_parts(alloc, files.copies)?;
-    are_surely_of_several_codings(alloc, files.copies, &parts)
-}
-
 /// What is handed out of copies in several codings, or beside witnesses, where no file taken is without a fault, or what the copies gave
 /// each other speaks against one that is. `None` comes where a cut file was taken, and where all are of one coding, as far as can be told.
 pub(crate) fn carried_texts(
@@ -389,9 +382,6 @@ pub(crate) fn carried_texts(
     }
     let given = held.station.partial();
     let is_alone = is_none_faultless(&held.faultless);
-    if !is_alone && !can_be_doubted(alloc, files, given)? {
-        return Ok(None);
-    }
     let shape = given.shape().to_owned();
     let bounds = SearchBounds {
         limit: task.options.ceiling,

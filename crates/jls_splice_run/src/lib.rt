@@ -6,7 +6,8 @@
 //! - `inputs`: what it reads: copies, lists of their bad places, and witnesses
 //! - `copies`, `made`, `settling`: the copies that are read; what is made of them; their station
 //! - `bad_lists`: the lists of bad places that are read, and what is searched by them in place of the copies
-//! - `carried`, `coding_lines`: what is made of what copies in several codings give each other; its lines
+//! - `carried`, `coding_lines`: what is made of what copies in several codings give each other; its lines. `telling_apart`: whether it can
+//!   be told which copies are wrong, where files without a fault differ
 //! - `beside`: mended files beside files of which one may have no fault
 //! - `reading_as`: whether mended files read as the lines that are held
 //! - `files`, `single`, `listing`: the files that were found, as bytes; the single one without a fault; all of these with their names
@@ -62,6 +63,7 @@ mod shallow;
 mod single;
 mod splicing;
 mod task;
+mod telling_apart;
 
 pub use coding_lines::put_carried;
 pub use differences::{Difference, differences_of};
