@@ -49,6 +49,14 @@ fn picture_of(name: &str) -> Option<Picture> {
             begin: 5,
             ..OF_EIGHT
         }),
+        "broad" | "broad_reset" => Some(Picture {
+            values: 32,
+            width: 96,
+            height: 6,
+            begin: 7,
+            lines: 6,
+            ..OF_EIGHT
+        }),
         "scans" | "pixels" => Some(Picture {
             width: 8,
             height: 8,

@@ -17,8 +17,9 @@ use std::test::Fail;
 ///
 /// Where a copy differs from its mended file was counted in the files, and in the damage: a byte that is 0 by itself doesn't differ. In
 /// *damage of one line in both* 12 lines stand before it. Their code fills 274 and 289 bytes of the files, by `interop/plain_coder.py`. The
-/// last bits of the twelfth stand in the next byte, which isn't known. In *by sample, one place in all* four rows stand before it, whose
-/// code CharLS ends in 166 bytes.
+/// last bits of the twelfth stand in the next byte, which isn't known. By the same coder the third line of `broad` ends at byte 263, and
+/// the fourth of `broad_reset` begins at 278. In *by sample, one place in all* four rows stand before it, whose code CharLS ends in 166
+/// bytes.
 ///
 /// How often a search of levels tries is counted by hand: at each place, each path that lives goes on by both ways. In *three intervals*
 /// each wrong way ends with its interval, so there are 2 tries at each of 3 places. In the rows of `deep` nothing dies without a limit, so
@@ -74,6 +75,8 @@ two codings, and damage of one line in both: narrow: 300+8=0 / reset 300+8=0: OU
 coding 1, copies 1 | coding 2, copies 2 | copy 1 differs 274 155 0 | copy 2 differs 289 156 0 | promise lines | missing 1 11-19
 two codings, and two places in each: narrow: 64+5=0 233+3=lost / reset 159+6=lost 375+5=0: OUT 1 2: 0 narrow: \
 coding 1, copies 1 | coding 2, copies 2
+two codings, and no whole line between their places: broad: 200+8=85 / broad_reset 294+8=85: OUT 1 2: 0 broad: \
+coding 1, copies 1 | coding 2, copies 2 | copy 1 differs 200 8 8 | copy 2 differs 294 8 8
 two codings, and no other way to a line: narrow: 60+8=0 / reset 40+8=0: OUT 1 2: 1 other: missing 1 0-19
 two codings, with intervals: fives: 445+8=0 / tens 355+8=0: OUT 1 2: 0 narrow: \
 coding 1, copies 1 | coding 2, copies 2 | copy 1 differs 446 7 7 | copy 2 differs 355 8 8
@@ -140,6 +143,17 @@ a flipped bit in a copy that decodes whole: narrow: 373+1=233 / reset 300+8=0: O
 coding 2, copies 2 | copy 1 differs 373 1 1 | copy 2 differs 300 8 8 | splices 0
 one in the copy of the other coding: narrow: reset 327+1=123 / 200+8=0: OUT 1 2: 0 narrow: copy 1 differs 327 1 1 | \
 copy 2 differs 200 8 8
+one in its last line: narrow: 411+1=169 / reset 200+8=0: OUT 1 2: 0 narrow: coding 1, copies 1 | coding 2, copies 2 | \
+copy 1 differs 411 1 1 | copy 2 differs 200 8 8
+one behind early damage of the other copy: narrow: 373+1=233 / reset 100+8=0: OUT 1 2: 0 narrow: copy 1 differs 373 1 1 | \
+copy 2 differs 100 8 8
+one that is seen, and not told: narrow: 292+1=6 / reset 100+8=0: OUT 1 2: 1 other: promise lines
+one in an interval that decodes whole: tens: 417+1=192 / fives 400+8=0: OUT 1 2: 0 narrow: copy 1 differs 417 1 1 | \
+copy 2 differs 400 8 8
+one beside an undamaged copy: narrow: 373+1=233 / reset: OUT 1 2: 0 narrow: coding 1, copies 1 | coding 2, copies 2 | \
+copy 1 differs 373 1 1
+one in each of two copies: narrow: 294+1=19 / reset 327+1=123: OUT 1 2: 1 other: promise lines
+one that an interval of the other copy denies: tens: 50+1=227 / fives 100+8=0: OUT 1 2: 1 other: promise lines
 no single file beside it: reset: narrow 373+1=233 / 300+8=0: --file NAME OUT 1 2: 0 narrow: no single file
 no mended file beside another picture: fives: 445+8=0 / tens 355+8=0 / other 60+8=0: --file NAME OUT 1 2 3: 1 narrow: no single file
 a height that no scan follows: fives: 8+1=3 21+2=0 445+8=85 / 445+8=0 / tens 355+8=0: OUT 1 2 3: 1 other: promise lines
