@@ -81,6 +81,36 @@ def checks_of_decisions(work: str) -> Iterator[Check]:
     yield "no names: made again nothing is done anew", again == (1, "")
 
 
+def ends_of(work: str, places: List[Tuple[int, int]]) -> List[bytes]:
+    """Two copies of a DICOM file, which have other bytes at these places."""
+    (stream,) = cases.files_of(work, [cases.rows_of(cases.random_of(21))], "--ri", "4")
+    made = make_file([stream], 8, cases.WIDTH, cases.HEIGHT)
+    begin = made.items[0] + 8 + cases.scan_of(stream)
+    return [cases.spoilt(made.bytes, (begin + at, size)) for at, size in places]
+
+
+def checks_of_own_names(work: str) -> Iterator[Check]:
+    """Folders of a tree that are named as a log, or a folder of frames, of another picture is: each picture keeps what is its own."""
+    work = f"{work}/own"
+    mended, lost = ends_of(work, [(20, 5), (90, 5)]), ends_of(work, [(40, 20), (40, 24)])
+    kinds = {"scan.dcm": mended, "lost.dcm": lost}
+    paths = [path for name in kinds for path in (name, f"{name}.log/{name}", f"{name}.frames/{name}", f"{name}.log/deep/{name}")]
+    for path in paths:
+        for tree, copy in zip("ab", kinds[os.path.basename(path)]):
+            put(f"{work}/{tree}/{path}", copy)
+    words = ["--jobs", "1", f"{work}/out", f"{work}/a", f"{work}/b"]
+    ended, rows = called(words), rows_of(f"{work}/out.report")
+    said = [rows[path]["result"] for path in paths if path in rows]
+    yield f"own names: {ended} {said}", ended == (1, "") and said == ["mended"] * 4 + ["lines missing"] * 4
+    logs = [*texts_of(f"{work}/out.report/logs"), *(text for text in texts_of(f"{work}/out.partial") if text.startswith(b"copy "))]
+    told = sorted(text.partition(b"\n")[0] for text in logs)
+    yield f"own names: a log for each {told}", told == sorted(f"copy {work}/a/{path}".encode() for path in paths)
+    parts = [text for text in texts_of(f"{work}/out.partial") if text.startswith(b"JLSP")]
+    yield f"own names: lines for each {len(parts)}", len(parts) == 4 and len(set(parts)) == 1
+    again = called(words, JLS_SPLICE="/nowhere")
+    yield f"own names: made again nothing is done anew {again}", again == (1, "") and rows_of(f"{work}/out.report") == rows
+
+
 def page_of(work: str) -> bytes:
     return get(f"{work}/out.report/report.html") + get(f"{work}/out.report/pictures.csv")
 
@@ -164,4 +194,4 @@ def checks_of_library(work: str) -> Iterator[Check]:
     yield "library: the same comes of damaged files without it", cases.results_of(f"{work}/odd-without") == cases.results_of(f"{work}/odd")
 
 
-CHECKS = (checks_of_decisions, checks_of_syntaxes, checks_of_library)
+CHECKS = (checks_of_decisions, checks_of_own_names, checks_of_syntaxes, checks_of_library)

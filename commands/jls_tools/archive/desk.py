@@ -9,7 +9,7 @@ from typing import Any, Dict, List, Optional, Sequence, Tuple, TypeVar
 from jls_tools import partial_picture
 from jls_tools.archive import sums
 from jls_tools.archive.lists import Lists
-from jls_tools.archive.places import Places
+from jls_tools.archive.places import Places, own_name
 from jls_tools.archive.rows import TOOK_TOO_LONG, Row
 from jls_tools.dicom.result import FAILED
 from jls_tools.file_names import labels_of, printable
@@ -144,7 +144,7 @@ class Desk:
     def keep_partial(self, row: Row, name: str, path: str) -> None:
         """Keeps a partial picture that isn't whole, and makes the row's thumbnail of it."""
         self.draw(row, name)
-        self.put(row, name, "partial", path)
+        self.put(row, name, "partial", own_name(path))
 
     def draw(self, row: Row, name: str) -> None:
         """Makes the row's thumbnail of a partial picture."""
@@ -159,7 +159,7 @@ class Desk:
         name = self.name("log")
         with open(self.place(name), "w", encoding="utf-8", errors="surrogateescape") as file:
             file.write(text)
-        self.put(row, name, root, path)
+        self.put(row, name, root, own_name(path))
 
 
 def sum_of(inputs: str) -> str:

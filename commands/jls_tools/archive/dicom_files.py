@@ -8,6 +8,7 @@ from typing import Iterator, List, Sequence
 
 from jls_tools.archive import bad_cells, plain_walk, versions
 from jls_tools.archive.desk import Copy, Desk
+from jls_tools.archive.places import own_name, own_name_of_file
 from jls_tools.archive.rows import Row
 from jls_tools.dicom import command, info
 from jls_tools.dicom.mend import mend as mend_dicom
@@ -85,7 +86,7 @@ def mend_files(desk: Desk, row: Row, copies: Sequence[Copy]) -> Row:
             desk.put(row, out, "out", row.path, copies[0].path)
             return row.end("mended", 0)
         row.say("what came back is not the file of the sum" if fits is False else "one copy alone is left, and nothing confirms its header")
-        desk.put(row, out, "partial", row.path, copies[0].path)
+        desk.put(row, out, "partial", own_name_of_file(row.path), copies[0].path)
     return keep(desk, row, copies, result)
 
 
@@ -130,7 +131,7 @@ def keep(desk: Desk, row: Row, copies: Sequence[Copy], result: MendResult) -> Ro
         drawn = os.path.join(result.folder, f"frame-{worst.number:04}.jlsp")
         if loss(worst) and os.path.exists(drawn):
             desk.draw(row, drawn)
-        row.outputs.append(desk.places.put(result.folder, "partial", row.path + FRAMES))
+        row.outputs.append(desk.places.put(result.folder, "partial", own_name(row.path + FRAMES)))
     words = words_for(result.frames) if any(frame.kind != "whole" for frame in result.frames) else "undecided"
     desk.set_aside(row, copies, words)
     return row.end(words, max(result.status, 1), "; ".join(result.notes))
@@ -208,7 +209,7 @@ def keep_parts(desk: Desk, row: Row, lost: Sequence[Mended]) -> None:
     os.mkdir(part)
     for number, partial in kept:
         shutil.copyfile(partial, os.path.join(part, f"frame-{number:04}.jlsp"))
-    row.outputs.append(desk.places.put(part, "partial", row.path + FRAMES))
+    row.outputs.append(desk.places.put(part, "partial", own_name(row.path + FRAMES)))
 
 
 def tell_of(desk: Desk, row: Row, file: info.OneFile, lost: List[int]) -> None:

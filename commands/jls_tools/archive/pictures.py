@@ -6,6 +6,7 @@ from typing import Optional, Sequence, Set, Tuple
 
 from jls_tools.archive import bad_cells
 from jls_tools.archive.desk import Copy, Desk, shown
+from jls_tools.archive.places import own_name_of_file
 from jls_tools.archive.rows import Row
 from jls_tools.dicom.axis import bad_places
 from jls_tools.dicom.result import FrameResult, MendOptions
@@ -134,7 +135,7 @@ def keep(desk: Desk, row: Row, names: Tuple[str, str, str], outcome: Splice, log
             wrote = desk.sure(desk.programs.write_jls(mended, spliced, desk.folder))
             log += wrote.faults
         if os.path.exists(desk.place(mended)):
-            desk.put(row, mended, "partial", row.path, model)
+            desk.put(row, mended, "partial", own_name_of_file(row.path), model)
     if row.sum == "differs":
         row.say("what decodes is not the file of the sum")
     desk.keep_partial(row, spliced, row.path + PART)

@@ -23,6 +23,7 @@ LOCK = "lock"
 PATIENCE = 3.0  # seconds in which the processes of a run that was killed are gone
 MOST_ALONE = 256  # so many files of a folder wait for the disk one by one, at most
 IS_PART = re.compile(re.escape(PART) + "[a-z0-9_]{8}")
+ENDINGS = (".log", ".jlsp", ".frames")  # of what stands beside OUT, behind the path of a picture
 
 
 class Refused(Exception):
@@ -125,6 +126,16 @@ def short_name(name: str) -> str:
     """A name for what can't stand under its own, which is too long for the disk."""
     ending = os.path.splitext(name)[1]
     return hashlib.sha256(os.fsencode(name)).hexdigest()[:40] + (ending if len(os.fsencode(ending)) <= 8 else "")
+
+
+def own_name(name: str) -> str:
+    """A name that no other path's result has, of what stands beside OUT: a folder of the tree can be named as the log of a picture is."""
+    return short_name(name) if any(folder.endswith(ENDINGS) for folder in name.split("/")[:-1]) else name
+
+
+def own_name_of_file(path: str) -> str:
+    """The same, of a file that has the name of its path."""
+    return short_name(path) if path.endswith(ENDINGS) else own_name(path)
 
 
 class Places:
