@@ -61,4 +61,29 @@ def checks_of_names(bench, made):
         yield f"{words}: a date is told", "'1'" in printed and "'1'" in log
 
 
-AGAIN = [checks_of_again, checks_of_names]
+def checks_of_foreign_names(bench, made):
+    """--no-names leaves out letters where none belong, as foreign bytes over a date have them, and known terms stay."""
+    true, foreign = made.bytes, b"Smith^Adam Q\\Smith^Eve, 12 Main St. " * 12
+    date, term, rows = (true.index(text) for text in (b"20200131", b"MONOCHROME2", b"\x28\0\x10\0US"))
+    kanji = b"\x1b$B;3ED^B@O:\x1b(B"
+    for name, at, new, told in (
+        ("a date", date, foreign[:8], "'20200131'"),
+        ("a number", rows + 8, foreign[:2], "14 00"),
+        ("a known term", term, foreign[:11], "'MONOCHROME2'"),
+        ("a name in ISO 2022", term, kanji[:11], "'MONOCHROME2'"),
+        ("a name in UTF-8", term, "Æøå^Üñ".encode()[:11], "'MONOCHROME2'"),
+        ("from a date to beyond a name", date, foreign[: made.name_at + 10 - date], None),
+        ("from a number on", rows + 8, foreign[:30], None),
+    ):
+        copies = [changed(true, (at, new)), changed(true, (made.items[0] + 70, bytes(8)))]
+        _, _, printed, _, out = bench.mend(copies, "--no-names")
+        log = get(f"{out}.log").decode("ascii")
+        for text in (printed, log):
+            differs = [line for line in text.splitlines() if line.startswith("differ ")]
+            parts = [new[:2], new[:2].hex(" ").encode(), b"Doe", b"44 6f 65", b"Smith", b"53 6d 69"]
+            named = [part for part in parts if part.decode("latin-1") in "".join(differs)]
+            yield f"{name}: no letter of it is told {named} ({differs})", differs and not named and " bytes" in text
+        yield f"{name}: what is no name is told ({printed})", told is None or told in printed
+
+
+AGAIN = [checks_of_again, checks_of_names, checks_of_foreign_names]

@@ -10,9 +10,10 @@ import sys
 from collections.abc import Iterator, Sequence
 from typing import Optional
 
+from jls_tools.dicom.evidence.terms import is_known
 from jls_tools.dicom.info import frames, info
 from jls_tools.dicom.mend import mend
-from jls_tools.dicom.read.patient_names import can_have_name
+from jls_tools.dicom.read.patient_names import can_have_name, has_letters, number_of
 from jls_tools.dicom.result import FAILED, NOT_WHOLE, USAGE, WHOLE, MendOptions, MendResult, Place, VersionTable
 from jls_tools.dicom.write.build import USER_MASK
 from jls_tools.dicom.write.outputs import put_log
@@ -130,10 +131,15 @@ def printed_value(value: bytes, letters: int = 24, numbers: int = 16) -> str:
     return f"{value[:numbers].hex(' ')}{' ..' if len(value) > numbers else ''}"
 
 
+def told_value(tag: str, value: bytes, has_names: bool, sizes: Sequence[int]) -> str:
+    """Bytes of an element for a line: without names only their count, if they can have one. `sizes` are as printed_value takes them."""
+    is_nameless = not can_have_name(tag) and (not has_letters(value) or is_known(number_of(tag), value))
+    return printed_value(value, *sizes) if has_names or is_nameless else f"{len(value)} bytes"
+
+
 def place_line(place: Place, has_names: bool = True, sizes: Sequence[int] = ()) -> str:
     """A place where copies differ. `sizes` are those of values, as printed_value takes them."""
-    is_told = has_names or not can_have_name(place.tag)
-    shown = [printed_value(value, *sizes) if is_told else f"{len(value)} bytes" for _, value in place.values]
+    shown = [told_value(place.tag, value, has_names, sizes) for _, value in place.values]
     names = [", ".join(printable(name) for name in holders) or "none" for holders, _ in place.values]
     values = [f"{name}: {value}" for name, value in zip(names, shown)]
     verdict = "undecided" if place.taken is None else f"taken: {shown[place.taken]} ({place.why})"
@@ -146,8 +152,7 @@ def version_lines(table: VersionTable, has_names: bool = True, sizes: Sequence[i
     copies = [f"{name}: {count}, {', '.join(map(printable, paths))}" for count, (name, paths) in zip(counts, table.versions)]
     yield f"versions, {'undecided' if table.taken is None else f'taken: {table.taken}'}; {'; '.join(copies)}"
     for tag, values in table.rows:
-        is_told = has_names or not can_have_name(tag)
-        shown = ["no element" if value is None else printed_value(value, *sizes) if is_told else f"{len(value)} bytes" for value in values]
+        shown = ["no element" if value is None else told_value(tag, value, has_names, sizes) for value in values]
         yield f"version {tag}, {'; '.join(f'{name}: {each}' for (name, _), each in zip(table.versions, shown))}"
 
 

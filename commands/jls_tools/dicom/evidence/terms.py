@@ -93,6 +93,11 @@ def is_term(tag: int, value: bytes) -> bool:
     return all(part.strip(" ").replace(" ", "_") in OF_TAG[tag] for part in text.split("\\"))
 
 
+def is_known(tag: int | None, value: bytes) -> bool:
+    """Whether a value is a known term of this element, which can have none."""
+    return tag is not None and has_terms(tag) and is_term(tag, value)
+
+
 def is_made_of(tag: int, known: bytes, other: bytes) -> bool:
     """Whether damage makes the other value of a known one, and no writer: a byte in a long word, or bytes that are no text."""
     if not PRINTABLE.match(other.rstrip(b"\0")):
