@@ -111,6 +111,34 @@ def checks_of_own_names(work: str) -> Iterator[Check]:
     yield f"own names: made again nothing is done anew {again}", again == (1, "") and rows_of(f"{work}/out.report") == rows
 
 
+def checks_of_other_headers(work: str) -> Iterator[Check]:
+    """Two headers of other lengths that read whole, as an archive makes them: a result of its own, with a table by tag."""
+    work = f"{work}/headers"
+    element: Any = dicom_files.element
+    pair = ends_of(work, [(20, 5), (90, 5)])
+    for name, copies in (("same.dcm", pair), ("lost.dcm", ends_of(work, [(40, 20), (40, 24)]))):
+        longer = element(0x100010, "PN", "Doe^Jane Mary") + element(0x100020, "LO", "4711")
+        put(f"{work}/a/{name}", copies[0])
+        put(f"{work}/b/{name}", copies[1].replace(element(0x100010, "PN", NAME), longer))
+    ended, rows = called([f"{work}/out", f"{work}/a", f"{work}/b"]), rows_of(f"{work}/out.report")
+    row = rows["same.dcm"]
+    told = [row[name] for name in ("result", "status", "settled", "missing", "versions")]
+    yield f"other headers: {told} {ended}", told == ["same pixels, other header", "1", str(cases.HEIGHT), "0", "2"]
+    lines = get(f"{work}/out.partial/same.dcm.log").decode().splitlines()
+    versions = [line for line in lines if line.startswith("version")]
+    wanted = [f"versions, undecided; A: 1 copy, {work}/a/same.dcm; B: 1 copy, {work}/b/same.dcm"]
+    wanted += ["version (0010,0010), A: 'Doe^Jane'; B: 'Doe^Jane Mary '", "version (0010,0020), A: no element; B: '4711'"]
+    yield f"other headers: the log has a table by tag {versions}", versions == wanted
+    yield "other headers: no file is in OUT, and both stand beside it", not os.path.exists(f"{work}/out/same.dcm")
+    yield "other headers: so they do", all(os.path.exists(f"{work}/out.differ/{tree}/same.dcm") for tree in "ab")
+    yield f"other headers: lost lines come first {rows['lost.dcm']['result']}", rows["lost.dcm"]["result"] == "lines missing"
+    page = get(f"{work}/out.report/report.html")
+    yield "other headers: the page filters by it", b'data-result="same pixels, other header"' in page
+    called(["--no-names", f"{work}/out", f"{work}/a", f"{work}/b"])
+    text = get(f"{work}/out.partial/same.dcm.log")
+    yield "other headers: without names the table has lengths", b"version (0010,0010), A: 8 bytes; B: 14 bytes" in text
+
+
 def page_of(work: str) -> bytes:
     return get(f"{work}/out.report/report.html") + get(f"{work}/out.report/pictures.csv")
 
@@ -194,4 +222,4 @@ def checks_of_library(work: str) -> Iterator[Check]:
     yield "library: the same comes of damaged files without it", cases.results_of(f"{work}/odd-without") == cases.results_of(f"{work}/odd")
 
 
-CHECKS = (checks_of_decisions, checks_of_own_names, checks_of_syntaxes, checks_of_library)
+CHECKS = (checks_of_decisions, checks_of_own_names, checks_of_other_headers, checks_of_syntaxes, checks_of_library)

@@ -21,6 +21,7 @@ from jls_tools.frames.mending import Mended
 from jls_tools.frames.unsupported import NOT_SUPPORTED
 from jls_tools.programs import ProgramFailed
 
+OTHER_HEADER = "same pixels, other header"
 MOST_CHECKED = 16  # frames of a file whose bad bytes are looked for
 
 
@@ -31,7 +32,14 @@ def take(row: Row, frames: Sequence[FrameResult]) -> None:
     row.disputed = sum(frame.disputed for frame in frames)
 
 
-def words_for(frames: Sequence[FrameResult]) -> str:
+def words_for(result: MendResult) -> str:
+    """The words for a file that isn't written: each frame came back, or one isn't whole."""
+    if any(frame.kind != "whole" for frame in result.frames):
+        return words_for_lost(result.frames)
+    return OTHER_HEADER if result.versions and result.versions.taken is None else "undecided"
+
+
+def words_for_lost(frames: Sequence[FrameResult]) -> str:
     """The words for frames of which one isn't whole."""
     if any(frame.disputed or frame.kind == "disputed" for frame in frames):
         return "lines disputed"
@@ -95,7 +103,7 @@ def take_decisions(desk: Desk, row: Row, copies: Sequence[Copy], result: MendRes
     decided = [place.values[place.taken][0] for place in result.places if place.taken is not None]
     row.decided, row.one_copy = len(decided), sum(len(names) == 1 for names in decided)
     texts = list(bytes_of(copies))
-    row.versions = versions.count(texts)
+    row.versions = max(versions.count(texts), len(result.versions.rows) if result.versions else 0)
     if not desk.options.no_names:
         row.patient, row.study = versions.whose(texts)
 
@@ -132,7 +140,7 @@ def keep(desk: Desk, row: Row, copies: Sequence[Copy], result: MendResult) -> Ro
         if loss(worst) and os.path.exists(drawn):
             desk.draw(row, drawn)
         row.outputs.append(desk.places.put(result.folder, "partial", own_name(row.path + FRAMES)))
-    words = words_for(result.frames) if any(frame.kind != "whole" for frame in result.frames) else "undecided"
+    words = words_for(result)
     desk.set_aside(row, copies, words)
     return row.end(words, max(result.status, 1), "; ".join(result.notes))
 
@@ -197,7 +205,7 @@ def look_at(desk: Desk, row: Row, file: info.OneFile) -> Row:
     keep_parts(desk, row, lost)
     if not any(frame.result.settled for frame in mended):
         return row.end("does not read", 3, "; ".join(notes))
-    return row.end(words_for([frame.result for frame in lost]), 1, "; ".join(notes))
+    return row.end(words_for_lost([frame.result for frame in lost]), 1, "; ".join(notes))
 
 
 def keep_parts(desk: Desk, row: Row, lost: Sequence[Mended]) -> None:

@@ -44,7 +44,7 @@ class Row:
     outputs: List[List[str]] = dataclasses.field(default_factory=list)  # the files that were written
     decided: int | None = None  # places of the header where copies differ, and one was taken
     one_copy: int | None = None  # of these: what one copy alone has
-    versions: int | None = None  # elements of which copies have values that differ and all read
+    versions: int | None = None  # elements of which copies have several values that read, or that headers which read whole have otherwise
     bad: str = ""  # where bytes are bad, from the file's begin to its end: see `bad_cells`
     patient: str = ""
     study: str = ""
