@@ -1,7 +1,9 @@
 """Checks of tests/commands_archive on report.html: what it has, and in a browser without a window what it shows, if Chromium is there."""
 from __future__ import annotations
 
+import base64
 import html
+import itertools
 import os
 import re
 import shutil
@@ -10,7 +12,7 @@ import sys
 import tempfile
 from typing import Dict, Iterator, List, Optional, Tuple
 
-from archive_cases import TOP, get, put
+from archive_cases import PROGRAMS, TOP, VIEW, get, put
 
 sys.path.insert(0, os.path.join(TOP, "commands"))
 
@@ -103,7 +105,7 @@ def checks_of_browser(work: str) -> Iterator[Check]:
         "#sort=-decided": ["a/1.dcm"],
         "#only=KNEE&sort=missing": ["b/10.dcm", "b/9.dcm"],
         "#group=patient&only=dcm": ["Doe^Jane, 7: 2 rows", "a/2.dcm", "a/1.dcm", "Roe^Jack, 8: 2 rows", "b/9.dcm", "b/10.dcm"],
-        "#group=study&result=mended": ["Doe^Jane, 7 / 20200131 HEAD 1.2: 1 rows", "a/1.dcm"],
+        "#group=study&result=mended": ["Doe^Jane, 7 / 20200131 HEAD 1.2: 1 row", "a/1.dcm"],
     }
     texts = {chosen: shown_by(program, place + chosen) for chosen in wanted}
     for chosen, lines in wanted.items():
@@ -118,12 +120,86 @@ def checks_of_browser(work: str) -> Iterator[Check]:
     yield "browser: 10,000 rows, of which some are shown", (len(lines_of(text)), f"1 to 200 of {MOST_LOST}" in text) == (200, True)
 
 
+def clicks(page: str, *steps: str) -> str:
+    """A page on which a person has done these steps, of script, when it was opened."""
+    text = get(page).decode()
+    return put(f"{page}.html", text.replace("</body>", f"<script>{'; '.join(steps)}</script></body>").encode())
+
+
+def click(what: str) -> str:
+    return f"document.querySelector('{what}').click()"
+
+
+def turned_to(what: str, value: str, event: str) -> str:
+    return f"const each = document.querySelector('{what}'); each.value = '{value}'; each.dispatchEvent(new Event('{event}'))"
+
+
+def checks_of_hands(work: str) -> Iterator[Check]:
+    """What Chromium shows after clicks, choices and typing."""
+    program = browser()
+    if not program:
+        return
+    every = ["b/9.dcm", "b/10.dcm", "a/2.dcm", "a/1.dcm", "not \\xff & <i>.txt"]
+    title = click("th[data-column=missing] button")
+    cases: List[Tuple[str, List[str], List[str]]] = [
+        ("a click on a result", [click('[data-result="lines missing"]')], every[1:3]),
+        ("a click on a title", [title], every),
+        ("a second click", [title, title], every[::-1]),
+        ("a title of texts", [click("th[data-column=result] button")], [every[4], every[0], every[1], every[2], every[3]]),
+        ("a choice of a result", [turned_to("#result", "does not read", "change")], every[:1]),
+        ("a word that is typed", [turned_to("#only", "DOE^", "input")], ["a/2.dcm", "a/1.dcm"]),
+        ("a word that none has", [turned_to("#only", "nowhere", "input")], []),
+        ("a choice of groups", [turned_to("#group", "folder", "change")], [".: 1 row", every[4], "a: 2 rows"]),
+    ]
+    for name, steps, lines in cases:
+        told = lines_of(shown_by(program, f"file://{clicks(f'{work}/few.report/report.html', *steps)}"))
+        is_all = len(told) == len(lines) or "groups" in name
+        yield f"hands: {name}: {told}", told[: len(lines)] == lines and is_all
+    long = f"{work}/long.report/report.html"
+    for steps, wanted in (([click("#next")] * 2, "401 to 600 of"), ([click("#next"), click("#before")], "1 to 200 of")):
+        text = shown_by(program, f"file://{clicks(long, *steps)}")
+        yield f"hands: {wanted}", (len(lines_of(text)), wanted in text) == (200, True)
+
+
+# Writes the shape of a picture, and its first pixel in each line, into the page
+READ_PICTURE = """<body><img id="it" src="data:image/png;base64,PICTURE"><p id="told"></p><script>
+const it = document.getElementById("it");
+it.onload = () => {
+  const canvas = document.createElement("canvas");
+  [canvas.width, canvas.height] = [it.naturalWidth, it.naturalHeight];
+  const on = canvas.getContext("2d");
+  on.drawImage(it, 0, 0);
+  const first = [...Array(canvas.height).keys()].map(y => [...on.getImageData(0, y, 1, 1).data].slice(0, 3).join(","));
+  document.getElementById("told").textContent = [canvas.width, canvas.height, ...first].join(" ");
+};
+</script></body>"""
+
+
+def checks_of_pictures(work: str) -> Iterator[Check]:
+    """Chromium shows what jls-view draws: of first.jls, in which lines 2 and 3 are lost, as docs/GUIDE.md has it."""
+    program = browser()
+    if not program:
+        return
+    cases: List[Tuple[List[str], int]] = [([], 1), (["--scale", "3"], 3), (["--window", "128", "256"], 1)]
+    for words, rows in cases:
+        drawn = f"{work}/drawn.png"
+        subprocess.run([VIEW, *words, os.path.join(TOP, "examples", "first.jls"), drawn], check=True, env=PROGRAMS)
+        page = READ_PICTURE.replace("PICTURE", base64.b64encode(get(drawn)).decode())
+        text = shown_by(program, f"file://{put(f'{work}/drawn.html', page.encode())}")
+        told = re.search(r'<p id="told">(.*?)</p>', text)
+        width, height, *lines = told.group(1).split() if told else ("0", "0")
+        lost = [y for y, pixel in enumerate(lines) if pixel == "230,159,0"]
+        is_gray = all(len(set(pixel.split(","))) == 1 for y, pixel in enumerate(lines) if y not in lost)
+        yield f"pictures: {words}: {width}x{height}, a bar beside it", int(width) > 16 * rows and int(height) == 12 * rows
+        yield f"pictures: {words}: lost lines are orange, others gray {lost}", lost == [*range(2 * rows, 4 * rows)] and is_gray
+
+
 def checks_of_page(work: str) -> Iterator[Check]:
     """All checks. A screenshot is kept if one in the browser differs."""
     work = f"{work}/page"
     yield from checks_of_parts(work)
     is_well = True
-    for what, is_so in checks_of_browser(work):
+    for what, is_so in itertools.chain(checks_of_browser(work), checks_of_hands(work), checks_of_pictures(work)):
         is_well = is_well and is_so
         yield what, is_so
     program = browser()

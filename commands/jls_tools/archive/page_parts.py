@@ -64,7 +64,7 @@ SCRIPT = """
     return made;
   };
   const words = new Intl.Collator(undefined, { numeric: true });
-  const folder = row => row[0].includes("/") ? row[0].slice(0, row[0].lastIndexOf("/")) : "";
+  const folder = row => row[0].includes("/") ? row[0].slice(0, row[0].lastIndexOf("/")) : ".";
   const groups = {
     patient: row => row[at.patient], study: row => row[at.patient] + (row[at.study] ? " / " + row[at.study] : ""),
     folder, result: row => row[at.result],
@@ -127,7 +127,8 @@ SCRIPT = """
       if (group !== last) {
         const line = make("tr", body, null, "group"), cell = make("td", line);
         cell.colSpan = shown.length + 1;
-        cell.textContent = `${group || "not told"}: ${sizes.get(group)} rows`;
+        const size = sizes.get(group);
+        cell.textContent = `${group || "not told"}: ${size} ${size === 1 ? "row" : "rows"}`;
         last = group;
       }
       draw(row);
