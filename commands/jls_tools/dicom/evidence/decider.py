@@ -2,7 +2,7 @@
 from __future__ import annotations
 
 import itertools
-from collections.abc import Sequence
+from collections.abc import Iterator, Sequence
 from typing import TYPE_CHECKING, Optional
 
 from jls_tools.dicom.axis.media import NEAR_PLACES, SECTOR
@@ -127,14 +127,26 @@ class Decider:
         for number in waiting + waiting[::-1]:
             run = self.runs.runs[number]
             around = pair.run_around(run.begin, run.end) if len(self.header.left[number]) > 1 else None
-            if around is None:
+            if around is None or not self.is_between(number, around, own, other):
                 continue
             numbers = [each for each in self.runs.touching(*around) if each in self.header.left]
-            against = [each for each in numbers if self.is_for(each, other, own)]
-            near = [each for each in against if self.distance(each, run) <= NEAR_PLACES]
-            is_between = any(each < number for each in near) and any(each > number for each in near)
-            if is_between and len(against) >= DECIDED and not any(self.is_for(each, own, other) for each in numbers):
+            against = sum(self.is_for(each, other, own) for each in numbers)
+            if against >= DECIDED and not any(self.is_for(each, own, other) for each in numbers):
                 self.drop(own, other, run.begin, run.end, IS_ONE_RUN)
+
+    def is_between(self, number: int, around: tuple[int, int], own: int, other: int) -> bool:
+        """Whether places of a range near a run, before and behind it, were decided against a copy."""
+        inside = self.runs.touching(*around)
+        sides = range(number - 1, inside.start - 1, -1), range(number + 1, inside.stop)
+        return all(any(self.is_for(each, other, own) for each in self.near(number, side)) for side in sides)
+
+    def near(self, number: int, others: Sequence[int]) -> Iterator[int]:
+        """The runs near a run, of others that lie on one side of it, the nearest first."""
+        for each in others:
+            if self.distance(each, self.runs.runs[number]) > NEAR_PLACES:
+                return
+            if each in self.header.left:
+                yield each
 
     def by_sectors(self, pair: Pair, own: int, other: int) -> None:
         """Open places in sectors that a copy lost as a whole: enough places in them were decided against it, and none for it."""

@@ -18,6 +18,7 @@ from jls_tools.dicom.read.tags import FIRST, ITEM, ITEM_END, PIXEL_DATA, SEQUENC
 from jls_tools.dicom.read.values import TEXTS, allows, is_written, strangeness
 
 MOST_COMBINATIONS = 64
+MOST_FREE = 12  # so many runs are combined at most
 MOST_NODES = 100000  # a state and its steps take some kilobytes
 MOST_LOOKS = 100000  # so many ways through a header or value are looked at, at most; others take some thousands
 MOST_JUMPS = 40
@@ -80,8 +81,9 @@ class Walk:
             yield self.runs.bytes_with(begin, end, both), both, cost
 
     def is_small(self, begin: int, end: int, chosen: Chosen) -> bool:
-        sizes = [len(self.runs.ways_of(number)) for number in self.runs.touching(begin, end) if number not in chosen]
-        return len(sizes) <= 12 and math.prod(sizes) <= MOST_COMBINATIONS
+        free = (number for number in self.runs.touching(begin, end) if number not in chosen)
+        sizes = [len(self.runs.ways_of(number)) for number in itertools.islice(free, MOST_FREE + 1)]
+        return len(sizes) <= MOST_FREE and math.prod(sizes) <= MOST_COMBINATIONS
 
     def going_on(self, place: int, chosen: Chosen) -> tuple[tuple[int, int], ...]:
         """The ways of runs that go across a place."""
