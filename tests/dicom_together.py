@@ -109,6 +109,22 @@ def checks_of_sectors_twice(bench: Any, made: File, rng: random.Random) -> Itera
     yield f"a file that has a sector twice ({status}, {printed})", (status, out == twice) == (0, True)
 
 
+def checks_of_others_in_a_lost_sector(bench: Any, made: File) -> Iterator[Check]:
+    """One of three copies lost a sector, in which the others differ in two places: what decides one says nothing of the other."""
+    true, _ = with_value(made, b"x" * 300)
+    name, rows = true.index(b"Doe^Jane"), true.index(b"\x28\0\x10\0US")
+    assert name // SECTOR == rows // SECTOR
+    border = name // SECTOR * SECTOR
+    broken, other = (rows + 6, b"\xee\xff"), (name, b"E")
+    for fill in (bytes(SECTOR), (b"BAD-SECTOR " * 50)[:SECTOR], b"\xff" * SECTOR):
+        for what, changes, wanted in (("a length", [[broken], []], 0), ("a length, and a name in the other one", [[broken], [other]], 1)):
+            copies = [changed(true, *own, in_frame(made, true, at)) for at, own in enumerate([[(border, fill)], *changes])]
+            for order in (copies, copies[::-1], copies[1:] + copies[:1]):
+                status, out, printed, _, _ = bench.mend(order)
+                told = not wanted or "(0010,0010), undecided" in printed
+                yield f"{what}, {fill[:2]!r}: {wanted} ({status}, {printed})", (status, out == true, told) == (wanted, not wanted, True)
+
+
 def header_with(runs: list[tuple[int, int, set[int]]]) -> Any:
     """What stands for a Header of three copies, of which the last one alone has bytes 600 to 606. `runs` are decided, for these copies."""
     copies = [Copy("", bytes(1024), own) for own in ([(600, 606)], [(600, 606)], [])]
@@ -139,6 +155,23 @@ def checks_of_lost_beside() -> Iterator[Check]:
         yield f"{name}: {wanted} ({found})", found == wanted
 
 
+def checks_of_changes() -> Iterator[Check]:
+    """Whether what was taken changes from one copy to another where damage of both has to touch."""
+    for name, runs, wanted in (
+        ("damage of one beside damage of the other", [(520, 540, {0}), (541, 561, {1})], 541),
+        ("eight bytes between", [(520, 540, {0}), (548, 568, {1})], None),
+        ("at a border", [(492, 512, {0}), (512, 532, {1})], None),
+        ("both have what is between, which a third copy lost", [(520, 540, {0}), (540, 560, {0, 1}), (560, 580, {1})], None),
+        ("both have a byte between", [(520, 540, {0}), (540, 541, {0, 1}), (541, 561, {1})], 541),
+        ("one copy has all", [(520, 540, {0, 1}), (540, 560, {1}), (560, 580, {0, 1})], None),
+        ("nothing was taken", [(520, 540, {0}), (541, 561, set())], None),
+    ):
+        header = header_with(runs)
+        header.parts = dict.fromkeys(range(len(runs)))
+        found = doubtful.change_at(header)
+        yield f"{name}: {wanted} ({found})", found == wanted
+
+
 def checks_of_alone_in_lost_sectors(bench: Any, made: File) -> Iterator[Check]:
     """Two copies are cut, and the third one lost its last sector: the end that it alone has is no end of the file."""
     tail = element(0xFFFCFFFC, "OB", bytes(30))
@@ -157,4 +190,4 @@ def checks_of_alone_in_lost_sectors(bench: Any, made: File) -> Iterator[Check]:
 
 
 TOGETHER = [checks_of_sectors_lost_alike, checks_of_decided_beside, checks_of_other_ends, checks_of_sectors_twice]
-TOGETHER += [checks_of_lost_beside, checks_of_alone_in_lost_sectors]
+TOGETHER += [checks_of_others_in_a_lost_sector, checks_of_changes, checks_of_lost_beside, checks_of_alone_in_lost_sectors]

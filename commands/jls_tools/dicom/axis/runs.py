@@ -79,6 +79,21 @@ def cut_at_sectors(begin: int, end: int) -> Iterator[tuple[int, int]]:
         begin = border
 
 
+def split_where_others_differ(copies: Sequence[Copy], begin: int, end: int) -> Iterator[tuple[int, int]]:
+    """The parts of a range that one copy lost: places in which the other copies differ too, and what lies between them."""
+    texts = [copy.data[begin:end] for copy in copies]
+    others = (differing(texts[:at] + texts[at + 1 :]) for at in range(len(texts))) if len(texts) > 2 else ()
+    apart = list(clusters(min(others, key=size_of, default=[])))
+    if 2 * size_of(apart) > end - begin:
+        apart = []
+    borders = [begin, *(begin + border for place in apart for border in place), end]
+    yield from ((first, last) for first, last in zip(borders, borders[1:]) if first < last)
+
+
+def size_of(ranges: Sequence[tuple[int, int]]) -> int:
+    return sum(end - begin for begin, end in ranges)
+
+
 def run_at(copies: Sequence[Copy], begin: int, end: int, whole: tuple[int, int], number_of_whole: int) -> Run:
     found: dict[bytes, list[int]] = {}
     for number, copy in enumerate(copies):
@@ -108,7 +123,8 @@ class Runs:
         self.runs = [
             run_at(copies, first, last, (begin, end), bisect.bisect_right(begins, begin) - 1)
             for begin, end in ranges
-            for first, last in cut_at_sectors(begin, end)
+            for border, next_border in cut_at_sectors(begin, end)
+            for first, last in split_where_others_differ(copies, border, next_border)
         ]
         for run in self.runs:
             if agreed is not None and agreed.begin <= run.begin and run.end <= agreed.until:

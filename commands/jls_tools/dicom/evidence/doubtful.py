@@ -21,6 +21,7 @@ from jls_tools.dicom.axis.bad_places import Range, in_both, outside
 from jls_tools.dicom.axis.media import SECTOR
 from jls_tools.dicom.axis.periods import period_of
 from jls_tools.dicom.axis.placed import in_no_copy
+from jls_tools.dicom.axis.runs import Run
 from jls_tools.dicom.read.elements import DELIMITER
 from jls_tools.dicom.result import Place
 
@@ -122,19 +123,39 @@ def places_of(sector: bytes, data: bytes) -> Iterator[int]:
         at = data.find(sector, at + 1)
 
 
+class Taken:
+    """Runs side by side of which one copy or more have all that was taken: `holders`. `first` are the copies that have the first run."""
+
+    def __init__(self, run: Run, own: set[int]) -> None:
+        self.begin = run.begin
+        self.end = run.end
+        self.first = self.holders = own
+        self.ends = [(run.end, own)]
+
+    def add(self, run: Run, own: set[int]) -> None:
+        self.end = run.end
+        self.holders = self.holders & own
+        self.ends.append((run.end, own))
+
+    def end_against(self, others: set[int]) -> int:
+        """Where the last run ends that none of other copies has: those after it were damaged in neither."""
+        return next((end for end, own in reversed(self.ends) if not own & others), self.begin)
+
+
 def change_at(header: Header) -> Optional[int]:
     """Where what was taken changes from one copy to another inside of a stretch in which they differ, and at no border of sectors."""
     chosen, runs = header.chosen(), header.runs.runs
-    parts: list[tuple[int, int, set[int]]] = []  # what was taken of the same copies: its begin, its end, these copies
+    parts: list[Taken] = []
     for number in sorted(header.parts):
         run, own = runs[number], header.holders(number) if number in chosen else set()
-        if parts and run.begin - parts[-1][1] < NEAR and parts[-1][2] & own:
-            parts[-1] = (parts[-1][0], run.end, parts[-1][2] & own)
+        if parts and run.begin - parts[-1].end < NEAR and parts[-1].holders & own:
+            parts[-1].add(run, own)
         else:
-            parts.append((run.begin, run.end, own))
-    for (first, border, one), (begin, last, other) in zip(parts, parts[1:]):
-        is_beside = begin - border < NEAR and bool(one) and bool(other)
-        is_long = border - first >= LONG and last - begin >= LONG
+            parts.append(Taken(run, own))
+    for one, other in zip(parts, parts[1:]):
+        border, begin = one.end_against(other.first), other.begin
+        is_beside = begin - border < NEAR and bool(one.holders) and bool(other.holders)
+        is_long = border - one.begin >= LONG and other.end - begin >= LONG
         if is_beside and is_long and border // SECTOR == begin // SECTOR and border % SECTOR and begin % SECTOR:
             return begin
     return None
