@@ -65,7 +65,7 @@ def checks_of_foreign_names(bench, made):
     """--no-names leaves out letters where none belong, as foreign bytes over a date have them, and known terms stay."""
     true, foreign = made.bytes, b"Smith^Adam Q\\Smith^Eve, 12 Main St. " * 12
     date, term, rows = (true.index(text) for text in (b"20200131", b"MONOCHROME2", b"\x28\0\x10\0US"))
-    kanji = b"\x1b$B;3ED^B@O:\x1b(B"
+    kanji = b"\x1b$B;3?9:2^;3"
     for name, at, new, told in (
         ("a date", date, foreign[:8], "'20200131'"),
         ("a number", rows + 8, foreign[:2], "14 00"),
