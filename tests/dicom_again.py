@@ -1,10 +1,15 @@
 """Checks of further runs with one OUT: the frames and the log of an earlier run are made anew, and what is the user's stays."""
+from __future__ import annotations
+
 import os
+from collections.abc import Iterator
 
-from dicom_files import changed, called, get
+from dicom_files import Bench, File, called, changed, get
+
+Check = tuple[str, bool]
 
 
-def checks_of_again(bench, made):
+def checks_of_again(bench: Bench, made: File) -> Iterator[Check]:
     true, first, second = made.bytes, made.items[0], made.items[1]
     both = [changed(true, (first + 70, bytes(40))), changed(true, (first + 75, bytes(30)))]
     status, out, _, _, name = bench.mend(both)
@@ -38,7 +43,7 @@ def checks_of_again(bench, made):
     status, printed, faults = called("mend", name, *copies, third)
     is_gone = not os.path.lexists(frames)
     yield f"a third copy: whole, and no frames beside it ({status}, {faults})", (status, get(name), is_gone) == (0, true, True)
-    yield "the log is made anew", b"each byte in its place" in get(log)
+    yield "the log is made anew", b"each byte in its place" in (get(log) or b"")
     yield "OUT is never replaced", called("mend", name, *copies, third)[0] == 4 and get(name) == true
     os.remove(name)
     with open(log, "wb") as file:
@@ -49,19 +54,19 @@ def checks_of_again(bench, made):
     yield f"nothing of the work stays: {left}", not left
 
 
-def checks_of_names(bench, made):
+def checks_of_names(bench: Bench, made: File) -> Iterator[Check]:
     """--no-names leaves out what can have a name, of lines and of the log."""
     true = made.bytes
     copies = [changed(true, (made.name_at, b"E")), changed(true, (true.index(b"PRIVATE"), b"Q"), (true.index(b"20200131"), b"1"))]
     for words, is_named in (((), True), (("--no-names",), False)):
         _, _, printed, _, name = bench.mend(copies, *words)
-        log = get(f"{name}.log").decode("ascii")
+        log = (get(f"{name}.log") or b"").decode("ascii")
         for text in ("'D'", "'E'", "'P'", "'Q'"):
             yield f"{words}, {text}: {is_named} ({printed})", (text in printed, text in log) == (is_named, is_named)
         yield f"{words}: a date is told", "'1'" in printed and "'1'" in log
 
 
-def checks_of_foreign_names(bench, made):
+def checks_of_foreign_names(bench: Bench, made: File) -> Iterator[Check]:
     """--no-names leaves out letters where none belong, as foreign bytes over a date have them, and known terms stay."""
     true, foreign = made.bytes, b"Smith^Adam Q\\Smith^Eve, 12 Main St. " * 12
     date, term, rows = (true.index(text) for text in (b"20200131", b"MONOCHROME2", b"\x28\0\x10\0US"))
@@ -77,12 +82,12 @@ def checks_of_foreign_names(bench, made):
     ):
         copies = [changed(true, (at, new)), changed(true, (made.items[0] + 70, bytes(8)))]
         _, _, printed, _, out = bench.mend(copies, "--no-names")
-        log = get(f"{out}.log").decode("ascii")
+        log = (get(f"{out}.log") or b"").decode("ascii")
         for text in (printed, log):
             differs = [line for line in text.splitlines() if line.startswith("differ ")]
             parts = [new[:2], new[:2].hex(" ").encode(), b"Doe", b"44 6f 65", b"Smith", b"53 6d 69"]
             named = [part for part in parts if part.decode("latin-1") in "".join(differs)]
-            yield f"{name}: no letter of it is told {named} ({differs})", differs and not named and " bytes" in text
+            yield f"{name}: no letter of it is told {named} ({differs})", bool(differs) and not named and " bytes" in text
         yield f"{name}: what is no name is told ({printed})", told is None or told in printed
 
 

@@ -5,10 +5,12 @@ import contextlib
 import io
 import itertools
 import os
+import random
 import struct
 import subprocess
 import sys
 import traceback
+from collections.abc import Sequence
 
 import objects
 
@@ -34,7 +36,7 @@ def item(value: bytes) -> bytes:
     return b"\xfe\xff\x00\xe0" + struct.pack("<I", len(value)) + value
 
 
-def frame(rng, bits, width, height, folder):
+def frame(rng: random.Random, bits: int, width: int, height: int, folder: str) -> bytes:
     """A codestream of noise on a slope."""
     top = (1 << bits) - 1
     text = b"JLSP\2" + struct.pack(">BHHB", bits, width, height, 1) + b"\1" + struct.pack(">I", height)
@@ -87,7 +89,7 @@ class File:
         self.frames = frames
 
 
-def changed(data, *changes):
+def changed(data: bytes, *changes: tuple[int, bytes]) -> bytes:
     """A copy with other bytes at some places."""
     copy = bytearray(data)
     for at, new in changes:
@@ -98,11 +100,11 @@ def changed(data, *changes):
 class Bench:
     """A folder in which copies are mended."""
 
-    def __init__(self, folder):
+    def __init__(self, folder: str) -> None:
         self.folder = folder
         self.count = 0
 
-    def mend(self, copies, *words):
+    def mend(self, copies: Sequence[bytes], *words: str) -> tuple[int | str, bytes | None, str, str, str]:
         """(status, OUT or nothing, what was printed, fault lines, its name)."""
         self.count += 1
         names = [f"{self.folder}/{self.count}-{at}.dcm" for at in range(len(copies))]
@@ -110,14 +112,15 @@ class Bench:
             with open(name, "wb") as file:
                 file.write(data)
         out = f"{self.folder}/{self.count}-out.dcm"
-        words = [word.replace("COPY0", names[0]).replace("COPY1", names[min(1, len(names) - 1)]) for word in words]
-        status, printed, faults = called("mend", *words, out, *names)
+        named = [word.replace("COPY0", names[0]).replace("COPY1", names[min(1, len(names) - 1)]) for word in words]
+        status, printed, faults = called("mend", *named, out, *names)
         got = [get(name) for name in names] == list(copies)
         return status if got else "a copy was changed", get(out), printed, faults, out
 
 
-def called(*words):
+def called(*words: str) -> tuple[int | str, str, str]:
     """(status, what was printed, fault lines) of jls-dicom, in this process: to start Python anew takes longer than most mends."""
+    status: int | str | None
     printed, faults = io.StringIO(), io.StringIO()
     with contextlib.redirect_stdout(printed), contextlib.redirect_stderr(faults):
         try:
@@ -127,17 +130,17 @@ def called(*words):
         except Exception:
             status = "Traceback"
             traceback.print_exc()
-    return status, printed.getvalue(), faults.getvalue()
+    return status or 0, printed.getvalue(), faults.getvalue()
 
 
-def get(path):
+def get(path: str) -> bytes | None:
     if not os.path.isfile(path):
         return None
     with open(path, "rb") as file:
         return file.read()
 
 
-def with_value(made, value):
+def with_value(made: File, value: bytes) -> tuple[bytes, int]:
     """A file with another private value, and where that begins."""
     at = made.bytes.index(bytes(range(64)))
     data = made.bytes[: at - 4] + struct.pack("<I", len(value)) + value + made.bytes[at + 64 :]

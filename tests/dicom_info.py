@@ -1,18 +1,24 @@
 """Checks of what `jls-dicom info` says of files that are intact and not supported, and of one that is damaged; such files."""
-import os
+from __future__ import annotations
 
-from dicom_files import HERE, File, called, changed, frame
+import os
+import random
+from collections.abc import Iterator
+
+from dicom_files import HERE, Bench, File, called, changed, frame
+
+Check = tuple[str, bool]
 
 SCAN = b"\xff\x11\x42" * 20 + b"\xff\xd9"  # the headers alone tell, so that a scan of anything will do
 
 
-def near_of(stream):
+def near_of(stream: bytes) -> bytes:
     """A codestream that says NEAR 3."""
     at = stream.index(b"\xff\xda")
     return changed(stream, (at + 2 + int.from_bytes(stream[at + 2 : at + 4], "big") - 3, b"\3"))
 
 
-def unsupported(stream):
+def unsupported(stream: bytes) -> dict[str, bytes]:
     """{its name: a codestream of a kind that isn't read}, by T.87, C.2.2 and C.2.3, and T.81, B.2.2."""
     three = "ffd8fff70011080010001003011100021100031100ffda000c03010002000300"
     size, one = "080010001001", bytes.fromhex("ffda0008010100000000") + SCAN
@@ -27,7 +33,7 @@ def unsupported(stream):
     }
 
 
-def unsupported_by_sample():
+def unsupported_by_sample() -> dict[str, bytes]:
     """The same of three components that are interleaved by sample."""
     three = "ffd8fff700110800100010030111000211000311"
     scan = "00ffda000c03010002000300"
@@ -41,7 +47,7 @@ def unsupported_by_sample():
     }
 
 
-def checks_of_info(work, rng):
+def checks_of_info(work: str, rng: random.Random) -> Iterator[Check]:
     stream, name = frame(rng, 8, 16, 12, work), f"{work}/one.jls"
     for kind, data in [*unsupported(stream).items(), *unsupported_by_sample().items()]:
         with open(name, "wb") as file:
@@ -62,7 +68,7 @@ def checks_of_info(work, rng):
     yield f"info: whole ({status}, {printed})", status == 0 and "damaged" not in printed and "not supported" not in printed
 
 
-def checks_of_unsupported(bench, work, rng):
+def checks_of_unsupported(bench: Bench, work: str, rng: random.Random) -> Iterator[Check]:
     """Copies of a coding that isn't read are refused by name; a frame of one is never filled as a lost one is."""
     stream = frame(rng, 8, 16, 12, work)
     near = File([near_of(stream)] * 2, 8, 16, 12).bytes

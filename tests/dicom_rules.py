@@ -1,14 +1,28 @@
 """Checks of what decides between damaged copies: CSA headers, known terms, sectors of frames, offset tables, UIDs, one picture."""
+from __future__ import annotations
+
 import hashlib
 import random
 import struct
+from collections.abc import Iterator
+from typing import Protocol
 
-from dicom_files import UID, File, changed, element, frame, with_value
+from dicom_files import UID, Bench, File, changed, element, frame, with_value
+
+Check = tuple[str, bool]
 
 
-def csa_header(rng):
+class Random(Protocol):
+    """What gives the bytes that stood in memory before."""
+
+    def randbytes(self, n: int, /) -> bytes:
+        """So many bytes."""
+
+
+def csa_header(rng: Random) -> bytes:
     """A Siemens CSA header ("SV10"), as NiBabel's documentation of that format has it: tags of a name, a VR and items."""
-    tags = [("EchoLinePosition", "IS", ["64"]), ("B_value", "IS", ["1000", ""]), ("ImaAbsTablePosition", "SL", [])]
+    tags: list[tuple[str, str, list[str]]] = [("EchoLinePosition", "IS", ["64"]), ("B_value", "IS", ["1000", ""])]
+    tags += [("ImaAbsTablePosition", "SL", [])]
     tags += [(f"Field{at}", "DS", [f"{at}.{at * 7 % 100:02}", "", ""]) for at in range(12)]
     tags += [("MrProtocol", "UT", ["".join(f"sSlice[{at}].dTra = -{at * 7}.5\n" for at in range(90))])]
     found = b"SV10\4\3\2\1" + struct.pack("<II", len(tags), 77)
@@ -21,7 +35,7 @@ def csa_header(rng):
     return found + bytes(4)
 
 
-def checks_of_csa_headers(bench, made, rng):
+def checks_of_csa_headers(bench: Bench, made: File, rng: random.Random) -> Iterator[Check]:
     """The tags and items of a CSA header tell damage, whatever it is; a letter of a text they don't tell."""
     true, begin = with_value(made, csa_header(rng))
     field, text = true.index(b"Field5\0"), true.index(b"sSlice[30]")
@@ -45,7 +59,7 @@ def checks_of_csa_headers(bench, made, rng):
     yield f"CSA header, damage of both: the same file ({status}, {printed})", (status, out == true) == (0, True)
 
 
-def checks_of_terms(bench, made):
+def checks_of_terms(bench: Bench, made: File) -> Iterator[Check]:
     """A known term is told from a text that is none. Of two known ones, and of two others, nothing is."""
     true = made.bytes
     sex = changed(true, (true.index(b"PRIVATE "), b"ACUSON  "))
@@ -64,7 +78,7 @@ def checks_of_terms(bench, made):
     yield f"a text that a VR forbids, and no damage makes ({status}, {printed})", (status, out == odd) == (0, True)
 
 
-def checks_of_lost_sectors(bench, folder, rng):
+def checks_of_lost_sectors(bench: Bench, folder: str, rng: random.Random) -> Iterator[Check]:
     """A sector of frames of which one copy has no header of an item: what it has there is no reading of a frame."""
     small = File([frame(rng, 8, 16, 12, folder) for _ in range(24)], 8, 16, 12)
     true = small.bytes
@@ -85,7 +99,7 @@ def checks_of_lost_sectors(bench, folder, rng):
     yield f"two copies of one damaged copy: nothing false ({status}, {printed})", (status, out) == (1, None) or out == true
 
 
-def checks_of_tables(bench, made):
+def checks_of_tables(bench: Bench, made: File) -> Iterator[Check]:
     """Damage of both copies side by side at the offset table, of which neither has each byte."""
     true, table = made.bytes, made.table_at
     copies = [changed(true, (table - 8, b"\x93\x1e\x77\x41")), changed(true, (table, b"\x6a\xef\x2c\x55"))]
@@ -93,7 +107,7 @@ def checks_of_tables(bench, made):
     yield f"the offset table, damage side by side: the same file ({status}, {printed})", (status, out == true) == (0, True)
 
 
-def checks_of_halves(bench, folder):
+def checks_of_halves(bench: Bench, folder: str) -> Iterator[Check]:
     """A foreign file over the end of one copy and the beginning of the other: only one joint lets the elements go on to the end."""
     rng = random.Random(10)
     big, other = (File([frame(rng, 8, 64, 60, folder)], 8, 64, 60, uid=uid) for uid in (UID, "1.2.3.9.9"))
@@ -118,7 +132,7 @@ BLANK = bytes.fromhex(
 )
 
 
-def checks_of_one_picture(bench):
+def checks_of_one_picture(bench: Bench) -> Iterator[Check]:
     """Files that differ, of one picture: that with the usual parameters is taken."""
     true = File([BLANK], 16, 64, 64).bytes
     at = true.index(b"\xff\xf8\0\x0d\1") + 5
@@ -132,7 +146,7 @@ def checks_of_one_picture(bench):
     yield f"a bit that says by sample, in one copy: the same file ({status}, {printed}, {faults})", (status, out == true) == (0, True)
 
 
-def checks_of_one_uid(bench, made):
+def checks_of_one_uid(bench: Bench, made: File) -> Iterator[Check]:
     """A copy with one UID that reads is of the instance, though no frame of it fits."""
     true, name = made.bytes, made.name_at
     zeros = [(begin + 8, bytes(len(stream))) for begin, stream in zip(made.items, made.frames)]
@@ -141,13 +155,13 @@ def checks_of_one_uid(bench, made):
     yield f"a copy with one UID: the same file ({status}, {printed})", (status, out == true) == (0, True)
 
 
-def put_before(data, tag, *elements):
+def put_before(data: bytes, tag: int, *elements: bytes) -> bytes:
     """A file with these elements before one of the top level that has the VR US or LO."""
     at = next(at for vr in (b"US", b"LO") if (at := data.find(struct.pack("<HH", tag >> 16, tag & 0xFFFF) + vr, 132)) >= 0)
     return data[:at] + b"".join(elements) + data[at:]
 
 
-def false_readings(made):
+def false_readings(made: File) -> Iterator[tuple[str, bytes, bytes, bytes]]:
     """(name, the true file, a part of it, what another copy has there): one flipped bit or a neighbour's text, and each could be true."""
     true = made.bytes
     table = (made.items[0], *made.items[1:])
@@ -177,7 +191,7 @@ def false_readings(made):
     yield "a sum in a text", with_value(made, text + total + text)[0], total, b"none" * 8
 
 
-def checks_of_false_readings(bench, made, rng):
+def checks_of_false_readings(bench: Bench, made: File, rng: random.Random) -> Iterator[Check]:
     """What could be true in each of two copies stays undecided."""
     for name, true, old, other in false_readings(made):
         copy = changed(true, (true.index(old), other))
@@ -186,7 +200,7 @@ def checks_of_false_readings(bench, made, rng):
     yield from checks_of_two_damages(bench, made, rng)
 
 
-def checks_of_two_damages(bench, made, rng):
+def checks_of_two_damages(bench: Bench, made: File, rng: random.Random) -> Iterator[Check]:
     """Damage of one copy speaks for no other place of it that does not lie within that damage."""
     true, name = made.bytes, made.name_at
     heads = [true.index(struct.pack("<HH", tag >> 16, tag & 0xFFFF) + vr, 132) + 4 for tag, vr in ((0x80020, b"DA"), (0x280002, b"US"))]

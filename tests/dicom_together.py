@@ -78,7 +78,7 @@ def checks_of_other_ends() -> Iterator[Check]:
     """Whether a copy ends as a file does, ahead of the end of what was found."""
     data, end = bytes(492) + DELIMITER + bytes(492) + DELIMITER, 1000
     inner, cut, behind = [(100, 200)], [(500, 1000)], [(600, 1000)]
-    for name, absent, until, wanted in (
+    cases: list[tuple[str, list[list[tuple[int, int]]], int, int | None]] = [
         ("one of three ends before", [cut, [], []], end, 500),
         ("one of two", [[], cut], end, 500),
         ("it lacks others too", [[*inner, *cut], []], end, 500),
@@ -87,7 +87,8 @@ def checks_of_other_ends() -> Iterator[Check]:
         ("it lacks its end", [[(496, 1000)], []], end, None),
         ("it goes on", [[(500, 900)], []], end, None),
         ("none lacks anything", [[], []], end, None),
-    ):
+    ]
+    for name, absent, until, wanted in cases:
         found = doubtful.ends_before([Copy("", data, own) for own in absent], until)
         yield f"{name}: {wanted} ({found})", found == wanted
 
@@ -116,8 +117,12 @@ def checks_of_others_in_a_lost_sector(bench: Any, made: File) -> Iterator[Check]
     assert name // SECTOR == rows // SECTOR
     border = name // SECTOR * SECTOR
     broken, other = (rows + 6, b"\xee\xff"), (name, b"E")
+    cases: list[tuple[str, list[list[tuple[int, bytes]]], int]] = [
+        ("a length", [[broken], []], 0),
+        ("a length, and a name in the other one", [[broken], [other]], 1),
+    ]
     for fill in (bytes(SECTOR), (b"BAD-SECTOR " * 50)[:SECTOR], b"\xff" * SECTOR):
-        for what, changes, wanted in (("a length", [[broken], []], 0), ("a length, and a name in the other one", [[broken], [other]], 1)):
+        for what, changes, wanted in cases:
             copies = [changed(true, *own, in_frame(made, true, at)) for at, own in enumerate([[(border, fill)], *changes])]
             for order in (copies, copies[::-1], copies[1:] + copies[:1]):
                 status, out, printed, _, _ = bench.mend(order)
@@ -127,7 +132,8 @@ def checks_of_others_in_a_lost_sector(bench: Any, made: File) -> Iterator[Check]
 
 def header_with(runs: list[tuple[int, int, set[int]]]) -> Any:
     """What stands for a Header of three copies, of which the last one alone has bytes 600 to 606. `runs` are decided, for these copies."""
-    copies = [Copy("", bytes(1024), own) for own in ([(600, 606)], [(600, 606)], [])]
+    absent: list[list[tuple[int, int]]] = [[(600, 606)], [(600, 606)], []]
+    copies = [Copy("", bytes(1024), own) for own in absent]
     found = [types.SimpleNamespace(begin=begin, end=end) for begin, end, _ in runs]
 
     def touching(first: int, last: int) -> list[int]:
@@ -157,7 +163,7 @@ def checks_of_lost_beside() -> Iterator[Check]:
 
 def checks_of_changes() -> Iterator[Check]:
     """Whether what was taken changes from one copy to another where damage of both has to touch."""
-    for name, runs, wanted in (
+    cases: list[tuple[str, list[tuple[int, int, set[int]]], int | None]] = [
         ("damage of one beside damage of the other", [(520, 540, {0}), (541, 561, {1})], 541),
         ("eight bytes between", [(520, 540, {0}), (548, 568, {1})], None),
         ("at a border", [(492, 512, {0}), (512, 532, {1})], None),
@@ -165,7 +171,8 @@ def checks_of_changes() -> Iterator[Check]:
         ("both have a byte between", [(520, 540, {0}), (540, 541, {0, 1}), (541, 561, {1})], 541),
         ("one copy has all", [(520, 540, {0, 1}), (540, 560, {1}), (560, 580, {0, 1})], None),
         ("nothing was taken", [(520, 540, {0}), (541, 561, set())], None),
-    ):
+    ]
+    for name, runs, wanted in cases:
         header = header_with(runs)
         header.parts = dict.fromkeys(range(len(runs)))
         found = doubtful.change_at(header)
