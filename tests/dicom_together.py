@@ -130,6 +130,18 @@ def checks_of_others_in_a_lost_sector(bench: Any, made: File) -> Iterator[Check]
                 yield f"{what}, {fill[:2]!r}: {wanted} ({status}, {printed})", (status, out == true, told) == (wanted, not wanted, True)
 
 
+def checks_of_others_cut_in_a_lost_sector(bench: Any, made: File) -> Iterator[Check]:
+    """One of three copies lost the last sector, and one the last byte: what this one has of a place counts, up to where it is cut."""
+    tail = element(0xFFFCFFFC, "OB", bytes(30))
+    true = made.bytes[: -len(tail)] + element(0xFFFCFFFC, "OB", bytes(range(1, 101)))
+    border, size = (len(true) - 30) // SECTOR * SECTOR, len(true)
+    zeroed, cut = changed(true, (border, bytes(size - border))), true[:-1]
+    for what, other, wanted in (("as it is", true, 0), ("with nine other bytes", changed(true, (size - 9, b"\x99" * 9)), 1)):
+        for copies in ([zeroed, other, cut], [cut, zeroed, other], [other, cut, zeroed]):
+            status, out, printed, _, _ = bench.mend(copies)
+            yield f"the third copy {what}: {wanted} ({status}, {printed})", (status, out == true) == (wanted, not wanted)
+
+
 def header_with(runs: list[tuple[int, int, set[int]]]) -> Any:
     """What stands for a Header of three copies, of which the last one alone has bytes 600 to 606. `runs` are decided, for these copies."""
     absent: list[list[tuple[int, int]]] = [[(600, 606)], [(600, 606)], []]
@@ -197,4 +209,5 @@ def checks_of_alone_in_lost_sectors(bench: Any, made: File) -> Iterator[Check]:
 
 
 TOGETHER = [checks_of_sectors_lost_alike, checks_of_decided_beside, checks_of_other_ends, checks_of_sectors_twice]
-TOGETHER += [checks_of_others_in_a_lost_sector, checks_of_changes, checks_of_lost_beside, checks_of_alone_in_lost_sectors]
+TOGETHER += [checks_of_others_in_a_lost_sector, checks_of_others_cut_in_a_lost_sector]
+TOGETHER += [checks_of_changes, checks_of_lost_beside, checks_of_alone_in_lost_sectors]

@@ -80,14 +80,15 @@ def cut_at_sectors(begin: int, end: int) -> Iterator[tuple[int, int]]:
 
 
 def split_where_others_differ(copies: Sequence[Copy], begin: int, end: int) -> Iterator[tuple[int, int]]:
-    """The parts of a range that one copy lost: places in which the other copies differ too, and what lies between them."""
+    """The parts of a range in which three copies or more differ: one lost it, and others differ in places of it, or lack a part."""
     texts = [copy.data[begin:end] for copy in copies]
     others = (differing(texts[:at] + texts[at + 1 :]) for at in range(len(texts))) if len(texts) > 2 else ()
     apart = list(clusters(min(others, key=size_of, default=[])))
     if 2 * size_of(apart) > end - begin:
         apart = []
-    borders = [begin, *(begin + border for place in apart for border in place), end]
-    yield from ((first, last) for first, last in zip(borders, borders[1:]) if first < last)
+    lacks = [border for copy in copies for each in copy.absent for border in each if begin < border < end] if apart else []
+    borders = sorted({begin, *(begin + border for place in apart for border in place), *lacks, end})
+    yield from zip(borders, borders[1:])
 
 
 def size_of(ranges: Sequence[tuple[int, int]]) -> int:
