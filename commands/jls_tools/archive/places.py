@@ -17,13 +17,14 @@ import time
 from typing import IO, Iterable, Iterator, List, Optional, Sequence, Tuple
 
 from jls_tools.archive.rows import PART
+from jls_tools.dicom.write.outputs import FRAMES
 
 MARK = ".run.json"  # says that jls-archive made the folder
 LOCK = "lock"
 PATIENCE = 3.0  # seconds in which the processes of a run that was killed are gone
 MOST_ALONE = 256  # so many files of a folder wait for the disk one by one, at most
 IS_PART = re.compile(re.escape(PART) + "[a-z0-9_]{8}")
-ENDINGS = (".log", ".jlsp", ".frames")  # of what stands beside OUT, behind the path of a picture
+ENDINGS = (".log", ".jlsp", FRAMES)  # of what stands beside OUT, behind the path of a picture
 
 
 class Refused(Exception):

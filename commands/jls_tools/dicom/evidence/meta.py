@@ -8,7 +8,7 @@ from typing import TYPE_CHECKING
 from jls_tools.dicom.evidence.alone import ONLY_VERSION
 from jls_tools.dicom.evidence.uids import are_denied
 from jls_tools.dicom.read.elements import JPEG_LS, Element, tag_name, text_of
-from jls_tools.dicom.read.tags import GROUP_LENGTH, PREAMBLE, PREFIX, SYNTAX, TWINS, VERSION
+from jls_tools.dicom.read.tags import GROUP_LENGTH, META, PREAMBLE, PREFIX, SYNTAX, TWINS, VERSION
 from jls_tools.dicom.read.values import allows
 
 if TYPE_CHECKING:
@@ -29,7 +29,7 @@ def by_prefix(header: Header) -> None:
 
 def by_meta(header: Header) -> None:
     """Leaves what each file of JPEG-LS frames has in its meta information, and UIDs that are equal in both places."""
-    meta = [element for element in header.structure.elements if element.tag >> 16 == 2]
+    meta = [element for element in header.structure.elements if element.tag >> 16 == META]
     if meta and GROUP_LENGTH in header.elements:
         size = struct.pack("<I", meta[-1].end - header.elements[GROUP_LENGTH].end)
         header.keep_values(GROUP_LENGTH, lambda value: value == size, "so long is the meta information")

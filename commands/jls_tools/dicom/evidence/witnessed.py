@@ -6,7 +6,7 @@ from typing import TYPE_CHECKING, Optional
 
 from jls_tools.dicom.copies.witness import Witness
 from jls_tools.dicom.read.elements import JPEG_LS, tag_name
-from jls_tools.dicom.read.plain import META, Plain, Unread, read
+from jls_tools.dicom.read.plain import Plain, Unread, read
 from jls_tools.dicom.read.reading import Reading
 from jls_tools.dicom.read.tags import (
     CLASS_IN_META,
@@ -14,6 +14,7 @@ from jls_tools.dicom.read.tags import (
     EXTENDED_TABLE,
     GROUP_LENGTH,
     INSTANCE_IN_META,
+    META,
     PADDING,
     PHOTOMETRIC,
     PIXEL_DATA,

@@ -10,10 +10,9 @@ from collections.abc import Sequence
 from typing import NamedTuple, Union
 
 from jls_tools.dicom.read.elements import BIG_ENDIAN, DEFLATED, EXPLICIT, IMPLICIT, LONG_VRS, SHORT_VRS, UNDEFINED, has_prefix
-from jls_tools.dicom.read.tags import FIRST, ITEM, ITEM_END, PIXEL_DATA, SEQUENCE_END, SYNTAX
+from jls_tools.dicom.read.tags import FIRST, ITEM, ITEM_END, META, PIXEL_DATA, SEQUENCE_END, SYNTAX
 from jls_tools.dicom.read.values import KNOWN_VRS, SIZES, is_uid
 
-META = 2  # the group of the meta information, which is Explicit VR Little Endian
 DEEPEST = 32  # sequences in each other
 LARGEST = 1 << 30  # bytes that a deflated data set may come to
 UNCOMPRESSED = (IMPLICIT, EXPLICIT, DEFLATED, BIG_ENDIAN)

@@ -1,6 +1,7 @@
 """Tags of elements that the modules name (PS3.6), each once, and where a file's first element stands (PS3.10, 7.1)."""
 PREAMBLE, PREFIX = 128, b"DICM"
 FIRST = PREAMBLE + len(PREFIX)
+META = 2  # the group of the meta information, which is Explicit VR Little Endian (PS3.10, 7.1)
 GROUP_LENGTH, VERSION, CLASS_IN_META, INSTANCE_IN_META, SYNTAX = 0x00020000, 0x00020001, 0x00020002, 0x00020003, 0x00020010
 VERSION_NAME = 0x00020013
 CHARACTER_SET, CLASS, INSTANCE = 0x00080005, 0x00080016, 0x00080018

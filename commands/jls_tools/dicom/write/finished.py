@@ -20,6 +20,7 @@ from jls_tools.dicom.read.tags import (
     HIGH,
     INSTANCE,
     INSTANCE_IN_META,
+    META,
     PHOTOMETRIC,
     PREAMBLE,
     SIGN,
@@ -30,7 +31,6 @@ from jls_tools.dicom.read.values import allows
 from jls_tools.dicom.walk.frames import table_of
 from jls_tools.frames.codestream import codestream_end
 
-META = 2  # the group of the meta information
 UIDS = (
     (CLASS_IN_META, "SOP Class UID of the meta information"),
     (INSTANCE_IN_META, "SOP Instance UID of the meta information"),

@@ -10,7 +10,7 @@ from typing import Union
 
 from jls_tools import partial_picture
 from jls_tools.dicom.read.elements import UNDEFINED, tag_bytes
-from jls_tools.dicom.read.tags import CLASS, GROUP_LENGTH, INSTANCE, INSTANCE_IN_META, ITEM
+from jls_tools.dicom.read.tags import CLASS, GROUP_LENGTH, INSTANCE, INSTANCE_IN_META, ITEM, META
 from jls_tools.frames.codestream import Shape
 
 IMAGE_TYPE, DESCRIPTION, SOURCES = 0x00080008, 0x00082111, 0x00082112
@@ -69,7 +69,7 @@ def derived(elements: Elements, description: str) -> Elements:
         (INSTANCE_IN_META, element(INSTANCE_IN_META, b"UI", uid, b"\0")),
     ):
         elements = put(elements, tag, value)
-    size = sum(len(value) for tag, value in elements if tag >> 16 == 2 and tag != GROUP_LENGTH)
+    size = sum(len(value) for tag, value in elements if tag >> 16 == META and tag != GROUP_LENGTH)
     return put(elements, GROUP_LENGTH, element(GROUP_LENGTH, b"UL", struct.pack("<I", size)))
 
 
