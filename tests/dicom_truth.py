@@ -252,6 +252,13 @@ def checks_of_most_frames(bench, made):
         yield case(bench, "noise over an item's header, and damage of a frame beside it in another copy", copies, 0, true)
     both = [changed(true, (begin + 10, bytes(9))), inner, changed(true, (made.name_at, bytes(60)))]
     yield case(bench, "damage of a frame of two copies, and zeros in the header of a third", both, 0, true)
+    # Two of four copies lost the tag of an item, and the others differ in the frame before it, so that none are most
+    masks = ((0x55, third + 4), (0x6A, third + 4), (0x33, third - 1))
+    odd = [changed(true, (third - 12, bytes(byte ^ mask for byte in true[third - 12 : end]))) for mask, end in masks]
+    for order in ([*odd, true], [true, *odd], [*odd[::-1], true]):
+        yield case(bench, "an item's tag is lost in two copies, and bytes before it in a third", order, 0, true, "differs in frames alone")
+    for order in ([*odd[1:], true], [true, *odd[:0:-1]]):
+        yield case(bench, "the same of three copies: most have the tag", order, 0, true, "most copies have it")
     even = File([made.frames[0]] * 8, 12, 24, 20)
     frames = [even.bytes, changed(even.bytes, (even.items[6] + 70, bytes(8))), changed(even.bytes, (even.items[3] - 30, bytes(120)))]
     yield case(bench, "equal frames, and zeros over the header of an item of one of three", frames, 0, even.bytes)
