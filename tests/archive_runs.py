@@ -5,6 +5,7 @@ A program of our own stands for jls-splice. It says where it is, and sleeps, so 
 from __future__ import annotations
 
 import csv
+import multiprocessing
 import os
 import signal
 import subprocess
@@ -21,7 +22,7 @@ sys.path.insert(0, os.path.join(TOP, "commands"))
 from jls_tools.archive import report as report_of_run
 from jls_tools.archive.ledger import Ledger
 from jls_tools.archive.main import Trees
-from jls_tools.archive.places import MOST_ALONE, Places
+from jls_tools.archive.places import MOST_ALONE, Places, Work
 from jls_tools.archive.progress import Progress
 from jls_tools.archive.rows import FIELDS, TITLES, Row, Store
 from jls_tools.archive.trees import kind_of
@@ -332,6 +333,16 @@ def checks_of_locks(work: str) -> Iterator[Check]:
         subprocess.run(["rm", "-r", out, f"{out}.differ", f"{out}.partial", f"{out}.report"])
 
 
+def work_often(report: str, part: int) -> bool:
+    """Whether the folder of a part can be made and removed a hundred times."""
+    for _ in range(100):
+        try:
+            Work(Places(f"{report}/out", report), (part, 4)).remove()
+        except OSError:
+            return False
+    return True
+
+
 def checks_of_job_arrays(work: str) -> Iterator[Check]:
     """Parts that run beside one another, and are killed at any time. The same calls again come to the files and rows of one run."""
     work = f"{work}/array"
@@ -353,6 +364,9 @@ def checks_of_job_arrays(work: str) -> Iterator[Check]:
     yield "job array: the same files and rows as of one run", cases.results_of(f"{work}/out") == cases.results_of(f"{work}/whole")
     yield "job array: a file of rows for each part", len(files_of_rows(f"{work}/out")) == 4
     yield "job array: nothing of the work stays", not left_over(f"{work}/out.report")
+    with multiprocessing.get_context("fork").Pool(4) as pool:
+        done = pool.starmap(work_often, [(f"{work}/out.report", part) for part in range(1, 5)])
+    yield "job array: parts that begin while others end", all(done)
 
 
 def checks_of_changes(work: str) -> Iterator[Check]:

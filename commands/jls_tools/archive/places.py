@@ -261,8 +261,8 @@ class Work:
 
     def begin(self, part: Tuple[int, int]) -> Optional[str]:
         """Makes the folder, or answers why it can't be: another run is alive that has paths of this part."""
-        os.makedirs(self.places.works, mode=0o700, exist_ok=True)
         with alone(self.places):
+            os.makedirs(self.places.works, mode=0o700, exist_ok=True)
             tidy(self.places)
             for name, other in runs_in(self.places):
                 if share_paths(part, other):
@@ -279,10 +279,8 @@ class Work:
         remove_parts(self.places.report, begun)
         shutil.rmtree(self.folder, ignore_errors=True)
         self.lock.close()
-        try:
-            os.rmdir(self.places.works)
-        except OSError:
-            pass  # another run works there
+        with contextlib.suppress(OSError), alone(self.places):
+            os.rmdir(self.places.works)  # unless another run works there
 
 
 def remove_parts(report: str, begun: float) -> None:
