@@ -5,17 +5,15 @@ import os
 import random
 import subprocess
 from collections.abc import Iterator
-from typing import Any
 
-import dicom_files
 from archive_cases import PROGRAMS, VIEW, get, put
 from archive_codings import BITS, HEIGHT, WIDTH, content, damaged
 from archive_decisions import called, rows_of
 from coded_pictures import Coding, coded, some_lines
+from dicom_files import File
 from jls_tools.archive import bad_cells
 from jls_tools.frames.by_sample import headers_by_line, is_by_sample, scan_of
 
-make_file: Any = dicom_files.File  # of a module without types
 Check = tuple[str, bool]
 PIXELS, COMPONENTS = Coding(are_pixels=True), 3
 
@@ -42,7 +40,7 @@ def checks_of_archives_by_sample(work: str) -> Iterator[Check]:
     lines = some_lines(random.Random(5), BITS, WIDTH, HEIGHT, COMPONENTS)
     stream = coded(PIXELS, BITS, COMPONENTS, lines)
     restarts = coded(Coding(rows=6, are_pixels=True), BITS, COMPONENTS, lines)
-    made = make_file([stream, stream], BITS, WIDTH, HEIGHT, samples=COMPONENTS)
+    made = File([stream, stream], BITS, WIDTH, HEIGHT, samples=COMPONENTS)
     at = made.items[1] + 200
     spoilt = made.bytes[:at] + bytes(8) + made.bytes[at + 8 :]
     copies = {

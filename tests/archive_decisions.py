@@ -8,11 +8,11 @@ import subprocess
 import sys
 from typing import Any, Dict, Iterator, List, Tuple
 
-import archive_cases
-import dicom_files
+import archive_cases as cases
 from archive_cases import ARCHIVE, PROGRAM, PROGRAMS, SPLICE, get, put
+from dicom_files import CLASS, File, element
 
-sys.path.insert(0, os.path.join(archive_cases.TOP, "commands"))
+sys.path.insert(0, os.path.join(cases.TOP, "commands"))
 
 from jls_tools.archive import plain_walk
 from jls_tools.dicom import info
@@ -20,8 +20,6 @@ from jls_tools.library import SONAME
 from jls_tools.programs import Programs
 
 Check = Tuple[str, bool]
-cases: Any = archive_cases  # modules without types
-make_file: Any = dicom_files.File
 NAME, OTHER = b"Doe^Jane", b"Xyz/Bcdf"
 
 
@@ -42,7 +40,7 @@ def called(words: List[str], **variables: str) -> Tuple[int, str]:
 def three_copies(work: str) -> Tuple[bytes, List[str]]:
     """A DICOM file, and trees with three copies of it: one has another name, and two a damaged frame each."""
     (stream,) = cases.files_of(work, [cases.rows_of(cases.random_of(21))])
-    made = make_file([stream], 8, cases.WIDTH, cases.HEIGHT)
+    made = File([stream], 8, cases.WIDTH, cases.HEIGHT)
     place = made.items[0] + 8 + cases.scan_of(stream)
     copies = [made.bytes, cases.spoilt(made.bytes, (place + 20, 5)), cases.spoilt(made.bytes, (place + 90, 5))]
     copies[1] = copies[1].replace(NAME, OTHER)
@@ -84,7 +82,7 @@ def checks_of_decisions(work: str) -> Iterator[Check]:
 def ends_of(work: str, places: List[Tuple[int, int]]) -> List[bytes]:
     """Two copies of a DICOM file, which have other bytes at these places."""
     (stream,) = cases.files_of(work, [cases.rows_of(cases.random_of(21))], "--ri", "4")
-    made = make_file([stream], 8, cases.WIDTH, cases.HEIGHT)
+    made = File([stream], 8, cases.WIDTH, cases.HEIGHT)
     begin = made.items[0] + 8 + cases.scan_of(stream)
     return [cases.spoilt(made.bytes, (begin + at, size)) for at, size in places]
 
@@ -114,7 +112,6 @@ def checks_of_own_names(work: str) -> Iterator[Check]:
 def checks_of_other_headers(work: str) -> Iterator[Check]:
     """Two headers of other lengths that read whole, as an archive makes them: a result of its own, with a table by tag."""
     work = f"{work}/headers"
-    element: Any = dicom_files.element
     pair = ends_of(work, [(20, 5), (90, 5)])
     for name, copies in (("same.dcm", pair), ("lost.dcm", ends_of(work, [(40, 20), (40, 24)]))):
         longer = element(0x100010, "PN", "Doe^Jane Mary") + element(0x100020, "LO", "4711")
@@ -150,13 +147,12 @@ def without_vr(tag: int, value: bytes) -> bytes:
 def checks_of_syntaxes(work: str) -> Iterator[Check]:
     """Equal files of other transfer syntaxes are told as by the walk that goes on where bytes are damaged, and take no time."""
     work = f"{work}/syntaxes"
-    element: Any = dicom_files.element
     pixels = bytes(range(256)) * 800
     items = b"\xfe\xff\0\xe0\xff\xff\xff\xff" + without_vr(0x100020, b"12") + b"\xfe\xff\x0d\xe0\0\0\0\0"
     sequence = struct.pack("<HHI", 8, 0x1140, 0xFFFFFFFF) + items + b"\xfe\xff\xdd\xe0\0\0\0\0"
     plain = without_vr(0x80016, b"1.2.840.10008.5.1.4.1.1.7\0") + sequence + without_vr(0x100010, b"Doe^Jane")
     plain += without_vr(0x7FE00010, pixels)
-    coded = element(0x80016, "UI", dicom_files.CLASS) + element(0x100010, "PN", "Doe^Jane") + element(0x7FE00010, "OB", pixels)
+    coded = element(0x80016, "UI", CLASS) + element(0x100010, "PN", "Doe^Jane") + element(0x7FE00010, "OB", pixels)
     files: Dict[str, bytes] = {}
     for uid, data in (("", plain), (".1", coded), (".4.50", coded), (".1.99", coded), (".2", coded), (".1", coded[:-1]), ("", plain[:-1])):
         meta = element(0x20010, "UI", f"1.2.840.10008.1.2{uid}")
@@ -190,8 +186,8 @@ def checks_of_library(work: str) -> Iterator[Check]:
     work = f"{work}/library"
     streams = cases.files_of(work, [cases.rows_of(cases.random_of(31 + number)) for number in range(3)], "--ri", "4")
     whole: Dict[str, bytes] = {f"{number}.jls": stream for number, stream in enumerate(streams)}
-    whole["one.dcm"] = make_file(streams[:1], 8, cases.WIDTH, cases.HEIGHT).bytes
-    whole["three.dcm"] = make_file(streams, 8, cases.WIDTH, cases.HEIGHT).bytes
+    whole["one.dcm"] = File(streams[:1], 8, cases.WIDTH, cases.HEIGHT).bytes
+    whole["three.dcm"] = File(streams, 8, cases.WIDTH, cases.HEIGHT).bytes
     first, second = streams[:2]
     odd = {"tail.jls": first + b"tail", "cut.jls": first[:-9], "bad.jls": cases.spoilt(first, (cases.scan_of(first) + 30, 5))}
     odd["bad.dcm"] = whole["three.dcm"].replace(second, cases.spoilt(second, (cases.scan_of(second) + 30, 5)))

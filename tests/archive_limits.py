@@ -5,13 +5,12 @@ import csv
 import os
 import shutil
 import subprocess
-from typing import Any, Dict, Iterator, List, Tuple
+from typing import Dict, Iterator, List, Tuple
 
-import archive_cases
+import archive_cases as cases
 from archive_cases import ARCHIVE, PROGRAMS, get, put
 
 Check = Tuple[str, bool]
-cases: Any = archive_cases  # a module without types
 LONGEST = 4095  # bytes of a path that the system takes
 ROOMS = (24, 96, 200, 350, 2000)  # KB: in the last one there is room for all
 

@@ -14,7 +14,7 @@ import time
 import types
 from typing import Any, Callable, Dict, Iterator, List, Tuple
 
-import archive_cases
+import archive_cases as cases
 from archive_cases import ARCHIVE, PROGRAMS, TOP, get, put
 
 sys.path.insert(0, os.path.join(TOP, "commands"))
@@ -346,7 +346,6 @@ def work_often(report: str, part: int) -> bool:
 def checks_of_job_arrays(work: str) -> Iterator[Check]:
     """Parts that run beside one another, and are killed at any time. The same calls again come to the files and rows of one run."""
     work = f"{work}/array"
-    cases: Any = archive_cases  # a module without types
     rng = cases.random_of(29)
     trees = [f"{work}/a", f"{work}/b"]
     cases.write_trees(cases.cases(rng, 24, work), trees)

@@ -1,11 +1,15 @@
 """Checks of bytes that are known to be bad: sectors that a disk or ddrescue filled, and lists of `--bad`."""
+from __future__ import annotations
+
 import os
+import random
 import re
 import struct
 import subprocess
 import sys
+from collections.abc import Iterator, Sequence
 
-from dicom_files import CLASS, HERE, PROGRAMS, SYNTAX, File, called, changed, element, frame, get, with_value
+from dicom_files import CLASS, HERE, PROGRAMS, SYNTAX, Bench, File, called, changed, element, frame, get, with_value
 
 sys.path.append(os.path.join(HERE, "commands"))
 from jls_tools import partial_picture  # noqa: E402
@@ -13,6 +17,9 @@ from jls_tools.dicom.axis import bad_places  # noqa: E402
 from jls_tools.dicom.axis.align import Copy  # noqa: E402
 from jls_tools.dicom.evidence import doubtful  # noqa: E402
 
+Check = tuple[str, bool]
+Lines = dict[int, list[bytes]]  # the readings of each line
+Changes = Sequence[tuple[int, bytes]]  # where a copy has other bytes, and which
 SIDE, SECTOR, INTERVAL = 80, 512, 8
 PLACE = b"\n# position 0x00000800 sector 0x00000004 status - "
 FILLS = {
@@ -25,17 +32,17 @@ FILLS = {
 }
 
 
-def file_of(rng, folder, interval=0):
+def file_of(rng: random.Random, folder: str, interval: int = 0) -> File:
     """A file of one frame, with a restart marker after so many lines."""
     stream = frame(rng, 8, SIDE, SIDE, folder)
     if interval:
         words = [PROGRAMS["JLS_SALVAGE"], "write", "--as", "jls", "--ri", str(interval), f"{folder}/frame.jls", f"{folder}/frame.jlsp"]
         subprocess.run(words, check=True)
-        stream = get(f"{folder}/frame.jls")
+        stream = get(f"{folder}/frame.jls") or b""
     return File([stream], 8, SIDE, SIDE)
 
 
-def head_of(stream, size, folder):
+def head_of(stream: bytes, size: int, folder: str) -> Lines:
     """The lines of the beginning of a codestream, as `jls-salvage join` takes them: {line: its readings}."""
     with open(f"{folder}/head.jls", "wb") as file:
         file.write(stream[:size])
@@ -43,24 +50,24 @@ def head_of(stream, size, folder):
     return lines_in(f"{folder}/head.jlsp")
 
 
-def lines_in(path):
+def lines_in(path: str) -> Lines:
     readings = partial_picture.read(path).readings if os.path.exists(path) else {}
     return {line: [reading.samples for reading in several] for (_, line), several in readings.items()}
 
 
-def border_in(made):
+def border_in(made: File) -> tuple[int, int]:
     """A border of sectors in the middle of the frame, as an offset in the file and in the frame."""
     at = (made.items[0] + 8 + len(made.frames[0]) // 2) // SECTOR * SECTOR
     return at, at - made.items[0] - 8
 
 
-def put(path, text):
+def put(path: str, text: str) -> str:
     with open(path, "w", encoding="ascii") as file:
         file.write(text)
     return path
 
 
-def checks_of_bad_sectors(bench, folder, rng):
+def checks_of_bad_sectors(bench: Bench, folder: str, rng: random.Random) -> Iterator[Check]:
     """Of one copy, and of equal ones, the lines before a bad sector come back."""
     made = file_of(rng, folder)
     true, stream = made.bytes, made.frames[0]
@@ -86,8 +93,8 @@ def checks_of_bad_sectors(bench, folder, rng):
     ended = true[:at] + bytes(len(true) - at)
     for many in (1, 2):
         _, _, printed, _, path = bench.mend([ended] * many)
-        found = [lines_in(f"{path}.frames/{name}") for name in os.listdir(f"{path}.frames") if name.endswith("jlsp")]
-        yield f"zeros to the end, copies {many}: its head ({printed})", head in found
+        ends = [lines_in(f"{path}.frames/{name}") for name in os.listdir(f"{path}.frames") if name.endswith("jlsp")]
+        yield f"zeros to the end, copies {many}: its head ({printed})", head in ends
     other = changed(true, (at, FILLS["zeros"]), (made.items[0] + 200, bytes(8)))
     _, _, printed, _, path = bench.mend([changed(true, (at, FILLS["a text"]), (made.items[0] + 300, bytes(8))), other])
     yield f"two copies that differ before it: its head ({printed})", lines_in(f"{path}.frames/frame-0000.jlsp") == head
@@ -95,7 +102,7 @@ def checks_of_bad_sectors(bench, folder, rng):
     yield "a sector in each: the same file", bench.mend(both)[:2] == (0, true)
 
 
-def checks_of_seen(rng):
+def checks_of_seen(rng: random.Random) -> Iterator[Check]:
     """Which sectors of a file look bad: by hand, with what stands beside them and behind the last border."""
     noise = rng.randbytes(SECTOR)
     text = FILLS["a text"]
@@ -117,7 +124,7 @@ def checks_of_seen(rng):
         yield f"{name}: {wanted} ({bad_places.seen(data)})", bad_places.seen(data) == wanted
 
 
-def checks_of_bad_intervals(bench, folder, rng):
+def checks_of_bad_intervals(bench: Bench, folder: str, rng: random.Random) -> Iterator[Check]:
     """With restart intervals, of each that has a bad sector the lines before it come back, and the others."""
     made = file_of(rng, folder, INTERVAL)
     stream, at = made.frames[0], border_in(made)[0]
@@ -138,7 +145,7 @@ def checks_of_bad_intervals(bench, folder, rng):
     yield from checks_of_strange_intervals(bench, folder, rng)
 
 
-def checks_of_strange_intervals(bench, folder, rng):
+def checks_of_strange_intervals(bench: Bench, folder: str, rng: random.Random) -> Iterator[Check]:
     """Bad bytes that are restart markers and an interval of another place are not read; nor is what follows bad bytes without a marker."""
     made = file_of(rng, folder, 4)
     stream, begin = made.frames[0], made.items[0] + 8
@@ -158,7 +165,7 @@ def checks_of_strange_intervals(bench, folder, rng):
     yield f"two bad sectors without a marker between them: the head ({printed})", is_head and "and in another place" in printed
 
 
-def checks_of_bad_beginnings(bench, folder, rng):
+def checks_of_bad_beginnings(bench: Bench, folder: str, rng: random.Random) -> Iterator[Check]:
     """A foreign file over the beginning of one copy, and a sector that is bad in both."""
     made = file_of(rng, folder)
     true, (at, inside) = made.bytes, border_in(made)
@@ -172,7 +179,7 @@ def checks_of_bad_beginnings(bench, folder, rng):
     yield f"a foreign beginning, and a sector bad in both: the head ({printed})", is_head and "has overwritten its beginning" in printed
 
 
-def checks_of_one_copy(bench, made, folder, rng):
+def checks_of_one_copy(bench: Bench, made: File, folder: str, rng: random.Random) -> Iterator[Check]:
     """One copy alone gives frames, and a file where --header takes its header."""
     true = made.bytes
     status, out, printed, _, name = bench.mend([true])
@@ -187,7 +194,7 @@ def checks_of_one_copy(bench, made, folder, rng):
     yield f"one copy, --with-gaps: a derived file ({status}, {printed})", status == 1 and out is not None and b"DERIVED" in out
 
 
-def checks_of_lists(bench, folder, rng):
+def checks_of_lists(bench: Bench, folder: str, rng: random.Random) -> Iterator[Check]:
     """What a list names as bad in a copy is taken from another one, and doesn't count."""
     made = file_of(rng, folder)
     true, stream = made.bytes, made.frames[0]
@@ -236,7 +243,7 @@ def checks_of_lists(bench, folder, rng):
     yield from checks_of_lists_and_rules(bench, made, folder)
 
 
-def checks_of_lists_and_rules(bench, made, folder):
+def checks_of_lists_and_rules(bench: Bench, made: File, folder: str) -> Iterator[Check]:
     """A list against what every copy has, and where copies have other headers."""
     true, at = made.bytes, border_in(made)[0]
     wrong = changed(true, (140, b"\x01"))  # the group length
@@ -256,7 +263,7 @@ def checks_of_lists_and_rules(bench, made, folder):
         yield f"two headers, {len(copies)} copies: the head of the frame ({printed})", is_head and "versions, " in printed
 
 
-def checks_of_bad_lists(bench, made, folder):
+def checks_of_bad_lists(bench: Bench, made: File, folder: str) -> Iterator[Check]:
     """A list that is none is refused by its name, and nothing is written."""
     copies = [made.bytes, changed(made.bytes, (made.items[0] + 70, bytes(8)))]
     good = put(f"{folder}/good", f"{made.items[0] + 70} 8\n")
@@ -290,8 +297,8 @@ def checks_of_bad_lists(bench, made, folder):
         is_told = why in faults and "Traceback" not in faults
         yield f"{name}: refused ({status}, {faults})", (status, out, printed, left, is_told) == (wanted, None, "", [], True)
     overlaps = f"{made.items[0] + 70} 8\n{made.items[0] + 60} 40\n0 0\n"
-    for name, text in {"empty": "", "comments": "# none\n\n", "overlaps": overlaps}.items():
-        status, out, _, faults, _ = bench.mend(copies, "--bad", f"2:{put(f'{folder}/{name}', text)}")
+    for name, lines in {"empty": "", "comments": "# none\n\n", "overlaps": overlaps}.items():
+        status, out, _, faults, _ = bench.mend(copies, "--bad", f"2:{put(f'{folder}/{name}', lines)}")
         yield f"{name}: the same file ({status}, {faults})", (status, out == made.bytes) == (0, True)
     size = len(made.bytes)
     behind = put(f"{folder}/behind", f"{size} 512\n{size + 9000} 1\n{size - 2} 9\n{1 << 60} 5\n")
@@ -300,14 +307,14 @@ def checks_of_bad_lists(bench, made, folder):
     yield f"behind the end: told ({status}, {printed}, {faults})", (status, out == made.bytes, told) == (0, True, True)
 
 
-def checks_of_doubtful(bench, made, rng):
+def checks_of_doubtful(bench: Bench, made: File, rng: random.Random) -> Iterator[Check]:
     """Sectors of the header that look lost in each copy, and a hole in a text that one copy alone has: no OUT, unless --header says so."""
     text = bytes(rng.choice(b"abcdefgh ijklm.nop=") for _ in range(3000))
     true, _ = with_value(made, text)
     frames = [at + len(true) - len(made.bytes) + 70 for at in made.items]
     begin = true.index(text) // SECTOR * SECTOR + 2 * SECTOR
 
-    def told(name, file, places, wanted, why=""):
+    def told(name: str, file: bytes, places: Sequence[Changes], wanted: int, why: str = "") -> Iterator[Check]:
         copies = [changed(file, *each) for each in places]
         status, out, printed, _, _ = bench.mend(copies)
         yield f"{name}: {wanted} ({status}, {printed})", (status, out == file) == (wanted, not wanted) and why in printed
@@ -338,7 +345,7 @@ def checks_of_doubtful(bench, made, rng):
     yield from told("zeros with other bytes behind them, and noise there", beside, [[], [(begin, noise)]], 0)
 
 
-def checks_of_touching(bench, made, rng):
+def checks_of_touching(bench: Bench, made: File, rng: random.Random) -> Iterator[Check]:
     """Damage of two copies that touches in the header: no OUT, unless it does so at a border of sectors."""
     true, at = made.bytes, made.bytes.index(b"ORIGINAL") + 2
     noise = bytes(rng.choice(b"\x01\x02\x03\x04\x05") for _ in range(40))
@@ -358,7 +365,7 @@ def checks_of_touching(bench, made, rng):
         yield f"{name}: {wanted} ({status}, {printed})", (status, out == file, told) == (wanted, not wanted, True)
 
 
-def checks_of_moved(bench, made, rng):
+def checks_of_moved(bench: Bench, made: File, rng: random.Random) -> Iterator[Check]:
     """A longer header of a foreign file with the same UID over one copy: two others don't seem to have lost bytes."""
     true, size = made.bytes, struct.unpack_from("<I", made.bytes, 140)[0]
     longer = changed(true, (140, struct.pack("<I", size + 2)))
@@ -370,19 +377,20 @@ def checks_of_moved(bench, made, rng):
     is_safe = out in (None, true) and (status == 0) == (out is not None)
     yield f"a longer header over one of three: nothing false ({status}, {printed})", is_safe
     data, inner, cut = bytes(1000), [(100, 102)], [(500, 1000)]
-    for name, absent, bad, wanted in (
+    cases: list[tuple[str, list[list[bad_places.Range]], list[bad_places.Range], int | None]] = [
         ("two of three lack the same bytes", [inner, inner, []], [], 100),
         ("two of four", [inner, inner, [], []], [], None),
         ("one of two", [inner, []], [], None),
         ("two that lack others", [inner, [(100, 103)], []], [], None),
         ("two that are cut", [cut, cut, []], [], None),
         ("three of five, by lists", [inner, inner, inner, [], []], inner, None),
-    ):
+    ]
+    for name, absent, bad, wanted in cases:
         found = doubtful.lost_in_most([Copy("", data, own, b"", bad if own else []) for own in absent])
         yield f"{name}: {wanted} ({found})", found == wanted
 
 
-def checks_of_rests(bench, made):
+def checks_of_rests(bench: Bench, made: File) -> Iterator[Check]:
     """A line says how many places nothing but one copy tells."""
     true, lost = made.bytes, changed(made.bytes, (made.bytes.index(b"ORIGINAL"), b"\1\2\3"))
     both = changed(lost, (made.bytes.index(b"20200131"), b"\1\2\3"))

@@ -3,28 +3,23 @@ from __future__ import annotations
 
 import random
 from collections.abc import Iterator, Sequence
-from typing import Any
 
 import coded_pictures
-import dicom_files
 from coded_pictures import OTHER, Coding, coded, some_lines
+from dicom_files import Bench, File, called, changed, get
 from jls_tools import partial_picture
 from jls_tools.frames.by_sample import is_by_sample, scan_of
 
-make_file: Any = dicom_files.File  # of a module without types
-changed: Any = dicom_files.changed
-called: Any = dicom_files.called
-get: Any = dicom_files.get
-plain: Any = coded_pictures.coder
+plain = coded_pictures.coder
 Check = tuple[str, bool]
 WIDTH, HEIGHT, COMPONENTS = 32, 24, 3
 PIXELS = Coding(are_pixels=True)
 DAMAGED = "\ndamaged: no line decodes; jls-splice needs a second copy\n"
 
 
-def file_of(lines: Sequence[Sequence[Sequence[int]]], coding: Coding = PIXELS, bits: int = 8, components: int = COMPONENTS) -> Any:
+def file_of(lines: Sequence[Sequence[Sequence[int]]], coding: Coding = PIXELS, bits: int = 8, components: int = COMPONENTS) -> File:
     """A DICOM file of frames with these lines."""
-    return make_file([coded(coding, bits, components, each) for each in lines], bits, WIDTH, HEIGHT, samples=components)
+    return File([coded(coding, bits, components, each) for each in lines], bits, WIDTH, HEIGHT, samples=components)
 
 
 def lines_of(rng: random.Random, bits: int = 8, components: int = COMPONENTS) -> list[list[int]]:
@@ -33,7 +28,7 @@ def lines_of(rng: random.Random, bits: int = 8, components: int = COMPONENTS) ->
     return even * 3 + some_lines(rng, bits, WIDTH, HEIGHT - 3, components)
 
 
-def zeroed(made: Any, part: float, frame: int = 0, size: int = 8) -> bytes:
+def zeroed(made: File, part: float, frame: int = 0, size: int = 8) -> bytes:
     """A copy with zeros at this part of a frame."""
     begin = made.items[frame] + 8 + int(len(made.frames[frame]) * part)
     return bytes(changed(made.bytes, (begin, bytes(size))))
@@ -47,7 +42,7 @@ def rows_in(lines: Sequence[Sequence[int]], bits: int, size: int) -> int:
     return sum(each <= len(data) for each in sizes)
 
 
-def checks_of_pixels(bench: Any, rng: random.Random, work: str) -> Iterator[Check]:
+def checks_of_pixels(bench: Bench, rng: random.Random, work: str) -> Iterator[Check]:
     """A frame by sample reads and is mended as any, to the byte."""
     for bits, components in ((8, 3), (12, 3), (16, 3), (8, 4), (8, 2)):
         made, name = file_of([lines_of(rng, bits, components)], PIXELS, bits, components), f"{bits} bits, {components} components"
@@ -70,7 +65,7 @@ def bench_file(work: str, data: bytes) -> str:
     return f"{work}/by-sample.dcm"
 
 
-def checks_of_parts_of_pixels(bench: Any, rng: random.Random, work: str) -> Iterator[Check]:
+def checks_of_parts_of_pixels(bench: Bench, rng: random.Random, work: str) -> Iterator[Check]:
     """What one copy gives: whole rows where it is cut off, and all other restart intervals; and what is filled."""
     for bits in (8, 16):
         lines = lines_of(rng, bits)
@@ -114,7 +109,7 @@ def partial_of(path: str) -> dict[tuple[int, int], list[int]]:
     return {at: [*memoryview(each[1::2])] for at, each in samples.items() if not any(each[::2])}
 
 
-def checks_of_frames_of_pixels(bench: Any, rng: random.Random) -> Iterator[Check]:
+def checks_of_frames_of_pixels(bench: Bench, rng: random.Random) -> Iterator[Check]:
     """Several frames, and frames beside near-lossless ones."""
     made = file_of([lines_of(rng), lines_of(rng), lines_of(rng)])
     copies = [changed(zeroed(made, 0.3), (made.items[2] + 200, bytes(8))), zeroed(made, 0.7, 1)]
@@ -122,13 +117,13 @@ def checks_of_frames_of_pixels(bench: Any, rng: random.Random) -> Iterator[Check
     yield f"three frames, each in one copy: the same file ({status}, {printed})", (status, out == made.bytes) == (0, True)
     near = bytearray(made.frames[0])
     near[begin_of(near) - 3] = 3
-    lossy = make_file([bytes(near)] * 2, 8, WIDTH, HEIGHT, samples=COMPONENTS)
+    lossy = File([bytes(near)] * 2, 8, WIDTH, HEIGHT, samples=COMPONENTS)
     status, out, _, faults, _ = bench.mend([lossy.bytes, zeroed(lossy, 0.5)])
     named = "not supported: near-lossless coding" in faults
     yield f"near-lossless: refused by its name ({status}, {faults})", (status, out, named) == (3, None, True)
 
 
-def checks_of_pixels_beside(bench: Any, rng: random.Random) -> Iterator[Check]:
+def checks_of_pixels_beside(bench: Bench, rng: random.Random) -> Iterator[Check]:
     """Copies by sample beside such by line, in planes, or with other thresholds. They give each other no lines, and so confirm none."""
     lines = lines_of(rng)
     codings = (PIXELS, Coding(), Coding(are_planes=True), Coding(OTHER.thresholds, OTHER.reset, are_pixels=True))

@@ -3,14 +3,10 @@ from __future__ import annotations
 
 import random
 from collections.abc import Iterator
-from typing import Any
 
-import dicom_files
+from dicom_files import Bench, File, changed, frame
 from jls_tools.frames.by_sectors import by_sectors, sectors_apart
 
-make_file: Any = dicom_files.File  # of a module without types
-changed: Any = dicom_files.changed
-frame: Any = dicom_files.frame
 Check = tuple[str, bool]
 SIDE, SECTOR, BLOCK = 200, 512, 4096
 
@@ -20,11 +16,11 @@ def border(at: int) -> int:
     return -(-at // SECTOR) * SECTOR
 
 
-def checks_of_frames_by_sectors(bench: Any, folder: str, rng: random.Random) -> Iterator[Check]:
+def checks_of_frames_by_sectors(bench: Bench, folder: str, rng: random.Random) -> Iterator[Check]:
     """The file comes back where each sector stands in one copy, though the search over splices is cut off."""
     count = 0
     for _ in range(4):
-        made = make_file([frame(rng, 12, SIDE, SIDE, folder)], 12, SIDE, SIDE, stored=16)
+        made = File([frame(rng, 12, SIDE, SIDE, folder)], 12, SIDE, SIDE, stored=16)
         first = border(made.items[0] + 100)
         one = changed(made.bytes, (first, rng.randbytes(BLOCK)))
         two = changed(made.bytes, (first + BLOCK + SECTOR, rng.randbytes(SECTOR)))

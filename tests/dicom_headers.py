@@ -1,25 +1,29 @@
 """Checks of headers that all read whole: two versions of one, as an archive makes them that coerces values. And of transfers as text."""
-import hashlib
+from __future__ import annotations
 
-from dicom_files import changed, element, get, with_value
+import hashlib
+from collections.abc import Iterator
+
+from dicom_files import Bench, File, changed, element, get, with_value
 from dicom_truth import case, damaged
 
+Check = tuple[str, bool]
 LETTERS = element(0x100010, "PN", "Doe^Jane")
 
 
-def coerced(made, is_padded=True):
+def coerced(made: File, is_padded: bool = True) -> bytes:
     """The file with another name, a number that it hadn't, and an empty value in place of one; where its items begin."""
     name = element(0x100010, "PN", "DOE^JANE MARY") + element(0x100020, "LO", "N-1234")
     data = made.bytes.replace(LETTERS, name).replace(element(0x80020, "DA", "20200131"), element(0x80020, "DA", ""))
     return data if is_padded else data[: -len(element(0xFFFCFFFC, "OB", bytes(30)))]
 
 
-def with_damage(made, data, number):
+def with_damage(made: File, data: bytes, number: int) -> bytes:
     """A file with eight bytes of a frame zeroed."""
     return changed(data, (data.index(made.frames[number]) + 70, bytes(8)))
 
 
-def checks_of_versions(bench, made):
+def checks_of_versions(bench: Bench, made: File) -> Iterator[Check]:
     """Of two headers that read whole, one is taken if most copies have it, or if a copy is named. Frames are mended of all copies."""
     true, other = made.bytes, coerced(made)
     pair = [with_damage(made, true, 0), with_damage(made, other, 1)]
@@ -34,8 +38,8 @@ def checks_of_versions(bench, made):
     yield case(bench, "two headers, and --header names the one", pair, 0, true, "versions, taken: A", ["--header", "COPY0"])
     yield case(bench, "two headers, and --header names the other one", pair, 0, other, "versions, taken: B", ["--header", "COPY1"])
     for data in (true, other):
-        words = ["--sha256", hashlib.sha256(data).hexdigest()]
-        yield case(bench, "two headers, and a sum", pair, 0, data, f"versions, taken: {'A' if data == true else 'B'}", words)
+        by_sum = ["--sha256", hashlib.sha256(data).hexdigest()]
+        yield case(bench, "two headers, and a sum", pair, 0, data, f"versions, taken: {'A' if data == true else 'B'}", by_sum)
     three = [*pair, with_damage(made, true, 2)]
     yield case(bench, "two copies of one header", three, 0, true, "versions, taken: A; A: 2 copies")
     yield case(bench, "two copies of one header, and --header names the other one", three, 0, other, "taken: B", ["--header", "COPY1"])
@@ -44,7 +48,7 @@ def checks_of_versions(bench, made):
     yield f"two headers: no name in lines ({printed})", "version (0010,0010), A: 8 bytes; B: 14 bytes" in printed and "JANE" not in printed
 
 
-def checks_of_damaged_versions(bench, made):
+def checks_of_damaged_versions(bench: Bench, made: File) -> Iterator[Check]:
     """What is no version: a header that is damaged, one that lost bytes, one of the same length."""
     true, other = made.bytes, coerced(made)
     broken = changed(with_damage(made, true, 2), (made.name_at - 8, bytes(20)))
@@ -74,16 +78,16 @@ def checks_of_damaged_versions(bench, made):
 # Transfers as text ----------------------------------------------------------------------------------
 
 
-def sent_as_text(data):
+def sent_as_text(data: bytes) -> bytes:
     return data.replace(b"\n", b"\r\n")
 
 
-def damaged_value(true, at):
+def damaged_value(true: bytes, at: int) -> bytes:
     """A file without the header of the element before this value."""
     return changed(true, (at - 60, bytes(20)))
 
 
-def checks_of_transfers(bench, made):
+def checks_of_transfers(bench: Bench, made: File) -> Iterator[Check]:
     """A carriage return before each line feed of a copy is taken out again, if the copy has then the length of another one."""
     lines = b"".join(b"<Step.%d> of a slice\n" % at for at in range(60))
     for name, text in (("line feeds", lines), ("carriage returns and line feeds", lines.replace(b"\n", b"\r\n") + bytes([10, 7] * 40))):

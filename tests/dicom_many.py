@@ -6,7 +6,7 @@ import struct
 import time
 from typing import Any, Iterator, List, Tuple
 
-from dicom_files import File, changed, frame
+from dicom_files import Bench, File, changed, frame
 from jls_tools.dicom import mend
 from jls_tools.programs import Outcome, Programs
 
@@ -57,7 +57,7 @@ def checks_of_many_frames(folder: str, rng: Any) -> Iterator[Check]:
     yield f"{MANY} frames: {seconds:.1f} seconds", seconds < MOST_SECONDS
 
 
-def checks_of_lying_lengths(bench: Any, made: File) -> Iterator[Check]:
+def checks_of_lying_lengths(bench: Bench, made: File) -> Iterator[Check]:
     """Lengths of the group, of an item and of an element that lie: the other copy has them, and no time or memory goes into them."""
     true, first = made.bytes, made.items[0]
     name = made.name_at - 2
@@ -80,7 +80,7 @@ def checks_of_lying_lengths(bench: Any, made: File) -> Iterator[Check]:
         yield f"{what} that lies in one copy: the same file ({status}, {printed})", (status, out) == (0, true)
 
 
-def checks_of_other_items(bench: Any, made: File) -> Iterator[Check]:
+def checks_of_other_items(bench: Bench, made: File) -> Iterator[Check]:
     """Two copies that have a border of items at two places: either can be the true one, so no frame beside it is told as whole."""
     true, first, second = made.bytes, *made.items[:2]
     sizes = [int.from_bytes(true[at + 4 : at + 8], "little") for at in (first, second)]

@@ -4,20 +4,15 @@ from __future__ import annotations
 import os
 import random
 from collections.abc import Iterator, Sequence
-from typing import Any
 
 import coded_pictures
-import dicom_files
 from coded_pictures import Coding, coded
 from dicom_by_sample import HEIGHT, WIDTH, bench_file, begin_of, partial_of
+from dicom_files import Bench, File, called, changed, get
 from jls_tools.frames.codestream import without_padding
 from jls_tools.programs import Programs
 
-make_file: Any = dicom_files.File  # of a module without types
-changed: Any = dicom_files.changed
-called: Any = dicom_files.called
-get: Any = dicom_files.get
-plain: Any = coded_pictures.coder
+plain = coded_pictures.coder
 Check = tuple[str, bool]
 Lines = dict[tuple[int, int], list[int]]
 COMPONENTS, SECTOR = 3, 512
@@ -29,8 +24,8 @@ def noise(rng: random.Random, height: int = HEIGHT) -> list[list[int]]:
     return [[rng.randrange(256) for _ in range(WIDTH)] for _ in range(height * COMPONENTS)]
 
 
-def file_of(stream: bytes, height: int = HEIGHT, components: int = COMPONENTS) -> Any:
-    return make_file([stream], 8, WIDTH, height, samples=components)
+def file_of(stream: bytes, height: int = HEIGHT, components: int = COMPONENTS) -> File:
+    return File([stream], 8, WIDTH, height, samples=components)
 
 
 def rows_of(lines: Sequence[Sequence[int]], first: int, last: int) -> Lines:
@@ -57,14 +52,14 @@ def odd_cuts(stream: bytes, rng: random.Random, count: int) -> list[int]:
     return [rng.randrange(len(stream) // 2, len(stream) - 4) | 1 for _ in range(count)]
 
 
-def kept_of(bench: Any, copies: Sequence[bytes]) -> tuple[Lines, str]:
+def kept_of(bench: Bench, copies: Sequence[bytes]) -> tuple[Lines, str]:
     """(the lines that `mend` keeps of the frame of these copies, what it printed)."""
     words = ["--header", "COPY0"] if len(copies) == 1 else []
     _, _, printed, _, name = bench.mend(list(copies), *words)
     return partial_of(f"{name}.frames/frame-0000.jlsp"), printed
 
 
-def checks_of_padding(bench: Any, rng: random.Random, work: str) -> Iterator[Check]:
+def checks_of_padding(bench: Bench, rng: random.Random, work: str) -> Iterator[Check]:
     """The rows before the cut come back: of one copy, of several, and as `info` and `frames` say."""
     for _ in range(2):
         lines = noise(rng)
@@ -83,7 +78,7 @@ def checks_of_padding(bench: Any, rng: random.Random, work: str) -> Iterator[Che
             yield f"cut at {cut}, frames: {rows} rows ({printed})", status == 1 and f" settled {COMPONENTS * rows}, " in printed
 
 
-def checks_of_padded_intervals(bench: Any, rng: random.Random) -> Iterator[Check]:
+def checks_of_padded_intervals(bench: Bench, rng: random.Random) -> Iterator[Check]:
     """With restart markers only the last interval is cut off; beside a bad sector too."""
     height, step = 48, 12
     for _ in range(2):
@@ -102,7 +97,7 @@ def checks_of_padded_intervals(bench: Any, rng: random.Random) -> Iterator[Check
         yield f"and a bad sector: {rows} rows of the last, {first} of the first ({printed})", found == wanted
 
 
-def checks_of_what_is_no_padding(bench: Any, rng: random.Random, work: str) -> Iterator[Check]:
+def checks_of_what_is_no_padding(bench: Bench, rng: random.Random, work: str) -> Iterator[Check]:
     """A row that the byte 00 would end is none; a last byte 00 of the code is no padding where all lines come with it."""
     for name, coding in (("by sample", PIXELS), ("by line", Coding())):
         stream = ending_in_zeros(coding, rng)
@@ -141,7 +136,7 @@ def settled_of(stream: bytes, work: str) -> int:
     return int(Programs().alone(os.devnull, "alone.jls", work).report.settled)
 
 
-def checks_of_cut_files(bench: Any, rng: random.Random, work: str) -> Iterator[Check]:
+def checks_of_cut_files(bench: Bench, rng: random.Random, work: str) -> Iterator[Check]:
     """A file that ends in a frame has no padding there: a row that ends with a byte 00 counts."""
     found: list[bytes] = []
     while len(found) < 2:
@@ -154,7 +149,7 @@ def checks_of_cut_files(bench: Any, rng: random.Random, work: str) -> Iterator[C
         yield f"a file that ends in its frame: the last row too ({printed})", len(kept) == settled_of(head + b"\0", work)
 
 
-def checks_of_rows_by_padding(bench: Any, rng: random.Random) -> Iterator[Check]:
+def checks_of_rows_by_padding(bench: Bench, rng: random.Random) -> Iterator[Check]:
     """Of all odd lengths of a frame none gives a line that its own bytes don't."""
     lines = smooth(rng)
     stream, all_rows = coded(PIXELS, 8, COMPONENTS, lines), Rows(lines)

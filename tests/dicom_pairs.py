@@ -1,15 +1,19 @@
 """Checks of tables, losses, foreign files and sectors in two copies, each with a case in which the same rule would be wrong."""
+from __future__ import annotations
+
 import os
 import random
 import struct
+from collections.abc import Iterator, Sequence
 
-from dicom_files import UID, File, changed, element, frame, get, with_value
+from dicom_files import UID, Bench, File, changed, element, frame, get, with_value
 from dicom_rules import csa_header, put_before
 
+Check = tuple[str, bool]
 NEIGHBOUR = UID[:-1] + "8"
 
 
-def told(bench, name, copies, true, is_back=True, status=None):
+def told(bench: Bench, name: str, copies: Sequence[bytes], true: bytes, is_back: bool = True, status: int | None = None) -> Check:
     """A check: the file comes back to the byte; or else nothing false does, and if it is given the status is this one."""
     got, out, printed, faults, _ = bench.mend(copies)
     if is_back:
@@ -18,7 +22,7 @@ def told(bench, name, copies, true, is_back=True, status=None):
     return f"{name}: nothing false ({got}, {printed}, {faults})", is_refused and status in (None, got)
 
 
-def told_by_header(bench, name, copies, true, number):
+def told_by_header(bench: Bench, name: str, copies: Sequence[bytes], true: bytes, number: int) -> Iterator[Check]:
     """Checks of copies that have two UIDs twice, and no third copy: undecided, unless --header names the copy of this number."""
     got, out, printed, faults, _ = bench.mend(copies)
     yield f"{name}: undecided ({got}, {printed}, {faults})", (got, out) == (1, None) and "each of two instances can be the file" in printed
@@ -26,7 +30,7 @@ def told_by_header(bench, name, copies, true, number):
     yield f"{name}, and --header: the same file ({got}, {printed}, {faults})", (got, out == true) == (0, True)
 
 
-def checks_of_entries(bench, single):
+def checks_of_entries(bench: Bench, single: File) -> Iterator[Check]:
     """The one entry of a table of one frame is 0, whatever a copy has there that leads nowhere; but some writers count from elsewhere."""
     true, at = single.bytes, single.table_at
     pairs = {
@@ -41,7 +45,7 @@ def checks_of_entries(bench, single):
         yield told(bench, name, [odd, changed(odd, (at - 4, bytes(8)))], odd, False)
 
 
-def checks_of_losses(bench, made):
+def checks_of_losses(bench: Bench, made: File) -> Iterator[Check]:
     """A loss stands where fewest bytes differ. One byte that differs beside it can be a flipped bit of the other copy."""
     blank, lines = b" " * 400, b"".join(b"asSlice[%d].dFlow = %d.5\n" % (at % 30, at % 4) for at in range(300))
     true, at = with_value(made, blank[:200] + b"Lv2" + blank + b"end")
@@ -61,7 +65,7 @@ def checks_of_losses(bench, made):
     yield told(bench, "noise in each copy, no loss", twice, text, False)
 
 
-def checks_of_foreign_files(bench, folder, rng):
+def checks_of_foreign_files(bench: Bench, folder: str, rng: random.Random) -> Iterator[Check]:
     """A whole foreign file in the place of a copy, and a neighbour's beginning whose elements lead nowhere."""
     true = File([frame(rng, 8, 40, 30, folder)], 8, 40, 30).bytes
     true += b"\0\0" if len(true) % 512 == 0 else b""
@@ -83,7 +87,7 @@ def checks_of_foreign_files(bench, folder, rng):
     yield told(bench, "a damaged slice of the series", [slice_, true], true, False, 3)
 
 
-def checks_of_shorter_copies(bench, made):
+def checks_of_shorter_copies(bench: Bench, made: File) -> Iterator[Check]:
     """A copy that is cut or lost bytes, and whose beginning a foreign file has overwritten: what follows in it counts."""
     other = File(made.frames, 12, 24, 20, uid="1.2.3.9.9").bytes
     head = (other[: other.index(bytes(range(64))) - 12] + element(0x91001, "OB", bytes(range(256)) * 256))[:512]
@@ -99,12 +103,12 @@ def checks_of_shorter_copies(bench, made):
     yield told(bench, "two letters of a copy where another one has noise", copies, text, False, 1)
 
 
-def place_of(data, tag):
+def place_of(data: bytes, tag: int) -> int:
     """Where the value of an element of the top level begins that has the VR US."""
     return data.index(struct.pack("<HH", tag >> 16, tag & 0xFFFF) + b"US", 132) + 8
 
 
-def checks_of_one_copy_alone(bench, made):
+def checks_of_one_copy_alone(bench: Bench, made: File) -> Iterator[Check]:
     """A flipped bit in what one copy alone has, which PS3.5 or PS3.10 forbids: the other copy is cut, lost bytes or has zeros there."""
     true, rest = made.bytes, made.bytes[: made.name_at + 4]
     for name, tag in (("Bits Stored", 0x280101), ("High Bit", 0x280102), ("Pixel Representation", 0x280103)):
@@ -134,24 +138,24 @@ def checks_of_one_copy_alone(bench, made):
     yield told(bench, "the same, and a bit of it", [changed(text, (at, bytes([text[at] ^ 4]))), zeros], text, False, 1)
 
 
-def checks_of_foreign_frames(bench, made, folder, rng):
+def checks_of_foreign_frames(bench: Bench, made: File, folder: str, rng: random.Random) -> Iterator[Check]:
     """No frame of a foreign beginning is taken, also where no header leads to Pixel Data and frames are searched for."""
     small = File([frame(rng, 8, 9, 7, folder)], 8, 9, 7, uid="1.2.3.9.9").bytes
     begun = small[:-42] + element(0xFFFCFFFC, "OB", bytes(range(1, 256)) * 256)
     true = with_value(made, b"of a slice " * 300)[0]
     broken = changed(true, (true.index(b"\xe0\x7f\x10\x00OB\0\0\xff\xff\xff\xff"), bytes(30)))
     status, _, printed, _, name = bench.mend([begun[:2048] + broken[2048:], broken])
-    found = {get(f"{name}.frames/{each}").rstrip(b"\0") for each in os.listdir(f"{name}.frames") if each.endswith(".jls")}
+    found = {(get(f"{name}.frames/{each}") or b"").rstrip(b"\0") for each in os.listdir(f"{name}.frames") if each.endswith(".jls")}
     yield f"frames of a foreign beginning ({status}, {printed})", (status, found) == (1, set(made.frames))
 
 
-def series(made, value, name):
+def series(made: File, value: bytes, name: str) -> bytes:
     """A file with a private value of a slice, and a name before it."""
     data = put_before(with_value(made, value)[0], 0x90010, element(0x80060, "CS", "MR"))
     return data.replace(element(0x80060, "CS", "MR"), element(0x80060, "CS", "MR") + element(0x80070, "LO", name))
 
 
-def checks_of_beginnings(bench, made):
+def checks_of_beginnings(bench: Bench, made: File) -> Iterator[Check]:
     """A neighbour's beginning whose elements lead nowhere is left out, and only --header takes the other header; or nothing does."""
     value = csa_header(random.Random(4))
     true = series(made, value, "ACME")
@@ -161,7 +165,7 @@ def checks_of_beginnings(bench, made):
     yield told(bench, "that of one with the same places", [alike[:3072] + true[3072:], damaged], true, False, 3)
 
 
-def described(made, bits, *more):
+def described(made: File, bits: tuple[int, int, int], *more: int) -> bytes:
     """A file that says so of its samples: Bits Allocated, Bits Stored, High Bit, Pixel Representation and others."""
     at = made.bytes.index(struct.pack("<HH", 0x28, 0x100) + b"US", 132)
     end = made.bytes.index(struct.pack("<HH", 0x88, 0x200) + b"SQ")
@@ -169,7 +173,7 @@ def described(made, bits, *more):
     return made.bytes[:at] + b"".join(element(tag, "US", value) for tag, value in zip(tags, (*bits, *more))) + made.bytes[end:]
 
 
-def checks_of_samples(bench, small):
+def checks_of_samples(bench: Bench, small: File) -> Iterator[Check]:
     """Bits Allocated goes with Bits Stored and High Bit; no sample of a frame of 8 bits is larger than 255."""
     true = described(small, (8, 8, 7), 0, 3, 255)
     for name, other, is_back in (
@@ -185,7 +189,7 @@ def checks_of_samples(bench, small):
     yield told(bench, "a largest sample, with signs", [signed, described(small, (8, 8, 7), 1, 3, 255)], signed, False)
 
 
-def sectored(made):
+def sectored(made: File) -> tuple[bytes, int]:
     """A file with a sector of elements and then zeros in a value, of which one byte is none; where the sector is."""
     at = made.bytes.index(struct.pack("<HH", 0x28, 2) + b"US", 132)
     head = made.bytes[:at] + element(0x190010, "LO", "MINE")
@@ -197,7 +201,7 @@ def sectored(made):
     return head + element(0x1910FF, "OB", value) + made.bytes[at:], border
 
 
-def checks_of_whole_sectors(bench, made):
+def checks_of_whole_sectors(bench: Bench, made: File) -> Iterator[Check]:
     """Places in a sector that was lost from border to border go together; in another range they don't."""
     true, border = sectored(made)
     yield told(bench, "zeros in a sector", [changed(true, (border, bytes(512))), true], true)
@@ -211,7 +215,7 @@ def checks_of_whole_sectors(bench, made):
     yield told(bench, "the same, not from border to border", [inner, true], true, False, 1)
 
 
-def checks_of_zeros(bench, made):
+def checks_of_zeros(bench: Bench, made: File) -> Iterator[Check]:
     """Zeros of two damages that meet: one way goes on there, and has zeros for a text. Zeros that end within a text are dropped."""
     parts = [element(0x200011 + at, "IS", str(at)) for at in range(3)]
     true = put_before(made.bytes, 0x280002, *parts)
@@ -223,7 +227,7 @@ def checks_of_zeros(bench, made):
             yield told(bench, name, order, true, is_back, 1)
 
 
-def checks_of_no_copy(bench, made, folder, rng):
+def checks_of_no_copy(bench: Bench, made: File, folder: str, rng: random.Random) -> Iterator[Check]:
     """What no copy has is not taken from one of them: a UID, a value that its VR forbids, noise in a text, a frame of another shape."""
     true, uid = made.bytes, made.bytes.rindex(UID.encode(), 0, made.name_at)
     noise = random.Random(8)
@@ -252,7 +256,7 @@ def checks_of_no_copy(bench, made, folder, rng):
     yield f"a frame of another shape: not whole ({status}, {printed})", (status, out) == (1, None) and "frame 1 whole" not in printed
 
 
-def checks_of_one_run(bench, made):
+def checks_of_one_run(bench: Bench, made: File) -> Iterator[Check]:
     """Zeros that were written over three places and more in one run were written over those between them too."""
     inner = bytes(24) + b"\x7a\x3b\x11" + bytes(37)
     before = [element(0x191000 + at, "OB", bytes(20)) for at in range(4)]

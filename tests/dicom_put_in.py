@@ -4,15 +4,10 @@ from __future__ import annotations
 import random
 import struct
 from collections.abc import Iterator, Sequence
-from typing import Any
 
-import dicom_files
-import dicom_pairs
-from dicom_files import File, element
+from dicom_files import Bench, File, changed, element, with_value
+from dicom_pairs import told
 
-changed: Any = dicom_files.changed  # of modules without types
-with_value: Any = dicom_files.with_value
-told: Any = dicom_pairs.told
 Check = tuple[str, bool]
 PAGE, LANE = 4096, 64
 
@@ -25,7 +20,7 @@ def twice(data: bytes, at: int, size: int) -> bytes:
     return put(data, at, data[at : at + size])
 
 
-def checks_of_bytes_put_in(bench: Any, made: File, rng: random.Random) -> Iterator[Check]:
+def checks_of_bytes_put_in(bench: Bench, made: File, rng: random.Random) -> Iterator[Check]:
     """One copy has bytes too many: elements and items go on only without them."""
     true, first, second, third = made.bytes, *made.items[:3]
     text, begin = with_value(made, b"".join(b"sSlice[%d].dTra = %d\n" % (at, at * 7) for at in range(200)))
@@ -80,7 +75,7 @@ def stuck(data: bytes, begin: int, lane: int, mask: int, is_set: bool, until: in
     return bytes(copy)
 
 
-def checks_of_stuck_bits(bench: Any, made: File, rng: random.Random) -> Iterator[Check]:
+def checks_of_stuck_bits(bench: Bench, made: File, rng: random.Random) -> Iterator[Check]:
     """A bit that is stuck in a lane of a page, in texts and in frames; and what only looks so."""
     words = b"".join(b"sSlice[%d].dFlow%d = %d\n" % (at, at % 9, rng.randrange(10**9)) for at in range(500))
     true, begin = with_value(made, words)
@@ -108,7 +103,7 @@ def checks_of_stuck_bits(bench: Any, made: File, rng: random.Random) -> Iterator
     yield told(bench, "ones that are true in a table", [table, some], table, False)
 
 
-def checks_of_records(bench: Any, made: File, rng: random.Random) -> Iterator[Check]:
+def checks_of_records(bench: Bench, made: File, rng: random.Random) -> Iterator[Check]:
     """Records of 64 bytes, of which one or two have one value of a bit: another copy is damaged there."""
     begin = with_value(made, b"")[1]
     page = -(-begin // PAGE) * PAGE

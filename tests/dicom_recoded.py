@@ -6,28 +6,24 @@ import itertools
 import random
 import struct
 from collections.abc import Iterator, Sequence
-from typing import Any
 
-import dicom_files
 from coded_pictures import OTHER, USUAL, Coding, coded, segment, some_lines
-from dicom_files import UID
+from dicom_files import UID, Bench, File, changed
 from jls_tools.frames import codings
 
-make_file: Any = dicom_files.File  # of a module without types
-changed: Any = dicom_files.changed
 Check = tuple[str, bool]
 WIDTH, HEIGHT = 32, 24
 BITS = 8
 
 
-def files(rng: random.Random, codings: Sequence[Coding], bits: int = BITS, components: int = 1, frames: int = 1) -> list[Any]:
+def files(rng: random.Random, codings: Sequence[Coding], bits: int = BITS, components: int = 1, frames: int = 1) -> list[File]:
     """One instance as several writers coded it."""
     pictures = [some_lines(rng, bits, WIDTH, HEIGHT, components) for _ in range(frames)]
     streams = [[coded(coding, bits, components, lines) for lines in pictures] for coding in codings]
-    return [make_file(each, bits, WIDTH, HEIGHT, samples=components) for each in streams]
+    return [File(each, bits, WIDTH, HEIGHT, samples=components) for each in streams]
 
 
-def damaged(made: Any, part: float, frame: int = 0, size: int = 24) -> bytes:
+def damaged(made: File, part: float, frame: int = 0, size: int = 24) -> bytes:
     """A copy with zeros at this part of a frame."""
     begin = made.items[frame] + 8 + int(len(made.frames[frame]) * part)
     return bytes(changed(made.bytes, (begin, bytes(size))))
@@ -37,7 +33,7 @@ def gave_lines(printed: str) -> bool:
     return "copies of several codings gave each other lines" in printed
 
 
-def checks_of_codings(bench: Any, rng: random.Random) -> Iterator[Check]:
+def checks_of_codings(bench: Bench, rng: random.Random) -> Iterator[Check]:
     """Copies in two codings, each damaged elsewhere: the file of the first comes back to the byte."""
     cases = {
         "thresholds and RESET": ([USUAL, OTHER], 8, 1),
@@ -53,7 +49,7 @@ def checks_of_codings(bench: Any, rng: random.Random) -> Iterator[Check]:
         yield f"{name}: the same file ({status}, {printed}, {faults})", (status, out == one.bytes, gave_lines(printed)) == (0, True, True)
 
 
-def checks_of_codings_beside(bench: Any, rng: random.Random) -> Iterator[Check]:
+def checks_of_codings_beside(bench: Bench, rng: random.Random) -> Iterator[Check]:
     """Damage of the header beside that of frames, and a third copy: the header is decided as ever. Which coding stands."""
     one, other = files(rng, [USUAL, OTHER])
     first, second = damaged(one, 0.3), damaged(other, 0.7)
@@ -76,7 +72,7 @@ def checks_of_codings_beside(bench: Any, rng: random.Random) -> Iterator[Check]:
     yield f"--header names the first: that stands ({status}, {printed})", (status, out == one.bytes) == (0, True)
 
 
-def checks_of_codings_undamaged(bench: Any, rng: random.Random) -> Iterator[Check]:
+def checks_of_codings_undamaged(bench: Bench, rng: random.Random) -> Iterator[Check]:
     """A copy that is whole is taken as it is, unless another one says otherwise from its first line on."""
     one, other = files(rng, [USUAL, OTHER])
     for name, copies, wanted in (
@@ -96,7 +92,7 @@ def checks_of_codings_undamaged(bench: Any, rng: random.Random) -> Iterator[Chec
         yield f"another picture, {name}: disputed ({status}, {printed})", (status, out, told) == (1, None, True)
 
 
-def checks_of_codings_of_frames(bench: Any, rng: random.Random) -> Iterator[Check]:
+def checks_of_codings_of_frames(bench: Bench, rng: random.Random) -> Iterator[Check]:
     """Files of several frames: each is mended by itself."""
     one, other = files(rng, [USUAL, OTHER], frames=2)
     copies = [changed(damaged(one, 0.3), (one.items[1] + 60, bytes(24))), damaged(other, 0.7)]
@@ -106,19 +102,19 @@ def checks_of_codings_of_frames(bench: Any, rng: random.Random) -> Iterator[Chec
     status, out, printed, _, _ = bench.mend([lost, damaged(other, 0.7)])
     kept = out is not None and one.frames[0] in out and other.frames[1] in out
     yield f"a frame that one coding lost: that of the other ({status}, {printed})", (status, kept) == (0, True)
-    odd = make_file(other.frames[:1], BITS, WIDTH, HEIGHT)
+    odd = File(other.frames[:1], BITS, WIDTH, HEIGHT)
     status, out, printed, _, _ = bench.mend([one.bytes, changed(odd.bytes, (odd.bytes.index(b"1 ", 132), b"2 "))])
     is_told = "can't be paired" in printed
     yield f"frames that can't be paired ({status}, {printed})", status in (0, 1) and is_told and out in (None, one.bytes)
 
 
-def checks_of_codings_flipped(bench: Any) -> Iterator[Check]:
+def checks_of_codings_flipped(bench: Bench) -> Iterator[Check]:
     """A flipped bit that no decoder notices, and a copy in another coding that gives other lines, but not all: no file of either."""
     bits, width, height = 16, 48, 60
     for seed in (652, 657, 672):
         rng = random.Random(seed)
         lines = some_lines(rng, bits, width, height, 1)
-        one, other = (make_file([coded(coding, bits, 1, lines)], bits, width, height, samples=1) for coding in (USUAL, Coding(rows=7)))
+        one, other = (File([coded(coding, bits, 1, lines)], bits, width, height, samples=1) for coding in (USUAL, Coding(rows=7)))
         begin = one.items[0] + 68 + rng.randrange(len(one.frames[0]) // 2)
         flipped = changed(one.bytes, (begin, bytes([one.bytes[begin] ^ 1 << rng.randrange(8)])))
         begin = other.items[0] + 8 + int(len(other.frames[0]) * 0.55)
@@ -127,10 +123,10 @@ def checks_of_codings_flipped(bench: Any) -> Iterator[Check]:
         yield f"an unnoticed flip, seed {seed} ({status}, {printed})", (status, out) == (1, None)
 
 
-def checks_of_codings_refused(bench: Any, rng: random.Random) -> Iterator[Check]:
+def checks_of_codings_refused(bench: Bench, rng: random.Random) -> Iterator[Check]:
     """Other instances are refused as ever, and a header that lies makes no other coding."""
     one, other = files(rng, [USUAL, OTHER])
-    stranger = make_file(other.frames, BITS, WIDTH, HEIGHT, uid=UID[:-1] + "8")
+    stranger = File(other.frames, BITS, WIDTH, HEIGHT, uid=UID[:-1] + "8")
     status, out, _, faults, _ = bench.mend([damaged(one, 0.3), stranger.bytes])
     yield f"another instance ({status}, {faults})", (status, out) == (3, None)
     lying = changed(other.bytes, (other.bytes.index(b"\xff\xf8\0\x0d\1") + 8, b"\7"))

@@ -6,7 +6,7 @@ import types
 from collections.abc import Iterator
 from typing import Any
 
-from dicom_files import File, changed, element, with_value
+from dicom_files import Bench, File, changed, element, with_value
 from dicom_rules import csa_header
 from jls_tools.dicom.axis.align import Copy
 from jls_tools.dicom.evidence import alone, doubtful
@@ -28,7 +28,7 @@ def in_frame(made: File, true: bytes, number: int) -> tuple[int, bytes]:
     return true.index(made.frames[number]) + 70, bytes(8)
 
 
-def checks_of_sectors_lost_alike(bench: Any, made: File, rng: random.Random) -> Iterator[Check]:
+def checks_of_sectors_lost_alike(bench: Bench, made: File, rng: random.Random) -> Iterator[Check]:
     """Two of three copies lost one sector, as disks of one array do: what they have there outvotes nothing."""
     letters = bytes(rng.choice(b"abcdefgh ijklm.nop=") for _ in range(3000))
     text, begin = with_value(made, letters)
@@ -60,7 +60,7 @@ def checks_of_sectors_lost_alike(bench: Any, made: File, rng: random.Random) -> 
     yield f"two of three agree ({status}, {printed})", (status, out == changed(text, (first, b"Doe^Jane"))) == (0, True)
 
 
-def checks_of_decided_beside(bench: Any, made: File, rng: random.Random) -> Iterator[Check]:
+def checks_of_decided_beside(bench: Bench, made: File, rng: random.Random) -> Iterator[Check]:
     """Two of three copies have the same letters in a sector in which others of theirs were not taken: these say nothing."""
     csa, _ = with_value(made, csa_header(rng))
     field, text = csa.index(b"Field5\0"), csa.index(b"Field5\0") + 20
@@ -93,7 +93,7 @@ def checks_of_other_ends() -> Iterator[Check]:
         yield f"{name}: {wanted} ({found})", found == wanted
 
 
-def checks_of_sectors_twice(bench: Any, made: File, rng: random.Random) -> Iterator[Check]:
+def checks_of_sectors_twice(bench: Bench, made: File, rng: random.Random) -> Iterator[Check]:
     """A sector that was written to a wrong place in two of three copies: it stands in the file twice."""
     letters = bytes(rng.choice(b"abcdefgh ijklm.nop=") for _ in range(4000))
     true, begin = with_value(made, letters)
@@ -110,7 +110,7 @@ def checks_of_sectors_twice(bench: Any, made: File, rng: random.Random) -> Itera
     yield f"a file that has a sector twice ({status}, {printed})", (status, out == twice) == (0, True)
 
 
-def checks_of_others_in_a_lost_sector(bench: Any, made: File) -> Iterator[Check]:
+def checks_of_others_in_a_lost_sector(bench: Bench, made: File) -> Iterator[Check]:
     """One of three copies lost a sector, in which the others differ in two places: what decides one says nothing of the other."""
     true, _ = with_value(made, b"x" * 300)
     name, rows = true.index(b"Doe^Jane"), true.index(b"\x28\0\x10\0US")
@@ -130,7 +130,7 @@ def checks_of_others_in_a_lost_sector(bench: Any, made: File) -> Iterator[Check]
                 yield f"{what}, {fill[:2]!r}: {wanted} ({status}, {printed})", (status, out == true, told) == (wanted, not wanted, True)
 
 
-def checks_of_others_cut_in_a_lost_sector(bench: Any, made: File) -> Iterator[Check]:
+def checks_of_others_cut_in_a_lost_sector(bench: Bench, made: File) -> Iterator[Check]:
     """One of three copies lost the last sector, and one the last byte: what this one has of a place counts, up to where it is cut."""
     tail = element(0xFFFCFFFC, "OB", bytes(30))
     true = made.bytes[: -len(tail)] + element(0xFFFCFFFC, "OB", bytes(range(1, 101)))
@@ -191,7 +191,7 @@ def checks_of_changes() -> Iterator[Check]:
         yield f"{name}: {wanted} ({found})", found == wanted
 
 
-def checks_of_alone_in_lost_sectors(bench: Any, made: File) -> Iterator[Check]:
+def checks_of_alone_in_lost_sectors(bench: Bench, made: File) -> Iterator[Check]:
     """Two copies are cut, and the third one lost its last sector: the end that it alone has is no end of the file."""
     tail = element(0xFFFCFFFC, "OB", bytes(30))
     end = element(0xFFFCFFFC, "OB", bytes(range(1, 35)) + b"\x08" + bytes(5))

@@ -2,33 +2,39 @@
 
 Each case says what the status has to be and what OUT; "" stands for no OUT. `words` is what has to be printed.
 """
+from __future__ import annotations
+
 import hashlib
 import random
 import struct
+from collections.abc import Iterator, Sequence
 
-from dicom_files import CLASS, UID, File, changed, element, frame
+from dicom_files import CLASS, UID, Bench, File, changed, element, frame
 from dicom_rules import put_before
 from jls_tools.dicom.write.finished import faults_of
 from jls_tools.programs import Programs
 
+Check = tuple[str, bool]
 NEIGHBOUR = UID[:-1] + "8"
 END = b"\xfe\xff\xdd\xe0\0\0\0\0"
 EXPLICIT = "1.2.840.10008.1.2.1"
 
 
-def case(bench, name, copies, status, out, words="", options=()):
+def case(
+    bench: Bench, name: str, copies: Sequence[bytes], status: int, out: bytes, words: str = "", options: Sequence[str] = ()
+) -> Check:
     """(name with what came of it, whether that is as it has to be)."""
     got, data, printed, faults, _ = bench.mend(copies, *options)
     said = printed + faults
     return f"{name}: {status} ({got}, {said})", (got, data if data is not None else b"") == (status, out) and words in said
 
 
-def damaged(made, number=0):
+def damaged(made: File, number: int = 0) -> bytes:
     """A file with eight bytes of a frame zeroed."""
     return changed(made.bytes, (made.items[number] + 70, bytes(8)))
 
 
-def without(data, tag, vr, value):
+def without(data: bytes, tag: int, vr: str, value: bytes | str | int) -> bytes:
     """A file without an element, whose group length fits."""
     gone = element(tag, vr, value)
     at = data.index(gone)
@@ -43,7 +49,7 @@ def without(data, tag, vr, value):
 # Two instances -------------------------------------------------------------------------------------
 
 
-def slice_of(made, uid, letter):
+def slice_of(made: File, uid: str, letter: str) -> bytes:
     """A file with many elements before its frames: another slice of a series has them at the same places."""
     values = [element(0x190010, "LO", "MINE")]
     values += [element(0x191000 + at, "LO", f"value {at * 37 % 100:02} of {letter}") for at in range(800)]
@@ -51,7 +57,7 @@ def slice_of(made, uid, letter):
     return data.replace(UID.encode(), uid.encode()).replace(b"Doe^Jane", b"Roe^Jane" if letter == "b" else b"Doe^Jane")
 
 
-def checks_of_chimeras(bench, made):
+def checks_of_chimeras(bench: Bench, made: File) -> Iterator[Check]:
     """Another slice's first 4,096 bytes, whole and consistent, on the true frames: of two copies either can be the file."""
     true, other = slice_of(made, UID, "a"), slice_of(made, NEIGHBOUR, "b")
     chimera, noise = other[:4096] + true[4096:], random.Random(3).randbytes(40)
@@ -75,7 +81,7 @@ def checks_of_chimeras(bench, made):
     yield from of_two_beginnings(bench, made)
 
 
-def of_two_beginnings(bench, made):
+def of_two_beginnings(bench: Bench, made: File) -> Iterator[Check]:
     """Foreign bytes over the beginning of each copy: those of one break off, and those of the other lead on to its end."""
     values = [element(0x190010, "LO", "MINE"), *(element(0x191000 + at, "LO", f"value {at * 37 % 100:02} of it") for at in range(40))]
     true = put_before(made.bytes, 0x280002, *values)
@@ -88,7 +94,7 @@ def of_two_beginnings(bench, made):
         yield case(bench, "a foreign beginning that breaks off, and another one", copies, 1, b"", "each of two instances can be the file")
 
 
-def damaged_at(data, made):
+def damaged_at(data: bytes, made: File) -> bytes:
     """A file that has eight bytes of its first frame zeroed."""
     return changed(data, (data.index(made.frames[0]) + 70, bytes(8)))
 
@@ -96,7 +102,7 @@ def damaged_at(data, made):
 # The finished file ---------------------------------------------------------------------------------
 
 
-def checks_of_finished(bench, made):
+def checks_of_finished(bench: Bench, made: File) -> Iterator[Check]:
     """The finished file is read anew. What every copy has is its writer's, but for UIDs that are missing, cuts, and false ends of items."""
     true = made.bytes
     for tag, uid in ((0x20002, CLASS), (0x20003, UID), (0x80016, CLASS), (0x80018, UID)):
@@ -134,7 +140,7 @@ def checks_of_finished(bench, made):
     yield case(bench, "tags that don't ascend in each copy", both, 0, turned, "every copy has it")
 
 
-def checks_of_cuts(bench, made):
+def checks_of_cuts(bench: Bench, made: File) -> Iterator[Check]:
     """A file that ends before its last element does has no status 0, though each frame is whole."""
     end = made.bytes.index(END, made.items[-1])
     places = (("the end of Pixel Data", end), ("half of its delimiter", end + 4), ("a part of the last element", len(made.bytes) - 20))
@@ -147,7 +153,7 @@ def checks_of_cuts(bench, made):
 # Tails ---------------------------------------------------------------------------------------------
 
 
-def checks_of_tails(bench, made, neighbour):
+def checks_of_tails(bench: Bench, made: File, neighbour: File) -> Iterator[Check]:
     """Bytes behind the last element are cut where a whole copy lacks them or most do. In all copies they stay."""
     true, zeros, noise = made.bytes, bytes(-len(made.bytes) % 4096), random.Random(4).randbytes(300)
     flipped = changed(true, (made.name_at, b"E"))
@@ -193,7 +199,7 @@ def checks_of_tails(bench, made, neighbour):
 # Most copies ---------------------------------------------------------------------------------------
 
 
-def decoding_flips(bench, made, most):
+def decoding_flips(bench: Bench, made: File, most: int) -> list[bytes]:
     """Files with one flipped bit in the first frame, which decodes all the same: of two copies it is disputed."""
     stream, name, found = made.frames[0], f"{bench.folder}/flipped.jls", []
     for at in range(len(stream) - 6, 60, -7):
@@ -207,7 +213,7 @@ def decoding_flips(bench, made, most):
     return found
 
 
-def checks_of_most(bench, made):
+def checks_of_most(bench: Bench, made: File) -> Iterator[Check]:
     """Two equal copies against one decide. A copy alone does not outvote two by what VRs forbid; an empty value may be the true one."""
     true, first = made.bytes, made.items[0]
     flips = decoding_flips(bench, made, 3)
@@ -242,7 +248,7 @@ def checks_of_most(bench, made):
     yield case(bench, "the same in two of three", [prefix, changed(prefix, (first + 70, bytes(8))), true], 0, true)
 
 
-def checks_of_most_frames(bench, made):
+def checks_of_most_frames(bench: Bench, made: File) -> Iterator[Check]:
     """What copies have in frames doesn't count in the header, and frames that are equal are at their places."""
     true, third = made.bytes, made.items[2]
     begin = third - 60
@@ -267,7 +273,7 @@ def checks_of_most_frames(bench, made):
 # No copy has the true bytes --------------------------------------------------------------------------
 
 
-def checks_of_nothing_true(bench, made, neighbour):
+def checks_of_nothing_true(bench: Bench, made: File, neighbour: File) -> Iterator[Check]:
     """What one copy alone can have, and still is damaged: a text in a number, one value over a text, a neighbour beside a lost copy."""
     true = put_before(made.bytes, 0x280002, element(0x20000D, "UI", "1.2.3.4.5.6.7.8.9.10"))
     at = true.index(b"1.2.3.4.5.6.7.8.9")
@@ -287,7 +293,7 @@ def checks_of_nothing_true(bench, made, neighbour):
 # Copies of which nothing says whose they are -----------------------------------------------------------
 
 
-def checks_of_strangers(bench, made):
+def checks_of_strangers(bench: Bench, made: File) -> Iterator[Check]:
     """A longer file of another picture, whose UIDs are lost, is left out beside copies of the instance. Else it is used."""
     true, rng = made.bytes, random.Random(8)
     other = changed(true, (made.items[1] + 70, bytes(8)))
@@ -315,7 +321,7 @@ def checks_of_strangers(bench, made):
 ITEMS = b"\xe0\x7f\x10\x00OB\0\0\xff\xff\xff\xff"
 
 
-def plain_of(made, syntax):
+def plain_of(made: File, syntax: str) -> bytes:
     """The file with Pixel Data that is not compressed."""
     at = made.bytes.index(ITEMS)
     samples = random.Random(9).randbytes(2 * 24 * 20 * len(made.frames))
@@ -324,7 +330,7 @@ def plain_of(made, syntax):
     return changed(head, (140, struct.pack("<I", size))) + b"\xe0\x7f\x10\x00OW\0\0" + struct.pack("<I", len(samples)) + samples
 
 
-def checks_of_syntaxes(bench, made):
+def checks_of_syntaxes(bench: Bench, made: File) -> Iterator[Check]:
     """A copy in another transfer syntax is left out by name, and the others are mended. A flipped bit of the UID is damage."""
     true, plain = made.bytes, plain_of(made, EXPLICIT)
     other = changed(true, (made.items[1] + 70, bytes(8)))
@@ -337,7 +343,7 @@ def checks_of_syntaxes(bench, made):
     yield case(bench, "a bit that says JPEG 2000", [changed(true, (at, b"9")), damaged(made)], 0, true, "the frames are JPEG-LS")
 
 
-def checks_of_lost_syntaxes(bench, made):
+def checks_of_lost_syntaxes(bench: Bench, made: File) -> Iterator[Check]:
     """A copy whose transfer syntax does not read is left out where its Pixel Data says that it is none of JPEG-LS."""
     true, plain = made.bytes, plain_of(made, EXPLICIT)
     other = changed(true, (made.items[1] + 70, bytes(8)))
@@ -363,7 +369,7 @@ def checks_of_lost_syntaxes(bench, made):
 # Leads ---------------------------------------------------------------------------------------------
 
 
-def checks_of_leads(bench, made, neighbour):
+def checks_of_leads(bench: Bench, made: File, neighbour: File) -> Iterator[Check]:
     """Bytes before the preamble are cut where another copy begins without them, wherever else the two are damaged."""
     true, noise = made.bytes, random.Random(6).randbytes(512)
     for name, lead in {
@@ -392,7 +398,7 @@ def checks_of_leads(bench, made, neighbour):
     yield case(bench, "a list of bad places of a copy with a lead", copies, 0, true, "they were cut from", ["--bad", f"1:{listed}"])
 
 
-def checks_of_read_anew(made):
+def checks_of_read_anew(made: File) -> Iterator[Check]:
     """What one walk over a file that is written anew says of it, where no mending would make such a file."""
     true, count = made.bytes, len(made.frames)
     yield "nothing is wrong in a whole file", faults_of(true, count) == []

@@ -7,11 +7,11 @@ import types
 from collections.abc import Iterator
 from typing import Any
 
-import dicom_files
-import dicom_pairs
-import dicom_rules
-import dicom_truth
-from dicom_files import File, element
+from dicom_files import Bench, File, changed, element, with_value
+from dicom_pairs import told
+from dicom_rules import csa_header
+from dicom_rules import put_before as put
+from dicom_truth import case
 from jls_tools.dicom.axis.align import meet_again
 from jls_tools.dicom.axis.leads import leads
 from jls_tools.dicom.copies.instance import shares_pieces
@@ -21,18 +21,12 @@ from jls_tools.dicom.read.tags import ALLOCATED, SIGN, STORED
 from jls_tools.dicom.result import Place
 from jls_tools.frames.codings import PIECE, PIECES
 
-told: Any = dicom_pairs.told  # the other checks have no types
-csa_header: Any = dicom_rules.csa_header
-put: Any = dicom_rules.put_before
-changed: Any = dicom_files.changed
-with_value: Any = dicom_files.with_value
-case: Any = dicom_truth.case
 Check = tuple[str, bool]
 # 200 lines of 8 samples 0 of 12 bits: with the header of its item it has 64 bytes, so that all sectors of such frames are equal
 BLANK = bytes.fromhex("ffd8fff7000b0c00c8000801011100ffda0008010100000000ff7fff7fff7fff7fff7fff7fff7fff7fff7fff7fff7fff7fff7fff7effd9")
 
 
-def checks_of_swallowed(bench: Any, made: File) -> Iterator[Check]:
+def checks_of_swallowed(bench: Bench, made: File) -> Iterator[Check]:
     """A length that takes in the elements that follow is damaged, though the file reads on behind them."""
     numbers = [element(0x191001 + at, "FD", struct.pack("<d", 1.5 * at)) for at in range(5)]
     true = put(made.bytes, 0x280002, element(0x190010, "LO", "MINE"), *numbers)
@@ -52,7 +46,7 @@ def checks_of_swallowed(bench: Any, made: File) -> Iterator[Check]:
     yield told(bench, "a value that has elements of its own", [shorter, changed(true, (made.name_at - 2, b"\x09"))], true)
 
 
-def checks_of_words_again(bench: Any, made: File) -> Iterator[Check]:
+def checks_of_words_again(bench: Bench, made: File) -> Iterator[Check]:
     """Words beside damage can stand a second time elsewhere: copies go on where they are equal for long."""
     rng = random.Random(12)
     names = [b"sCoil[%d].dGain" % at for at in range(12)]
@@ -73,7 +67,7 @@ def checks_of_words_again(bench: Any, made: File) -> Iterator[Check]:
     yield "a loss that has in it the words behind it", meet_again(own[0] + word + own[2], whole, begin, begin) == (begin, end)
 
 
-def checks_of_own_codings(bench: Any, single: File, made: File) -> Iterator[Check]:
+def checks_of_own_codings(bench: Bench, single: File, made: File) -> Iterator[Check]:
     """A mode of interleaving that no scan has is no coding, and codestreams beside the items of a copy don't say its coding."""
     true, stream = single.bytes, single.frames[0]
     begin = single.items[0] + 8
@@ -88,16 +82,16 @@ def checks_of_own_codings(bench: Any, single: File, made: File) -> Iterator[Chec
     yield told(bench, "codestreams behind the end of one copy", [true + foreign, zeros], true)
 
 
-def checks_of_letters(bench: Any, made: File, rng: random.Random) -> Iterator[Check]:
+def checks_of_letters(bench: Bench, made: File, rng: random.Random) -> Iterator[Check]:
     """In a long text of a CSA header bytes beyond ASCII are damage, unless they are few among letters, or UTF-8."""
     true = with_value(made, csa_header(rng))[0]
     at = true.index(b"sSlice[60]")
-    name = changed(true, (at, "Prüfung".encode()))
+    own = changed(true, (at, "Prüfung".encode()))
     pairs: dict[str, tuple[bytes, bytes, bool]] = {
         "a byte": (true, changed(true, (at, b"\xcd")), True),
         "noise": (true, changed(true, (at, b"\xf9\x93\x96T\xc5\x92Y\xa5")), True),
         "a letter of UTF-8": (changed(true, (at, "ü".encode())), true, False),
-        "a name in UTF-8": (name, changed(name, (at, b"Another1")), False),
+        "a name in UTF-8": (own, changed(own, (at, b"Another1")), False),
         "a line with a letter": (changed(true, (at - 9, b"of the Pr\xfcfung")), changed(true, (at - 9, b"a sector again!!")), False),
         "a byte near the begin of a text": (true, changed(true, (true.index(b"sSlice[3]"), b"\xcd")), False),
     }
@@ -110,7 +104,7 @@ def checks_of_letters(bench: Any, made: File, rng: random.Random) -> Iterator[Ch
     yield told(bench, "a CSA header with control characters and a sector of noise", [many, true], true)
 
 
-def checks_of_sectors_of_text(bench: Any, made: File, rng: random.Random) -> Iterator[Check]:
+def checks_of_sectors_of_text(bench: Bench, made: File, rng: random.Random) -> Iterator[Check]:
     """A sector of one text again and again was lost, from border to border; elsewhere, or if it goes on, it can be true."""
     lines = b"".join(b"<Step.%d> sSlice[%d].dTra = -%d.%03d\n" % (at % 7, at % 40, at % 91, at * 7 % 1000) for at in range(200))
     true, fill = with_value(made, lines)[0], (b"BAD-SECTOR \n" * 43)[:512]
@@ -141,7 +135,7 @@ def checks_of_sectors_of_text(bench: Any, made: File, rng: random.Random) -> Ite
             yield told(bench, f"{name} (sectors of one text)", order, wanted, is_back)
 
 
-def checks_of_even_frames(bench: Any) -> Iterator[Check]:
+def checks_of_even_frames(bench: Bench) -> Iterator[Check]:
     """Sectors of even frames stand in the file again and again. That of one copy is at its place where most of it is in another one too."""
     true = File([BLANK] * 40, 12, 8, 200)
     for size, status in ((40, 0), (400, 1)):

@@ -9,13 +9,10 @@ from collections.abc import Iterator, Sequence
 from dataclasses import dataclass, replace
 from typing import Any, Optional, Union
 
-import dicom_files
 from coded_pictures import OTHER, USUAL, Coding, coded, some_lines
-from dicom_files import CLASS, UID
+from dicom_files import CLASS, UID, Bench, changed, element, item
 from jls_tools.frames import codings, coder
 
-make_file: Any = dicom_files.File  # of a module without types
-changed: Any = dicom_files.changed
 Check = tuple[str, bool]
 WIDTH, HEIGHT = 32, 24
 BEGIN = 25  # bytes before the data of the first scan of a frame of one component
@@ -71,7 +68,7 @@ class Case:
     def jpeg_ls(self) -> bytes:
         frames = [stream + b"\0" * (len(stream) % 2) for stream in self.frames()]
         starts = [sum(8 + len(stream) for stream in frames[:at]) for at in range(len(frames))]
-        items = b"".join(map(dicom_files.item, [struct.pack(f"<{len(starts)}I", *starts), *frames]))
+        items = b"".join(map(item, [struct.pack(f"<{len(starts)}I", *starts), *frames]))
         pixels = b"\xe0\x7f\x10\0OB\0\0\xff\xff\xff\xff" + items + b"\xfe\xff\xdd\xe0\0\0\0\0"
         return with_meta(self.uid, JPEG_LS, written(self.elements(), EXPLICIT) + pixels)
 
@@ -108,8 +105,8 @@ def deflated(data: bytes) -> bytes:
 
 def with_meta(uid: str, syntax: str, data: bytes) -> bytes:
     names = [(0x20002, CLASS), (0x20003, uid), (0x20010, syntax)]
-    meta = b"".join([dicom_files.element(0x20001, "OB", b"\0\1"), *(dicom_files.element(tag, "UI", name) for tag, name in names)])
-    return bytes(128) + b"DICM" + dicom_files.element(0x20000, "UL", struct.pack("<I", len(meta))) + meta + data
+    meta = b"".join([element(0x20001, "OB", b"\0\1"), *(element(tag, "UI", name) for tag, name in names)])
+    return bytes(128) + b"DICM" + element(0x20000, "UL", struct.pack("<I", len(meta))) + meta + data
 
 
 def written(elements: Sequence[Element], syntax: str) -> bytes:
@@ -169,7 +166,7 @@ CASES: dict[str, dict[str, Any]] = {
 }
 
 
-def checks_of_witnesses(bench: Any) -> Iterator[Check]:
+def checks_of_witnesses(bench: Bench) -> Iterator[Check]:
     """One damaged copy and an undamaged witness, in each syntax: the same file."""
     rows = [(name, words, EXPLICIT) for name, words in CASES.items()]
     rows += [(name, CASES[name], syntax) for name in ("8 bits", "signed") for syntax in (IMPLICIT, DEFLATED, BIG)]
@@ -187,7 +184,7 @@ def checks_of_witnesses(bench: Any) -> Iterator[Check]:
     yield f"two equal copies and a witness ({status}, {printed})", (status, out == made.jpeg_ls()) == (0, True)
 
 
-def checks_of_witnesses_unconfirmed(bench: Any) -> Iterator[Check]:
+def checks_of_witnesses_unconfirmed(bench: Bench) -> Iterator[Check]:
     """Where other samples fit the bytes of the JPEG-LS copy, all is as without the witness, unless a checksum is given."""
     made = case_of(random.Random(4), 8)
     status, out, printed, _, _ = bench.mend([lost(made), made.plain(EXPLICIT)])
@@ -221,7 +218,7 @@ def fits_otherwise(case: Case) -> Optional[list[int]]:
     return None
 
 
-def checks_of_witnesses_damaged(bench: Any) -> Iterator[Check]:
+def checks_of_witnesses_damaged(bench: Bench) -> Iterator[Check]:
     """A damaged witness makes no false file, and says so where it can be none."""
     made = case_of(random.Random(4), 8)
     true, words = made.jpeg_ls(), made.words()
@@ -233,7 +230,7 @@ def checks_of_witnesses_damaged(bench: Any) -> Iterator[Check]:
         yield f"sample {at} flipped, and a whole copy ({status})", (status, out) == (1, None)
 
 
-def checks_of_witnesses_left_out(bench: Any) -> Iterator[Check]:
+def checks_of_witnesses_left_out(bench: Bench) -> Iterator[Check]:
     """Copies that are not compressed and can be no witnesses are left out, and the line says why."""
     made = case_of(random.Random(4), 8)
     plain, words = made.plain(EXPLICIT), made.words()
@@ -261,7 +258,7 @@ def checks_of_witnesses_left_out(bench: Any) -> Iterator[Check]:
     yield f"the same, and a whole copy ({status}, {printed})", (status, out) == (1, None)
 
 
-def checks_of_witnesses_of_headers(bench: Any) -> Iterator[Check]:
+def checks_of_witnesses_of_headers(bench: Bench) -> Iterator[Check]:
     """A witness decides between copies where it has what one of them has, and confirms the header of one copy where it has all of it."""
     made = case_of(random.Random(4), 8)
     true, plain = made.jpeg_ls(), made.plain(EXPLICIT)
@@ -283,7 +280,7 @@ def checks_of_witnesses_of_headers(bench: Any) -> Iterator[Check]:
     yield f"two orders of planes ({status}, {printed})", (status, out) == (1, None)
 
 
-def checks_of_witnesses_of_one_copy(bench: Any) -> Iterator[Check]:
+def checks_of_witnesses_of_one_copy(bench: Bench) -> Iterator[Check]:
     """What a witness doesn't confirm of one copy is not taken."""
     made = case_of(random.Random(4), 8)
     true, plain, frame = made.jpeg_ls(), made.plain(EXPLICIT), made.frames()[0]
