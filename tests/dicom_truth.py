@@ -11,6 +11,7 @@ from collections.abc import Iterator, Sequence
 
 from dicom_files import CLASS, UID, Bench, File, changed, element, frame
 from dicom_rules import put_before
+from jls_tools.dicom.axis.tails import without_tails
 from jls_tools.dicom.write.finished import faults_of
 from jls_tools.programs import Programs
 
@@ -18,6 +19,7 @@ Check = tuple[str, bool]
 NEIGHBOUR = UID[:-1] + "8"
 END = b"\xfe\xff\xdd\xe0\0\0\0\0"
 EXPLICIT = "1.2.840.10008.1.2.1"
+SECTOR = 512
 
 
 def case(
@@ -189,11 +191,52 @@ def checks_of_tails(bench: Bench, made: File, neighbour: File) -> Iterator[Check
     yield case(bench, "rests of other files, of which one ends at no border", both, 1, b"", "what stands after the last element")
     both = [true + rests[0], damaged(made) + zeros]
     yield case(bench, "the rest of another file, and zeros", both, 1, b"", "what stands after the last element")
+    yield case(bench, "rests of two other files, and zeros", [true + rests[0], damaged(made) + zeros, true + rests[1]], 0, true, "cut from")
+    lower = element(0x185100, "CS", "HFS") + element(0x20000D, "UI", "1.2.3")
+    reads_on = true + (lower * 300)[: len(rests[0])]
+    yield case(bench, "elements of another file that begin there, and its rest", [reads_on, damaged(made) + rests[0]], 0, true, "cut from")
+    yield case(bench, "such elements behind each copy", [true + lower, damaged(made) + lower], 0, true + lower, "every copy has it so")
+    yield case(bench, "the rest of another file, zeros, and zeros", [true + rests[0], damaged(made) + zeros, true + zeros], 1, b"")
+    yield from of_shorter_copies(bench, made, zeros, rests[0])
     padding = changed(true, (len(true) - 42, b"\x13\x57\x9b\xdf"))
     yield case(bench, "the last element's tag is damaged", [padding, damaged(made)], 0, true)
     both = [changed(true, (len(true) - 38, b"z")), changed(true, (len(true) - 36, b"\x07"))]
     yield case(bench, "the last element's header is damaged in each copy", both, 0, true)
     yield case(bench, "a tail, and a letter of a name", [true, flipped + zeros], 1, b"", "(0010,0010), undecided")
+
+
+def of_shorter_copies(bench: Bench, made: File, zeros: bytes, rest: bytes) -> Iterator[Check]:
+    """A copy that lost bytes ends where the elements of another one do. One that was cut at a border of sectors does not show it.
+
+    Nor does one with another end of the last frame, as another file has it.
+    """
+    true, gone = made.bytes, made.bytes[:600] + made.bytes[616:]
+    for name, tail in (("zeros", zeros), ("the rest of another file", rest)):
+        for order in ([gone, true + tail], [true + tail, gone]):
+            yield case(bench, f"{name}, and the other copy lost bytes", order, 0, true, "they were cut from")
+    at = made.items[-1] + len(made.frames[-1]) - 20
+    strange = changed(true, (at, bytes(byte ^ 0x55 for byte in true[at : at + 20])))
+    found = without_tails([gone, strange + zeros])
+    yield f"the same, and another end of the last frame: no cut ({found.cut})", not found.cut and not found.is_decided
+    bare, size = true[:-42], (len(true) - 42) % SECTOR + SECTOR  # without the element behind Pixel Data
+    turned = changed(bare, (SECTOR, bare[-size:]), (len(bare) - size, bare[SECTOR : SECTOR + size]))
+    found = without_tails([bare[:900] + bare[916:], turned])
+    yield f"a copy whose end stands elsewhere in it: no cut ({found.cut})", not found.cut
+    yield "no tail: no cut", not without_tails([gone, true]).cut
+    yield case(bench, "the same, and it ends before", [gone[:-1], true + zeros], 1, b"", "what stands after the last element")
+    size = -(len(true) + 12) % 512  # bytes of an element that ends the file at a border of sectors
+    even = true + element(0xFFFCFFFC, "OB", bytes(size))
+    shorter = even[:600] + even[616:]
+    yield case(bench, "the same, and the elements end at a border", [shorter, even + zeros], 1, b"", "what stands after the last element")
+    size = -(len(true) - 16 + 12) % 512  # the same of the shorter copy alone
+    even = true + element(0xFFFCFFFC, "OB", bytes(size))
+    shorter = even[:600] + even[616:]
+    yield case(bench, "the same, and the shorter one does", [shorter, even + zeros], 1, b"", "what stands after the last element")
+    other = changed(gone, (len(gone) - 9, b"\1"))
+    yield case(bench, "the same, and it ends with other bytes", [other, true + zeros], 1, b"", "what stands after the last element")
+    padded = true + element(0xFFFCFFFC, "OB", bytes(300))
+    cut = padded[:600] + padded[616:-100]
+    yield case(bench, "the same, and it is cut inside of zeros", [cut, padded + zeros], 1, b"", "what stands after the last element")
 
 
 # Most copies ---------------------------------------------------------------------------------------
@@ -312,6 +355,8 @@ def checks_of_strangers(bench: Bench, made: File) -> Iterator[Check]:
     halves = [changed(true, (0, bytes(1024))), changed(true, (1024, bytes(len(true) - 1024)))]
     for copies in (halves, halves[::-1]):
         yield case(bench, "a copy without its beginning, and one without the rest", copies, 0, true)
+    for copies in ([halves[0], true[:1024]], [true[:1024], halves[0]]):
+        yield case(bench, "a copy without its beginning, and one that is cut there", copies, 0, true)
     yield case(bench, "the same, and another one without the rest", [*halves, changed(halves[1], (700, bytes(12)))], 0, true)
 
 

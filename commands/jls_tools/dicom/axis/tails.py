@@ -1,8 +1,9 @@
 """Bytes after the last element of a copy: the rest of a sector, of a block of a tape, or of an older file.
 
-A tail is cut where a copy that reads whole lacks it, where most copies lack it, or where another copy ends just where the elements do. If
-all copies read to one place, and go on to the end of a sector with bytes of their own that are no padding, these are cut from all. A tail
-that all copies have stays. Another one is undecided: then a SHA-256 alone can say which file is true.
+A tail is cut where a copy that reads whole lacks it, where most copies lack it, or where another copy ends just where the elements do, also
+if that one lost bytes ahead of its end. If all copies read to one place, and go on to the end of a sector, two of them at least with bytes
+of their own that are no padding, these are cut from all. A tail that all copies have stays. Another one is undecided: then a SHA-256 alone
+can say which file is true.
 """
 from __future__ import annotations
 
@@ -13,6 +14,7 @@ from typing import Optional
 from jls_tools.dicom.axis.media import SECTOR
 from jls_tools.dicom.read.elements import DELIMITER, UNDEFINED, has_prefix, walk
 from jls_tools.dicom.read.reading import Reading
+from jls_tools.dicom.read.tags import PIXEL_DATA
 
 BEGIN = 8  # so many bytes of a tail, or fewer, differ from those of others that have nothing to do with it
 BESIDE = 64  # so many bytes before the end of a whole copy are equal in one that goes on behind it
@@ -34,11 +36,25 @@ def end_of(text: bytes) -> Optional[int]:
     return reading.end if reading.is_whole and has_prefix(text) else None
 
 
+def ends_of(texts: list[bytes]) -> list[Optional[int]]:
+    """Where the last element of each file ends. What begins there in another file is none where tags don't ascend any more."""
+    ends = [end_of(text) for text in texts]
+    begins = [descends_at(text) for text in texts]
+    return [begin if begin is not None and begin in ends else end for end, begin in zip(ends, begins)]
+
+
+def descends_at(text: bytes) -> Optional[int]:
+    """Where an element of the top level begins behind Pixel Data whose tag is lower: the rest of another file can begin so."""
+    tops = Reading(text).top if has_prefix(text) else []
+    pixels = next((at for at, element in enumerate(tops) if element.tag == PIXEL_DATA), len(tops))
+    return next((element.start for element in tops[pixels:] if element.tag < PIXEL_DATA), None)
+
+
 def without_tails(texts: list[bytes]) -> Tails:
     """Cuts the tails that can be told."""
-    ends = [end_of(text) for text in texts]
+    ends = ends_of(texts)
     likely = [end if end is not None else end_behind(text) for text, end in zip(texts, ends)]
-    borders = [border_of(texts, ends, at, likely[at]) for at in range(len(texts))]
+    borders = [end_in_both(texts, ends, at) or border_of(texts, ends, at, likely[at]) for at in range(len(texts))]
     found = Tails([text if border is None else text[:border] for text, border in zip(texts, borders)])
     found.cut = [at for at, border in enumerate(borders) if border is not None]
     if found.cut:
@@ -65,14 +81,14 @@ def without_tails(texts: list[bytes]) -> Tails:
 
 
 def are_strange(texts: list[bytes], end: int) -> bool:
-    """Whether all copies go on to the end of a sector with something of their own that is no padding.
+    """Whether all copies go on to the end of a sector, two of them at least with something of their own that is no padding.
 
     Else it can be an element whose header is damaged in each copy.
     """
-    tails = [text[end:] for text in texts]
+    tails = [text[end:] for text in texts if text[end:].strip(text[end : end + 1])]
     begins = {tail[:BEGIN] for tail in tails}
     are_own = len(tails) == len(begins) > 1 and not are_of_one_element(tails)
-    return are_own and all(len(text) % SECTOR == 0 for text in texts) and all(tail.strip(tail[:1]) for tail in tails)
+    return are_own and all(len(text) % SECTOR == 0 for text in texts)
 
 
 def are_of_one_element(tails: list[bytes]) -> bool:
@@ -103,6 +119,24 @@ def border_of(texts: list[bytes], ends: list[Optional[int]], at: int, own: Optio
         if is_end and (end == size or own == size or sizes[size] * 2 > len(texts)):
             return size
     return None
+
+
+def end_in_both(texts: list[bytes], ends: list[Optional[int]], at: int) -> Optional[int]:
+    """Where a copy that reads whole goes on behind its last element, if another one, which can have lost bytes, ends just there."""
+    text, end = texts[at], ends[at]
+    if end is None or end == len(text):
+        return None
+    return end if any(is_one_end(text[:end], other) for number, other in enumerate(texts) if number != at) else None
+
+
+def is_one_end(text: bytes, other: bytes) -> bool:
+    """Whether a copy that lost bytes ends with those of another one, the last ones of Pixel Data among them: other files end alike behind.
+
+    It can't be told where a sector ends in one of both: there a disk can have cut it.
+    """
+    begin = text.rfind(DELIMITER) - BESIDE
+    is_alike = begin >= 0 and other.endswith(text[begin:])
+    return is_alike and len(text) % SECTOR > 0 and len(other) % SECTOR > 0
 
 
 def ends_alike(text: bytes, other: bytes) -> bool:
