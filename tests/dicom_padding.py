@@ -108,7 +108,7 @@ def checks_of_what_is_no_padding(bench: Bench, rng: random.Random, work: str) ->
         yield f"{name}: the frame has its last byte", get(f"{work}/{name}/frame-0000.jls") == stream[:-2]
         _, _, printed, _, _ = bench.mend([made.bytes], "--header", "COPY0")
         yield f"{name}, mend: all lines ({printed})", f"settled {COMPONENTS * 2}, missing 0" in printed
-    yield from checks_of_rows_by_padding(bench, rng)
+    yield from checks_of_rows_by_padding(bench, rng, work)
     whole, padded = b"\xff\xd8\xff\xf7\0\2" + EOI, b"\xff\xd8\xff\xf7\0\2\0\0"
     yield "another copy has the EOI", without_padding([whole, padded]) == [whole, padded]
     yield "a shorter copy has none", without_padding([whole, padded[:-1]]) == [whole, padded[:-2]]
@@ -149,14 +149,29 @@ def checks_of_cut_files(bench: Bench, rng: random.Random, work: str) -> Iterator
         yield f"a file that ends in its frame: the last row too ({printed})", len(kept) == settled_of(head + b"\0", work)
 
 
-def checks_of_rows_by_padding(bench: Bench, rng: random.Random) -> Iterator[Check]:
-    """Of all odd lengths of a frame none gives a line that its own bytes don't."""
+def checks_of_rows_by_padding(bench: Bench, rng: random.Random, work: str) -> Iterator[Check]:
+    """Of all odd lengths of a frame none gives a line that its own bytes don't, nor does one that a byte 00 gives a line more."""
     lines = smooth(rng)
     stream, all_rows = coded(PIXELS, 8, COMPONENTS, lines), Rows(lines)
     begin = begin_of(stream)
     for cut in range((begin + 60) | 1, begin + 160, 2):
         found, printed = kept_of(bench, [file_of(stream[:cut]).bytes])
         yield f"cut at {cut}: its rows ({printed})", found == rows_of(lines, 0, all_rows.within(cut - begin))
+    head, wanted = ended_by_padding(rng, work)
+    found, printed = kept_of(bench, [file_of(head).bytes])
+    yield f"cut at {len(head)}, where a byte 00 ends a row: no such row ({printed})", found == wanted
+
+
+def ended_by_padding(rng: random.Random, work: str) -> tuple[bytes, Lines]:
+    """The beginning of a codestream, of odd length, of which a byte 00 gives jls-splice a row more; and the lines of its own rows."""
+    while True:
+        lines = smooth(rng)
+        stream, all_rows = coded(PIXELS, 8, COMPONENTS, lines), Rows(lines)
+        begin = begin_of(stream)
+        for cut in range((begin + 60) | 1, begin + 200, 2):
+            rows = all_rows.within(cut - begin)
+            if settled_of(stream[:cut] + b"\0", work) > COMPONENTS * rows:
+                return stream[:cut], rows_of(lines, 0, rows)
 
 
 PADDING = [checks_of_padding, checks_of_padded_intervals, checks_of_what_is_no_padding, checks_of_cut_files]

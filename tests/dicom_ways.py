@@ -94,6 +94,7 @@ def checks_of_letters(bench: Bench, made: File, rng: random.Random) -> Iterator[
         "a name in UTF-8": (own, changed(own, (at, b"Another1")), False),
         "a line with a letter": (changed(true, (at - 9, b"of the Pr\xfcfung")), changed(true, (at - 9, b"a sector again!!")), False),
         "a byte near the begin of a text": (true, changed(true, (true.index(b"sSlice[3]"), b"\xcd")), False),
+        "a true byte near the begin of a text": (changed(true, (true.index(b"sSlice[3]"), b"\xcd")), true, False),
     }
     for name, (whole, other, is_back) in pairs.items():
         for order in ([whole, other], [other, whole]):

@@ -1,0 +1,134 @@
+"""Checks of rules of jls-dicom one by one, by hand: what they answer on bytes of which it is known what was done to them."""
+from __future__ import annotations
+
+import random
+import types
+from collections.abc import Iterator
+from typing import Any
+
+from dicom_files import File, changed
+from jls_tools.dicom import layout
+from jls_tools.dicom.axis import bad_places, inserted, stuck
+from jls_tools.dicom.axis.align import Copy, meet_again
+from jls_tools.dicom.axis.sectors import Pair
+from jls_tools.dicom.copies.instance import Instances
+from jls_tools.dicom.evidence.witnessed import denied, is_same, why_odd
+from jls_tools.dicom.read.plain import Plain
+from jls_tools.dicom.read.tags import PIXEL_DATA
+from jls_tools.dicom.read.values import is_half_of_numbers
+from jls_tools.dicom.result import FrameResult
+from jls_tools.frames.mending import FrameMender, Mended
+from jls_tools.frames.witness import model_of
+
+Check = tuple[str, bool]
+SECTOR, PAGE, LANE = 512, 4096, 64
+PIXELS = b"\xe0\x7f\x10\x00OB\0\0\xff\xff\xff\xff"
+
+
+def checks_of_copies_by_hand(made: File) -> Iterator[Check]:
+    """Two copies of one instance, of which neither has what the other one has: none of them is left out."""
+    true = made.bytes
+    for texts in ([true[:1024], changed(true, (0, bytes(1024)))], [changed(true, (0, bytes(1024))), true[:1024]]):
+        found = Instances(texts, False)
+        yield f"a copy without its beginning, and one without the rest: {found.left_out}", not found.left_out
+
+
+def checks_of_elements_by_hand(small: File) -> Iterator[Check]:
+    """What a witness has otherwise than a copy of JPEG-LS: a VR that PS3.6 allows too, and what no witness can say."""
+    one, other = Plain(0x280106, b"SS", b"\3\0"), Plain(0x280106, b"US", b"\3\0")
+    yield "another VR that PS3.6 allows", not is_same(one, other) and is_same(one, Plain(0x280106, b"SS", b"\3\0"))
+    yield "a VR that the witness doesn't say", is_same(one, Plain(0x280106, b"", b"\3\0"))
+    witness: Any = types.SimpleNamespace(elements={})
+    for vr, tags in ((b"OB", []), (b"OW", [PIXEL_DATA])):
+        yield f"Pixel Data of {vr!r}", list(denied([Plain(PIXEL_DATA, vr, b"")], witness)) == tags
+    stream = small.frames[0]
+    for name, behind, is_well in (("nothing", b"", True), ("zeros", b"\0\0", True), ("other bytes", b"\0\1", False)):
+        data = File([stream + behind], 8, 16, 12).bytes
+        yield f"{name} behind a frame in its item", (why_odd(data, 1, 0) is None) == is_well
+    for text, wanted in ((b"12ab", True), (b"12abc", False), (b"1.5", True), (b"none", False)):
+        yield f"half of {text!r} is of numbers: {wanted}", is_half_of_numbers(text) == wanted
+
+
+def checks_of_put_in_by_hand(rng: random.Random) -> Iterator[Check]:
+    """What of the bytes that one copy alone has was put in: few bytes, or a block that stands twice, between bytes that all copies have."""
+    before, behind, block = rng.randbytes(100), rng.randbytes(100) + PIXELS, rng.randbytes(20)
+    end = 100 + len(block)
+    for name, data, size, wanted in (
+        ("seven bytes", before + block[:7] + behind, 7, True),
+        ("as many as an element has", before + block[:8] + behind, 8, False),
+        ("a block", before + block + behind, 20, False),
+        ("a block that stands twice", before[:80] + block + block + behind, 20, True),
+    ):
+        part = (100, 100 + size)
+        copies = [Copy("a", data), Copy("b", data, [part])]
+        yield f"{name}: {wanted}", inserted.is_put_in(copies, part) == wanted
+        yield f"{name}, as what can be cut out: {wanted}", list(inserted.combinations(copies, [part])) == ([(part,)] if wanted else [])
+    twice, part = before[:80] + block + block + behind, (100, end)
+    for name, other in (("before", changed(twice, (70, b"?"))), ("behind", changed(twice, (end + 10, b"?")))):
+        yield f"a byte {name} it differs", not inserted.is_put_in([Copy("a", twice), Copy("b", other, [part])], part)
+    yield "one lacks bytes beside it", not inserted.is_put_in([Copy("a", twice), Copy("b", twice, [(90, end)])], part)
+    for is_in_frame, wanted in ((True, True), (False, False)):
+        stub: Any = types.SimpleNamespace(is_held_alike=lambda _: True, is_in_frame=lambda _, own=is_in_frame: own)
+        copies = [Copy("a", before + block + behind), Copy("b", before + block + behind, [part])]
+        yield f"a block in a frame, or in the header: {wanted}", layout.is_put_in(copies, stub, part, [part]) == wanted
+
+
+def checks_of_places_by_hand(rng: random.Random) -> Iterator[Check]:
+    """Where two copies go on alike, and which sectors and bits of one look lost."""
+    lines = [b"".join(b"<Own.%d> { %d }\n" % (at, rng.randrange(1 << 30)) for at in range(60)) for _ in range(3)]
+    begin, kept = len(lines[0]), lines[1][:130]
+    one = lines[0] + rng.randbytes(20) + kept + lines[2]
+    two = lines[0] + rng.randbytes(50) + kept + rng.randbytes(400) + lines[2]
+    found = meet_again(one, two, begin, begin)
+    yield f"a nearer place, through which less is lost: {found}", found == (begin + 20, begin + 50)
+    noise, text = rng.randbytes(SECTOR), (b"this sector was not read\n" * 60)[:SECTOR]
+    lone = b"\0" + bytes(byte | 1 for byte in noise[1:])
+    pair = Pair(bytes(SECTOR) + lone + bytes(SECTOR), bytes(SECTOR) + text + noise, [])
+    yield "zeros beside a sector that is none", pair.lost_around(SECTOR) == (SECTOR, 2 * SECTOR)
+    yield "zeros", pair.lost_around(0) == (0, SECTOR)
+    names = [b"of a slice", b"in a file", b"and a name", b"as it was", b"to the end"]
+    words = b" ".join(rng.choice(names) for _ in range(200))[: 2 * SECTOR]
+    pair = Pair(bytes(3 * SECTOR), text + words, [])
+    yield "a text again and again", not pair.is_other_plain(0)
+    yield "another text", pair.is_other_plain(SECTOR)
+    yield from of_stuck_bits(rng)
+
+
+def of_stuck_bits(rng: random.Random) -> Iterator[Check]:
+    """One lane of a page or two can have a stuck bit; a lane with few bytes of its own has it so in the file."""
+    page = rng.randbytes(PAGE)
+    for lanes, wanted in (((5,), 1), ((5, 9), 2), ((5, 9, 20), 0)):
+        data = bytearray(page)
+        for at in (at for lane in lanes for at in range(lane, PAGE, LANE)):
+            data[at] |= 16
+        places = stuck.places_stuck(Copy("a", bytes(data)), [Copy("b", page)], 0, PAGE)
+        yield f"{len(lanes)} lanes: {wanted}", len({place % LANE for place, _ in places}) == wanted
+    for values, bit in (([3, 19, 40, 60], None), (rng.sample(range(256), 64), 16)):  # half of the first have this bit
+        own, beside = bytearray(page), bytearray(page)
+        for number, at in enumerate(range(7, PAGE, LANE)):
+            beside[at] = values[number % len(values)]
+            own[at] = beside[at] | 16
+        yield f"a lane of {len(values)} values: {bit}", stuck.bit_of(bytes(own), bytes(beside), 7) == bit
+
+
+def checks_of_frames_by_hand(small: File) -> Iterator[Check]:
+    """Headers of a frame that a witness can have a model of; padding; and parts of a frame with bad bytes."""
+    stream = small.frames[0]
+    names = changed(stream, (stream.index(b"\1\x11\0"), b"\5"), (stream.index(b"\xff\xda\0\x08\1") + 5, b"\5"))
+    yield "a usual name of a component", model_of(stream) is not None
+    yield "another name", model_of(names) is None
+    whole = Mended(FrameResult(0, "lines", settled=12))
+    stub: Any = types.SimpleNamespace(mend=lambda *_: whole, mend_aside=lambda *_: Mended(FrameResult(0, "whole", settled=12)))
+    found = FrameMender.mend_padded(stub, 0, [stream[:-2] + b"\0"])
+    yield "all lines come with a last byte 00", found is whole
+    rows = b"".join(b"\xff" + bytes([0xD0 + at % 8]) + b"\x55" * 30 for at in range(100))
+    bad = [(at * 32 + 10, at * 32 + 12) for at in range(100)]
+    parts = list(bad_places.parts_of([rows], bad))
+    yield f"{bad_places.MOST_PARTS} parts, and the rest: {len(parts)}", len(parts) == bad_places.MOST_PARTS + 1
+    parts = list(bad_places.parts_of([rows + b"\0"], bad[:1]))
+    marked = bad_places.marked(rows + b"\0", bad[:1])
+    yield "behind bad bytes, with a last byte 00 and without", parts[1:] == [[marked], [marked[:-1]]]
+
+
+BY_HAND = [checks_of_copies_by_hand, checks_of_elements_by_hand, checks_of_put_in_by_hand, checks_of_places_by_hand]
+BY_HAND += [checks_of_frames_by_hand]
