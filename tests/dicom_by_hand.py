@@ -1,6 +1,7 @@
 """Checks of rules of jls-dicom one by one, by hand: what they answer on bytes of which it is known what was done to them."""
 from __future__ import annotations
 
+import os
 import random
 import types
 from collections.abc import Iterator
@@ -15,8 +16,9 @@ from jls_tools.dicom.copies.instance import Instances
 from jls_tools.dicom.evidence.witnessed import denied, is_same, why_odd
 from jls_tools.dicom.read.plain import Plain
 from jls_tools.dicom.read.tags import PIXEL_DATA
-from jls_tools.dicom.read.values import is_half_of_numbers
+from jls_tools.dicom.read.values import allows, is_half_of_numbers
 from jls_tools.dicom.result import FrameResult
+from jls_tools.dicom.write.outputs import put_frames_folder, take_away
 from jls_tools.frames.mending import FrameMender, Mended
 from jls_tools.frames.witness import model_of
 
@@ -45,6 +47,8 @@ def checks_of_elements_by_hand(small: File) -> Iterator[Check]:
     for name, behind, is_well in (("nothing", b"", True), ("zeros", b"\0\0", True), ("other bytes", b"\0\1", False)):
         data = File([stream + behind], 8, 16, 12).bytes
         yield f"{name} behind a frame in its item", (why_odd(data, 1, 0) is None) == is_well
+    for value, wanted in ((b"1.5", True), (b"1.5 ", True), (b"1.5\0", True), (b"1.5\0\0", False), (b"1.5\\2", True), (b"1.5\0\\2", False)):
+        yield f"numbers {value!r}: {wanted}", allows(b"DS", value) == wanted
     for text, wanted in ((b"12ab", True), (b"12abc", False), (b"1.5", True), (b"none", False)):
         yield f"half of {text!r} is of numbers: {wanted}", is_half_of_numbers(text) == wanted
 
@@ -130,5 +134,22 @@ def checks_of_frames_by_hand(small: File) -> Iterator[Check]:
     yield "behind bad bytes, with a last byte 00 and without", parts[1:] == [[marked], [marked[:-1]]]
 
 
+def checks_of_folders_by_hand(folder: str) -> Iterator[Check]:
+    """A folder of frames of an earlier run is taken away, and no other one."""
+    place, work = os.path.join(folder, "out.frames"), os.path.join(folder, "work")
+    for name in ("made", "work"):
+        os.makedirs(os.path.join(folder, name))
+    with open(os.path.join(folder, "made", "frame-0000.jls"), "wb") as file:
+        file.write(b"a frame")
+    put_frames_folder(os.path.join(folder, "made"), place, work)
+    with open(os.path.join(place, "notes.txt"), "wb") as file:
+        file.write(b"of somebody")
+    take_away(place, work)
+    yield "a folder with a file of somebody", os.path.exists(place)
+    os.remove(os.path.join(place, "notes.txt"))
+    take_away(place, work)
+    yield "a folder of frames alone", not os.path.exists(place) and len(os.listdir(work)) == 1
+
+
 BY_HAND = [checks_of_copies_by_hand, checks_of_elements_by_hand, checks_of_put_in_by_hand, checks_of_places_by_hand]
-BY_HAND += [checks_of_frames_by_hand]
+BY_HAND += [checks_of_frames_by_hand, checks_of_folders_by_hand]

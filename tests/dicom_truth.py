@@ -104,7 +104,7 @@ def damaged_at(data: bytes, made: File) -> bytes:
 # The finished file ---------------------------------------------------------------------------------
 
 
-def checks_of_finished(bench: Bench, made: File) -> Iterator[Check]:
+def checks_of_finished(bench: Bench, made: File, single: File) -> Iterator[Check]:
     """The finished file is read anew. What every copy has is its writer's, but for UIDs that are missing, cuts, and false ends of items."""
     true = made.bytes
     for tag, uid in ((0x20002, CLASS), (0x20003, UID), (0x80016, CLASS), (0x80018, UID)):
@@ -140,6 +140,21 @@ def checks_of_finished(bench: Bench, made: File) -> Iterator[Check]:
     turned = true.replace(first + second, second + first)
     both = [turned, changed(turned, (made.items[0] + 70, bytes(8)))]
     yield case(bench, "tags that don't ascend in each copy", both, 0, turned, "every copy has it")
+    bare = true[:132] + true[144:]  # without the group length, which is the first element
+    both = [bare, changed(bare, (made.items[0] - 12 + 70, bytes(8)))]
+    yield case(bench, "no group length in each copy", both, 0, bare, "has no group length: every copy has it so")
+    both = [changed(true, (made.table_at + 4, byte)) for byte in (b"\x11", b"\x77")]
+    yield case(bench, "a byte of the offset table that no copy has", both, 1, b"")
+    yield from of_frame_counts(bench, single)
+
+
+def of_frame_counts(bench: Bench, single: File) -> Iterator[Check]:
+    """A file of one frame can be without Number of Frames, and can't have another one."""
+    true, number = single.bytes, element(0x280008, "IS", "1")
+    for name, data, status in (("no", true.replace(number, b""), 0), ("another", true.replace(number, element(0x280008, "IS", "2")), 1)):
+        at = data.index(single.frames[0]) + 70
+        both = [data, changed(data, (at, bytes(8)))]
+        yield case(bench, f"{name} Number of Frames in each copy", both, status, b"" if status else data)
 
 
 def checks_of_cuts(bench: Bench, made: File) -> Iterator[Check]:
