@@ -17,6 +17,7 @@ from jls_tools.dicom.axis.leads import leads
 from jls_tools.dicom.copies.instance import shares_pieces
 from jls_tools.dicom.copies.witness import Witness
 from jls_tools.dicom.evidence.doubtful import hole_in_text
+from jls_tools.dicom.read.elements import DELIMITER
 from jls_tools.dicom.read.tags import ALLOCATED, SIGN, STORED
 from jls_tools.dicom.result import Place
 from jls_tools.frames.codings import PIECE, PIECES
@@ -44,6 +45,32 @@ def checks_of_swallowed(bench: Bench, made: File) -> Iterator[Check]:
     place = true.index(inner) - 24
     shorter = changed(true, (place, struct.pack("<I", 20)))
     yield told(bench, "a value that has elements of its own", [shorter, changed(true, (made.name_at - 2, b"\x09"))], true)
+
+
+def open_sequence(*items: bytes) -> bytes:
+    """A sequence that says no length, of items that say none."""
+    bare = b"\xff\xff\xff\xff"
+    parts = [b"\xfe\xff\x00\xe0" + bare + each + b"\xfe\xff\x0d\xe0" + bytes(4) for each in items]
+    return struct.pack("<HH", 8, 0x1140) + b"SQ\0\0" + bare + b"".join(parts) + DELIMITER
+
+
+def checks_of_open_sequences(bench: Bench, made: File) -> Iterator[Check]:
+    """Sequences and items without lengths, in each other too, and damage of what begins and ends them and of what is in them."""
+    inner = open_sequence(element(0x81150, "UI", "1.2.840"), element(0x81155, "UI", "1.2.3"))
+    outer = open_sequence(element(0x80060, "CS", "MR") + inner, element(0x80060, "CS", "CT"))
+    true = put(made.bytes, 0x90010, outer)
+    begin, end = true.index(outer), true.index(outer) + len(outer)
+    second = true.index(b"\xfe\xff\x00\xe0", begin + 20)
+    frame = (true.index(made.frames[0]) + 70, bytes(8))
+    for name, one, other in (
+        ("its header, and a frame", (begin, bytes(8)), frame),
+        ("its length, and its end", (begin + 8, b"\x20\0\0\0"), (end - 8, bytes(8))),
+        ("an item's header, and another one's", (begin + 12, bytes(8)), (second, b"\xfe\xff\x0d\xe0\x09")),
+        ("an element in it, and the end of an item", (begin + 20, bytes(9)), (end - 16, bytes(8))),
+        ("elements in it", (begin + 24, b"??\7"), (end - 24, b"\1\2\3")),
+    ):
+        for order in ([one, other], [other, one]):
+            yield told(bench, f"a sequence without a length: {name}", [changed(true, each) for each in order], true)
 
 
 def checks_of_words_again(bench: Bench, made: File) -> Iterator[Check]:
@@ -175,5 +202,5 @@ def checks_of_signed_samples() -> Iterator[Check]:
         yield f"{samples} in {precision} bits", Witness.in_bits(copy, samples, precision) == found
 
 
-WAYS = [checks_of_swallowed, checks_of_words_again, checks_of_own_codings, checks_of_letters, checks_of_sectors_of_text]
-WAYS += [checks_of_even_frames, checks_of_likeness, checks_of_signed_samples]
+WAYS = [checks_of_swallowed, checks_of_open_sequences, checks_of_words_again, checks_of_own_codings, checks_of_letters]
+WAYS += [checks_of_sectors_of_text, checks_of_even_frames, checks_of_likeness, checks_of_signed_samples]
