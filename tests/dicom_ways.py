@@ -71,6 +71,23 @@ def checks_of_open_sequences(bench: Bench, made: File) -> Iterator[Check]:
     ):
         for order in ([one, other], [other, one]):
             yield told(bench, f"a sequence without a length: {name}", [changed(true, each) for each in order], true)
+    yield from of_unknown_sequences(bench, made)
+
+
+def of_unknown_sequences(bench: Bench, made: File) -> Iterator[Check]:
+    """A sequence of VR UN without a length has elements without VRs (PS3.5, 6.2.2)."""
+    bare = b"\xff\xff\xff\xff"
+    inner = b"".join(struct.pack("<HHI", 0x27, 0x1011 + at, 6) + b"MINE %d" % at for at in range(3))
+    items = b"\xfe\xff\x00\xe0" + bare + inner + b"\xfe\xff\x0d\xe0" + bytes(4) + DELIMITER
+    unknown = struct.pack("<HH", 0x27, 0x1002) + b"UN\0\0" + bare + items
+    true = put(made.bytes, 0x280002, element(0x270010, "LO", "MINE"), unknown)
+    begin = true.index(unknown)
+    for name, one, other in (
+        ("its header, and an element", (begin, bytes(8)), (begin + 34, bytes(8))),
+        ("its item, and the end of it", (begin + 12, bytes(8)), (begin + len(unknown) - 16, bytes(8))),
+    ):
+        for order in ([one, other], [other, one]):
+            yield told(bench, f"a sequence of VR UN: {name}", [changed(true, each) for each in order], true)
 
 
 def checks_of_words_again(bench: Bench, made: File) -> Iterator[Check]:
