@@ -123,7 +123,13 @@ def checks_of_finished(bench: Bench, made: File, single: File) -> Iterator[Check
     yield case(bench, "a group length that is wrong in each copy", both, 0, odd, "every copy has it")
     other = changed(true, (true.rindex(UID.encode(), 0, made.name_at) + len(UID) - 1, b"9"))
     both = [other, changed(other, (made.items[0] + 70, bytes(8)))]
-    yield case(bench, "two SOP Instance UIDs in each copy", both, 0, other, "the SOP Instance UIDs are not equal: every copy", ["--same"])
+    words = "the SOP Instance UIDs are not equal"
+    yield case(bench, "two SOP Instance UIDs that look like one in each copy", both, 1, b"", words)
+    for named in (["--same"], ["--header", "COPY0"]):
+        yield case(bench, f"the same, and {named[0]}", both, 0, other, f"{words}: every copy", named)
+    strange = changed(other, (true.rindex(UID.encode(), 0, made.name_at), b"9.8.7"))
+    both = [strange, changed(strange, (made.items[0] + 70, bytes(8)))]
+    yield case(bench, "two SOP Instance UIDs that don't in each copy", both, 0, strange, f"{words}: every copy")
     table = changed(true, (made.table_at + 4, struct.pack("<I", made.items[1] - made.items[0] + 12)))
     both = [table, changed(table, (made.items[0] + 70, bytes(8)))]
     yield case(bench, "an offset table that leads elsewhere in each copy", both, 0, table, "to the frames: every copy has it")

@@ -13,11 +13,15 @@ DATA_SET, SEQUENCE, OBJECT, PIXELS = "data set", "sequence", "item", "pixels"
 
 @dataclass(frozen=True)
 class Fault:
-    """What is wrong, and in which ranges of the file that stands. `can_be_writers` is false where no writer has it."""
+    """What is wrong, and in which ranges of the file that stands. `can_be_writers` is false where no writer has it.
+
+    `is_unlikely` says that seldom one has: then only who names the header, or says that the copies are of one instance, can know it.
+    """
 
     text: str
     ranges: tuple[tuple[int, int], ...]
     can_be_writers: bool = False
+    is_unlikely: bool = False
 
 
 @dataclass

@@ -7,6 +7,7 @@ from __future__ import annotations
 
 import struct
 from collections.abc import Iterator
+from operator import ne
 
 from jls_tools.dicom.read.elements import Element, has_prefix, tag_name, text_of
 from jls_tools.dicom.read.reading import Fault, Reading
@@ -41,6 +42,7 @@ UIDS = (
 NAMES_OF_TWINS = ("SOP Class UIDs", "SOP Instance UIDs")
 # Those that the frames do not say
 OF_PICTURE = ((PHOTOMETRIC, "Photometric Interpretation"), (HIGH, "High Bit"), (SIGN, "Pixel Representation"))
+MOST_NEAR = 2  # bytes in which UIDs differ that look like one
 MOST_PADDING = 1  # bytes between a frame's EOI and the end of its item
 
 
@@ -79,7 +81,13 @@ def of_uids(reading: Reading) -> Iterator[Fault]:
     for (first, second), name in zip(TWINS, NAMES_OF_TWINS):
         one, two = reading.element(first), reading.element(second)
         if one and two and text_of(one.bytes_of(reading.data)) != text_of(two.bytes_of(reading.data)):
-            yield Fault(f"the {name} are not equal", ((one.start, one.end), (two.start, two.end)), True)
+            is_unlikely = second == INSTANCE and are_near(one.bytes_of(reading.data), two.bytes_of(reading.data))
+            yield Fault(f"the {name} are not equal", ((one.start, one.end), (two.start, two.end)), True, is_unlikely)
+
+
+def are_near(one: bytes, two: bytes) -> bool:
+    """Whether a byte or two differ, as by damage, or as in files of one series: a writer of two UIDs has others."""
+    return len(one) == len(two) and sum(map(ne, one, two)) <= MOST_NEAR
 
 
 def of_picture(reading: Reading) -> Iterator[Fault]:

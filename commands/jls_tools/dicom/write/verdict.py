@@ -87,7 +87,8 @@ class Verdict:
         if self.frames.is_witnessed and (odd := why_odd(data, len(self.frames.mended), moved)) is not None:
             return odd
         for fault in faults_of(data, len(self.frames.mended)):
-            if not (fault.can_be_writers and all(self.is_in_all(*part, moved) for part in fault.ranges)):
+            can_be_writers = fault.can_be_writers and (not fault.is_unlikely or self.is_named)
+            if not (can_be_writers and all(self.is_in_all(*part, moved) for part in fault.ranges)):
                 return fault.text
             self.given.result.notes.append(f"{fault.text}: every copy has it so")
         if tail := self.given.tails.ways[0]:
@@ -95,6 +96,11 @@ class Verdict:
                 return f"{len(tail)} bytes stand after the last element of every copy, and are no padding"
             self.given.result.notes.append(f"{len(tail)} bytes stand after the last element: every copy has them")
         return None
+
+    @property
+    def is_named(self) -> bool:
+        """Whether the caller says which header is the file's, or that the copies are of one instance."""
+        return self.given.options.same or self.given.options.header is not None
 
     def is_in_all(self, begin: int, end: int, moved: int) -> bool:
         """Whether each copy has the bytes of this range of the finished file. What follows Pixel Data can have been moved."""
