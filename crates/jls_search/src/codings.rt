@@ -125,6 +125,18 @@ fn say_the_same(first: &Coding, second: &Coding) -> bool {
     true
 }
 
+/// Whether a window is one of these. It looks at each of them, so that the compiler compares several by one instruction.
+#[inline(always)]
+fn is_one_of(windows: &[u64; LONGEST_PERIOD], window: u64) -> bool {
+    let mut is_one = false;
+    for other in windows {
+        if *other == window {
+            is_one = true;
+        }
+    }
+    is_one
+}
+
 /// At how many places of a stretch there is news that doesn't go past it: bytes, so many as are compared, that don't stand at one of the
 /// places shortly before them.
 fn count_news(bytes: &[u8], from: usize, end: usize) -> usize {
@@ -137,7 +149,11 @@ fn count_news(bytes: &[u8], from: usize, end: usize) -> usize {
         let Some(seen) = at.checked_sub(WINDOW - 1) else {
             continue;
         };
-        let is_repeated = before.iter().take(seen).any(|other| *other == window);
+        let is_repeated = if seen < LONGEST_PERIOD {
+            before.iter().take(seen).any(|other| *other == window)
+        } else {
+            is_one_of(&before, window)
+        };
         if !is_repeated && start.saturating_add(seen) >= from {
             count = count.saturating_add(1);
         }
