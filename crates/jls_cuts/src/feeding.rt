@@ -6,10 +6,8 @@ ghost use Rattle.jls_diff.specs.PartsOf.{parts_of};
 use crate::pace::Pace;
 use jls_copy::WideReader;
 use jls_diff::Parts;
+use jls_search::feed_any;
 use std::alloc::AllocError;
-
-/// How many bytes a reader takes at most.
-const MOST_BYTES: u64 = 0x7FFF_FFFF_FFFF_FFFF;
 
 /// How many bytes are fed at first before it is asked whether the reader is dead.
 const FIRST_STEP: usize = 16;
@@ -26,15 +24,6 @@ pub(crate) struct Life {
     pub(crate) is_dead: bool,
     /// Its last bytes.
     pub(crate) pace: Pace,
-}
-
-/// Feeds a reader. `Err` comes where memory is refused, and where it would be fed too much.
-pub(crate) fn feed(reader: &mut WideReader, bytes: &[u8]) -> Result<(), AllocError> {
-    let fed = reader.fed();
-    if fed > MOST_BYTES || bytes.len() as u64 > MOST_BYTES - fed {
-        return Err(AllocError);
-    }
-    reader.feed(bytes)
 }
 
 /// Whether it is known that no file without a fault begins with the bytes fed.
@@ -65,7 +54,7 @@ impl Life {
             }
             let step = self.bytes.clamp(FIRST_STEP, LAST_STEP).min(rest.len());
             let (slice, later) = rest.split_at(step);
-            feed(reader, slice)?;
+            feed_any(reader, slice)?;
             self.bytes = self.bytes.saturating_add(step);
             self.is_dead = is_dead(reader);
             self.pace.go_on(reader);

@@ -3,10 +3,11 @@
 ghost use Rattle.std.specs.Prelude.{◌≡◌, ◌<◌, ◌≤◌, length};
 ghost use Rattle.jls_diff.specs.PartsOf.{part_of, parts_of};
 
-use crate::feeding::{Life, feed, is_dead};
+use crate::feeding::{Life, is_dead};
 use crate::pace::Pace;
 use crate::stretch::Stretch;
 use jls_copy::WideReader;
+use jls_search::feed_any;
 use std::alloc::{AllocError, Global};
 
 /// How many of these clones are kept at most: the last ones.
@@ -95,7 +96,7 @@ impl<'p, 'a> Stretch<'p, 'a> {
                 reader: reader.try_clone()?,
             })?;
             let end = self.block_end(next);
-            feed(&mut reader, self.way_between(copy, next, end))?;
+            feed_any(&mut reader, self.way_between(copy, next, end))?;
             next = end;
         }
         Ok(stops)
@@ -201,7 +202,7 @@ impl Search {
                 self.try_at(stretch, &reader, at, copy)?;
             }
             let next = at.saturating_add(1);
-            feed(&mut reader, stretch.way_between(copy, at, next))?;
+            feed_any(&mut reader, stretch.way_between(copy, at, next))?;
         }
         Ok(())
     }

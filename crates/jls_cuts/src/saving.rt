@@ -2,10 +2,10 @@
 
 ghost use Rattle.std.specs.Prelude.{◌≡◌, ◌<◌, ◌≤◌, length};
 
-use crate::feeding::{feed, is_dead};
+use crate::feeding::is_dead;
 use crate::pace::Pace;
 use jls_copy::{PieceInHand, WideReader};
-use jls_search::{LearningCode, PARTS_OF_BIT};
+use jls_search::{LearningCode, PARTS_OF_BIT, feed_any};
 use std::alloc::AllocError;
 
 /// How many parts of a bit a byte has.
@@ -228,7 +228,7 @@ impl Measured {
 
     /// Feeds the reader. The answer is what lines save that were read whole by it.
     pub(crate) fn feed(&mut self, bytes: &[u8]) -> Result<Option<Saved>, AllocError> {
-        feed(&mut self.reader, bytes)?;
+        feed_any(&mut self.reader, bytes)?;
         self.gauge.look(&self.reader)
     }
 

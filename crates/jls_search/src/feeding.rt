@@ -11,6 +11,20 @@ use jls_copy::WideReader;
 use jls_diff::Parts;
 use std::alloc::{AllocError, Global};
 
+/// How many bytes a reader takes at most.
+const MOST_BYTES: u64 = 0x7FFF_FFFF_FFFF_FFFF;
+
+/// Feeds a reader any bytes. `Err` comes where memory is refused, and where it would be fed more than 2^63 - 1 bytes in all.
+pub fn feed_any(reader: &mut WideReader, bytes: &[u8]) -> Result<(), AllocError>
+    ensures { OnOk result (reader.new ≡ after reader.old bytes.now) }
+{
+    let fed = reader.fed();
+    if fed > MOST_BYTES || bytes.len() as u64 > MOST_BYTES - fed {
+        return Err(AllocError);
+    }
+    reader.feed(bytes)
+}
+
 /// Feeds what a choice takes of a part.
 pub(crate) fn feed_way(reader: &mut WideReader, way: &[u8]) -> Result<(), AllocError>
     requires { IfSome reader.old (λ before. length before + length way.now ≤ 2 ^ 63 - 1) }

@@ -1,4 +1,4 @@
-//! The levels of the search, and the last one at which exactly one path lives.
+//! The levels of the search, and those at which exactly one path lives.
 
 ghost use Rattle.std.specs.Prelude.{◌≡◌, ℕ, List, Option, ◌+◌, ◌-◌, ◌^◌, ◌<◌, ◌≤◌, ◌⊎◌, ◌∷◌, ◌++◌, [], true, None, length, get_or};
 ghost use Rattle.std.specs.Prelude.{IsSome, IfOk, IfSome, IfNone, OnOk};
@@ -16,6 +16,7 @@ use crate::kept::{Judge, keep, reader_on};
 use crate::living::living_on;
 use crate::path::follow;
 use crate::setting::Goal;
+use crate::trusted::last_trusted;
 use jls_diff::Parts;
 use std::alloc::{AllocError, Global};
 
@@ -198,23 +199,23 @@ fn next_level(
     Ok(level_of(begun.living))
 }
 
-/// Notes the path of a level, if exactly one lives there, and keeps its reader. One that was noted before is let go only for that.
+/// Notes the path of a level, if exactly one lives there, and keeps its reader. The one that was kept before is let go only for that.
 fn note_lone(
     alloc: Global,
     parts: &Parts<'_>,
     judge: &mut Judge,
     level: &Level,
-    lone: &mut Option<Vec<usize>>,
+    lone: &mut Vec<Vec<usize>>,
 ) -> Result<(), AllocError>
     requires short { IsShort parts.now }
     requires kept { IfSome judge.old.kept (IsKeptReader parts.now) }
     requires level { IsLevel (IsSought judge.old.ceiling) parts.now level.now.count (lists_of level.now.living.items) }
-    requires lone { IfSome lone.old (λ path. IsLone (IsSought judge.old.ceiling) parts.now path.items) }
+    requires lone { AllByRecursion (IsLone (IsSought judge.old.ceiling) parts.now) (lists_of lone.old.items) }
     ensures kept { OnOk result (IfSome judge.new.kept (IsKeptReader parts.now)) }
     ensures ceiling { judge.new.ceiling ≡ judge.old.ceiling }
-    ensures lone { OnOk result (IfSome lone.new (λ path. IsLone (IsSought judge.old.ceiling) parts.now path.items)) }
-    ensures noted { OnOk result (length (lists_of level.now.living.items) ≡ 1 → IsSome lone.new) }
-    ensures still { OnOk result (IsSome lone.old → IsSome lone.new) }
+    ensures lone { OnOk result (AllByRecursion (IsLone (IsSought judge.old.ceiling) parts.now) (lists_of lone.new.items)) }
+    ensures noted { OnOk result (length (lists_of level.now.living.items) ≡ 1 → 0 < length (lists_of lone.new.items)) }
+    ensures still { OnOk result (0 < length (lists_of lone.old.items) → 0 < length (lists_of lone.new.items)) }
 {
     if level.living.len() != 1 {
         return Ok(());
@@ -223,20 +224,74 @@ fn note_lone(
     let reader = reader_on(alloc, parts, &judge.kept, path)?;
     keep(alloc, &mut judge.kept, Some(reader), path)?;
     let choices: Vec<usize> = path.iter().copied().collect(alloc)?;
-    *lone = Some(choices);
+    lone.push(choices)?;
     Ok(())
 }
 
-/// The path of the last level at which exactly one path lives. A path lives unless it was found that no file that is sought begins with
-/// what it makes. `ceiling` is the greatest sample that such a file may have, if there is a limit.
+/// The paths of the levels at which exactly one path lives, the shortest first: each begins the next one. A path lives unless it was found
+/// that no file that is sought begins with what it makes. `ceiling` is the greatest sample that such a file may have, if there is a limit.
 ///
 /// Levels are gone through in turn. Each path that is judged counts as a try. The search stops at the end of the parts, and where no path
 /// of a level lives. It also stops within a level, where so many tries are used up or more than 64 paths live. Such a level doesn't count.
 ///
-/// The first level has one path: what all copies have alike, up to the first part in which they differ. So `None` comes only where no file
-/// that is sought begins so, or no try is allowed.
+/// The first level has one path: what all copies have alike, up to the first part in which they differ. So there are none only where no
+/// file that is sought begins so, or no try is allowed.
 ///
 /// `Err` comes where memory is refused.
+fn lone_paths(
+    alloc: Global,
+    parts: &Parts<'_>,
+    ceiling: Option<u16>,
+    limit: u32,
+) -> Result<Vec<Vec<usize>>, AllocError>
+    requires some_way { AllByRecursion HasSomeWay parts.now }
+    requires short { IsShort parts.now }
+    ensures lone { IfOk result (λ found. AllByRecursion (IsLone (IsSought ceiling) parts.now) (lists_of found.items)) }
+    ensures some { IfOk result (λ found. (limit ≡ 0) ⊎ IsFirstDead (IsSought ceiling) parts.now ⊎ (0 < length (lists_of found.items))) }
+    ensures untried { limit ≡ 0 → IfOk result (λ found. lists_of found.items ≡ []) }
+{
+    let mut lone = Vec::new(alloc);
+    if limit == 0 {
+        return Ok(lone);
+    }
+    let mut judge = Judge {
+        ceiling,
+        begin: None,
+        kept: None,
+        found: None,
+    };
+    let mut left = limit - 1;
+    let Some(mut level) = first_level(alloc, parts, &judge)? else {
+        return Ok(lone);
+    };
+    note_lone(alloc, parts, &mut judge, &level, &mut lone)?;
+    'levels: for _ in 0..parts.len() {
+        let Some(next) = next_level(alloc, parts, &judge, &level, &mut left)? else {
+            break;
+        };
+        level = next;
+        note_lone(alloc, parts, &mut judge, &level, &mut lone)?;
+    }
+    Ok(lone)
+}
+
+/// The path at a place of these, or the last, if there is one.
+fn path_at(mut paths: Vec<Vec<usize>>, place: usize) -> Option<Vec<usize>>
+    ensures some { IfSome result (λ path. Contains (lists_of paths.items) path.items) }
+    ensures none { IfNone result (lists_of paths.items ≡ []) }
+{
+    let last = paths.len().checked_sub(1)?;
+    Some(paths.swap_remove(place.min(last)))
+}
+
+/// The path of the last level at which exactly one path lives. Levels are gone through in turn. A path lives unless it was found that no
+/// file that is sought begins with what it makes. `ceiling` is the greatest sample that such a file may have, if there is a limit.
+///
+/// Each path that is judged counts as a try. The search stops at the end of the parts, and where no path of a level lives. It also stops
+/// within a level, where so many tries are used up or more than 64 paths live. Such a level doesn't count.
+///
+/// `None` comes only where no file that is sought begins with what all copies have alike, up to the first part in which they differ, or no
+/// try is allowed. `Err` comes where memory is refused.
 pub fn lone_path(
     alloc: Global,
     parts: &Parts<'_>,
@@ -249,27 +304,27 @@ pub fn lone_path(
     ensures some { IfOk result (λ found. IfNone found ((limit ≡ 0) ⊎ IsFirstDead (IsSought ceiling) parts.now)) }
     ensures untried { limit ≡ 0 → IfOk result (λ found. found ≡ None) }
 {
-    if limit == 0 {
-        return Ok(None);
-    }
-    let mut judge = Judge {
-        ceiling,
-        begin: None,
-        kept: None,
-        found: None,
-    };
-    let mut left = limit - 1;
-    let Some(mut level) = first_level(alloc, parts, &judge)? else {
-        return Ok(None);
-    };
-    let mut lone = None;
-    note_lone(alloc, parts, &mut judge, &level, &mut lone)?;
-    'levels: for _ in 0..parts.len() {
-        let Some(next) = next_level(alloc, parts, &judge, &level, &mut left)? else {
-            break;
-        };
-        level = next;
-        note_lone(alloc, parts, &mut judge, &level, &mut lone)?;
-    }
-    Ok(lone)
+    let paths = lone_paths(alloc, parts, ceiling, limit)?;
+    let last = paths.len();
+    Ok(path_at(paths, last))
+}
+
+/// The path of the last level at which exactly one path lives and is trusted, and else of the first whose path goes into scan data. A path
+/// is trusted if it goes on behind its last choice for so long that wrong bytes hardly would. Levels, tries and the answers are as for
+/// `lone_path`.
+pub fn trusted_path(
+    alloc: Global,
+    parts: &Parts<'_>,
+    ceiling: Option<u16>,
+    limit: u32,
+) -> Result<Option<Vec<usize>>, AllocError>
+    requires some_way { AllByRecursion HasSomeWay parts.now }
+    requires short { IsShort parts.now }
+    ensures lone { IfOk result (λ found. IfSome found (λ path. IsLone (IsSought ceiling) parts.now path.items)) }
+    ensures some { IfOk result (λ found. IfNone found ((limit ≡ 0) ⊎ IsFirstDead (IsSought ceiling) parts.now)) }
+    ensures untried { limit ≡ 0 → IfOk result (λ found. found ≡ None) }
+{
+    let paths = lone_paths(alloc, parts, ceiling, limit)?;
+    let trusted = last_trusted(alloc, parts, ceiling, &paths)?;
+    Ok(path_at(paths, trusted))
 }

@@ -17,7 +17,8 @@
 //! - `next_level`: what the paths of a level go on to
 //! - `backing`: what speaks for a path; `saving`: how many bits its lines would save in a code that learns, `learning_code`. No contract
 //!   speaks of these three
-//! - `levels`: the levels of the search for the cut file, and the last one at which exactly one path lives
+//! - `levels`: the levels of the search for the cut file, and those at which exactly one path lives; `trusted`: which of these paths are
+//!   trusted. No contract speaks of the latter
 //! - `codings`: which copies are of one coding, as far as can be told; `first_lines`: whether two surely aren't. No contract speaks of
 //!   these two
 //! - `laws`: the laws of searches
@@ -51,7 +52,7 @@
 //!
 //! - That a search gives up choices as soon as it could. So the exact number of tries is open.
 //! - That a file which a search by groups passes by doesn't read in the group: a piece that begins before the group may be the broken one.
-//! - That no later level that `lone_path` comes to has one path that lives, and how many tries it makes.
+//! - That no later level that `lone_path` comes to has one path that lives, and how many tries it makes. Which path is trusted.
 //! - How often a file is decoded.
 //! - Which groups are searched first (`order`), but that each has its turn.
 //! - How many ways a search level by level judges, how many of its paths live, which of them it lets go, and the order of what it finds
@@ -97,13 +98,14 @@ mod shape_found;
 mod shape_rule;
 mod short;
 mod taking;
+mod trusted;
 mod whole_search;
 
 pub use choosing::next_way_at;
 pub use codings::{are_of_one_coding, are_surely_of_several_codings, codings_of};
 pub use cut::settle_with_cut;
 pub use faultless::{is_dead, is_faultless, is_read_faultless, is_sought};
-pub use feeding::{feed_prefix, reader_of};
+pub use feeding::{feed_any, feed_prefix, reader_of};
 pub use files::Files;
 pub use found::{FoundSplices, GroupsReported, complete_by_groups};
 pub use group_search::{MOST_BY_GROUPS, SearchedGroups, search_groups};
@@ -111,7 +113,7 @@ pub use kept::{Judge, KeptReader};
 pub use laws::{parts_can_be_searched, searches_come_to_each_splice};
 pub use learning_code::{LearningCode, PARTS_OF_BIT};
 pub use level_search::LevelSearch;
-pub use levels::lone_path;
+pub use levels::{lone_path, trusted_path};
 pub use next_level::{LevelRules, LivingPath};
 pub use reading_between::reads_between;
 pub use saving::Saving;

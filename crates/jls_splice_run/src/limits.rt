@@ -8,8 +8,6 @@ ghost use Rattle.jls_io.specs.Event.{GrewBy};
 ghost use Rattle.jls_diff.specs.Parts.{AreParts, Part, made};
 ghost use Rattle.jls_diff.specs.PartsOf.{bytes_of, parts_of};
 ghost use Rattle.jls_search.specs.Choices.{HasSomeWay, IsWhole};
-ghost use Rattle.jls_search.specs.Faultless.{IsSought};
-ghost use Rattle.jls_search.specs.Levels.{IsLone};
 ghost use Rattle.jls_search.specs.Search.{IsKeptReader, IsShort, files_of, lists_of};
 ghost use Rattle.jls_search.specs.SearchLaws.{AreShort};
 ghost use Rattle.jls_search.specs.Found.{IsFound, IsGroupSearch, found_of, splices_in};
@@ -18,7 +16,7 @@ ghost use Rattle.jls_splice_run.specs.Telling.{IsTold};
 
 use crate::options::SearchOptions;
 use crate::searching::search_once;
-use crate::shallow::{CutLimit, shallow_limit};
+use crate::shallow::shallow_limit;
 use jls_cuts::find_cuts;
 use jls_diff::{Parts, find_cut_parts, find_finer_parts, find_parts, one_part};
 use jls_io::Sink;
@@ -57,8 +55,6 @@ pub struct FoundInTurn<'a> {
     pub splices: FoundSplices<'a>,
     /// The limit under which a cut file is sought, if there is one.
     pub cut_limit: Option<u16>,
-    /// The path that `lone_path` finds without a limit, if it was asked for, and there is one.
-    pub unlimited: Option<Vec<usize>>,
     /// Whether a cut file is sought.
     pub seeks_cut: bool,
 }
@@ -421,17 +417,13 @@ fn limit_of_cut(
     all: &CountingSearch,
     is_sought: bool,
     tries: u32,
-) -> Result<CutLimit, AllocError>
+) -> Result<Option<u16>, AllocError>
     requires some_way { AllByRecursion HasSomeWay parts.now }
     requires short { IsShort parts.now }
-    ensures limit { IfOk result (λ cut. (cut.limit ≡ all.now.cut_limit) ⊎ (all.now.cut_limit ≡ None)) }
-    ensures lone { IfOk result (λ cut. IfSome cut.unlimited (λ path. IsLone (IsSought None) parts.now path.items)) }
+    ensures { IfOk result (λ limit. (limit ≡ all.now.cut_limit) ⊎ (all.now.cut_limit ≡ None)) }
 {
     if !is_sought || all.cut_limit.is_some() || !all.searched.splices.is_empty() {
-        return Ok(CutLimit {
-            limit: all.cut_limit,
-            unlimited: None,
-        });
+        return Ok(all.cut_limit);
     }
     shallow_limit(alloc, parts, tries)
 }
@@ -469,8 +461,6 @@ pub fn search_and_tell<'a, E: Sink>(
         (IsGroupSearch options.tries (length copies.now) found.splices.parts)) }
     ensures limit { IfOk result (λ found. KeepsLimit options.ceiling found.splices.ceiling) }
     ensures cut { IfOk result (λ found. KeepsLimit options.ceiling found.cut_limit) }
-    ensures lone { IfOk result (λ found.
-        IfSome found.unlimited (λ path. IsLone (IsSought None) found.splices.parts path.items)) }
     ensures reader { IfOk result (λ found. IfSome found.splices.reader (IsKeptReader found.splices.parts)) }
     ensures told { GrewBy (IsTold options.tells) (E.history faults.old) (E.history faults.new) }
 {
@@ -481,12 +471,11 @@ pub fn search_and_tell<'a, E: Sink>(
     let found = search_copies(alloc, copies, options, faults)?;
     let SearchedParts { parts, all } = found;
     let seeks_cut = seeks_cut(alloc, copies, &parts, &all)?;
-    let cut = limit_of_cut(alloc, &parts, &all, seeks_cut, options.tries)?;
+    let cut_limit = limit_of_cut(alloc, &parts, &all, seeks_cut, options.tries)?;
     let splices = complete_by_groups(alloc, copies, parts, all.searched, options.tries)?;
     Ok(FoundInTurn {
         splices,
-        cut_limit: cut.limit,
-        unlimited: cut.unlimited,
+        cut_limit,
         seeks_cut,
     })
 }

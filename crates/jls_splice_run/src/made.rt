@@ -11,8 +11,6 @@ ghost use Rattle.jls_diff.specs.Parts.{made};
 ghost use Rattle.jls_diff.specs.PartsOf.{bytes_of, parts_of};
 ghost use Rattle.jls_partial.specs.Status.{IsSettled};
 ghost use Rattle.jls_search.specs.Choices.{HasSomeWay, IsPath, IsWhole};
-ghost use Rattle.jls_search.specs.Faultless.{IsSought};
-ghost use Rattle.jls_search.specs.Levels.{IsLone};
 ghost use Rattle.jls_search.specs.Search.{IsShort, lists_of};
 ghost use Rattle.jls_search.specs.Found.{by_groups_of, found_of, splices_in};
 ghost use Rattle.jls_search.specs.Files.{AreVerdicts};
@@ -39,7 +37,7 @@ use crate::task::{Task, has_lists, want_of_memory};
 use jls_carried::are_of_other_codings;
 use jls_cli::Refusal;
 use jls_io::Sink;
-use jls_search::{Files, FoundSplices, GroupsReported, HeldFiles, lone_path};
+use jls_search::{Files, FoundSplices, GroupsReported, HeldFiles, trusted_path};
 use jls_station::CopyFile;
 use std::alloc::{AllocError, Global};
 
@@ -71,7 +69,6 @@ fn find_cut(
     requires some_way { AllByRecursion HasSomeWay found.now.splices.parts }
     requires short { IsShort found.now.splices.parts }
     requires whole { found.now.splices.whole ≤ length found.now.splices.splices.items }
-    requires unlimited { IfSome found.now.unlimited (λ path. IsLone (IsSought None) found.now.splices.parts path.items) }
     ensures lone { IfOk result (λ cut. IfSome cut (λ path. IsCutFile found.now.cut_limit (found_of found.now.splices) path.items)) }
 {
     if found.splices.whole != 0 || !found.seeks_cut {
@@ -81,13 +78,7 @@ fn find_cut(
     if are_of_other_codings(alloc, copies, &witnesses)? {
         return Ok(None);
     }
-    if found.cut_limit.is_none() {
-        if let Some(path) = &found.unlimited {
-            let choices: Vec<usize> = path.iter().copied().collect(alloc)?;
-            return Ok(Some(choices));
-        }
-    }
-    lone_path(alloc, &found.splices.parts, found.cut_limit, limit)
+    trusted_path(alloc, &found.splices.parts, found.cut_limit, limit)
 }
 
 /// The single file, if a name is given for it.

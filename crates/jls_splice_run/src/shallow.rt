@@ -57,15 +57,6 @@ fn limit_if_same(
     Ok(Some(SHALLOW))
 }
 
-/// The limit under which a cut file is sought.
-#[derive(Drop)]
-pub(crate) struct CutLimit {
-    /// The limit, if there is one.
-    pub(crate) limit: Option<u16>,
-    /// The path that `lone_path` finds without a limit, if it was asked for, and there is one.
-    pub(crate) unlimited: Option<Vec<usize>>,
-}
-
 /// Whether there is another path than this one, or none.
 fn is_other(path: &[usize], other: &Option<Vec<usize>>) -> bool {
     match other {
@@ -82,25 +73,17 @@ pub(crate) fn shallow_limit(
     alloc: Global,
     parts: &Parts<'_>,
     tries: u32,
-) -> Result<CutLimit, AllocError>
+) -> Result<Option<u16>, AllocError>
     requires some_way { AllByRecursion HasSomeWay parts.now }
     requires short { IsShort parts.now }
-    ensures limit { IfOk result (λ found. IfSome found.limit (IsShallowLimit parts.now)) }
-    ensures lone { IfOk result (λ found. IfSome found.unlimited (λ path. IsLone (IsSought None) parts.now path.items)) }
+    ensures { IfOk result (λ limit. IfSome limit (IsShallowLimit parts.now)) }
 {
     let unlimited = lone_path(alloc, parts, None, tries)?;
     let Some(path) = lone_path(alloc, parts, Some(SHALLOW), tries)? else {
-        return Ok(CutLimit {
-            limit: None,
-            unlimited,
-        });
+        return Ok(None);
     };
     if !has_choice(parts, &path) || !is_other(&path, &unlimited) {
-        return Ok(CutLimit {
-            limit: None,
-            unlimited,
-        });
+        return Ok(None);
     }
-    let limit = limit_if_same(alloc, parts, &path, tries)?;
-    Ok(CutLimit { limit, unlimited })
+    limit_if_same(alloc, parts, &path, tries)
 }

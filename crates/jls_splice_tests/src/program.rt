@@ -57,20 +57,21 @@ two intervals: restarts: 50+4=0 / 140+4=0: OUT 1 2: 0 restarts: splices 1
 three intervals, each way judged where it ends: restarts: 64+4=0 201+4=0 / 131+4=0: --progress OUT 1 2: 0 restarts: 6 tries, 1 files
 one place in all: eight: 300+8=0 / 300+8=85: OUT 1 2: 1 other: missing 1 7-19
 where it is: eight: 300+8=0 / 300+8=85: OUT 1 2: 1 other: before 300
-one place in all, and others: eight: 100+8=0 300+8=0 / 200+8=0 300+8=85: OUT 1 2: 1 other: missing 1 7-19
-the same place in all: eight: 100+8=0 300+8=0 / 200+8=0 300+8=0: OUT 1 2: 1 other: missing 1 4-19
-where its last difference is: eight: 100+8=0 300+8=0 / 200+8=0 300+8=0: OUT 1 2: 1 other: before 200
+one place in all, and others: eight: 100+8=0 300+8=0 / 200+8=0 300+8=85: OUT 1 2: 1 other: before 100 | missing 1 2-19
+the same place in all: eight: 100+8=0 300+8=0 / 200+8=0 300+8=0: OUT 1 2: 1 other: before 100 | missing 1 2-19
+where a path is trusted: restarts: 45+3=0 210+3=0 / 60+3=85 210+3=85: OUT 1 2: 1 other: before 210 | missing 1 10-11
+where one is trusted over three scans: scans: 60+8=85 390+8=85 / 100+8=85 390+8=0: OUT 1 2: 1 other: before 390 | missing 3 7-7
 a header, and a place in all: eight: 2+4=0 300+8=0 / 12+3=0 300+8=85: OUT 1 2: 1 other: missing 1 7-19
 a flipped bit of the precision: eight: 6+1=12 / 300+8=0: OUT 1 2: 0 eight: splices 1
 a flipped bit of the interleaving: eight: 23+1=2 / 300+8=0: OUT 1 2: 0 eight: splices 1
 a flipped bit of the restart interval: restarts: 20+1=6 / 70+3=0: OUT 1 2: 0 restarts: splices 1
 a zeroed header: eight: 0+25=0 / 300+8=0: OUT 1 2: 0 eight: splices 1
-where all differ, and a flipped bit of the precision: eight: 6+1=12 100+8=0 300+8=0 / 200+8=0 300+8=85: OUT 1 2: 1 other: before 300
+where all differ, and a flipped bit of the precision: eight: 6+1=12 100+8=0 300+8=0 / 200+8=0 300+8=85: OUT 1 2: 1 other: before 100
 where all differ, and a flipped bit of the interleaving: eight: 23+1=2 100+8=0 300+8=0 / 200+8=0 300+8=85: OUT 1 2: 1 other: \
-before 300
+before 100
 where all differ, and a flipped bit of the restart interval: restarts: 20+1=6 45+3=0 140+3=0 / 70+3=0 140+3=85: OUT 1 2: 1 other: \
 before 140
-where all differ, and a zeroed header: eight: 0+25=0 100+8=0 300+8=0 / 200+8=0 300+8=85: OUT 1 2: 1 other: before 300
+where all differ, and a zeroed header: eight: 0+25=0 100+8=0 300+8=0 / 200+8=0 300+8=85: OUT 1 2: 1 other: before 100
 two codings, and damage of one line in both: narrow: 300+8=0 / reset 300+8=0: OUT 1 2: 1 other: \
 coding 1, copies 1 | coding 2, copies 2 | copy 1 differs 274 155 0 | copy 2 differs 289 156 0 | promise lines | missing 1 11-19
 two codings, and two places in each: narrow: 64+5=0 233+3=lost / reset 159+6=lost 375+5=0: OUT 1 2: 0 narrow: \
@@ -220,11 +221,10 @@ at a level that comes to 64 tries more: deep: 50+3=85 98+3=85 146+3=85 194+3=85 
 no other limit than the one given: deep: 50+3=85 98+3=85 146+3=85 194+3=85 242+3=85 / \
 74+3=85 122+3=85 170+3=85 218+3=85 266+3=85: --max 65535 --tries 40 OUT 1 2: 1 other: tries used up
 a limit of the lines before: deep: 50+3=85 98+3=85 146+3=85 194+3=85 242+3=85 206+4=0 / \
-74+3=85 122+3=85 170+3=85 218+3=85 266+3=85 206+4=51: --tries 40 OUT 1 2: 1 other: before 194, samples up to 8191
-a limit of a shallow picture: deep: 50+3=85 150+4=0 / 74+3=85 150+4=51: OUT 1 2: 1 other: before 150, samples up to 16383
-lines of a shallow picture: deep: 50+3=85 150+4=0 / 74+3=85 150+4=51: OUT 1 2: 1 other: missing 1 5-13
-none of a deep picture: sixteen: 50+3=85 200+4=0 / 74+3=85 200+4=51: OUT 1 2: 1 other: before 200
-none of eight bits: eight: 100+8=0 300+8=0 / 200+8=0 300+8=85: OUT 1 2: 1 other: before 300
+74+3=85 122+3=85 170+3=85 218+3=85 266+3=85 206+4=51: --tries 40 OUT 1 2: 1 other: before 50, samples up to 8191
+a limit of a shallow picture: deep: 50+3=85 150+4=0 / 74+3=85 150+4=51: OUT 1 2: 1 other: before 50, samples up to 16383
+none of a deep picture: sixteen: 50+3=85 200+4=0 / 74+3=85 200+4=51: OUT 1 2: 1 other: before 50
+none of eight bits: eight: 100+8=0 300+8=0 / 200+8=0 300+8=85: OUT 1 2: 1 other: before 100
 no promise by groups: eight: 100+8=0 / 400+8=0: --max 254 OUT 1 2: 1 eight: promise lines
 no promise beside an undamaged copy: eight: 100+8=0 / whole: --tries 1 OUT 1 2: 1 eight: promise lines
 no promise on standard error: eight: 100+8=0 / 400+8=0: - 1 2 --max 254: 1 eight: jls-splice: promise lines

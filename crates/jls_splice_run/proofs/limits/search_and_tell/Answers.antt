@@ -1,8 +1,6 @@
-use Rattle.std.proofs.Common.{ℕ, Option, None, sym, subst}
+use Rattle.std.proofs.Common.{ℕ, Option, sym, subst}
 use Rattle.std.specs.Prelude.{IfSome}
 use Rattle.jls_diff.specs.PartsOf.{bytes_of}
-use Rattle.jls_search.specs.Faultless.{IsSought}
-use Rattle.jls_search.specs.Levels.{IsLone}
 use Rattle.jls_search.specs.Search.{IsKeptReader}
 use Rattle.jls_search.specs.declared.kept.KeptReader.{KeptReader}
 use Rattle.jls_splice_run.specs.Limits.{KeepsLimit}
@@ -44,13 +42,8 @@ returns-clause-limit g c =
 
 pub returns-clause-cut : goal.returns-clause-cut
 returns-clause-cut g c =
-    keeps_on c.args.options.ceiling c.in_ok-found.found.all.cut_limit c.in_ok-cut.cut.limit c.in_ok-found.ensures.counts.cut_limit_is
-    c.in_ok-cut.ensures.limit
-
-pub returns-clause-lone : goal.returns-clause-lone
-returns-clause-lone g c =
-    subst (λ ps. IfSome c.in_ok-cut.cut.unlimited (λ path. IsLone (IsSought None) ps path.items)) (sym c.in_ok-splices.ensures.parts_kept)
-    c.in_ok-cut.ensures.lone
+    keeps_on c.args.options.ceiling c.in_ok-found.found.all.cut_limit c.in_ok-cut_limit.cut_limit c.in_ok-found.ensures.counts.cut_limit_is
+    c.in_ok-cut_limit.ensures
 
 pub returns-clause-reader : goal.returns-clause-reader
 returns-clause-reader g c =
