@@ -1,7 +1,9 @@
 //! Chains: lines of one copy in the code of another, which confirms them as far as it has the same bytes.
 
-use crate::claims::{CopyState, Speaker, bytes_of, code_of};
+use crate::claims::{CopyState, Speaker, bytes_of};
 use crate::coded::{Coded, Runs};
+use crate::codes::{Codes, PieceIndex};
+use crate::line_ends::LineEnds;
 use crate::picture::Picture;
 use crate::pieces::Piece;
 use crate::runs::Run;
@@ -18,10 +20,7 @@ pub(crate) struct Chain {
     pub(crate) piece: Piece,
     /// The readings of the lines.
     pub(crate) readings: Vec<usize>,
-    /// How many whole bytes of the code stand before the end of each line.
-    ends: Vec<usize>,
-    /// How many bytes the code fills.
-    length: usize,
+    ends: LineEnds,
     /// The runs that count, in order.
     runs: Vec<Run>,
     /// How many lines are confirmed.
@@ -39,23 +38,14 @@ pub(crate) struct Chain {
 }
 
 impl Chain {
-    /// How many whole bytes of the code stand before a line.
-    fn begin_of(&self, line: usize) -> usize {
-        match line.checked_sub(1) {
-            None => 0,
-            Some(before) => self.end_of(before),
-        }
-    }
-
-    /// How many whole bytes of the code stand before the end of a line.
-    fn end_of(&self, line: usize) -> usize {
-        self.ends.get(line).copied().unwrap_or(self.length)
-    }
-
     /// Whether all bytes of a line stand in one run.
     pub(crate) fn is_unbroken(&self, line: usize) -> bool {
-        let begin = self.begin_of(line);
-        let end = self.end_of(line).saturating_add(1).min(self.length);
+        let begin = self.ends.begin_of(line);
+        let end = self
+            .ends
+            .end_of(line)
+            .saturating_add(1)
+            .min(self.ends.length());
         self.runs
             .iter()
             .any(|run| run.begin <= begin && end <= run.end)
@@ -63,8 +53,8 @@ impl Chain {
 
     /// How many bytes of the lines from one to another don't stand in runs, and how many more the copy has between two runs than the code.
     pub(crate) fn unmatched(&self, first: usize, last: usize) -> usize {
-        let end = self.end_of(last);
-        let mut at = self.begin_of(first);
+        let end = self.ends.end_of(last);
+        let mut at = self.ends.begin_of(first);
         let mut shift = None;
         let mut count = 0usize;
         for run in self.runs.iter() {
@@ -184,13 +174,15 @@ pub(crate) struct Compared {
     pub(crate) chain: Option<Chain>,
 }
 
-/// Compares the lines that one copy says with a piece of another copy.
+/// Compares the lines that one copy says with a piece of another copy, of this index.
 pub(crate) fn compare(
     alloc: Global,
     picture: &Picture,
+    codes: &mut Codes,
     copies: &[CopyState<'_>],
     giver: &CopyState<'_>,
     taker: &CopyState<'_>,
+    index: usize,
     piece: &Piece,
 ) -> Result<Compared, AllocError> {
     let said = said_by(alloc, picture, copies, giver, taker.speaker, piece)?;
@@ -208,12 +200,16 @@ pub(crate) fn compare(
     let Some(fresh) = said.fresh else {
         return Ok(without_chain);
     };
-    let Some(code) = code_of(alloc, picture, &piece.interval, &said.readings)? else {
+    let index = PieceIndex {
+        copy: taker.number,
+        piece: index,
+    };
+    let Some(code) = codes.code_of(picture, index, &piece.interval, &said.readings)? else {
         return Ok(without_chain);
     };
     let components = usize::from(piece.interval.components);
     let bytes = bytes_of(taker.bytes, piece);
-    let begin = code.begin_of(fresh);
+    let begin = code.ends.begin_of(fresh);
     let is_whole = said.readings.len() == piece.interval.line_count();
     let code = Coded::of(code, is_whole, bytes)?;
     let Runs {
@@ -221,8 +217,8 @@ pub(crate) fn compare(
         with_hints,
         all,
     } = code.runs(alloc, bytes, components, begin, said.is_twin)?;
-    let confirmed = code.count_confirmed(&runs, begin);
-    let hinted = code.count_confirmed(&with_hints, begin);
+    let confirmed = code.count_confirmed(&runs, bytes, begin);
+    let hinted = code.count_confirmed(&with_hints, bytes, begin);
     let tested = refuted.max(said.readings.len());
     let passed = confirmed.max(fresh);
     let closes = giver
@@ -239,7 +235,6 @@ pub(crate) fn compare(
         piece: *piece,
         readings: said.readings,
         ends: code.ends,
-        length: code.bytes.len(),
         runs,
         confirmed,
         hinted,

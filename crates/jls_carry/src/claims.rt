@@ -1,6 +1,7 @@
 //! What each copy says by itself: the lines that its pieces give behind those that are known.
 
-use crate::code::{FILLING, FirstCode, ReadLines, first_code, read_lines};
+use crate::code::{Begun, FirstCode, ReadLines, read_lines_on};
+use crate::codes::{Codes, PieceIndex};
 use crate::interval::Interval;
 use crate::picture::Picture;
 use crate::pieces::{Layout, Piece};
@@ -22,12 +23,36 @@ pub(crate) struct Claim {
 }
 
 /// How far a piece was read.
-#[derive(Clone, Copy)]
+#[derive(Drop)]
 pub(crate) struct Progress {
     /// How many of its first lines were known.
     taken: Option<usize>,
     /// The shift behind them.
     pub(crate) shift: Shift,
+    /// The readings of these lines, and a decoder that was given the bytes that their code fills.
+    known: Option<Known>,
+}
+
+/// First lines of a piece that are known.
+#[derive(Drop)]
+struct Known {
+    readings: Vec<usize>,
+    begun: Begun,
+}
+
+impl Known {
+    /// The decoder, if these readings begin with its own.
+    fn into_begun(self, readings: &[usize]) -> Option<Begun> {
+        let Known {
+            readings: before,
+            begun,
+        } = self;
+        if readings.starts_with(&before) {
+            Some(begun)
+        } else {
+            None
+        }
+    }
 }
 
 /// Who says something: a copy, a witness, or a splice of copies.
@@ -53,6 +78,8 @@ pub(crate) struct CopyState<'a> {
     pub(crate) number: usize,
     pub(crate) speaker: Speaker,
     pub(crate) bytes: &'a [u8],
+    /// Whether it ends with EOI; `None` where no headers are believed of it.
+    pub(crate) has_eoi: Option<bool>,
     pub(crate) pieces: Vec<Piece>,
     pub(crate) progress: Vec<Progress>,
     /// For each line of the picture.
@@ -102,24 +129,6 @@ pub(crate) fn own_readings(
     Ok(readings)
 }
 
-/// The code of these readings of the first lines of an interval; `None` where they can't be coded there.
-pub(crate) fn code_of(
-    alloc: Global,
-    picture: &Picture,
-    interval: &Interval,
-    readings: &[usize],
-) -> Result<Option<FirstCode>, AllocError> {
-    let blank = vec![in alloc; 0u16; usize::from(interval.width)]?;
-    let mut lines: Vec<&[u16]> = Vec::new(alloc);
-    for (line, reading) in readings.iter().enumerate() {
-        lines.push(picture.samples(interval.place(line), *reading))?;
-    }
-    for _ in 0..interval.lines_to_fill(readings.len(), FILLING) {
-        lines.push(&blank)?;
-    }
-    first_code(alloc, interval, &lines, readings.len())
-}
-
 /// Whether a copy has the last bytes of a code at their place.
 fn agrees_at_end(code: &[u8], copy: &[u8]) -> bool {
     let begin = code.len().saturating_sub(AGREED);
@@ -154,10 +163,32 @@ fn shifts_to_try(
     Ok(shifts)
 }
 
-/// The best that a piece gives, over the shifts to be tried; `None` where there is none to be tried.
+/// A decoder that was given the bytes that the code of readings fills. It goes on from one that was given those of the first of them.
+fn begun_on(
+    alloc: Global,
+    interval: &Interval,
+    known: Option<Known>,
+    readings: &[usize],
+    code: &FirstCode,
+) -> Result<Begun, AllocError> {
+    let before = match known {
+        Some(known) => known.into_begun(readings),
+        None => None,
+    };
+    let mut begun = match before {
+        Some(begun) => begun,
+        None => Begun::new(alloc, interval),
+    };
+    begun.go_to_end(&code.bytes)?;
+    Ok(begun)
+}
+
+/// The best that a piece gives, over the shifts to be tried; `None` where there is none to be tried. The decoder was given the bytes that
+/// the code of the known lines fills.
 fn best_attempt(
     alloc: Global,
     piece: &Piece,
+    begun: &Begun,
     code: &FirstCode,
     bytes: &[u8],
 ) -> Result<Option<Attempt>, AllocError> {
@@ -169,7 +200,7 @@ fn best_attempt(
         };
         let all = code.followed_by(alloc, rest)?;
         let attempt = Attempt {
-            read: read_lines(alloc, &piece.interval, &all)?,
+            read: read_lines_on(begun, &piece.interval, &all)?,
             shift,
         };
         let is_better = match &best {
@@ -192,22 +223,30 @@ impl<'a> CopyState<'a> {
         layout: Option<Layout>,
         lines: usize,
     ) -> Result<CopyState<'a>, AllocError> {
-        let pieces = match layout {
-            None => Vec::new(alloc),
+        let (pieces, has_eoi) = match layout {
+            None => (Vec::new(alloc), None),
             Some(layout) => {
-                let Layout { pieces, .. } = layout;
-                pieces
+                let Layout {
+                    pieces,
+                    has_eoi,
+                    ..
+                } = layout;
+                (pieces, Some(has_eoi))
             }
         };
-        let none = Progress {
-            taken: None,
-            shift: Shift::NONE,
-        };
-        let progress = vec![in alloc; none; pieces.len()]?;
+        let mut progress = Vec::new(alloc);
+        for _ in 0..pieces.len() {
+            progress.push(Progress {
+                taken: None,
+                shift: Shift::NONE,
+                known: None,
+            })?;
+        }
         Ok(CopyState {
             number: speaker.number,
             speaker,
             bytes,
+            has_eoi,
             pieces,
             progress,
             claims: vec![in alloc; None; lines]?,
@@ -276,6 +315,7 @@ impl<'a> CopyState<'a> {
         &mut self,
         alloc: Global,
         picture: &mut Picture,
+        codes: &mut Codes,
         index: usize,
         piece: &Piece,
     ) -> Result<(), AllocError> {
@@ -291,11 +331,19 @@ impl<'a> CopyState<'a> {
             self.claim_known(index, piece, &readings);
             return Ok(());
         }
-        let Some(code) = code_of(alloc, picture, &piece.interval, &readings)? else {
+        let number = PieceIndex {
+            copy: self.number,
+            piece: index,
+        };
+        let Some(code) = codes.code_of(picture, number, &piece.interval, &readings)? else {
             return Ok(());
         };
+        let known = progress.known.take();
+        let begun = begun_on(alloc, &piece.interval, known, &readings, &code)?;
         let bytes = bytes_of(self.bytes, piece);
-        if let Some(attempt) = best_attempt(alloc, piece, &code, bytes)? {
+        let best = best_attempt(alloc, piece, &begun, &code, bytes)?;
+        progress.known = Some(Known { readings, begun });
+        if let Some(attempt) = best {
             progress.shift = attempt.shift;
             self.claim_lines(picture, index, piece, attempt.read)?;
         }
@@ -307,10 +355,11 @@ impl<'a> CopyState<'a> {
         &mut self,
         alloc: Global,
         picture: &mut Picture,
+        codes: &mut Codes,
     ) -> Result<(), AllocError> {
         for index in 0..self.pieces.len() {
             if let Some(piece) = self.pieces.get(index).copied() {
-                self.read_piece(alloc, picture, index, &piece)?;
+                self.read_piece(alloc, picture, codes, index, &piece)?;
             }
         }
         Ok(())

@@ -2,8 +2,9 @@
 
 use crate::between::is_refuted;
 use crate::chains::Chain;
-use crate::claims::{CopyState, bytes_of, code_of};
+use crate::claims::{CopyState, bytes_of};
 use crate::code::read_lines;
+use crate::codes::code_of;
 use crate::interval::Interval;
 use crate::picture::Picture;
 use crate::pieces::Piece;
@@ -44,7 +45,7 @@ fn add_mixed(
     let Some(code) = code_of(alloc, picture, interval, &chain.readings)? else {
         return Ok(());
     };
-    let fresh = code.begin_of(chain.fresh);
+    let fresh = code.ends.begin_of(chain.fresh);
     for run in runs_to_mix(alloc, &code.bytes, bytes)?
         .iter()
         .filter(|run| run.end > fresh)

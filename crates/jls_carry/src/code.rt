@@ -4,9 +4,10 @@
 //! bytes, and then what its copy has.
 
 use crate::interval::Interval;
+use crate::line_ends::LineEnds;
 use jls_bits::BitPlace;
 use jls_copy::next_cut;
-use jls_interval::{CutEnd, FinishedLines, IntervalDecoder, encode_front, fits};
+use jls_interval::{CutEnd, FinishedLines, Front, IntervalDecoder, encode_front, fits};
 use std::alloc::{AllocError, Global};
 
 /// So many more lines fill the byte in which the last line ends, since each has one bit at least.
@@ -30,8 +31,7 @@ pub(crate) struct FirstCode {
     pub(crate) bytes: Vec<u8>,
     /// The bits behind these bytes, if there are any.
     pub(crate) more: Option<FirstBits>,
-    /// How many whole bytes stand before the end of each line.
-    pub(crate) ends: Vec<usize>,
+    pub(crate) ends: LineEnds,
 }
 
 impl FirstBits {
@@ -52,8 +52,34 @@ impl FirstCode {
         FirstCode {
             bytes: Vec::new(alloc),
             more: None,
-            ends: Vec::new(alloc),
+            ends: LineEnds::empty(alloc),
         }
+    }
+
+    /// The code of so many lines, from that of more. `None` comes where that has fewer.
+    pub(crate) fn of(
+        alloc: Global,
+        front: &Front,
+        count: usize,
+    ) -> Result<Option<FirstCode>, AllocError> {
+        let Some(last) = count.checked_sub(1) else {
+            return Ok(Some(FirstCode::empty(alloc)));
+        };
+        let Some(place) = front.ends.get(last).copied() else {
+            return Ok(None);
+        };
+        let Some(bytes) = front.bytes.get(..place.bytes) else {
+            return Ok(None);
+        };
+        let mut ends = Vec::new(alloc);
+        for end in front.ends.iter().take(count) {
+            ends.push(end.bytes)?;
+        }
+        Ok(Some(FirstCode {
+            bytes: Vec::from_slice(alloc, bytes)?,
+            more: bits_before(&front.bytes, place),
+            ends: LineEnds::new(ends, place.bytes),
+        }))
     }
 
     /// The byte that ends a piece behind the bytes that its code fills, if there is one. The bits behind the code are free: they are those
@@ -86,14 +112,6 @@ impl FirstCode {
             Some(*last)
         } else {
             None
-        }
-    }
-
-    /// How many whole bytes stand before a line.
-    pub(crate) fn begin_of(&self, line: usize) -> usize {
-        match line.checked_sub(1) {
-            None => 0,
-            Some(before) => self.ends.get(before).copied().unwrap_or(0),
         }
     }
 
@@ -130,17 +148,12 @@ fn bits_before(bytes: &[u8], place: BitPlace) -> Option<FirstBits> {
     })
 }
 
-/// The code of the first lines of an interval, so many of these. Blank lines stand behind them, at least 8, up to whole rows. `None` comes
-/// where they can't be coded under its parameters.
-pub(crate) fn first_code(
+/// The code of these lines, which begin an interval; `None` where they can't be coded under its parameters.
+pub(crate) fn front_of(
     alloc: Global,
     interval: &Interval,
     lines: &[&[u16]],
-    count: usize,
-) -> Result<Option<FirstCode>, AllocError> {
-    let Some(last) = count.checked_sub(1) else {
-        return Ok(Some(FirstCode::empty(alloc)));
-    };
+) -> Result<Option<Front>, AllocError> {
     if !fits(&interval.params, interval.width, interval.components, lines) {
         return Ok(None);
     }
@@ -151,21 +164,7 @@ pub(crate) fn first_code(
         interval.components,
         lines,
     )?;
-    let Some(place) = front.ends.get(last).copied() else {
-        return Ok(None);
-    };
-    let Some(bytes) = front.bytes.get(..place.bytes) else {
-        return Ok(None);
-    };
-    let mut ends = Vec::new(alloc);
-    for end in front.ends.iter().take(count) {
-        ends.push(end.bytes)?;
-    }
-    Ok(Some(FirstCode {
-        bytes: Vec::from_slice(alloc, bytes)?,
-        more: bits_before(&front.bytes, place),
-        ends,
-    }))
+    Ok(Some(front))
 }
 
 /// The lines that bytes begin with.
@@ -178,7 +177,7 @@ pub(crate) struct ReadLines {
 
 /// A decoder that was given the bytes before a place.
 #[derive(Drop)]
-struct Begun {
+pub(crate) struct Begun {
     decoder: IntervalDecoder,
     at: usize,
 }
@@ -200,6 +199,27 @@ fn finished_lines(decoder: &IntervalDecoder) -> Result<FinishedLines, AllocError
 }
 
 impl Begun {
+    /// One that was given nothing.
+    pub(crate) fn new(alloc: Global, interval: &Interval) -> Begun {
+        let decoder = IntervalDecoder::new(
+            alloc,
+            &interval.params,
+            interval.width,
+            interval.components,
+            u32::from(interval.rows),
+        );
+        Begun { decoder, at: 0 }
+    }
+
+    /// Goes on to the end of these bytes, which begin with those that it was given. They have to be those of lines.
+    pub(crate) fn go_to_end(&mut self, bytes: &[u8]) -> Result<(), AllocError> {
+        if let Some(more) = bytes.get(self.at..) {
+            self.decoder.push_all(more)?;
+            self.at = bytes.len();
+        }
+        Ok(())
+    }
+
     fn try_clone(&self) -> Result<Begun, AllocError> {
         Ok(Begun {
             decoder: self.decoder.try_clone()?,
@@ -258,24 +278,27 @@ impl Begun {
 /// How many bytes a decoder is given at a time, first and then.
 const STEPS: [usize; 2] = [4096, 64];
 
+/// The lines of an interval that bytes begin with, up to the first place that can end a piece. They begin with those that a decoder was
+/// given.
+pub(crate) fn read_lines_on(
+    begun: &Begun,
+    interval: &Interval,
+    bytes: &[u8],
+) -> Result<ReadLines, AllocError> {
+    let end = next_cut(bytes, begun.at.saturating_sub(1)).unwrap_or(bytes.len());
+    let bytes = bytes.get(..end).unwrap_or(bytes);
+    let mut begun = begun.try_clone()?;
+    for step in STEPS {
+        begun = begun.go_on(bytes, step)?;
+    }
+    begun.last_lines(interval.width, bytes)
+}
+
 /// The lines of an interval that bytes begin with, up to the first place that can end a piece.
 pub(crate) fn read_lines(
     alloc: Global,
     interval: &Interval,
     bytes: &[u8],
 ) -> Result<ReadLines, AllocError> {
-    let end = next_cut(bytes, 0).unwrap_or(bytes.len());
-    let bytes = bytes.get(..end).unwrap_or(bytes);
-    let decoder = IntervalDecoder::new(
-        alloc,
-        &interval.params,
-        interval.width,
-        interval.components,
-        u32::from(interval.rows),
-    );
-    let mut begun = Begun { decoder, at: 0 };
-    for step in STEPS {
-        begun = begun.go_on(bytes, step)?;
-    }
-    begun.last_lines(interval.width, bytes)
+    read_lines_on(&Begun::new(alloc, interval), interval, bytes)
 }

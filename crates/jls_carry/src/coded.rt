@@ -1,6 +1,7 @@
 //! Lines in the code of a copy, and where the copy has the same bytes.
 
-use crate::code::FirstCode;
+use crate::code::{FirstBits, FirstCode};
+use crate::line_ends::LineEnds;
 use crate::runs::{Run, add_runs, is_hint};
 use crate::shifts::{Shift, shifts_of};
 use std::alloc::{AllocError, Global};
@@ -8,29 +9,13 @@ use std::alloc::{AllocError, Global};
 /// How many rows behind a line bytes speak for it.
 const ROWS_NEAR: usize = 2;
 
-/// How many of these numbers, which rise, are below a bound.
-fn count_below(ends: &[usize], bound: usize) -> usize {
-    let mut low = 0usize;
-    let mut high = ends.len();
-    for _ in 0..usize::BITS {
-        if low >= high {
-            break;
-        }
-        let middle = low.saturating_add(high.saturating_sub(low) / 2);
-        match ends.get(middle) {
-            Some(end) if *end < bound => low = middle.saturating_add(1),
-            _ => high = middle,
-        }
-    }
-    low
-}
-
 /// Lines in the code of a copy.
 #[derive(Drop)]
 pub(crate) struct Coded {
     pub(crate) bytes: Vec<u8>,
-    /// How many whole bytes stand before the end of each line.
-    pub(crate) ends: Vec<usize>,
+    pub(crate) ends: LineEnds,
+    /// The bits of the last line behind these bytes, if there are any.
+    more: Option<FirstBits>,
     /// Whether they are all lines of their interval, with the byte that ends them.
     is_whole: bool,
 }
@@ -62,15 +47,17 @@ impl Coded {
         let last = if is_whole { code.last_byte(own) } else { None };
         let FirstCode {
             mut bytes,
-            ends,
-            ..
+            mut ends,
+            more,
         } = code;
         if let Some(byte) = last {
             bytes.push(byte)?;
+            ends = ends.with_byte();
         }
         Ok(Coded {
             bytes,
             ends,
+            more,
             is_whole,
         })
     }
@@ -78,16 +65,42 @@ impl Coded {
     /// How many lines end before a place.
     fn lines_before(&self, place: usize) -> usize {
         if self.is_whole && place >= self.bytes.len() {
-            self.ends.len()
+            self.ends.count()
         } else {
-            count_below(&self.ends, place)
+            self.ends.count_below(place)
+        }
+    }
+
+    /// Whether a copy goes on with the last bits of the code where a run ends that has all its bytes.
+    fn ends_alike(&self, run: &Run, own: &[u8]) -> bool {
+        if run.end < self.bytes.len() {
+            return false;
+        }
+        let Some(bits) = self.more else {
+            return true;
+        };
+        run.shift
+            .in_copy(run.end)
+            .and_then(|place| own.get(place))
+            .is_some_and(|byte| bits.begin(*byte))
+    }
+
+    /// How many lines end up to the end of a run: also the last one, if the copy has its last bits too.
+    fn lines_to(&self, run: &Run, own: &[u8]) -> usize {
+        if self.ends_alike(run, own) {
+            self.ends.count()
+        } else {
+            self.lines_before(run.end)
         }
     }
 
     /// Whether a run has whole lines in it: one of each component. The last bits of the last one can stand in the byte behind the run.
     fn has_lines(&self, run: &Run, components: usize) -> bool {
-        let begun = count_below(&self.ends, run.begin);
-        let count = count_below(&self.ends, run.end.saturating_add(1)).saturating_sub(begun);
+        let begun = self.ends.count_below(run.begin);
+        let count = self
+            .ends
+            .count_below(run.end.saturating_add(1))
+            .saturating_sub(begun);
         count > components || (count == components && run.begin == 0)
     }
 
@@ -157,8 +170,10 @@ impl Coded {
     /// The first line that the copy denies, from one on that it doesn't confirm. Where both have the same bytes again behind a gap near it,
     /// this is the line in which they part again.
     pub(crate) fn first_denied(&self, all: &[Run], line: usize, components: usize) -> usize {
-        let from = self.begin_of(line);
-        let near = self.begin_of(line.saturating_add(components.saturating_mul(ROWS_NEAR)));
+        let from = self.ends.begin_of(line);
+        let near = self
+            .ends
+            .begin_of(line.saturating_add(components.saturating_mul(ROWS_NEAR)));
         let mut gap = from;
         for run in all {
             if run.begin <= gap {
@@ -172,30 +187,22 @@ impl Coded {
         line
     }
 
-    /// How many whole bytes stand before a line.
-    fn begin_of(&self, line: usize) -> usize {
-        match line.checked_sub(1) {
-            None => 0,
-            Some(before) => self.ends.get(before).copied().unwrap_or(self.bytes.len()),
-        }
-    }
-
-    /// How many lines runs confirm, of which nothing is decided from a byte on. Only one gap is passed: what the copy gives behind that gap
-    /// is to be heard first.
-    pub(crate) fn count_confirmed(&self, runs: &[Run], fresh: usize) -> usize {
+    /// How many lines runs of a copy confirm, of which nothing is decided from a byte on. Only one gap is passed: what the copy gives
+    /// behind that gap is to be heard first.
+    pub(crate) fn count_confirmed(&self, runs: &[Run], own: &[u8], fresh: usize) -> usize {
         let mut first = None;
         for run in runs {
             if run.end <= fresh {
                 continue;
             }
             if first.is_some() || run.begin > fresh {
-                return self.lines_before(run.end);
+                return self.lines_to(run, own);
             }
-            first = Some(run.end);
+            first = Some(run);
         }
         match first {
             None => 0,
-            Some(end) => self.lines_before(end),
+            Some(run) => self.lines_to(run, own),
         }
     }
 }

@@ -8,7 +8,8 @@
 //! its edits.
 //!
 //! - `pieces`, `interval`: where the scan data of each restart interval stand in a copy. Which lines it has
-//! - `code`: the code of first lines, and the lines that bytes begin with
+//! - `code`, `line_ends`: the code of first lines, and where each ends in it. The lines that bytes begin with
+//! - `codes`: the codes that were written last, which save writing them anew
 //! - `picture`: what copies say of each line, and what is settled
 //! - `claims`: what a copy says by itself, behind what is known
 //! - `shifts`, `runs`, `coded`: by how much bytes of a copy are moved. Where the code of lines and a copy have the same bytes
@@ -33,13 +34,15 @@
 //! 4. Lines are taken in order. A chain ends at the first that is not.
 //! 5. Behind a dispute each copy goes on with its own reading, and a later line wants both.
 //! 6. A reading that another copy has, and nobody tested, holds the line back. A sample that a coding can't say refutes it there. A reading
-//!    is refuted too if another copy says otherwise, and its piece goes on for two rows as a copy of another coding says.
-//! 7. Where nothing else goes on, lines that a copy reads in one piece between settled ones are taken. Two rows behind them have to be
-//!    settled as it says.
+//!    is refuted too if another copy says otherwise, and its piece goes on for two rows as a copy of another coding says. The copy that
+//!    denies a line has tested those behind it only as far as they are of the same piece. Where that piece closes, the line in question is
+//!    the one in which both part again, if they part near it.
+//! 7. Where nothing else goes on, lines that a copy reads in one piece between settled ones are taken: all of them, or none if one is held
+//!    back. Two rows behind them have to be settled as it says.
 //! 8. Where nothing else goes on, 24 such bytes are a hint without a whole line in them: lines up to a hint are taken, four rows behind
 //!    the known ones at most.
 //! 9. Pieces that close by themselves count only where nothing else goes on, and in copies that agree with another somewhere. No such piece
-//!    may say otherwise.
+//!    may say otherwise, and one that says otherwise of a settled line doesn't count.
 //!
 //! Where two copies have the same code, that code anew says nothing of its truth: garbage, coded anew, is the same garbage. There only what
 //! agrees from the start of an interval on is taken, where nothing else goes on, and no copy of another coding says otherwise. It gives way
@@ -55,9 +58,11 @@ mod claims;
 mod closing;
 mod code;
 mod coded;
+mod codes;
 mod edits;
 mod interval;
 mod layouts;
+mod line_ends;
 mod mending;
 mod picture;
 mod pieces;
@@ -69,10 +74,12 @@ mod strangers;
 
 use crate::claims::{CopyState, Speaker};
 use crate::closing::has_contradiction;
+use crate::codes::Codes;
 use crate::edits::edits_between;
 use crate::layouts::{Layouts, layouts_of};
 use crate::mending::mended_file;
 use crate::picture::Picture;
+use crate::pieces::Layout;
 use crate::rounds::carry_on;
 use crate::strangers::{agrees, speaks};
 pub use edits::Edit;
@@ -130,11 +137,11 @@ fn copies_of(alloc: Global, codings: &[usize], coding: usize) -> Result<Vec<usiz
     Ok(numbers)
 }
 
-/// The copies whose headers read, by their indices. `ends` has for each of them whether it ends with EOI.
-fn with_headers(alloc: Global, ends: &[Option<bool>]) -> Result<Vec<usize>, AllocError> {
+/// The copies of which headers are believed, by their indices.
+fn with_headers(alloc: Global, states: &[CopyState<'_>]) -> Result<Vec<usize>, AllocError> {
     let mut numbers = Vec::new(alloc);
-    for (number, end) in ends.iter().enumerate() {
-        if end.is_some() {
+    for (number, state) in states.iter().enumerate() {
+        if state.has_eoi.is_some() {
             numbers.push(number)?;
         }
     }
@@ -147,6 +154,66 @@ fn is_repeated(copies: &[&[u8]], number: usize) -> bool {
         Some(bytes) => copies.iter().take(number).any(|copy| **copy == **bytes),
         None => false,
     }
+}
+
+/// The copies, before anything is said.
+fn states_of<'a>(
+    alloc: Global,
+    copies: &[&'a [u8]],
+    codings: &[usize],
+    own: usize,
+    layouts: Vec<Option<Layout>>,
+    lines: usize,
+) -> Result<Vec<CopyState<'a>>, AllocError> {
+    let mut states = Vec::new(alloc);
+    for (number, (bytes, layout)) in copies.iter().zip(layouts).enumerate() {
+        let speaker = Speaker {
+            number,
+            coding: codings.get(number).copied().unwrap_or(number),
+            is_echo: number >= own || is_repeated(copies, number),
+        };
+        states.push(CopyState::new(alloc, speaker, bytes, layout, lines)?)?;
+    }
+    Ok(states)
+}
+
+/// The mended files of all codings that have one, and the copies that agree with none.
+#[derive(Drop)]
+struct MendedCodings {
+    codings: Vec<MendedCoding>,
+    strangers: Vec<usize>,
+}
+
+/// Mends the first copy of each coding whose own headers say what those of its coding do.
+fn mend_codings(
+    alloc: Global,
+    picture: &Picture,
+    codes: &mut Codes,
+    states: &[CopyState<'_>],
+    codings: &[usize],
+    are_own: &[bool],
+) -> Result<MendedCodings, AllocError> {
+    let mut mended = MendedCodings {
+        codings: Vec::new(alloc),
+        strangers: Vec::new(alloc),
+    };
+    let mut done: Vec<usize> = Vec::new(alloc);
+    for (state, (coding, is_own)) in states.iter().zip(codings.iter().zip(are_own)) {
+        let (Some(has_eoi), true) = (state.has_eoi, is_own) else {
+            continue;
+        };
+        if done.contains(coding) {
+            continue;
+        }
+        done.push(*coding)?;
+        let bytes = mended_file(alloc, picture, codes, state, has_eoi)?;
+        let numbers = copies_of(alloc, codings, *coding)?;
+        let made = mended_coding(alloc, states, &numbers, bytes, &mut mended.strangers)?;
+        if !made.copies.is_empty() {
+            mended.codings.push(made)?;
+        }
+    }
+    Ok(mended)
 }
 
 /// What copies bring back of each other.
@@ -182,52 +249,21 @@ pub fn carry(
         are_own,
     } = layouts_of(alloc, copies, codings)?;
     let mut picture = Picture::new(alloc, lines)?;
-    let mut states = Vec::new(alloc);
-    let mut ends = Vec::new(alloc);
-    for (number, (bytes, layout)) in copies.iter().zip(layouts).enumerate() {
-        ends.push(layout.as_ref().map(|layout| layout.has_eoi))?;
-        let speaker = Speaker {
-            number,
-            coding: codings.get(number).copied().unwrap_or(number),
-            is_echo: number >= own || is_repeated(copies, number),
-        };
-        states.push(CopyState::new(alloc, speaker, bytes, layout, lines)?)?;
-    }
-    carry_on(alloc, &mut picture, &mut states)?;
+    let mut states = states_of(alloc, copies, codings, own, layouts, lines)?;
+    let mut codes = Codes::new(alloc, &states)?;
+    carry_on(alloc, &mut picture, &mut codes, &mut states)?;
     let has_disputed = picture.has_disputed() || has_contradiction(&picture, &states);
-    if !picture.has_settled() {
-        return Ok(Carried {
+    let mended = if picture.has_settled() {
+        mend_codings(alloc, &picture, &mut codes, &states, codings, &are_own)?
+    } else {
+        MendedCodings {
             codings: Vec::new(alloc),
-            strangers: with_headers(alloc, &ends)?,
-            has_disputed,
-            lines: picture.into_lines()?,
-        });
-    }
-    let mut strangers = Vec::new(alloc);
-    let mut mended = Vec::new(alloc);
-    let mut done: Vec<usize> = Vec::new(alloc);
-    for (number, coding) in codings.iter().enumerate() {
-        let (Some(state), Some(Some(has_eoi)), Some(true)) = (
-            states.get(number),
-            ends.get(number),
-            are_own.get(number),
-        ) else {
-            continue;
-        };
-        if done.contains(coding) {
-            continue;
+            strangers: with_headers(alloc, &states)?,
         }
-        done.push(*coding)?;
-        let bytes = mended_file(alloc, &picture, state, *has_eoi)?;
-        let numbers = copies_of(alloc, codings, *coding)?;
-        let made = mended_coding(alloc, &states, &numbers, bytes, &mut strangers)?;
-        if !made.copies.is_empty() {
-            mended.push(made)?;
-        }
-    }
+    };
     Ok(Carried {
-        codings: mended,
-        strangers,
+        codings: mended.codings,
+        strangers: mended.strangers,
         has_disputed,
         lines: picture.into_lines()?,
     })

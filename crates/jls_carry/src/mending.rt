@@ -1,8 +1,9 @@
 //! The mended file of a copy: its own bytes, and the code of known lines in place of what differs from it. A piece whose lines are not all
 //! known can end it, since its first lines count only at the end of a file.
 
-use crate::claims::{CopyState, bytes_of, code_of};
+use crate::claims::{CopyState, bytes_of};
 use crate::code::{FirstCode, read_lines};
+use crate::codes::{Codes, PieceIndex};
 use crate::interval::Interval;
 use crate::picture::Picture;
 use crate::pieces::Piece;
@@ -84,6 +85,7 @@ fn with_own_bytes(
 fn closes_behind(
     alloc: Global,
     picture: &Picture,
+    codes: &mut Codes,
     copy: &CopyState<'_>,
     index: usize,
     piece: &Piece,
@@ -96,7 +98,11 @@ fn closes_behind(
     if closes || !has_all_from(picture, copy, piece, line) {
         return Ok(closes);
     }
-    let Some(code) = code_of(alloc, picture, &piece.interval, readings)? else {
+    let number = PieceIndex {
+        copy: copy.number,
+        piece: index,
+    };
+    let Some(code) = codes.code_of(picture, number, &piece.interval, readings)? else {
         return Ok(true);
     };
     let bytes = with_own_bytes(alloc, copy, index, piece, &code, 0)?;
@@ -107,6 +113,7 @@ fn closes_behind(
 fn best_cut(
     alloc: Global,
     picture: &Picture,
+    codes: &mut Codes,
     copy: &CopyState<'_>,
 ) -> Result<Option<usize>, AllocError> {
     let mut whole = 0usize;
@@ -116,7 +123,7 @@ fn best_cut(
         let readings = settled_readings(alloc, picture, &piece.interval)?;
         let known = readings.len();
         if known == piece.interval.line_count()
-            || closes_behind(alloc, picture, copy, index, piece, &readings)?
+            || closes_behind(alloc, picture, codes, copy, index, piece, &readings)?
         {
             whole = whole.saturating_add(piece.interval.line_count());
         } else if known > 0 && whole.saturating_add(known) > most {
@@ -163,7 +170,13 @@ impl Mending<'_, '_> {
     }
 
     /// Appends a piece. `is_last` says whether it is the last of those that have their bytes in common.
-    fn add(&mut self, index: usize, piece: &Piece, is_last: bool) -> Result<(), AllocError> {
+    fn add(
+        &mut self,
+        codes: &mut Codes,
+        index: usize,
+        piece: &Piece,
+        is_last: bool,
+    ) -> Result<(), AllocError> {
         if self.is_cut {
             return Ok(());
         }
@@ -182,7 +195,11 @@ impl Mending<'_, '_> {
         let interval = &piece.interval;
         let readings = settled_readings(self.alloc, self.picture, interval)?;
         let own = bytes_of(self.copy.bytes, piece);
-        match code_of(self.alloc, self.picture, interval, &readings)? {
+        let number = PieceIndex {
+            copy: self.copy.number,
+            piece: index,
+        };
+        match codes.code_of(self.picture, number, interval, &readings)? {
             None => self.bytes.extend_from_slice(own)?,
             Some(code) => {
                 if readings.len() == interval.line_count() {
@@ -208,6 +225,7 @@ impl Mending<'_, '_> {
 pub(crate) fn mended_file<'m>(
     alloc: Global,
     picture: &'m Picture,
+    codes: &mut Codes,
     copy: &'m CopyState<'_>,
     has_eoi: bool,
 ) -> Result<Vec<u8>, AllocError> {
@@ -220,13 +238,13 @@ pub(crate) fn mended_file<'m>(
         region: 0,
         is_stopped: false,
         known: 0,
-        cut: best_cut(alloc, picture, copy)?,
+        cut: best_cut(alloc, picture, codes, copy)?,
         is_cut: false,
     };
     for (index, piece) in copy.pieces.iter().enumerate() {
         let next = copy.pieces.get(index.saturating_add(1));
         let is_last = next.is_none_or(|next| next.begins);
-        mending.add(index, piece, is_last)?;
+        mending.add(codes, index, piece, is_last)?;
     }
     if !mending.is_cut {
         mending.take_to(copy.bytes.len())?;

@@ -4,6 +4,7 @@ use crate::between::settle_between;
 use crate::chains::{Chain, compare};
 use crate::claims::CopyState;
 use crate::closing::settle_closed;
+use crate::codes::Codes;
 use crate::picture::Picture;
 use crate::settling::{Links, Settling, Tested};
 use std::alloc::{AllocError, Global};
@@ -22,6 +23,7 @@ struct Comparisons {
 fn compare_all(
     alloc: Global,
     picture: &Picture,
+    codes: &mut Codes,
     copies: &[CopyState<'_>],
 ) -> Result<Comparisons, AllocError> {
     let mut chains = Vec::new(alloc);
@@ -31,8 +33,8 @@ fn compare_all(
             if giver.number == taker.number || giver.speaker.is_related(taker.speaker) {
                 continue;
             }
-            for piece in taker.pieces.iter() {
-                let compared = compare(alloc, picture, copies, giver, taker, piece)?;
+            for (index, piece) in taker.pieces.iter().enumerate() {
+                let compared = compare(alloc, picture, codes, copies, giver, taker, index, piece)?;
                 let failing = piece.interval.place(compared.failing);
                 for line in 0..compared.tested {
                     let place = piece.interval.place(line);
@@ -55,13 +57,14 @@ fn compare_all(
 fn go_on(
     alloc: Global,
     picture: &mut Picture,
+    codes: &mut Codes,
     copies: &mut [CopyState<'_>],
     links: &mut Vec<Links>,
 ) -> Result<bool, AllocError> {
     for copy in copies.iter_mut() {
-        copy.read_on(alloc, picture)?;
+        copy.read_on(alloc, picture, codes)?;
     }
-    let Comparisons { chains, tested } = compare_all(alloc, picture, copies)?;
+    let Comparisons { chains, tested } = compare_all(alloc, picture, codes, copies)?;
     let mut settling = Settling {
         alloc,
         copies,
@@ -89,6 +92,7 @@ fn go_on(
 pub(crate) fn carry_on(
     alloc: Global,
     picture: &mut Picture,
+    codes: &mut Codes,
     copies: &mut [CopyState<'_>],
 ) -> Result<(), AllocError> {
     let none = Links {
@@ -97,7 +101,7 @@ pub(crate) fn carry_on(
     };
     let mut links = vec![in alloc; none; copies.len()]?;
     for _ in 0..MOST_ROUNDS {
-        if !go_on(alloc, picture, copies, &mut links)? {
+        if !go_on(alloc, picture, codes, copies, &mut links)? {
             break;
         }
     }
