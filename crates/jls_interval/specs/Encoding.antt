@@ -2,7 +2,10 @@
 use Rattle.std.specs.Prelude.{◌≡◌, ℕ, Bool, List, ◌++◌, length, take}
 use Rattle.jls_values.specs.Params.{CodingParameters}
 use Rattle.jls_context.specs.Variables.{Variables}
-use Rattle.jls_interval.specs.Events.{Event, Above, stretch, events_from, events}
+use Rattle.jls_interval.specs.Events.{Event, Above, Stretch, neighbours, stretch, line_events, events_from, events}
+use Rattle.jls_interval.specs.Place.{above_of}
+use Rattle.jls_interval.specs.declared.place.Place.{Place}
+use Rattle.jls_context.specs.declared.mode.Neighbours.{Neighbours}
 use Rattle.jls_interval.specs.Code.{bits_of_events, code}
 use Rattle.jls_interval.specs.After.{IsAfter}
 use Rattle.jls_interval.specs.declared.encoder.Encoder.{Encoder}
@@ -35,3 +38,30 @@ pub record WritesColumns (p : CodingParameters) (component : ℕ) (up : Above) (
 pub record AreWritten (p : CodingParameters) (width components : ℕ) (lines : List (List ℕ)) (j : ℕ) (now : Written) : Type 0 where
   pub is_after : IsAfter p now.cells now.run_indices (events width components (take j lines))
   pub bits_are : now.written ≡ code p width components (take j lines)
+
+-- Names that contracts of encoders share -----------------------------------------------------------------------------
+
+-- an encoder wrote the bits of these events
+abbrev pub WroteEvents : Encoder → Encoder → List Event → Type 0
+WroteEvents old new = Writes old.coder.cells.parameters (written_by old) (written_by new)
+
+-- it has written the lines before line j
+abbrev pub HasWritten : Encoder → ℕ → ℕ → List (List ℕ) → ℕ → Type 0
+HasWritten encoder width components lines j = AreWritten encoder.coder.cells.parameters width components lines j (written_by encoder)
+
+-- and those columns of a line at its place
+abbrev pub WroteColumns : Place → List ℕ → ℕ → ℕ → Encoder → Encoder → Type 0
+WroteColumns place line x next old new =
+    WritesColumns old.coder.cells.parameters place.component (above_of place) line x next (written_by old) (written_by new)
+
+-- the events of a line at its place
+abbrev pub events_at : Place → List ℕ → List Event
+events_at place line = line_events (length line) place.component (above_of place) line
+
+-- the stretch of that line that begins at column x
+abbrev pub stretch_at : Place → List ℕ → ℕ → Stretch
+stretch_at place line = stretch (length line) place.component (above_of place) line
+
+-- the neighbours there
+abbrev pub near_at : Place → List ℕ → ℕ → Neighbours
+near_at place line = neighbours (length line) (above_of place) line

@@ -27,4 +27,6 @@ pub mod Decoding
 pub mod LineSamples
 pub mod IntervalBytes
 pub mod CutEventsOpen
+pub mod SampleCodes
+pub mod LinesInWork
 pub mod CutEnds

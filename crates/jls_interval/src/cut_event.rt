@@ -1,24 +1,22 @@
 //! Whether the bits of an event that breaks off can go on to an event that can come next (ITU-T T.87, A.5.3 and A.7).
 
-ghost use Rattle.std.specs.Prelude.{◌≡◌, ◌+◌, ◌-◌, ◌*◌, ◌^◌, ◌<◌, ◌≤◌, ◌++◌, ℕ, true, false, Bool, List, [], length};
-ghost use Rattle.std.specs.List.{AllByRecursion};
-ghost use Rattle.jls_values.specs.Params.{limit, qbpp};
-ghost use Rattle.jls_context.specs.Mode.{is_run_mode, context};
+ghost use Rattle.std.specs.Prelude.{◌≡◌, ◌-◌, ◌*◌, ◌^◌, ◌<◌, ◌≤◌, ◌++◌, ℕ, true, false, Bool, List, [], length};
+ghost use Rattle.jls_context.specs.Mode.{is_run_mode};
 ghost use Rattle.jls_context.specs.Regular.{regular_k};
-ghost use Rattle.jls_context.specs.Interruption.{run_k};
-ghost use Rattle.jls_context.specs.Variables.{cell_at, run_cell_at};
-ghost use Rattle.jls_bits.specs.CodeState.{IsOpen, bits_fed};
+ghost use Rattle.jls_values.specs.Params.{limit, qbpp};
+ghost use Rattle.jls_bits.specs.CodeState.{IsOpen};
 ghost use Rattle.jls_interval.specs.Events.{Event};
-ghost use Rattle.jls_interval.specs.Cells.{is_same};
 ghost use Rattle.jls_interval.specs.Code.{event_bits};
 ghost use Rattle.jls_interval.specs.Runs;
 ghost use Rattle.jls_interval.specs.RunState.{IsRunState, RunAt};
 ghost use Rattle.jls_interval.specs.Growth.{Fits};
-ghost use Rattle.jls_interval.specs.Reading.{NoRun, NoSample, NoInterruption};
+ghost use Rattle.jls_interval.specs.Reading.{NoRun, NoSample};
 ghost use Rattle.jls_interval.specs.Place.{above_of};
-ghost use Rattle.jls_interval.specs.After.{IsAfter};
-ghost use Rattle.jls_interval.specs.OpenEvents.{now_at, following, Holds, NoEvent};
-ghost use Rattle.jls_interval.specs.CutEventsOpen.{BeginsSample, BeginsInterruption, BeginsRun, BeginsEvent};
+ghost use Rattle.jls_interval.specs.CutEventsOpen.{BeginsSample, BeginsRun};
+ghost use Rattle.jls_interval.specs.SampleCodes.{parameters_of, IsAboveInRange, regular_fed, BeginsInterrupting, NoInterrupting};
+ghost use Rattle.jls_interval.specs.SampleCodes.{interrupting_fed};
+ghost use Rattle.jls_interval.specs.LinesInWork.{columns_left, near, near_after, next_cell, ComesAfter, HoldsAt, IsOpenAfterRun, BeginsNext};
+ghost use Rattle.jls_interval.specs.LinesInWork.{NoNext};
 
 use crate::coder::RegularMode;
 use crate::cut_sample::{interruption_goes_on, sample_goes_on};
@@ -61,16 +59,13 @@ fn run_goes_on(state: RunState) -> bool
 /// Whether the first bits of a sample can go on, where the next column is one of regular mode.
 fn regular_goes_on(reader: &LineReader, place: &Place<'_>, code: CodeState) -> bool
     requires columns { length reader.now.line.items < reader.now.width }
-    requires mode { is_run_mode (now_at reader.now.width (above_of place.now) reader.now.line.items) ≡ false }
-    requires opened { let near = now_at reader.now.width (above_of place.now) reader.now.line.items in
-        IsOpen (regular_k (cell_at reader.now.coder.cells (context reader.now.coder.cells.parameters near)))
-        (limit reader.now.coder.cells.parameters) (qbpp reader.now.coder.cells.parameters) code }
-    ensures yes { result ≡ true → (let p = reader.now.coder.cells.parameters in
-        let near = now_at reader.now.width (above_of place.now) reader.now.line.items in
-        BeginsSample p (cell_at reader.now.coder.cells (context p near)) near (bits_fed (limit p) (qbpp p) code)) }
-    ensures no { result ≡ false → (more : List Bool) → (let p = reader.now.coder.cells.parameters in
-        let near = now_at reader.now.width (above_of place.now) reader.now.line.items in
-        NoSample p (cell_at reader.now.coder.cells (context p near)) near (bits_fed (limit p) (qbpp p) code ++ more)) }
+    requires mode { is_run_mode (near reader.now place.now) ≡ false }
+    requires opened { IsOpen (regular_k (next_cell reader.now place.now)) (limit (parameters_of reader.now.coder))
+        (qbpp (parameters_of reader.now.coder)) code }
+    ensures yes { result ≡ true → BeginsSample (parameters_of reader.now.coder) (next_cell reader.now place.now)
+        (near reader.now place.now) (regular_fed reader.now.coder code) }
+    ensures no { result ≡ false → (more : List Bool) → NoSample (parameters_of reader.now.coder) (next_cell reader.now place.now)
+        (near reader.now place.now) (regular_fed reader.now.coder code ++ more) }
 {
     let near = place.neighbours(reader.width, &reader.line, reader.line.len());
     match reader.coder.cells.mode(near.ra, near.rb, near.rc, near.rd) {
@@ -87,21 +82,15 @@ fn regular_goes_on(reader: &LineReader, place: &Place<'_>, code: CodeState) -> b
 
 /// Whether the first bits of the sample that interrupts a run can go on.
 fn interrupted_goes_on(reader: &LineReader, place: &Place<'_>, interruption: Interruption) -> bool
-    requires above { AllByRecursion (λ s. s ≤ reader.now.coder.cells.parameters.maxval) place.now.line_above.now }
-    requires columns { interruption.count < reader.now.width - length reader.now.line.items }
+    requires above { IsAboveInRange reader.now.coder place.now }
+    requires columns { interruption.count < columns_left reader.now }
     requires run_index { interruption.run_index ≤ 31 }
-    requires opened { let there = following reader.now.width (above_of place.now) reader.now.line.items interruption.count in
-        IsOpen (run_k (is_same there) (run_cell_at reader.now.coder.cells (is_same there)))
-        (limit reader.now.coder.cells.parameters - Runs.run_order interruption.run_index - 1)
-        (qbpp reader.now.coder.cells.parameters) interruption.code }
-    ensures yes { result ≡ true → (let p = reader.now.coder.cells.parameters in
-        let there = following reader.now.width (above_of place.now) reader.now.line.items interruption.count in
-        let j = Runs.run_order interruption.run_index in BeginsInterruption p (run_cell_at reader.now.coder.cells (is_same there)) there j
-        (bits_fed (limit p - j - 1) (qbpp p) interruption.code)) }
-    ensures no { result ≡ false → (more : List Bool) → (let p = reader.now.coder.cells.parameters in
-        let there = following reader.now.width (above_of place.now) reader.now.line.items interruption.count in
-        let j = Runs.run_order interruption.run_index in NoInterruption p (run_cell_at reader.now.coder.cells (is_same there)) there j
-        (bits_fed (limit p - j - 1) (qbpp p) interruption.code ++ more)) }
+    requires opened { IsOpenAfterRun place.now reader.now interruption }
+    ensures yes { result ≡ true → BeginsInterrupting reader.now.coder (near_after reader.now place.now interruption.count)
+        (Runs.run_order interruption.run_index) interruption.code }
+    ensures no { result ≡ false → (more : List Bool)
+        → NoInterrupting reader.now.coder (near_after reader.now place.now interruption.count) (Runs.run_order interruption.run_index)
+        (interrupting_fed reader.now.coder (Runs.run_order interruption.run_index) interruption.code ++ more) }
 {
     let Interruption {
         count,
@@ -122,22 +111,16 @@ fn interrupted_goes_on(reader: &LineReader, place: &Place<'_>, interruption: Int
 
 /// Whether the bits of the event in hand can go on to an event that can come next, in a line that goes on.
 pub(crate) fn event_goes_on(reader: &LineReader, place: &Place<'_>) -> bool
-    requires above { AllByRecursion (λ s. s ≤ reader.now.coder.cells.parameters.maxval) place.now.line_above.now }
+    requires above { IsAboveInRange reader.now.coder place.now }
     requires columns { length reader.now.line.items < reader.now.width }
-    requires open_event { (fed : List Bool) × Holds place.now.component (above_of place.now) reader.now fed }
-    ensures yes { result ≡ true → (fed : List Bool) (earlier : List Event)
-        → IsAfter reader.now.coder.cells.parameters reader.now.coder.cells reader.now.coder.run_indices earlier
-        → ((e : Event) → Fits reader.now.coder.cells.parameters reader.now.width place.now.component
-        (above_of place.now) reader.now.line.items (now_at reader.now.width (above_of place.now) reader.now.line.items) e
-        → event_bits reader.now.coder.cells.parameters earlier e ≡ [] → ⊥)
-        → Holds place.now.component (above_of place.now) reader.now fed
-        → BeginsEvent reader.now.coder.cells.parameters reader.now.width place.now.component
-        (above_of place.now) reader.now.line.items fed earlier }
-    ensures no { result ≡ false → (fed : List Bool) (earlier : List Event)
-        → IsAfter reader.now.coder.cells.parameters reader.now.coder.cells reader.now.coder.run_indices earlier
-        → Holds place.now.component (above_of place.now) reader.now fed
-        → (more : List Bool) → NoEvent reader.now.coder.cells.parameters reader.now.width place.now.component
-        (above_of place.now) reader.now.line.items (fed ++ more) earlier }
+    requires open_event { (fed : List Bool) × HoldsAt place.now reader.now fed }
+    ensures yes { result ≡ true → (fed : List Bool) (earlier : List Event) → ComesAfter reader.now earlier
+        → ((e : Event) → Fits (parameters_of reader.now.coder) reader.now.width place.now.component
+        (above_of place.now) reader.now.line.items (near reader.now place.now) e
+        → event_bits (parameters_of reader.now.coder) earlier e ≡ [] → ⊥)
+        → HoldsAt place.now reader.now fed → BeginsNext place.now reader.now fed earlier }
+    ensures no { result ≡ false → (fed : List Bool) (earlier : List Event) → ComesAfter reader.now earlier
+        → HoldsAt place.now reader.now fed → (more : List Bool) → NoNext place.now reader.now (fed ++ more) earlier }
 {
     match reader.open_event {
         OpenEvent::NotBegun => true,

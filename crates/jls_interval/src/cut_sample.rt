@@ -1,16 +1,10 @@
 //! Whether the first bits of a sample's code can go on to a sample that can come (ITU-T T.87, A.5.3 and A.7.2).
 
-ghost use Rattle.std.specs.Prelude.{◌≡◌, ◌+◌, ◌-◌, ◌^◌, ◌≤◌, ◌++◌, true, false, Bool, List};
-ghost use Rattle.jls_values.specs.Params.{limit, qbpp};
-ghost use Rattle.jls_context.specs.Mode.{IsRegularMode};
-ghost use Rattle.jls_context.specs.Regular.{regular_k};
-ghost use Rattle.jls_context.specs.Interruption.{run_k};
-ghost use Rattle.jls_context.specs.Variables.{cell_at, run_cell_at};
-ghost use Rattle.jls_bits.specs.Golomb.{golomb, BeginsCodeOf};
-ghost use Rattle.jls_bits.specs.CodeState.{IsOpen, bits_fed};
-ghost use Rattle.jls_interval.specs.Cells.{is_same};
-ghost use Rattle.jls_interval.specs.Reading.{NoSample, NoInterruption};
-ghost use Rattle.jls_interval.specs.CutEventsOpen.{BeginsSample, BeginsInterruption};
+ghost use Rattle.std.specs.Prelude.{◌≡◌, ◌+◌, ◌^◌, ◌≤◌, ◌++◌, true, false, Bool, List};
+ghost use Rattle.jls_values.specs.Params.{qbpp};
+ghost use Rattle.jls_interval.specs.SampleCodes.{parameters_of, IsModeAt, IsRegularOpen, BeginsRegular, BeginsRegularCode, NoRegular};
+ghost use Rattle.jls_interval.specs.SampleCodes.{regular_code, regular_fed, IsInterruptingOpen, BeginsInterrupting};
+ghost use Rattle.jls_interval.specs.SampleCodes.{BeginsInterruptingCode, NoInterrupting, interrupting_code, interrupting_fed};
 
 use crate::coder::{Coder, RegularMode};
 use crate::push_sample::{interruption_of, sample_of};
@@ -33,17 +27,12 @@ fn sample_begins(
     code: CodeState,
     mapped: u32,
 ) -> bool
-    requires mode { IsRegularMode coder.now.cells.parameters neighbours mode.context mode.negative }
-    requires opened { IsOpen (regular_k (cell_at coder.now.cells mode.context)) (limit coder.now.cells.parameters)
-        (qbpp coder.now.cells.parameters) code }
-    requires mapped { mapped ≤ 2 ^ qbpp coder.now.cells.parameters }
-    ensures yes { result ≡ true → BeginsSample coder.now.cells.parameters (cell_at coder.now.cells mode.context) neighbours
-        (bits_fed (limit coder.now.cells.parameters) (qbpp coder.now.cells.parameters) code) }
-    ensures no { result ≡ false → BeginsCodeOf (regular_k (cell_at coder.now.cells mode.context)) (limit coder.now.cells.parameters)
-        (qbpp coder.now.cells.parameters) (bits_fed (limit coder.now.cells.parameters) (qbpp coder.now.cells.parameters) code) mapped
-        → (given unread : List Bool) → given ≡ golomb (regular_k (cell_at coder.now.cells mode.context)) (limit coder.now.cells.parameters)
-        (qbpp coder.now.cells.parameters) mapped ++ unread → NoSample coder.now.cells.parameters
-        (cell_at coder.now.cells mode.context) neighbours given }
+    requires mode { IsModeAt coder.now neighbours mode }
+    requires opened { IsRegularOpen coder.now mode code }
+    requires mapped { mapped ≤ 2 ^ qbpp (parameters_of coder.now) }
+    ensures yes { result ≡ true → BeginsRegular coder.now mode neighbours code }
+    ensures no { result ≡ false → BeginsRegularCode coder.now mode (regular_fed coder.now code) mapped
+        → (given unread : List Bool) → given ≡ regular_code coder.now mode mapped ++ unread → NoRegular coder.now mode neighbours given }
 {
     let k = coder.cells.regular_k(mode.context);
     if !code.allows(k, coder.lengths.limit, coder.lengths.qbpp, mapped) {
@@ -62,13 +51,10 @@ pub(crate) fn sample_goes_on(
     mode: RegularMode,
     code: CodeState,
 ) -> bool
-    requires mode { IsRegularMode coder.now.cells.parameters neighbours mode.context mode.negative }
-    requires opened { IsOpen (regular_k (cell_at coder.now.cells mode.context)) (limit coder.now.cells.parameters)
-        (qbpp coder.now.cells.parameters) code }
-    ensures yes { result ≡ true → BeginsSample coder.now.cells.parameters (cell_at coder.now.cells mode.context) neighbours
-        (bits_fed (limit coder.now.cells.parameters) (qbpp coder.now.cells.parameters) code) }
-    ensures no { result ≡ false → (more : List Bool) → NoSample coder.now.cells.parameters (cell_at coder.now.cells mode.context) neighbours
-        ((bits_fed (limit coder.now.cells.parameters) (qbpp coder.now.cells.parameters) code) ++ more) }
+    requires mode { IsModeAt coder.now neighbours mode }
+    requires opened { IsRegularOpen coder.now mode code }
+    ensures yes { result ≡ true → BeginsRegular coder.now mode neighbours code }
+    ensures no { result ≡ false → (more : List Bool) → NoRegular coder.now mode neighbours (regular_fed coder.now code ++ more) }
 {
     for mapped in 0..numbers(coder.lengths.qbpp) {
         if sample_begins(coder, neighbours, mode, code, mapped) {
@@ -88,19 +74,13 @@ fn interruption_begins(
     mapped: u32,
 ) -> bool
     requires order { order ≤ 15 }
-    requires above { neighbours.rb ≤ coder.now.cells.parameters.maxval }
-    requires opened { IsOpen (run_k (is_same neighbours) (run_cell_at coder.now.cells (is_same neighbours)))
-        (limit coder.now.cells.parameters - order - 1) (qbpp coder.now.cells.parameters) code }
-    requires mapped { mapped ≤ 2 ^ qbpp coder.now.cells.parameters }
-    ensures yes { result ≡ true → BeginsInterruption coder.now.cells.parameters
-        (run_cell_at coder.now.cells (is_same neighbours)) neighbours order
-        (bits_fed (limit coder.now.cells.parameters - order - 1) (qbpp coder.now.cells.parameters) code) }
-    ensures no { result ≡ false → BeginsCodeOf (run_k (is_same neighbours) (run_cell_at coder.now.cells (is_same neighbours)))
-        (limit coder.now.cells.parameters - order - 1) (qbpp coder.now.cells.parameters)
-        (bits_fed (limit coder.now.cells.parameters - order - 1) (qbpp coder.now.cells.parameters) code) mapped
-        → (given unread : List Bool) → given ≡ golomb (run_k (is_same neighbours) (run_cell_at coder.now.cells (is_same neighbours)))
-        (limit coder.now.cells.parameters - order - 1) (qbpp coder.now.cells.parameters) mapped ++ unread
-        → NoInterruption coder.now.cells.parameters (run_cell_at coder.now.cells (is_same neighbours)) neighbours order given }
+    requires above { neighbours.rb ≤ (parameters_of coder.now).maxval }
+    requires opened { IsInterruptingOpen coder.now neighbours order code }
+    requires mapped { mapped ≤ 2 ^ qbpp (parameters_of coder.now) }
+    ensures yes { result ≡ true → BeginsInterrupting coder.now neighbours order code }
+    ensures no { result ≡ false → BeginsInterruptingCode coder.now neighbours order (interrupting_fed coder.now order code) mapped
+        → (given unread : List Bool) → given ≡ interrupting_code coder.now neighbours order mapped ++ unread
+        → NoInterrupting coder.now neighbours order given }
 {
     let k = coder.cells.run_k(neighbours.ra == neighbours.rb);
     let limit = coder.lengths.limit - order - 1;
@@ -121,15 +101,11 @@ pub(crate) fn interruption_goes_on(
     code: CodeState,
 ) -> bool
     requires order { order ≤ 15 }
-    requires above { neighbours.rb ≤ coder.now.cells.parameters.maxval }
-    requires opened { IsOpen (run_k (is_same neighbours) (run_cell_at coder.now.cells (is_same neighbours)))
-        (limit coder.now.cells.parameters - order - 1) (qbpp coder.now.cells.parameters) code }
-    ensures yes { result ≡ true → BeginsInterruption coder.now.cells.parameters
-        (run_cell_at coder.now.cells (is_same neighbours)) neighbours order
-        (bits_fed (limit coder.now.cells.parameters - order - 1) (qbpp coder.now.cells.parameters) code) }
-    ensures no { result ≡ false → (more : List Bool) → NoInterruption coder.now.cells.parameters
-        (run_cell_at coder.now.cells (is_same neighbours)) neighbours order
-        ((bits_fed (limit coder.now.cells.parameters - order - 1) (qbpp coder.now.cells.parameters) code) ++ more) }
+    requires above { neighbours.rb ≤ (parameters_of coder.now).maxval }
+    requires opened { IsInterruptingOpen coder.now neighbours order code }
+    ensures yes { result ≡ true → BeginsInterrupting coder.now neighbours order code }
+    ensures no { result ≡ false → (more : List Bool)
+        → NoInterrupting coder.now neighbours order (interrupting_fed coder.now order code ++ more) }
 {
     for mapped in 0..numbers(coder.lengths.qbpp) {
         if interruption_begins(coder, neighbours, order, code, mapped) {

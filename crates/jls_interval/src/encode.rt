@@ -6,7 +6,8 @@ ghost use Rattle.jls_bits.specs.Pad.{IsPad};
 ghost use Rattle.jls_interval.specs.Lines.{IsLine};
 ghost use Rattle.jls_interval.specs.Fits.{FitsInterval};
 ghost use Rattle.jls_interval.specs.Code.{code};
-ghost use Rattle.jls_interval.specs.Encoding.{AreWritten, written_by};
+ghost use Rattle.jls_interval.specs.Encoding.{AreWritten, HasWritten, written_by};
+ghost use Rattle.jls_interval.specs.SampleCodes.{parameters_of};
 ghost use Rattle.jls_interval.specs.Reads.{packed};
 ghost use Rattle.jls_interval.specs.ReadBack.{PackedLinesReadBack};
 
@@ -38,13 +39,12 @@ pub(crate) fn write_next_line(
 ) -> Result<(), AllocError>
     requires components_at_least { 1 ≤ components }
     requires components_at_most { components ≤ 4 }
-    requires each { AllByRecursion (IsLine encoder.old.coder.cells.parameters width) (map (λ l. l.now) lines.now) }
+    requires each { AllByRecursion (IsLine (parameters_of encoder.old.coder) width) (map (λ l. l.now) lines.now) }
     requires within { j < length lines.now }
-    requires before { AreWritten encoder.old.coder.cells.parameters width components (map
-        (λ l. l.now) lines.now) j (written_by encoder.old) }
-    ensures written { OnOk result (AreWritten encoder.old.coder.cells.parameters width components (map
+    requires before { HasWritten encoder.old width components (map (λ l. l.now) lines.now) j }
+    ensures written { OnOk result (AreWritten (parameters_of encoder.old.coder) width components (map
         (λ l. l.now) lines.now) (j + 1) (written_by encoder.new)) }
-    ensures parameters { encoder.new.coder.cells.parameters ≡ encoder.old.coder.cells.parameters }
+    ensures parameters { parameters_of encoder.new.coder ≡ parameters_of encoder.old.coder }
 {
     let place = Place::after(&lines[..j], usize::from(components));
     write_line(encoder, &place, line_at(lines, j))?;
@@ -58,10 +58,9 @@ fn write_lines(
     components: u8,
     lines: &[&[u16]],
 ) -> Result<(), AllocError>
-    requires lines { FitsInterval encoder.old.coder.cells.parameters width components (map (λ l. l.now) lines.now) }
-    requires start { AreWritten encoder.old.coder.cells.parameters width components (map
-        (λ l. l.now) lines.now) 0 (written_by encoder.old) }
-    ensures { OnOk result (encoder.new.writer ≡ code encoder.old.coder.cells.parameters width components (map (λ l. l.now) lines.now)) }
+    requires lines { FitsInterval (parameters_of encoder.old.coder) width components (map (λ l. l.now) lines.now) }
+    requires start { HasWritten encoder.old width components (map (λ l. l.now) lines.now) 0 }
+    ensures { OnOk result (encoder.new.writer ≡ code (parameters_of encoder.old.coder) width components (map (λ l. l.now) lines.now)) }
 {
     for j in 0..lines.len() {
         write_next_line(encoder, width, components, lines, j)?;

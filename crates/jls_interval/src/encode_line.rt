@@ -1,11 +1,10 @@
 //! Writing one line, a stretch of columns at a time (ITU-T T.87, A.3 and A.7).
 
 ghost use Rattle.std.specs.Prelude.{◌≡◌, ◌^◌, ◌<◌, ◌≤◌, true, ◌==◌, [], ◌∷◌, length, slice_index, EachIndex, IsTrue, IfOk, OnOk};
-ghost use Rattle.std.specs.List.{AllByRecursion, prefix_len};
+ghost use Rattle.std.specs.List.{prefix_len};
 ghost use Rattle.jls_context.specs.Mode.{is_run_mode};
-ghost use Rattle.jls_interval.specs.Events.{neighbours, stretch, line_events};
-ghost use Rattle.jls_interval.specs.Place.{above_of};
-ghost use Rattle.jls_interval.specs.Encoding.{Writes, written_by};
+ghost use Rattle.jls_interval.specs.SampleCodes.{parameters_of, AreInRange, IsAboveInRange};
+ghost use Rattle.jls_interval.specs.Encoding.{WroteEvents, events_at, near_at, stretch_at};
 
 use crate::coder::RegularMode;
 use crate::encode_run::{write_interrupted_run, write_run_to_end};
@@ -58,16 +57,15 @@ fn write_run(
     x: usize,
     value: u16,
 ) -> Result<usize, AllocError>
-    requires above { AllByRecursion (λ sample. sample ≤ encoder.old.coder.cells.parameters.maxval) place.now.line_above.now }
-    requires samples { AllByRecursion (λ sample. sample ≤ encoder.old.coder.cells.parameters.maxval) line.now }
+    requires above { IsAboveInRange encoder.old.coder place.now }
+    requires samples { AreInRange encoder.old.coder line.now }
     requires width { length line.now < 2 ^ 16 }
     requires column { x < length line.now }
-    requires run { is_run_mode (neighbours (length line.now) (above_of place.now) line.now x) ≡ true }
-    requires value { value ≡ (neighbours (length line.now) (above_of place.now) line.now x).ra }
-    ensures column { IfOk result (λ next. next ≡ (stretch (length line.now) place.now.component (above_of place.now) line.now x).next) }
-    ensures written { OnOk result (Writes encoder.old.coder.cells.parameters (written_by encoder.old) (written_by encoder.new)
-        ((stretch (length line.now) place.now.component (above_of place.now) line.now x).event ∷ [])) }
-    ensures parameters { encoder.new.coder.cells.parameters ≡ encoder.old.coder.cells.parameters }
+    requires run { is_run_mode (near_at place.now line.now x) ≡ true }
+    requires value { value ≡ (near_at place.now line.now x).ra }
+    ensures column { IfOk result (λ next. next ≡ (stretch_at place.now line.now x).next) }
+    ensures written { OnOk result (WroteEvents encoder.old encoder.new ((stretch_at place.now line.now x).event ∷ [])) }
+    ensures parameters { parameters_of encoder.new.coder ≡ parameters_of encoder.old.coder }
 {
     let count = run_length(&line[x..], value);
     let stop = x + count;
@@ -94,14 +92,13 @@ fn write_stretch(
     line: &[u16],
     x: usize,
 ) -> Result<usize, AllocError>
-    requires above { AllByRecursion (λ sample. sample ≤ encoder.old.coder.cells.parameters.maxval) place.now.line_above.now }
-    requires samples { AllByRecursion (λ sample. sample ≤ encoder.old.coder.cells.parameters.maxval) line.now }
+    requires above { IsAboveInRange encoder.old.coder place.now }
+    requires samples { AreInRange encoder.old.coder line.now }
     requires width { length line.now < 2 ^ 16 }
     requires column { x < length line.now }
-    ensures column { IfOk result (λ next. next ≡ (stretch (length line.now) place.now.component (above_of place.now) line.now x).next) }
-    ensures written { OnOk result (Writes encoder.old.coder.cells.parameters (written_by encoder.old) (written_by encoder.new)
-        ((stretch (length line.now) place.now.component (above_of place.now) line.now x).event ∷ [])) }
-    ensures parameters { encoder.new.coder.cells.parameters ≡ encoder.old.coder.cells.parameters }
+    ensures column { IfOk result (λ next. next ≡ (stretch_at place.now line.now x).next) }
+    ensures written { OnOk result (WroteEvents encoder.old encoder.new ((stretch_at place.now line.now x).event ∷ [])) }
+    ensures parameters { parameters_of encoder.new.coder ≡ parameters_of encoder.old.coder }
 {
     let neighbours = place.neighbours(line.len(), line, x);
     match encoder
@@ -127,12 +124,11 @@ pub(crate) fn write_line(
     place: &Place<'_>,
     line: &[u16],
 ) -> Result<(), AllocError>
-    requires above { AllByRecursion (λ sample. sample ≤ encoder.old.coder.cells.parameters.maxval) place.now.line_above.now }
-    requires samples { AllByRecursion (λ sample. sample ≤ encoder.old.coder.cells.parameters.maxval) line.now }
+    requires above { IsAboveInRange encoder.old.coder place.now }
+    requires samples { AreInRange encoder.old.coder line.now }
     requires width { length line.now < 2 ^ 16 }
-    ensures written { OnOk result (Writes encoder.old.coder.cells.parameters (written_by encoder.old) (written_by encoder.new)
-        (line_events (length line.now) place.now.component (above_of place.now) line.now)) }
-    ensures parameters { encoder.new.coder.cells.parameters ≡ encoder.old.coder.cells.parameters }
+    ensures written { OnOk result (WroteEvents encoder.old encoder.new (events_at place.now line.now)) }
+    ensures parameters { parameters_of encoder.new.coder ≡ parameters_of encoder.old.coder }
 {
     let mut x = 0;
     while x < line.len() {

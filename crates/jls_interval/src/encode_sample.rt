@@ -1,13 +1,14 @@
 //! Writing one sample (ITU-T T.87, A.4, A.5 and A.7.2).
 
 ghost use Rattle.std.specs.Prelude.{◌≡◌, ◌≢◌, ◌≤◌, [], ◌∷◌, ◌++◌, not, pos, ◌-ℤ◌, OnOk};
-ghost use Rattle.jls_context.specs.Mode.{IsRegularMode, with_sign};
+ghost use Rattle.jls_context.specs.Mode.{with_sign};
 ghost use Rattle.jls_context.specs.Interruption.{run_updated};
 ghost use Rattle.jls_context.specs.Variables.{run_cell_at};
 ghost use Rattle.jls_interval.specs.Events.{regular};
 ghost use Rattle.jls_interval.specs.Cells.{is_same, interruption_error};
 ghost use Rattle.jls_interval.specs.Code.{interrupting_bits};
-ghost use Rattle.jls_interval.specs.Encoding.{Writes, written_by};
+ghost use Rattle.jls_interval.specs.SampleCodes.{parameters_of, interrupting_cell, IsModeAt};
+ghost use Rattle.jls_interval.specs.Encoding.{WroteEvents};
 
 use crate::coder::RegularMode;
 use crate::encoder::Encoder;
@@ -32,11 +33,10 @@ pub(crate) fn write_regular(
     mode: RegularMode,
     sample: u16,
 ) -> Result<(), AllocError>
-    requires mode { IsRegularMode encoder.old.coder.cells.parameters neighbours mode.context mode.negative }
-    requires sample { sample ≤ encoder.old.coder.cells.parameters.maxval }
-    ensures written { OnOk result (Writes encoder.old.coder.cells.parameters (written_by encoder.old) (written_by encoder.new)
-        (regular neighbours sample ∷ [])) }
-    ensures parameters { encoder.new.coder.cells.parameters ≡ encoder.old.coder.cells.parameters }
+    requires mode { IsModeAt encoder.old.coder neighbours mode }
+    requires sample { sample ≤ (parameters_of encoder.old.coder).maxval }
+    ensures written { OnOk result (WroteEvents encoder.old encoder.new (regular neighbours sample ∷ [])) }
+    ensures parameters { parameters_of encoder.new.coder ≡ parameters_of encoder.old.coder }
 {
     let RegularMode { context, negative } = mode;
     let Neighbours { ra, rb, rc, .. } = neighbours;
@@ -57,21 +57,19 @@ pub(crate) fn write_interrupting(
     order: u8,
     sample: u16,
 ) -> Result<(), AllocError>
-    requires above { neighbours.rb ≤ encoder.old.coder.cells.parameters.maxval }
+    requires above { neighbours.rb ≤ (parameters_of encoder.old.coder).maxval }
     requires order { order ≤ 15 }
-    requires sample { sample ≤ encoder.old.coder.cells.parameters.maxval }
+    requires sample { sample ≤ (parameters_of encoder.old.coder).maxval }
     requires another { sample ≢ neighbours.ra }
     ensures written { OnOk result (encoder.new.writer ≡ encoder.old.writer
-        ++ interrupting_bits encoder.old.coder.cells.parameters
-        (run_cell_at encoder.old.coder.cells (is_same neighbours)) neighbours order sample) }
-    ensures updated { OnOk result (run_cell_at encoder.new.coder.cells (is_same neighbours)
-        ≡ run_updated encoder.old.coder.cells.parameters.reset (is_same neighbours)
-        (run_cell_at encoder.old.coder.cells (is_same neighbours))
-        (interruption_error encoder.old.coder.cells.parameters neighbours sample)) }
+        ++ interrupting_bits (parameters_of encoder.old.coder) (interrupting_cell encoder.old.coder neighbours) neighbours order sample) }
+    ensures updated { OnOk result (interrupting_cell encoder.new.coder neighbours
+        ≡ run_updated (parameters_of encoder.old.coder).reset (is_same neighbours) (interrupting_cell encoder.old.coder neighbours)
+        (interruption_error (parameters_of encoder.old.coder) neighbours sample)) }
     ensures other { run_cell_at encoder.new.coder.cells (not (is_same neighbours))
         ≡ run_cell_at encoder.old.coder.cells (not (is_same neighbours)) }
     ensures regular { encoder.new.coder.cells.regular ≡ encoder.old.coder.cells.regular }
-    ensures parameters { encoder.new.coder.cells.parameters ≡ encoder.old.coder.cells.parameters }
+    ensures parameters { parameters_of encoder.new.coder ≡ parameters_of encoder.old.coder }
     ensures run_indices { encoder.new.coder.run_indices ≡ encoder.old.coder.run_indices }
 {
     let Neighbours { ra, rb, .. } = neighbours;

@@ -1,9 +1,8 @@
 //! Writing samples of regular mode, one after another (ITU-T T.87, A.3 to A.6).
 
 ghost use Rattle.std.specs.Prelude.{◌≡◌, ◌^◌, ◌<◌, ◌≤◌, length, IfOk};
-ghost use Rattle.std.specs.List.{AllByRecursion};
-ghost use Rattle.jls_interval.specs.Place.{above_of};
-ghost use Rattle.jls_interval.specs.Encoding.{WritesColumns, written_by};
+ghost use Rattle.jls_interval.specs.SampleCodes.{parameters_of, AreInRange};
+ghost use Rattle.jls_interval.specs.Encoding.{WroteColumns};
 
 use crate::coder::RegularMode;
 use crate::encode_sample::write_regular;
@@ -20,14 +19,13 @@ pub(crate) fn write_samples(
     line: &[u16],
     x: usize,
 ) -> Result<usize, AllocError>
-    requires samples { AllByRecursion (λ sample. sample ≤ encoder.old.coder.cells.parameters.maxval) line.now }
+    requires samples { AreInRange encoder.old.coder line.now }
     requires width { length line.now < 2 ^ 16 }
     requires column { x < length line.now }
     ensures from { IfOk result (λ next. x ≤ next) }
     ensures within { IfOk result (λ next. next < length line.now) }
-    ensures written { IfOk result (λ next. WritesColumns encoder.old.coder.cells.parameters place.now.component
-        (above_of place.now) line.now x next (written_by encoder.old) (written_by encoder.new)) }
-    ensures parameters { encoder.new.coder.cells.parameters ≡ encoder.old.coder.cells.parameters }
+    ensures written { IfOk result (λ next. WroteColumns place.now line.now x next encoder.old encoder.new) }
+    ensures parameters { parameters_of encoder.new.coder ≡ parameters_of encoder.old.coder }
 {
     let mut column = x;
     let mut near = place.neighbours(line.len(), line, column);

@@ -2,7 +2,8 @@
 
 ghost use Rattle.std.specs.Prelude.{◌≡◌, [], map, IfOk, OnOk};
 ghost use Rattle.jls_interval.specs.Code.{code};
-ghost use Rattle.jls_interval.specs.Encoding.{AreWritten, written_by};
+ghost use Rattle.jls_interval.specs.SampleCodes.{parameters_of};
+ghost use Rattle.jls_interval.specs.Encoding.{HasWritten};
 ghost use Rattle.jls_interval.specs.Fronts.{AreFirstLines, LinesEndAt, IsFrontOf, FrontsBeginPieces};
 
 use crate::coder::Coder;
@@ -29,13 +30,12 @@ fn write_with_ends(
     lines: &[&[u16]],
     ends: &mut Vec<BitPlace>,
 ) -> Result<(), AllocError>
-    requires lines { AreFirstLines encoder.old.coder.cells.parameters width components (map (λ l. l.now) lines.now) }
-    requires start { AreWritten encoder.old.coder.cells.parameters width components (map
-        (λ l. l.now) lines.now) 0 (written_by encoder.old) }
+    requires lines { AreFirstLines (parameters_of encoder.old.coder) width components (map (λ l. l.now) lines.now) }
+    requires start { HasWritten encoder.old width components (map (λ l. l.now) lines.now) 0 }
     requires none { ends.old.items ≡ [] }
-    ensures code { OnOk result (encoder.new.writer ≡ code encoder.old.coder.cells.parameters width components (map
+    ensures code { OnOk result (encoder.new.writer ≡ code (parameters_of encoder.old.coder) width components (map
         (λ l. l.now) lines.now)) }
-    ensures ends { OnOk result (LinesEndAt encoder.old.coder.cells.parameters width components (map
+    ensures ends { OnOk result (LinesEndAt (parameters_of encoder.old.coder) width components (map
         (λ l. l.now) lines.now) ends.new.items) }
 {
     for j in 0..lines.len() {

@@ -11,6 +11,7 @@ ghost use Rattle.jls_interval.specs.Cells.{regular_error};
 ghost use Rattle.jls_interval.specs.CodeLengths.{AreLengths};
 ghost use Rattle.jls_interval.specs.Code.{regular_bits};
 ghost use Rattle.jls_interval.specs.Place.{above_of};
+ghost use Rattle.jls_interval.specs.SampleCodes.{parameters_of};
 ghost use Rattle.jls_interval.specs.LineSamples.{PrefixIs, TakesInLine};
 
 use crate::code_lengths::CodeLengths;
@@ -50,12 +51,12 @@ fn take_sample(
     gradients: GradientsAbove,
     chunk: &mut Chunk,
 ) -> Prefix
-    requires lengths { AreLengths coder.old.cells.parameters lengths }
-    requires first { gradients.first ≡ quantized_gradient coder.old.cells.parameters (pos neighbours.rd -ℤ pos neighbours.rb) }
-    requires second { gradients.second ≡ quantized_gradient coder.old.cells.parameters (pos neighbours.rb -ℤ pos neighbours.rc) }
+    requires lengths { AreLengths (parameters_of coder.old) lengths }
+    requires first { gradients.first ≡ quantized_gradient (parameters_of coder.old) (pos neighbours.rd -ℤ pos neighbours.rb) }
+    requires second { gradients.second ≡ quantized_gradient (parameters_of coder.old) (pos neighbours.rb -ℤ pos neighbours.rc) }
     requires steps { IsQuantizedGradient gradients.first × IsQuantizedGradient gradients.second }
-    ensures prefix { PrefixIs coder.old.cells.parameters neighbours coder.old coder.new chunk.old chunk.new result }
-    ensures parameters { coder.new.cells.parameters ≡ coder.old.cells.parameters }
+    ensures prefix { PrefixIs (parameters_of coder.old) neighbours coder.old coder.new chunk.old chunk.new result }
+    ensures parameters { parameters_of coder.new ≡ parameters_of coder.old }
 {
     let third = coder.cells.gradient(neighbours.rc, neighbours.ra);
     match coder
@@ -107,7 +108,7 @@ pub(crate) fn take_samples(
     requires columns { length reader.old.line.items < reader.old.width }
     ensures taken { OnOk result (TakesInLine place.now.component (above_of place.now) reader.old reader.new chunk.old chunk.new) }
     ensures width { reader.new.width ≡ reader.old.width }
-    ensures parameters { reader.new.coder.cells.parameters ≡ reader.old.coder.cells.parameters }
+    ensures parameters { parameters_of reader.new.coder ≡ parameters_of reader.old.coder }
 {
     // A copy of its own, which the loop can hold in registers.
     let mut bits = chunk.fork();
@@ -127,7 +128,7 @@ fn take_samples_of(
     requires columns { length reader.old.line.items < reader.old.width }
     ensures taken { OnOk result (TakesInLine place.now.component (above_of place.now) reader.old reader.new chunk.old chunk.new) }
     ensures width { reader.new.width ≡ reader.old.width }
-    ensures parameters { reader.new.coder.cells.parameters ≡ reader.old.coder.cells.parameters }
+    ensures parameters { parameters_of reader.new.coder ≡ parameters_of reader.old.coder }
 {
     let OpenEvent::NotBegun = reader.open_event else {
         return Ok(());

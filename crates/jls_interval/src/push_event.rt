@@ -1,21 +1,13 @@
 //! Reading one event, a few bits at a time: a sample of regular mode, or a run with what ends it.
 
-ghost use Rattle.std.specs.Prelude.{◌≡◌, ℕ, ◌-◌, ◌<◌, ◌≤◌, ◌++◌, Bool, true, List, length, replicate, get_or, IfOk};
-ghost use Rattle.std.specs.List.{AllByRecursion};
-ghost use Rattle.jls_values.specs.Params.{limit, qbpp};
-ghost use Rattle.jls_context.specs.Mode.{is_run_mode, IsRegularMode};
-ghost use Rattle.jls_context.specs.Regular.{regular_k};
-ghost use Rattle.jls_context.specs.Interruption.{run_k};
-ghost use Rattle.jls_context.specs.Variables.{cell_at, run_cell_at};
-ghost use Rattle.jls_bits.specs.CodeState.{IsOpen, bits_fed};
+ghost use Rattle.std.specs.Prelude.{◌≡◌, ℕ, ◌<◌, ◌≤◌, ◌++◌, Bool, true, List, length, replicate, IfOk};
+ghost use Rattle.jls_context.specs.Mode.{is_run_mode};
 ghost use Rattle.jls_interval.specs.Events.{Event, Above};
-ghost use Rattle.jls_interval.specs.Cells.{is_same};
-ghost use Rattle.jls_interval.specs.Place.{above_of};
-ghost use Rattle.jls_interval.specs.After.{IsAfter};
-ghost use Rattle.jls_interval.specs.Runs;
-ghost use Rattle.jls_interval.specs.RunState.{IsRunState, RunAt, RunIs};
-ghost use Rattle.jls_interval.specs.OpenEvents.{now_at, following, Holds, EventPushed};
-ghost use Rattle.jls_interval.specs.declared.run_reader.Run.TheVariants.{Interrupted};
+ghost use Rattle.jls_interval.specs.OpenEvents.{now_at, EventPushed};
+ghost use Rattle.jls_interval.specs.RunState.{IsRunState};
+ghost use Rattle.jls_interval.specs.SampleCodes.{parameters_of, IsAboveInRange, IsModeAt, IsRegularOpen, regular_fed};
+ghost use Rattle.jls_interval.specs.LinesInWork.{columns_left, near, ComesAfter, HoldsAt, HoldsRun, HoldsInterruption, IsOpenAfterRun};
+ghost use Rattle.jls_interval.specs.LinesInWork.{PushedAt};
 
 use crate::coder::RegularMode;
 use crate::line_reader::{EventStep, Interruption, LineReader, OpenEvent};
@@ -36,16 +28,13 @@ fn push_to_regular(
     code: CodeState,
     chunk: &mut Chunk,
 ) -> Result<EventStep, AllocError>
-    requires mode { IsRegularMode reader.old.coder.cells.parameters neighbours mode.context mode.negative }
-    requires opened { IsOpen (regular_k (cell_at reader.old.coder.cells mode.context)) (limit reader.old.coder.cells.parameters)
-        (qbpp reader.old.coder.cells.parameters) code }
+    requires mode { IsModeAt reader.old.coder neighbours mode }
+    requires opened { IsRegularOpen reader.old.coder mode code }
     ensures step { IfOk result (λ s. (component : ℕ) (up : Above) (fed : List Bool) (earlier : List Event)
-        → neighbours ≡ now_at reader.old.width up reader.old.line.items
-        → IsAfter reader.old.coder.cells.parameters reader.old.coder.cells reader.old.coder.run_indices earlier
-        → fed ≡ bits_fed (limit reader.old.coder.cells.parameters) (qbpp reader.old.coder.cells.parameters) code
-        → EventPushed component up reader.old reader.new fed chunk.old chunk.new earlier s) }
+        → neighbours ≡ now_at reader.old.width up reader.old.line.items → ComesAfter reader.old earlier
+        → fed ≡ regular_fed reader.old.coder code → EventPushed component up reader.old reader.new fed chunk.old chunk.new earlier s) }
     ensures width { reader.new.width ≡ reader.old.width }
-    ensures parameters { reader.new.coder.cells.parameters ≡ reader.old.coder.cells.parameters }
+    ensures parameters { parameters_of reader.new.coder ≡ parameters_of reader.old.coder }
 {
     match push_to_sample(&reader.coder, neighbours, mode, code, chunk) {
         SampleStep::More(next) => {
@@ -80,23 +69,17 @@ fn push_to_interrupted(
     interruption: Interruption,
     chunk: &mut Chunk,
 ) -> Result<EventStep, AllocError>
-    requires above { AllByRecursion (λ s. s ≤ reader.old.coder.cells.parameters.maxval) place.now.line_above.now }
-    requires run { is_run_mode (now_at reader.old.width (above_of place.now) reader.old.line.items) ≡ true }
-    requires value { value ≡ (now_at reader.old.width (above_of place.now) reader.old.line.items).ra }
-    requires columns { interruption.count < reader.old.width - length reader.old.line.items }
+    requires above { IsAboveInRange reader.old.coder place.now }
+    requires run { is_run_mode (near reader.old place.now) ≡ true }
+    requires value { value ≡ (near reader.old place.now).ra }
+    requires columns { interruption.count < columns_left reader.old }
     requires run_index { interruption.run_index ≤ 31 }
-    requires opened { let there = following reader.old.width (above_of place.now) reader.old.line.items interruption.count in
-        IsOpen (run_k (is_same there) (run_cell_at reader.old.coder.cells (is_same there)))
-        (limit reader.old.coder.cells.parameters - Runs.run_order interruption.run_index - 1)
-        (qbpp reader.old.coder.cells.parameters) interruption.code }
-    ensures step { IfOk result (λ s. (fed : List Bool) (earlier : List Event)
-        → IsAfter reader.old.coder.cells.parameters reader.old.coder.cells reader.old.coder.run_indices earlier
-        → RunIs (get_or reader.old.coder.run_indices place.now.component 0) (reader.old.width - length reader.old.line.items) fed
-        (bits_fed (limit reader.old.coder.cells.parameters - Runs.run_order interruption.run_index - 1)
-        (qbpp reader.old.coder.cells.parameters) interruption.code) (Interrupted interruption.count interruption.run_index)
-        → EventPushed place.now.component (above_of place.now) reader.old reader.new fed chunk.old chunk.new earlier s) }
+    requires opened { IsOpenAfterRun place.now reader.old interruption }
+    ensures step { IfOk result (λ s. (fed : List Bool) (earlier : List Event) → ComesAfter reader.old earlier
+        → HoldsInterruption place.now reader.old interruption fed
+        → PushedAt place.now reader.old reader.new fed chunk.old chunk.new earlier s) }
     ensures width { reader.new.width ≡ reader.old.width }
-    ensures parameters { reader.new.coder.cells.parameters ≡ reader.old.coder.cells.parameters }
+    ensures parameters { parameters_of reader.new.coder ≡ parameters_of reader.old.coder }
 {
     let Interruption {
         count,
@@ -143,17 +126,15 @@ fn push_to_run(
     state: RunState,
     chunk: &mut Chunk,
 ) -> Result<EventStep, AllocError>
-    requires above { AllByRecursion (λ s. s ≤ reader.old.coder.cells.parameters.maxval) place.now.line_above.now }
+    requires above { IsAboveInRange reader.old.coder place.now }
     requires columns { length reader.old.line.items < reader.old.width }
-    requires run { is_run_mode (now_at reader.old.width (above_of place.now) reader.old.line.items) ≡ true }
-    requires value { value ≡ (now_at reader.old.width (above_of place.now) reader.old.line.items).ra }
-    requires state { IsRunState (reader.old.width - length reader.old.line.items) state }
-    ensures step { IfOk result (λ s. (fed : List Bool) (earlier : List Event)
-        → IsAfter reader.old.coder.cells.parameters reader.old.coder.cells reader.old.coder.run_indices earlier
-        → RunAt (get_or reader.old.coder.run_indices place.now.component 0) (reader.old.width - length reader.old.line.items) fed state
-        → EventPushed place.now.component (above_of place.now) reader.old reader.new fed chunk.old chunk.new earlier s) }
+    requires run { is_run_mode (near reader.old place.now) ≡ true }
+    requires value { value ≡ (near reader.old place.now).ra }
+    requires state { IsRunState (columns_left reader.old) state }
+    ensures step { IfOk result (λ s. (fed : List Bool) (earlier : List Event) → ComesAfter reader.old earlier
+        → HoldsRun place.now reader.old state fed → PushedAt place.now reader.old reader.new fed chunk.old chunk.new earlier s) }
     ensures width { reader.new.width ≡ reader.old.width }
-    ensures parameters { reader.new.coder.cells.parameters ≡ reader.old.coder.cells.parameters }
+    ensures parameters { parameters_of reader.new.coder ≡ parameters_of reader.old.coder }
 {
     let columns = (reader.width - reader.line.len()) as u32;
     match state.push_chunk(columns, chunk) {
@@ -186,15 +167,13 @@ pub(crate) fn push_to_event(
     place: &Place<'_>,
     chunk: &mut Chunk,
 ) -> Result<EventStep, AllocError>
-    requires above { AllByRecursion (λ s. s ≤ reader.old.coder.cells.parameters.maxval) place.now.line_above.now }
+    requires above { IsAboveInRange reader.old.coder place.now }
     requires columns { length reader.old.line.items < reader.old.width }
-    requires open_event { (fed : List Bool) × Holds place.now.component (above_of place.now) reader.old fed }
-    ensures step { IfOk result (λ s. (fed : List Bool) (earlier : List Event)
-        → IsAfter reader.old.coder.cells.parameters reader.old.coder.cells reader.old.coder.run_indices earlier
-        → Holds place.now.component (above_of place.now) reader.old fed
-        → EventPushed place.now.component (above_of place.now) reader.old reader.new fed chunk.old chunk.new earlier s) }
+    requires open_event { (fed : List Bool) × HoldsAt place.now reader.old fed }
+    ensures step { IfOk result (λ s. (fed : List Bool) (earlier : List Event) → ComesAfter reader.old earlier
+        → HoldsAt place.now reader.old fed → PushedAt place.now reader.old reader.new fed chunk.old chunk.new earlier s) }
     ensures width { reader.new.width ≡ reader.old.width }
-    ensures parameters { reader.new.coder.cells.parameters ≡ reader.old.coder.cells.parameters }
+    ensures parameters { parameters_of reader.new.coder ≡ parameters_of reader.old.coder }
 {
     let column = reader.line.len();
     let columns = (reader.width - column) as u32;

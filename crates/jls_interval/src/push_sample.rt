@@ -1,17 +1,12 @@
 //! Reading one sample, a few bits at a time (ITU-T T.87, A.4, A.5 and A.7.2).
 
-ghost use Rattle.std.specs.Prelude.{◌≡◌, ◌≢◌, ◌-◌, ◌≤◌, ◌++◌, Bool, true, List, pos, IfSome, IfNone};
-ghost use Rattle.jls_values.specs.Params.{limit, qbpp};
-ghost use Rattle.jls_context.specs.Mode.{IsRegularMode};
+ghost use Rattle.std.specs.Prelude.{◌≡◌, ◌≢◌, ◌≤◌, ◌++◌, Bool, true, List, pos, IfSome, IfNone};
 ghost use Rattle.jls_context.specs.Errors.{IsError};
-ghost use Rattle.jls_context.specs.Regular.{regular_k};
-ghost use Rattle.jls_context.specs.Interruption.{run_k};
-ghost use Rattle.jls_context.specs.Variables.{cell_at, run_cell_at};
-ghost use Rattle.jls_bits.specs.Golomb.{golomb, has_golomb};
-ghost use Rattle.jls_bits.specs.CodeState.{IsOpen, bits_fed};
 ghost use Rattle.jls_interval.specs.Cells.{regular_error, is_same, interruption_error};
 ghost use Rattle.jls_interval.specs.Code.{regular_bits, interrupting_bits};
-ghost use Rattle.jls_interval.specs.Reading.{NoSample, NoInterruption};
+ghost use Rattle.jls_interval.specs.SampleCodes.{parameters_of, IsModeAt, IsRegularOpen, NoRegular, has_regular_code, regular_cell};
+ghost use Rattle.jls_interval.specs.SampleCodes.{regular_code, regular_fed, IsInterruptingOpen, NoInterrupting, has_interrupting_code};
+ghost use Rattle.jls_interval.specs.SampleCodes.{interrupting_cell, interrupting_code, interrupting_fed};
 ghost use Rattle.jls_interval.specs.SampleSteps.{SamplePushed, InterruptionPushed};
 
 use crate::coder::{Coder, RegularMode};
@@ -43,21 +38,16 @@ pub(crate) fn sample_of(
     mode: RegularMode,
     mapped: u32,
 ) -> Option<Sample>
-    requires mode { IsRegularMode coder.now.cells.parameters neighbours mode.context mode.negative }
-    requires code { has_golomb (regular_k (cell_at coder.now.cells mode.context)) (limit coder.now.cells.parameters)
-        (qbpp coder.now.cells.parameters) mapped ≡ true }
-    ensures sample { IfSome result (λ s. s.value ≤ coder.now.cells.parameters.maxval) }
+    requires mode { IsModeAt coder.now neighbours mode }
+    requires code { has_regular_code coder.now mode mapped ≡ true }
+    ensures sample { IfSome result (λ s. s.value ≤ (parameters_of coder.now).maxval) }
     ensures error { IfSome result
-        (λ s. s.error ≡ regular_error coder.now.cells.parameters (cell_at coder.now.cells mode.context) neighbours s.value) }
-    ensures reduced { IfSome result (λ s. IsError coder.now.cells.parameters s.error) }
-    ensures bits { IfSome result
-        (λ s. regular_bits coder.now.cells.parameters (cell_at coder.now.cells mode.context) neighbours s.value
-        ≡ golomb (regular_k (cell_at coder.now.cells mode.context)) (limit coder.now.cells.parameters)
-        (qbpp coder.now.cells.parameters) mapped) }
-    ensures none { IfNone result ((given unread : List Bool)
-        → given ≡ golomb (regular_k (cell_at coder.now.cells mode.context)) (limit coder.now.cells.parameters)
-        (qbpp coder.now.cells.parameters) mapped
-        ++ unread → NoSample coder.now.cells.parameters (cell_at coder.now.cells mode.context) neighbours given) }
+        (λ s. s.error ≡ regular_error (parameters_of coder.now) (regular_cell coder.now mode) neighbours s.value) }
+    ensures reduced { IfSome result (λ s. IsError (parameters_of coder.now) s.error) }
+    ensures bits { IfSome result (λ s. regular_bits (parameters_of coder.now) (regular_cell coder.now mode) neighbours s.value
+        ≡ regular_code coder.now mode mapped) }
+    ensures none { IfNone result ((given unread : List Bool) → given ≡ regular_code coder.now mode mapped ++ unread
+        → NoRegular coder.now mode neighbours given) }
 {
     let RegularMode { context, negative } = mode;
     match coder.cells.regular_error(context, mapped) {
@@ -80,11 +70,10 @@ pub(crate) fn push_to_sample(
     code: CodeState,
     chunk: &mut Chunk,
 ) -> SampleStep
-    requires mode { IsRegularMode coder.now.cells.parameters neighbours mode.context mode.negative }
-    requires opened { IsOpen (regular_k (cell_at coder.now.cells mode.context)) (limit coder.now.cells.parameters)
-        (qbpp coder.now.cells.parameters) code }
-    ensures { SamplePushed coder.now.cells.parameters (cell_at coder.now.cells mode.context) neighbours
-        (bits_fed (limit coder.now.cells.parameters) (qbpp coder.now.cells.parameters) code) chunk.old chunk.new result }
+    requires mode { IsModeAt coder.now neighbours mode }
+    requires opened { IsRegularOpen coder.now mode code }
+    ensures { SamplePushed (parameters_of coder.now) (regular_cell coder.now mode) neighbours (regular_fed coder.now code)
+        chunk.old chunk.new result }
 {
     let k = coder.cells.regular_k(mode.context);
     match code.push_chunk(k, coder.lengths.limit, coder.lengths.qbpp, chunk) {
@@ -106,22 +95,17 @@ pub(crate) fn interruption_of(
     mapped: u32,
 ) -> Option<Sample>
     requires order { order ≤ 15 }
-    requires above { neighbours.rb ≤ coder.now.cells.parameters.maxval }
-    requires code { has_golomb (run_k (is_same neighbours) (run_cell_at coder.now.cells (is_same neighbours)))
-        (limit coder.now.cells.parameters - order - 1) (qbpp coder.now.cells.parameters) mapped ≡ true }
-    ensures sample { IfSome result (λ s. s.value ≤ coder.now.cells.parameters.maxval) }
+    requires above { neighbours.rb ≤ (parameters_of coder.now).maxval }
+    requires code { has_interrupting_code coder.now neighbours order mapped ≡ true }
+    ensures sample { IfSome result (λ s. s.value ≤ (parameters_of coder.now).maxval) }
     ensures another { IfSome result (λ s. s.value ≢ neighbours.ra) }
-    ensures error { IfSome result (λ s. s.error ≡ interruption_error coder.now.cells.parameters neighbours s.value) }
-    ensures reduced { IfSome result (λ s. IsError coder.now.cells.parameters s.error) }
+    ensures error { IfSome result (λ s. s.error ≡ interruption_error (parameters_of coder.now) neighbours s.value) }
+    ensures reduced { IfSome result (λ s. IsError (parameters_of coder.now) s.error) }
     ensures another_error { IfSome result (λ s. is_same neighbours ≡ true → s.error ≢ pos 0) }
-    ensures bits { IfSome result
-        (λ s. interrupting_bits coder.now.cells.parameters (run_cell_at coder.now.cells (is_same neighbours)) neighbours order s.value
-        ≡ golomb (run_k (is_same neighbours) (run_cell_at coder.now.cells (is_same neighbours)))
-        (limit coder.now.cells.parameters - order - 1) (qbpp coder.now.cells.parameters) mapped) }
-    ensures none { IfNone result ((given unread : List Bool)
-        → given ≡ golomb (run_k (is_same neighbours) (run_cell_at coder.now.cells (is_same neighbours)))
-        (limit coder.now.cells.parameters - order - 1) (qbpp coder.now.cells.parameters) mapped
-        ++ unread → NoInterruption coder.now.cells.parameters (run_cell_at coder.now.cells (is_same neighbours)) neighbours order given) }
+    ensures bits { IfSome result (λ s. interrupting_bits (parameters_of coder.now) (interrupting_cell coder.now neighbours) neighbours
+        order s.value ≡ interrupting_code coder.now neighbours order mapped) }
+    ensures none { IfNone result ((given unread : List Bool) → given ≡ interrupting_code coder.now neighbours order mapped ++ unread
+        → NoInterrupting coder.now neighbours order given) }
 {
     let Neighbours { ra, rb, .. } = neighbours;
     match coder.cells.run_error(ra == rb, mapped) {
@@ -146,11 +130,10 @@ pub(crate) fn push_to_interruption(
     chunk: &mut Chunk,
 ) -> SampleStep
     requires order { order ≤ 15 }
-    requires above { neighbours.rb ≤ coder.now.cells.parameters.maxval }
-    requires opened { IsOpen (run_k (is_same neighbours) (run_cell_at coder.now.cells (is_same neighbours)))
-        (limit coder.now.cells.parameters - order - 1) (qbpp coder.now.cells.parameters) code }
-    ensures { InterruptionPushed coder.now.cells.parameters (run_cell_at coder.now.cells (is_same neighbours)) neighbours order
-        (bits_fed (limit coder.now.cells.parameters - order - 1) (qbpp coder.now.cells.parameters) code) chunk.old chunk.new result }
+    requires above { neighbours.rb ≤ (parameters_of coder.now).maxval }
+    requires opened { IsInterruptingOpen coder.now neighbours order code }
+    ensures { InterruptionPushed (parameters_of coder.now) (interrupting_cell coder.now neighbours) neighbours order
+        (interrupting_fed coder.now order code) chunk.old chunk.new result }
 {
     let k = coder.cells.run_k(neighbours.ra == neighbours.rb);
     let limit = coder.lengths.limit - order - 1;
