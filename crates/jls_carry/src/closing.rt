@@ -71,53 +71,56 @@ fn add_mixed(
     Ok(())
 }
 
-/// Whether lines that a piece gives are those that are settled.
+/// Whether lines that a piece gives are those that are settled, and none of them is disputed.
 fn are_as_settled(picture: &Picture, interval: &Interval, lines: &[Vec<u16>]) -> bool {
     lines.iter().enumerate().all(|(line, samples)| {
         let place = interval.place(line);
         match picture.settled(place) {
-            None => true,
+            None => !picture.is_disputed(place),
             Some(reading) => *picture.samples(place, reading) == *samples.as_slice(),
         }
     })
 }
 
-/// Whether a piece of a copy says otherwise of a line that is settled.
-fn is_otherwise(picture: &Picture, copy: &CopyState<'_>, index: usize, piece: &Piece) -> bool {
+/// Whether a piece of a copy says otherwise of a line that is settled, or has a line that is disputed.
+fn is_doubtful(picture: &Picture, copy: &CopyState<'_>, index: usize, piece: &Piece) -> bool {
     (0..piece.interval.line_count()).any(|line| {
         let place = piece.interval.place(line);
-        let settled = picture.settled(place);
         copy.claim(place).is_some_and(|claim| {
-            claim.piece == index && settled.is_some_and(|reading| reading != claim.reading)
+            claim.piece == index
+                && match picture.settled(place) {
+                    None => picture.is_disputed(place),
+                    Some(reading) => reading != claim.reading,
+                }
         })
     })
 }
 
-/// For each piece of a copy whether it says otherwise of a line that is settled.
-fn which_say_otherwise(
+/// For each piece of a copy whether it says otherwise of a line that is settled, or has a line that is disputed.
+fn which_are_doubtful(
     alloc: Global,
     picture: &Picture,
     copy: &CopyState<'_>,
 ) -> Result<Vec<bool>, AllocError> {
     let mut all = Vec::new(alloc);
     for (index, piece) in copy.pieces.iter().enumerate() {
-        all.push(is_otherwise(picture, copy, index, piece))?;
+        all.push(is_doubtful(picture, copy, index, piece))?;
     }
     Ok(all)
 }
 
-/// Adds the lines that a copy has from pieces that close, and say what is settled.
+/// Adds the lines that a copy has from pieces that close, say what is settled, and have no disputed line.
 fn add_closed(
     alloc: Global,
     picture: &Picture,
     copy: &CopyState<'_>,
     closed: &mut Vec<Closed>,
 ) -> Result<(), AllocError> {
-    let otherwise = which_say_otherwise(alloc, picture, copy)?;
+    let doubtful = which_are_doubtful(alloc, picture, copy)?;
     for (place, claim) in copy.claims.iter().enumerate() {
         if let Some(claim) = claim {
-            let is_otherwise = otherwise.get(claim.piece).copied().unwrap_or(false);
-            if claim.closes && !is_otherwise && picture.is_open(place) {
+            let is_doubtful = doubtful.get(claim.piece).copied().unwrap_or(false);
+            if claim.closes && !is_doubtful && picture.is_open(place) {
                 closed.push(Closed {
                     place,
                     reading: claim.reading,

@@ -30,8 +30,8 @@ pub(crate) struct PieceIndex {
     pub(crate) piece: usize,
 }
 
-/// Writes these readings of the first lines of an interval, and blank lines behind them, so that these fill the last byte; `None` where they
-/// can't be coded there.
+/// Writes these readings of the first lines of an interval, and blank lines behind them, so that these fill the last byte; `None` where
+/// they can't be coded there.
 fn write(
     alloc: Global,
     picture: &Picture,

@@ -42,7 +42,7 @@
 //! 8. Where nothing else goes on, 24 such bytes are a hint without a whole line in them: lines up to a hint are taken, four rows behind
 //!    the known ones at most.
 //! 9. Pieces that close by themselves count only where nothing else goes on, and in copies that agree with another somewhere. No such piece
-//!    may say otherwise, and one that says otherwise of a settled line doesn't count.
+//!    may say otherwise. One that says otherwise of a settled line doesn't count, nor one with a disputed line.
 //!
 //! Where two copies have the same code, that code anew says nothing of its truth: garbage, coded anew, is the same garbage. There only what
 //! agrees from the start of an interval on is taken, where nothing else goes on, and no copy of another coding says otherwise. It gives way

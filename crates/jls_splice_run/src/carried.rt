@@ -32,7 +32,7 @@ use crate::made::{Made, files_asked, files_reported, groups_reported, lacks_file
 use crate::printed_lines::{lines_of_carried, notes_of_carried};
 use crate::reading_as::{are_one_picture, each_reads_as};
 use crate::task::{Task, has_lists};
-use crate::telling_apart::is_one_bit_wrong;
+use crate::telling_apart::is_told_apart;
 use jls_carried::{Between, SearchBounds, are_all_printed, carry_between};
 use jls_held::{EditedCopy, Judged, MendedCopy};
 use jls_partial::Partial;
@@ -260,7 +260,7 @@ fn are_read_as(
 
 /// What is handed out of what copies in several codings gave each other. If a file taken may be without a fault, `None` comes unless
 /// that speaks against it: a promised picture is another one, or a line has several readings, or was left open before one that is settled.
-/// If such files differ, it comes unless a picture is promised, and one bit is all that is wrong then.
+/// If such files differ, it comes unless a picture is promised, and it is told which are wrong (`telling_apart`).
 fn texts_of_judged(
     alloc: Global,
     task: &Task<'_, '_>,
@@ -296,7 +296,7 @@ fn texts_of_judged(
     if !is_alone && promise == Promise::Held && are_one_picture(&held, given) {
         return Ok(None);
     }
-    let is_told = promise == Promise::Held && is_one_bit_wrong(files.copies, &codings);
+    let is_told = promise == Promise::Held && is_told_apart(files.copies, &codings);
     if !is_alone && !given.is_settled() && !is_told {
         return Ok(None);
     }

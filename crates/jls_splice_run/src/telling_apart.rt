@@ -1,9 +1,13 @@
 //! Whether it can be told which copies are wrong, where files without a fault differ. It only advises: no contract speaks of it.
 //!
 //! A bit that is flipped in one copy can change a line, and nothing else. In the code of another copy that line differs in few bytes, as if
-//! these were flipped instead. So little can be told. But one bit that is all that is wrong would be several, if another copy were wrong.
+//! these were flipped instead. So little can be told where few bytes are wrong. But one bit that is all such would be several, if another
+//! copy were wrong. And bytes that are lost or put in, or many that are wrong side by side, look like nothing else.
 
 use jls_held::{CopyEdit, EditedCopy};
+
+/// How many bytes that are wrong side by side look like no flipped bit.
+const MANY: usize = 16;
 
 /// Whether an edit changes one bit of a copy.
 fn changes_one_bit(copy: &[u8], edit: &CopyEdit) -> bool {
@@ -13,15 +17,20 @@ fn changes_one_bit(copy: &[u8], edit: &CopyEdit) -> bool {
     }
 }
 
-/// Whether one edit is all that these copies have, and changes one bit.
-pub(crate) fn is_one_bit_wrong(copies: &[&[u8]], codings: &[Vec<EditedCopy>]) -> bool {
+/// Whether an edit says plainly that its copy is damaged: bytes are lost or put in, or many are wrong.
+fn is_plain(edit: &CopyEdit) -> bool {
+    edit.count == 0 || edit.bytes.is_empty() || edit.count.min(edit.bytes.len()) >= MANY
+}
+
+/// Whether all edits of these copies are plain, but for one that changes one bit.
+pub(crate) fn is_told_apart(copies: &[&[u8]], codings: &[Vec<EditedCopy>]) -> bool {
     let mut is_one = false;
     for coding in codings {
         for edited in coding {
             let Some(copy) = copies.get(edited.number) else {
                 continue;
             };
-            for edit in &edited.edits {
+            for edit in edited.edits.iter().filter(|edit| !is_plain(edit)) {
                 if is_one || !changes_one_bit(copy, edit) {
                     return false;
                 }
@@ -29,5 +38,5 @@ pub(crate) fn is_one_bit_wrong(copies: &[&[u8]], codings: &[Vec<EditedCopy>]) ->
             }
         }
     }
-    is_one
+    true
 }
