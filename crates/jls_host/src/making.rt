@@ -1,12 +1,12 @@
 //! How an output is made: as a file of its own beside its name, or at the name.
 
-ghost use Rattle.std.specs.Prelude.{◌≡◌, ℕ, Bool, true, false, List, [], Option, None, IfOk, OnErr};
+ghost use Rattle.std.specs.Prelude.{◌≡◌, ℕ, Bool, true, false, List, [], Option, None, IfOk, IfErr, OnErr};
 ghost use Rattle.jls_host.specs.Disk.{Content, Went};
 ghost use Rattle.jls_host.specs.Moments.{Shows, FirstShows, IsBegun};
 ghost use Rattle.jls_host.specs.Steps.{Beside, Steady, IsSeen, IsNew};
 ghost use Rattle.jls_host.specs.Recorded.{calls_of, number_of};
 ghost use Rattle.jls_host.specs.Standings.{plainly};
-ghost use Rattle.jls_host.specs.Outputs.{takes_name, number_in};
+ghost use Rattle.jls_host.specs.Outputs.{takes_name, number_in, IsNoProtection};
 
 use crate::choice::{Guard, Kind, Standing, Way, is_precious, is_protected, way_to_make};
 use crate::machine::Machine;
@@ -61,7 +61,8 @@ pub(crate) fn create_in_place<M: Machine>(
     name: &str,
     is_precious: bool,
 ) -> Result<Output<M::File>, Why>
-    ensures { IfOk result (λ o. takes_name o ≡ None) }
+    ensures place { IfOk result (λ o. takes_name o ≡ None) }
+    ensures why { IfErr result IsNoProtection }
 {
     if is_precious {
         return Err(Why::NotKept);
@@ -143,10 +144,11 @@ pub(crate) fn create_at_own<M: Machine>(
     found: Found,
     is_copied: bool,
 ) -> Result<Output<M::File>, Why>
-    ensures { IfOk result (λ o. (n own : List ℕ) → takes_name o ≡ Some (n, own) →
+    ensures beside { IfOk result (λ o. (n own : List ℕ) → takes_name o ≡ Some (n, own) →
         (n ≡ name.now) × (is_copied ≡ false) × ((x : Option Content) →
         Went (Steady name.now x None) (Shows name.now x) (IsBegun name.now own (number_in o) x) (calls_of machine.old)
         (calls_of machine.new))) }
+    ensures why { IfErr result IsNoProtection }
 {
     let Ok(whole) = Name::from(name) else {
         return create_in_place(machine, name, found.is_precious);

@@ -1,10 +1,10 @@
 //! An output that is to be whole or not at all: `making` makes it, and `ending` ends it.
 
-ghost use Rattle.std.specs.Prelude.{◌≡◌, ◌≤◌, ◌++◌, ℕ, Bool, true, List, Option, Some, length, take, IfOk, OnOk};
+ghost use Rattle.std.specs.Prelude.{◌≡◌, ◌≤◌, ◌++◌, ℕ, Bool, true, List, Option, Some, length, take, IfOk, IfErr, OnOk};
 ghost use Rattle.jls_host.specs.Disk.{Content, Went};
 ghost use Rattle.jls_host.specs.Moments.{Shows, FirstShows, Has, Anything, IsGoingOn, IsBegun, IsWhole, IsReady};
 ghost use Rattle.jls_host.specs.Recorded.{calls_of};
-ghost use Rattle.jls_host.specs.Outputs.{takes_name, number_in};
+ghost use Rattle.jls_host.specs.Outputs.{takes_name, number_in, IsProtection};
 
 use crate::choice::{Ending, Guard, Kind, Way};
 use crate::ending::end_beside;
@@ -65,8 +65,8 @@ pub(crate) fn why_protected(kind: Kind) -> Why {
 
 impl<F: Write + Drop> Output<F> {
     /// Makes the output of this name. If nothing stands there, or a regular file, it is a file of its own beside the name, and what stands
-    /// there stays. So it is where a link leads to a precious file. Else it is the file at the name, emptied. A protected file, and one
-    /// that does not open for writing, is an error, and so is a precious file beside which no file can be made.
+    /// there stays. So it is where a link leads to a precious file. Else it is the file at the name, emptied. A protected file is an error,
+    /// and stays. So is one that does not open for writing, and a precious file beside which no file can be made.
     pub fn create<M: Machine<File = F>>(
         machine: &mut Recorded<M>,
         name: &str,
@@ -75,6 +75,8 @@ impl<F: Write + Drop> Output<F> {
         ensures beside { IfOk result (λ o. (n own : List ℕ) → takes_name o ≡ Some (n, own) → (n ≡ name.now) × ((x : Option Content) →
             Went (FirstShows name.now x) (FirstShows name.now x) (IsBegun name.now own (number_in o) x) (calls_of machine.old)
             (calls_of machine.new))) }
+        ensures protected { IfErr result (λ why. IsProtection why → (x : Option Content) →
+            Went (FirstShows name.now x) (FirstShows name.now x) (FirstShows name.now x) (calls_of machine.old) (calls_of machine.new)) }
     {
         let found = look(machine, name, guard);
         match way(machine, name, found) {
@@ -122,6 +124,7 @@ impl<F: Write + Drop> Output<F> {
             (calls_of machine.old) (calls_of machine.new)) }
         ensures dropped { ending ≡ Ending.Drop → (name own : List ℕ) → takes_name self ≡ Some (name, own) → (x : Option Content) →
             Went (IsGoingOn name own (number_in self) x) (Shows name x) (Shows name x) (calls_of machine.old) (calls_of machine.new) }
+        ensures named { IfErr result (λ unmade. (name own : List ℕ) → takes_name self ≡ Some (name, own) → unmade.name.bytes ≡ name) }
     {
         let Output { held, beside } = self;
         let Some(beside) = beside else {

@@ -5,8 +5,8 @@ use Rattle.jls_host.proofs.Runs.{and_then, with_less, at_name}
 use Rattle.jls_host.proofs.Takes.{begun, cond_none}
 use Rattle.jls_host.proofs.making.create_at_own.Goals as goal
 
-pub returns-in-Ok-create_beside : goal.returns-in-Ok-create_beside
-returns-in-Ok-create_beside g c = λ n own e.
+pub returns-in-Ok-create_beside-clause-beside : goal.returns-in-Ok-create_beside-clause-beside
+returns-in-Ok-create_beside-clause-beside g c = λ n own e.
     let names = cond_none c.args.is_copied (c.in-Ok.whole.bytes, c.in-Ok-create_beside.own.bytes) (n, own) e in (
       sym (ap (λ (p : List ℕ × List ℕ). p.0) names.1) ∙ c.in-Ok.ensures.ok,
       names.0,

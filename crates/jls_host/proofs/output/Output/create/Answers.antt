@@ -1,4 +1,4 @@
-use Rattle.std.proofs.lemmas.Result.{IfOk-weaker}
+use Rattle.std.proofs.lemmas.Result.{IfOk-weaker, IfErr-weaker}
 use Rattle.jls_host.specs.Standings.{plainly}
 use Rattle.jls_host.proofs.Runs.{and_then, with_less}
 use Rattle.jls_host.proofs.Takes.{steady_seen}
@@ -12,5 +12,15 @@ returns-in-Beside g c = record {
         λ x. and_then (c.look-found.ensures x) (and_then (c.way.ensures.went x (plainly c.look-found.result.standing))
             (with_less (steady_seen c.args.name.now x (plainly c.look-found.result.standing) (c.way.ensures.plainly c.in-Beside.is))
             (λ d s. s.content_is) (λ d b. b) (made.2 x))),
-      )) c.create_at_own.ensures;
+      )) c.create_at_own.ensures.beside;
+  protected = IfErr-weaker c.create_at_own.result _ _ (λ why other is. absurd (other is)) c.create_at_own.ensures.why;
 }
+
+pub returns-in-Over-clause-protected : goal.returns-in-Over-clause-protected
+returns-in-Over-clause-protected g c =
+    IfErr-weaker c.create_at_own-in-Over.result _ _ (λ why other is. absurd (other is)) c.create_at_own-in-Over.ensures.why
+
+pub returns-in-Refused-clause-protected : goal.returns-in-Refused-clause-protected
+returns-in-Refused-clause-protected g c = λ is x.
+    and_then (c.look-found.ensures x) (with_less (λ d s. s) (λ d b. b) (λ d s. s.content_is)
+    (c.way.ensures.went x (plainly c.look-found.result.standing)))
