@@ -12,8 +12,8 @@ use Rattle.jls_piece.specs.Reads.{Reads}
 use Rattle.jls_piece.specs.Heads.{IsHeadOfPiece}
 use Rattle.jls_piece.specs.CutEnds.{CutEndIs}
 use Rattle.jls_piece.specs.PieceBytes.{PieceBytes, piece_asked}
-use Rattle.jls_piece.specs.declared.cut_end.CutEnd.{CutEnd}
-use Rattle.jls_piece.specs.declared.cut_end.CutEnd.TheVariants.{Whole, Head}
+use Rattle.jls_piece.specs.declared.cut_end.PieceCutEnd.{PieceCutEnd}
+use Rattle.jls_piece.specs.declared.cut_end.PieceCutEnd.TheVariants.{Whole, Head}
 use Rattle.jls_interval.specs.declared.decode_piece.PieceFault.{PieceFault}
 use Rattle.jls_interval.specs.declared.decode_piece.PieceFault.TheVariants as piece_fault
 use Rattle.jls_piece.proofs.PieceHeads.{no_head}
@@ -33,7 +33,7 @@ use Rattle.jls_copy.specs.declared.findings.Findings.{Findings}
 use Rattle.jls_copy.proofs.Outcomes.{decoding_with, decoding_is}
 
 -- what `finish_cut` says of a decoder
-abbrev pub CutFinishes : PieceBytes → CutEnd → Type 0
+abbrev pub CutFinishes : PieceBytes → PieceCutEnd → Type 0
 CutFinishes d end = IfSome d.bytes (λ bytes. CutEndIs (piece_asked d) bytes end)
 
 -- the lines of a head are first lines of a piece
@@ -83,7 +83,7 @@ module _ (s : Scan) (k : ℕ) (d : PieceBytes) (piece : OpenPiece) (is : piece �
   whole : piece ≡ Within k (decoding_with s k fed_bytes)
   whole = is ∙ ap (Within k) (decoding_is s k d open_is)
 
-  said : (end : CutEnd) → CutFinishes d end → CutEndIs (interval_of s k) fed_bytes end
+  said : (end : PieceCutEnd) → CutFinishes d end → CutEndIs (interval_of s k) fed_bytes end
   said end h = subst (λ x. CutFinishes x end) (decoding_is s k d open_is) h
 
   pub cut_interval : k < intervals s

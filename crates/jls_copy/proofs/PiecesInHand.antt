@@ -14,7 +14,7 @@ use Rattle.jls_piece.specs.Lines.{PieceShape}
 use Rattle.jls_piece.specs.Code.{piece_code}
 use Rattle.jls_piece.specs.CutEnds.{CutEndIs}
 use Rattle.jls_piece.specs.PieceBytes.{PieceBytes, piece_asked}
-use Rattle.jls_piece.specs.declared.cut_end.CutEnd.TheVariants.{Head}
+use Rattle.jls_piece.specs.declared.cut_end.PieceCutEnd.TheVariants.{Head}
 use Rattle.jls_interval.specs.declared.decode_piece.PieceFault.{PieceFault}
 use Rattle.jls_interval.specs.declared.decode_piece.PieceFault.TheVariants as piece_fault
 use Rattle.jls_interval.proofs.HeadLines.{prefix_lines}
@@ -227,6 +227,7 @@ in_hand_fed profile bytes low frame payload (InScan scan) e is plan interval off
       plan_is = sym q.2.plan_is ∙ h.0;
       number_is = number;
       offset_is = sym q.2.offset_is ∙ h.1;
+      some_line = own.1;
       begins = begins (interval_of plan interval) q.0.bytes (piece_bytes profile bytes t.0 low t.1 q.0 among) lines own.1 first;
     }
 

@@ -30,7 +30,7 @@ pub record BeginsWithLines (i : PieceShape) (piece : List ℕ) (lines : List (Li
   pub begins : BeginsWithCode (first_lines i (length lines)) piece lines unread
 
 -- under a profile, the piece that the end of these bytes closes is that of this interval of a scan, begins at this offset, and begins with
--- the code of lines
+-- the code of lines, one at least
 pub record IsInHandUnder (profile : Profile) (prefix : List ℕ) (plan : Scan) (interval offset : ℕ) (lines : List (List ℕ)) : Type 0 where
   pub course : Course
   pub is_course : IsCourseUnder profile prefix course
@@ -39,6 +39,7 @@ pub record IsInHandUnder (profile : Profile) (prefix : List ℕ) (plan : Scan) (
   pub plan_is : piece.plan ≡ plan
   pub number_is : piece.number ≡ Interval interval
   pub offset_is : piece.offset ≡ offset
+  pub some_line : 0 < length lines
   pub begins : BeginsWithLines (interval_of plan interval) piece.bytes lines
 
 -- the same under the strict profile

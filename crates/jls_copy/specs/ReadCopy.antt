@@ -5,8 +5,8 @@ use Rattle.jls_marker.specs.declared.profile.Profile.{Profile}
 use Rattle.jls_copy.specs.declared.end.End.{End}
 use Rattle.jls_copy.specs.declared.piece.PieceRecord.{PieceRecord}
 
--- what contracts see of a `CopyRead` of jls_copy/src/reader.rt. It has the partial picture, the records that are kept of pieces without
--- readings, the number of such pieces, and the copy's end. Its `pieces` are these records
+-- what contracts see of a `CopyRead` of jls_copy/src/reader.rt. It has the partial picture, the records that are kept of faulty pieces,
+-- the number of such pieces, and the copy's end. Its `pieces` are these records
 pub record ReadCopy : Type 0 where
   pub partial : PartialPicture
   pub pieces : List PieceRecord

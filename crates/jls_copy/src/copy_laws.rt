@@ -37,13 +37,13 @@ pub fn prefixes_keep_readings()
     ensures { PrefixesKeepReadings }
 {}
 
-/// A law: where the piece in hand begins at an offset or after it, each list of bytes that begins so has the same pieces before that
-/// offset, up to what they read as. Both have a frame, and end at the offset or after it.
+/// A law on the pieces before an offset, where the piece in hand begins at the offset or after it. Each list of bytes that begins so has
+/// the same of them, up to what they read as. Both have a frame, and end at the offset or after it.
 pub fn prefixes_settle_pieces()
     ensures { PrefixesSettlePieces }
 {}
 
-/// A law: where the piece in hand begins with the code of some lines, each list of bytes that begins so has a piece of that interval there.
+/// A law on a piece in hand that begins with the code of some lines. Each list of bytes that begins so has a piece of that interval there.
 /// If that piece has data bits, it begins with the code of the same lines.
 pub fn prefixes_go_on()
     ensures { PrefixesGoOn }

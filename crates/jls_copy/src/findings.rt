@@ -1,4 +1,4 @@
-//! What a copy gives: readings, and records of the pieces that give none.
+//! What a copy gives: readings, and records of faulty pieces.
 
 ghost use Rattle.std.specs.Prelude.{◌≡◌, ◌≢◌, ◌+◌, ◌*◌, ◌^◌, ◌≤◌, ◌<◌, ◌∷◌, [], ℕ, IfOk, OnOk, length, map, take, Some, None};
 ghost use Rattle.jls_copy.specs.Findings.{with_readings, picture_of, HoldsShape, kept_with, Adds, AddsCut, IsKindOf};
@@ -15,14 +15,14 @@ use crate::piece::{FedPiece, OpenPiece, PieceKind, PieceRecord};
 use jls_interval::PieceFault;
 use jls_marker::ScanPlan;
 use jls_partial::{InsertFault, Partial};
-use jls_piece::{CutEnd, FinishedLines};
+use jls_piece::{FinishedLines, PieceCutEnd};
 use jls_values::{Merge, MergeFault, Shape};
 use std::alloc::{AllocError, Global};
 
 /// How many records are kept.
 const MOST_RECORDS: usize = 4096;
 
-/// The readings, the first records, and how many pieces gave none.
+/// The readings, the first records, and how many pieces are faulty.
 #[derive(Drop)]
 pub(crate) struct Findings {
     pub(crate) partial: Option<Partial>,
@@ -254,8 +254,8 @@ impl Findings {
                 kind: PieceKind::Beyond,
             }),
             OpenPiece::Within(interval, decoder) => match decoder.finish_cut()? {
-                CutEnd::Whole(lines) => self.take(alloc, shape, plan, interval, lines),
-                CutEnd::Head(head, fault) => {
+                PieceCutEnd::Whole(lines) => self.take(alloc, shape, plan, interval, lines),
+                PieceCutEnd::Head(head, fault) => {
                     let entry = PieceRecord {
                         scan,
                         interval,

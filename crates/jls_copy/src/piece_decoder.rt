@@ -10,7 +10,7 @@ ghost use Rattle.jls_copy.specs.InHand.{AreFirst};
 ghost use Rattle.jls_copy.specs.ReaderState.{with_bytes};
 
 use jls_interval::PieceFault;
-use jls_piece::{CutEnd, FinishedLines, PlannedPiece};
+use jls_piece::{FinishedLines, PieceCutEnd, PlannedPiece};
 use std::alloc::{AllocError, Global};
 use std::marker::Model;
 
@@ -132,7 +132,7 @@ impl PieceDecoder {
 
     /// The lines of a piece that the input's end cuts off, or those that stand whole before the cut. Only by sample can memory be refused
     /// here, if it was not before.
-    pub(crate) fn finish_cut(self) -> Result<CutEnd, AllocError>
+    pub(crate) fn finish_cut(self) -> Result<PieceCutEnd, AllocError>
         ensures refused { IfNone self.bytes (IsErr result) }
         ensures cut_end { IfSome self.bytes (λ bytes. MatchResult result
             (λ end. CutEndIs (piece_asked self) bytes end) (λ _. self.by_sample ≡ true)) }
@@ -149,8 +149,8 @@ impl PieceDecoder {
             (λ lines. AreFirst (piece_asked self) bytes (map (λ line. line.items) lines.items))) }
     {
         match self.finish_cut()? {
-            CutEnd::Whole(lines) => lines.into_vecs(),
-            CutEnd::Head(lines, _) => lines.into_vecs(),
+            PieceCutEnd::Whole(lines) => lines.into_vecs(),
+            PieceCutEnd::Head(lines, _) => lines.into_vecs(),
         }
     }
 }

@@ -13,7 +13,7 @@ pub fn bytes_decide_under()
     ensures { (profile : Profile) → BytesDecideUnder profile }
 {}
 
-/// A law: under each profile, bytes after a copy leave its course as it is, if the course ends at EOI or at a fault other than `Ended`.
+/// A law, under each profile: bytes after a copy leave its course as it is, if that ends at EOI or at a fault other than `Ended`.
 pub fn final_ends_stay_under()
     ensures { (profile : Profile) → FinalEndsStayUnder profile }
 {}
@@ -44,8 +44,8 @@ pub fn prefixes_settle_pieces_under()
     ensures { (profile : Profile) → PrefixesSettlePiecesUnder profile }
 {}
 
-/// A law: under each profile, where the piece in hand begins with the code of some lines, each longer list of bytes has a piece of
-/// that interval there. If that piece has data bits, it begins with the code of the same lines.
+/// A law, under each profile, on a piece in hand that begins with the code of some lines. Each longer list of bytes has a piece of that
+/// interval there. If that piece has data bits, it begins with the code of the same lines.
 pub fn prefixes_go_on_under()
     ensures { (profile : Profile) → PrefixesGoOnUnder profile }
 {}

@@ -73,7 +73,7 @@ impl CopyRead {
         partial
     }
 
-    /// The readings, and the records of the first 4,096 pieces that gave none.
+    /// The readings, and the records of the first 4,096 faulty pieces.
     pub fn into_parts(self) -> (Partial, Vec<PieceRecord>)
         ensures partial { result.0 ≡ self.partial }
         ensures pieces { result.1.items ≡ self.pieces }

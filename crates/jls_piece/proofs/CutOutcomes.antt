@@ -19,14 +19,14 @@ use Rattle.jls_piece.specs.Lines.{line_piece, pixel_piece, lines_of}
 use Rattle.jls_piece.specs.CutEnds.{CutEndIs, cut_of_line}
 use Rattle.jls_piece.specs.PieceFaults.{line_fault}
 use Rattle.jls_piece.specs.PieceBytes.{PieceBytes, piece_asked, bytes_given}
-use Rattle.jls_piece.specs.declared.cut_end.CutEnd.{CutEnd}
-use Rattle.jls_piece.specs.declared.cut_end.CutEnd.TheVariants.{Whole, Head}
+use Rattle.jls_piece.specs.declared.cut_end.PieceCutEnd.{PieceCutEnd}
+use Rattle.jls_piece.specs.declared.cut_end.PieceCutEnd.TheVariants.{Whole, Head}
 use Rattle.jls_piece.specs.declared.piece_decoder.KindOfDecoder.TheVariants as decoder
 use Rattle.jls_piece.proofs.LinePieces as of_line
 use Rattle.jls_piece.proofs.PixelPieces as of_pixel
 
 -- what `finish_cut` says of a decoder
-abbrev pub CutFinishes : PieceBytes → CutEnd → Type 0
+abbrev pub CutFinishes : PieceBytes → PieceCutEnd → Type 0
 CutFinishes z end = IfSome z.bytes (λ bytes. CutEndIs (piece_asked z) bytes end)
 
 line_cut : (i : IntervalShape) (bytes : List ℕ) (end : LineCutEnd) → line_end.CutEndIs i bytes end

@@ -5,7 +5,7 @@ use jls_interval::PieceFault;
 
 /// What the bytes of a piece give if the input ends after them.
 #[derive(Drop)]
-pub enum CutEnd {
+pub enum PieceCutEnd {
     /// The lines that they read as.
     Whole(FinishedLines),
     /// They read as no lines, for this fault, which is never `OutOfMemory`. The lines are those of their head: in order, row by row

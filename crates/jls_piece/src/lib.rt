@@ -23,7 +23,7 @@ mod piece_decoder;
 mod planned_piece;
 mod row_lines;
 
-pub use cut_end::CutEnd;
+pub use cut_end::PieceCutEnd;
 pub use finished_lines::FinishedLines;
 pub use laws::{
     broken_piece_begins_with_no_code, line_pieces_are_intervals, lines_have_rows,

@@ -11,7 +11,7 @@ ghost use Rattle.jls_piece.specs.PieceFaults.{OutcomeIs, line_fault};
 ghost use Rattle.jls_piece.specs.CutEnds.{CutEndIs, cut_of_line};
 ghost use Rattle.jls_piece.specs.PieceBytes.{unfed, piece_asked};
 
-use crate::cut_end::CutEnd;
+use crate::cut_end::PieceCutEnd;
 use crate::finished_lines::FinishedLines;
 use crate::planned_piece::PlannedPiece;
 use crate::row_lines::row_lines;
@@ -92,29 +92,35 @@ fn read_lines(
 }
 
 /// The same end, over lines of either kind.
-fn line_cut_end(end: jls_interval::CutEnd) -> CutEnd
+fn line_cut_end(end: jls_interval::CutEnd) -> PieceCutEnd
     ensures { result ≡ cut_of_line end }
 {
     match end {
-        jls_interval::CutEnd::Whole(lines) => CutEnd::Whole(FinishedLines::by_line(lines)),
+        jls_interval::CutEnd::Whole(lines) => PieceCutEnd::Whole(FinishedLines::by_line(lines)),
         jls_interval::CutEnd::Head(lines, fault) => {
-            CutEnd::Head(FinishedLines::by_line(lines), fault)
+            PieceCutEnd::Head(FinishedLines::by_line(lines), fault)
         }
     }
 }
 
 /// The lines that a decoder by sample gives where the input ends.
-fn cut_lines(alloc: Global, components: u8, decoder: PixelDecoder) -> Result<CutEnd, AllocError>
+fn cut_lines(
+    alloc: Global,
+    components: u8,
+    decoder: PixelDecoder,
+) -> Result<PieceCutEnd, AllocError>
     requires components { components ≡ decoder.components }
     requires some { 0 < components }
     ensures refused { IfNone decoder.bytes (IsErr result) }
     ensures cut_end { IfSome decoder.bytes (λ bytes. IfOk result (CutEndIs (pixel_piece (pixels_asked decoder)) bytes)) }
 {
     match decoder.finish_cut()? {
-        PixelCutEnd::Whole(rows) => Ok(CutEnd::Whole(finished_lines(alloc, components, rows)?)),
+        PixelCutEnd::Whole(rows) => Ok(PieceCutEnd::Whole(finished_lines(
+            alloc, components, rows,
+        )?)),
         PixelCutEnd::Head(rows, fault) => {
             let lines = finished_lines(alloc, components, rows)?;
-            Ok(CutEnd::Head(lines, line_fault(fault)))
+            Ok(PieceCutEnd::Head(lines, line_fault(fault)))
         }
     }
 }
@@ -222,7 +228,7 @@ impl PieceDecoder {
     /// What the bytes give if the input ends after them: the lines that they read as. If they read as none, it is the fault that `finish`
     /// would answer, with the lines of their head. The only refusal is out of memory: if a push was refused, and by sample also here, where
     /// the last samples are read and the lines are made now. By line no memory is taken.
-    pub fn finish_cut(self) -> Result<CutEnd, AllocError>
+    pub fn finish_cut(self) -> Result<PieceCutEnd, AllocError>
         ensures refused { IfNone self.bytes (IsErr result) }
         ensures cut_end { IfSome self.bytes (λ bytes. MatchResult result
             (λ end. CutEndIs (piece_asked self) bytes end) (λ _. self.by_sample ≡ true)) }

@@ -3,7 +3,7 @@
 ghost use Rattle.jls_report.specs.Report.{component_of};
 ghost use Rattle.jls_report.specs.ReportText.{size_text, precision_text, shape_line, counts_line, entry_line, report_text};
 ghost use Rattle.std.specs.List.{flat_map, join_by, AllByRecursion};
-ghost use Rattle.std.specs.Prelude.{◌≡◌, ◌<◌, ◌++◌, length, codes, decimal, IfOk, OnOk};
+ghost use Rattle.std.specs.Prelude.{◌≡◌, ◌<◌, ◌++◌, length, codes, decimal, IfOk, OnOk, OnErr};
 
 use crate::entry::ReportEntry;
 use crate::report::Report;
@@ -13,7 +13,8 @@ use std::alloc::{AllocError, Global};
 
 /// Appends a number in decimal.
 pub fn put_number(out: &mut Vec<u8>, n: u64) -> Result<(), AllocError>
-    ensures { OnOk result (out.new.items ≡ out.old.items ++ decimal n) }
+    ensures appended { OnOk result (out.new.items ≡ out.old.items ++ decimal n) }
+    ensures unchanged { OnErr result (out.new.items ≡ out.old.items) }
 {
     let mut buffer = Buffer::new();
     out.extend_from_slice(buffer.format(n).as_bytes())?;

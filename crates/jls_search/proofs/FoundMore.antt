@@ -37,18 +37,18 @@ module _ (vs more : List (Vec ℕ Global)) (n : ℕ) (at : n ≡ length vs) wher
       ∙ drop-append_seam (lists_of vs) (lists_of more)
 
   -- a search by groups that found those after them
-  pub group_search : (limit copies : ℕ) (ps : List Part) (gs : List Group) (reported : GroupsReported) → AllByRecursion (IsGroup ps) gs
+  pub group_search : (most_tries copies : ℕ) (ps : List Part) (gs : List Group) (reported : GroupsReported) → AllByRecursion (IsGroup ps) gs
       → CoverParts ps gs
       → reported.groups ≡ length gs → IsOnce (lists_of more)
-      → AreGroupsSearched limit copies ps gs reported.tries (lists_of more) reported.is_used_up
-      → IsGroupSearch limit copies ps (by_groups_of (drop n (lists_of (vs ++ more))) reported)
-  group_search limit copies ps gs reported groups cover count once searched = record {
+      → AreGroupsSearched most_tries copies ps gs reported.tries (lists_of more) reported.is_used_up
+      → IsGroupSearch most_tries copies ps (by_groups_of (drop n (lists_of (vs ++ more))) reported)
+  group_search most_tries copies ps gs reported groups cover count once searched = record {
     groups = gs;
     are_groups = groups;
     cover = cover;
     count_is = count;
     once = subst IsOnce (sym back_is) once;
-    searched = subst (λ found. AreGroupsSearched limit copies ps gs reported.tries found reported.is_used_up) (sym back_is) searched;
+    searched = subst (λ found. AreGroupsSearched most_tries copies ps gs reported.tries found reported.is_used_up) (sym back_is) searched;
   }
 
 pub all_is : (vs : List (Vec ℕ Global)) (n : ℕ) → n ≡ length vs → take n (lists_of vs) ≡ lists_of vs

@@ -36,9 +36,9 @@ searched_of last was = record {
       last.goes_on || was;
 }
 
-module _ (limit : ℕ) (ps : List Part) (s : Setting) (before : Searched) (begun last : Search) (is : IsGroupBegun s before begun)
+module _ (most_tries : ℕ) (ps : List Part) (s : Setting) (before : Searched) (begun last : Search) (is : IsGroupBegun s before begun)
     (at : IsAt ps last)
-    (alike : IsAlike begun last) (stops : CanGoOn last limit → ⊥) (went_on : GoesFrom ps begun last limit) (within : before.tries ≤ limit)
+    (alike : IsAlike begun last) (stops : CanGoOn last most_tries → ⊥) (went_on : GoesFrom ps begun last most_tries) (within : before.tries ≤ most_tries)
   where
     goal_is : last.goal ≡ Group s
     goal_is = alike.0 ∙ is.0
@@ -46,7 +46,7 @@ module _ (limit : ℕ) (ps : List Part) (s : Setting) (before : Searched) (begun
     pub of_groups : AreOfGroups ps (lists_of last.splices.items)
     of_groups = subst (λ g. AreFilesFor last.judge.ceiling ps g (lists_of last.splices.items)) goal_is at.files
 
-    no_more_tries : last.tries ≤ limit
+    no_more_tries : last.tries ≤ most_tries
     no_more_tries = (let w = went_on.within in let t = is.2 in omega (arith, w, t, within))
 
     tried : last.goes_on ≡ false → before.tries < last.tries
@@ -59,9 +59,9 @@ module _ (limit : ℕ) (ps : List Part) (s : Setting) (before : Searched) (begun
     most_is : last.most ≡ min (length before.splices.items + 64) 4096
     most_is = alike.2 ∙ is.4
 
-    full : last.goes_on ≡ true → (last.tries ≡ limit) ⊎ (min (length before.splices.items + 64) 4096 ≤ length last.splices.items)
+    full : last.goes_on ≡ true → (last.tries ≡ most_tries) ⊎ (min (length before.splices.items + 64) 4096 ≤ length last.splices.items)
     full on =
-        elim (stopped last limit stops no_more_tries at.few on) [
+        elim (stopped last most_tries stops no_more_tries at.few on) [
           | inl all ↦ inl all
           | inr many ↦ inr (let m = most_is in let n = count_of last.splices.items in omega (arith, many, m, n))
         ]
@@ -77,9 +77,9 @@ module _ (limit : ℕ) (ps : List Part) (s : Setting) (before : Searched) (begun
         when_over last.judge.ceiling ps (Group s) last.path.items (lists_of last.splices.items) last.goes_on over
         (subst (λ g. StandsOrIsSettled last.judge.ceiling ps g last.path.items (lists_of last.splices.items) last.goes_on) goal_is at.goes)
 
-    pub went_through : GoesThrough limit ps s before (searched_of last before.is_used_up)
+    pub went_through : GoesThrough most_tries ps s before (searched_of last before.is_used_up)
     went_through =
-        went limit ps s before (searched_of last before.is_used_up) last.goes_on
+        went most_tries ps s before (searched_of last before.is_used_up) last.goes_on
         (let t = is.2 in let r = went_on.tries in omega (arith, t, r))
         no_more_tries added (let few = at.few in let m = most_is in let n = count_of last.splices.items in omega (arith, few, m, n)) tried
         full

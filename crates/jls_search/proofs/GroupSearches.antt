@@ -53,10 +53,10 @@ module _ {X : Type 0} where
 -- Settings ---------------------------------------------------------------------------------------------------------
 
 -- more tries of the group, and more splices
-module _ (limit t u : ℕ) (ps : List Part) (m n more : List (List ℕ)) (tried : t ≤ u) (within : u ≤ limit) (on : n ≡ m ++ more)
+module _ (most_tries t u : ℕ) (ps : List Part) (m n more : List (List ℕ)) (tried : t ≤ u) (within : u ≤ most_tries) (on : n ≡ m ++ more)
     (few : length n ≤ 4096) where
-  setting_later : (group : Group) (copy : ℕ) (s : SettingSearched) → IsSettingSearched limit t ps m group copy s
-      → IsSettingSearched limit u ps n group copy s
+  setting_later : (group : Group) (copy : ℕ) (s : SettingSearched) → IsSettingSearched most_tries t ps m group copy s
+      → IsSettingSearched most_tries u ps n group copy s
   setting_later group copy s is = record {
     few = is.few;
     each = is.each;
@@ -74,30 +74,30 @@ module _ (limit t u : ℕ) (ps : List Part) (m n more : List (List ℕ)) (tried 
     ];
   }
 
-module _ (limit copies : ℕ) (ps : List Part) (m n more : List (List ℕ)) (on : n ≡ m ++ more) (few : length n ≤ 4096) where
-  group_later : (g : GroupSearched) → IsGroupSearched limit copies ps m g → IsGroupSearched limit copies ps n g
+module _ (most_tries copies : ℕ) (ps : List Part) (m n more : List (List ℕ)) (on : n ≡ m ++ more) (few : length n ≤ 4096) where
+  group_later : (g : GroupSearched) → IsGroupSearched most_tries copies ps m g → IsGroupSearched most_tries copies ps n g
   group_later g is = record {
     each_copy = is.each_copy;
     within = is.within;
-    each = λ copy s at. setting_later limit (tries_in g.settings) (tries_in g.settings) ps m n more (omega arith) is.within on few g.group
+    each = λ copy s at. setting_later most_tries (tries_in g.settings) (tries_in g.settings) ps m n more (omega arith) is.within on few g.group
         copy s (is.each copy s at);
   }
 
-  groups_later : (gs : List GroupSearched) → AllByRecursion (IsGroupSearched limit copies ps m) gs
-      → AllByRecursion (IsGroupSearched limit copies ps n) gs
+  groups_later : (gs : List GroupSearched) → AllByRecursion (IsGroupSearched most_tries copies ps m) gs
+      → AllByRecursion (IsGroupSearched most_tries copies ps n) gs
   groups_later [] each = tt
   groups_later (g ∷ gs) each = (group_later g each.0, groups_later gs each.1)
 
 -- a setting that was gone through
-pub went : (limit : ℕ) (ps : List Part) (s : Setting) (before more : Searched) (cut : Bool) → before.tries ≤ more.tries → more.tries ≤ limit
+pub went : (most_tries : ℕ) (ps : List Part) (s : Setting) (before more : Searched) (cut : Bool) → before.tries ≤ more.tries → more.tries ≤ most_tries
     → Added ps s (lists_of before.splices.items) (lists_of more.splices.items)
     → length more.splices.items ≤ min (length before.splices.items + 64) 4096 → (cut ≡ false → before.tries < more.tries)
-    → (cut ≡ true → (more.tries ≡ limit) ⊎ (min (length before.splices.items + 64) 4096 ≤ length more.splices.items))
+    → (cut ≡ true → (more.tries ≡ most_tries) ⊎ (min (length before.splices.items + 64) 4096 ≤ length more.splices.items))
     → more.is_used_up ≡ (cut || before.is_used_up)
     → (cut ≡ false → (choices : List ℕ) → IsSoughtFor None ps (ForGroup s) choices
     → IsSettledFor ps (ForGroup s) (lists_of more.splices.items) choices)
-    → GoesThrough limit ps s before more
-went limit ps s before more cut tried within (added, on, each) few some full used settled = record {
+    → GoesThrough most_tries ps s before more
+went most_tries ps s before more cut tried within (added, on, each) few some full used settled = record {
   came_to = record { tries = more.tries - before.tries; splices = added; is_cut_off = cut };
   is = record {
     few = omega (arith, all, old, new, few);
@@ -136,9 +136,9 @@ went limit ps s before more cut tried within (added, on, each) few some full use
 -- Copies -----------------------------------------------------------------------------------------------------------
 
 -- no copy yet
-pub goes_first : (limit : ℕ) (ps : List Part) (group : Group) (s : Searched) → s.tries ≡ 0 → length s.splices.items ≤ 4096
-    → GoesThroughCopies limit 0 ps group s s
-goes_first limit ps group s untried few = record {
+pub goes_first : (most_tries : ℕ) (ps : List Part) (group : Group) (s : Searched) → s.tries ≡ 0 → length s.splices.items ≤ 4096
+    → GoesThroughCopies most_tries 0 ps group s s
+goes_first most_tries ps group s untried few = record {
   settings = [];
   is = record { each_copy = refl; within = omega arith; each = λ copy t at. absurd cc };
   tries = untried;
@@ -148,15 +148,15 @@ goes_first limit ps group s untried few = record {
 }
 
 -- one copy more
-pub goes_more : (limit copies : ℕ) (ps : List Part) (group : Group) (before mid more : Searched)
-    → GoesThroughCopies limit copies ps group before mid
-    → GoesThrough limit ps (record { group = group; copy = copies }) mid more → GoesThroughCopies limit (copies + 1) ps group before more
-goes_more limit copies ps group before mid more h g =
+pub goes_more : (most_tries copies : ℕ) (ps : List Part) (group : Group) (before mid more : Searched)
+    → GoesThroughCopies most_tries copies ps group before mid
+    → GoesThrough most_tries ps (record { group = group; copy = copies }) mid more → GoesThroughCopies most_tries (copies + 1) ps group before more
+goes_more most_tries copies ps group before mid more h g =
     let ss : List SettingSearched = h.settings in
     let s : SettingSearched = g.came_to in
     let sum : tries_in (ss ++ s ∷ []) ≡ tries_in ss + s.tries = sum_by_push (λ (x : SettingSearched). x.tries) ss s in
     let tries : more.tries ≡ tries_in (ss ++ s ∷ []) = (let b = h.tries in let e = g.tries in omega (arith, sum, b, e)) in
-    let within : tries_in (ss ++ s ∷ []) ≤ limit = (let w = g.within in omega (arith, tries, w)) in
+    let within : tries_in (ss ++ s ∷ []) ≤ most_tries = (let w = g.within in omega (arith, tries, w)) in
     let rose : tries_in ss ≤ tries_in (ss ++ s ∷ []) = omega (arith, sum) in
     record {
       settings = ss ++ s ∷ [];
@@ -164,12 +164,12 @@ goes_more limit copies ps group before mid more h g =
         each_copy = (let a = length-append ss (s ∷ []) in let b = h.is.each_copy in omega (arith, a, b));
         within = within;
         each =
-            numbered_push (IsSettingSearched limit (tries_in (ss ++ s ∷ [])) ps (lists_of more.splices.items) group) ss s
-            (λ copy t at. setting_later limit (tries_in ss) (tries_in (ss ++ s ∷ [])) ps (lists_of mid.splices.items)
+            numbered_push (IsSettingSearched most_tries (tries_in (ss ++ s ∷ [])) ps (lists_of more.splices.items) group) ss s
+            (λ copy t at. setting_later most_tries (tries_in ss) (tries_in (ss ++ s ∷ [])) ps (lists_of mid.splices.items)
             (lists_of more.splices.items)
             s.splices rose within g.found g.few group copy t (h.is.each copy t at))
-            (subst (λ n. IsSettingSearched limit (tries_in (ss ++ s ∷ [])) ps (lists_of more.splices.items) group n s) (sym h.is.each_copy)
-            (subst (λ t. IsSettingSearched limit t ps (lists_of more.splices.items) group copies s) tries g.is));
+            (subst (λ n. IsSettingSearched most_tries (tries_in (ss ++ s ∷ [])) ps (lists_of more.splices.items) group n s) (sym h.is.each_copy)
+            (subst (λ t. IsSettingSearched most_tries t ps (lists_of more.splices.items) group copies s) tries g.is));
       };
       tries = tries;
       found =
@@ -184,8 +184,8 @@ goes_more limit copies ps group before mid more h g =
 -- Groups -----------------------------------------------------------------------------------------------------------
 
 -- no group yet
-pub none_searched : (limit copies : ℕ) (ps : List Part) (groups : List Group) → AreGroupsSearched limit copies ps (take 0 groups) 0 [] false
-none_searched limit copies ps groups = record {
+pub none_searched : (most_tries copies : ℕ) (ps : List Part) (groups : List Group) → AreGroupsSearched most_tries copies ps (take 0 groups) 0 [] false
+none_searched most_tries copies ps groups = record {
   searched = [];
   in_some_order = IsPermutation-refl [];
   each = tt;
@@ -196,10 +196,10 @@ none_searched limit copies ps groups = record {
 }
 
 -- the same groups in another order
-pub reordered : (limit copies : ℕ) (ps : List Part) (groups ordered : List Group) (tries : ℕ) (found : List (List ℕ)) (used : Bool)
-    → IsPermutation groups ordered → AreGroupsSearched limit copies ps ordered tries found used
-    → AreGroupsSearched limit copies ps groups tries found used
-reordered limit copies ps groups ordered tries found used same h = record {
+pub reordered : (most_tries copies : ℕ) (ps : List Part) (groups ordered : List Group) (tries : ℕ) (found : List (List ℕ)) (used : Bool)
+    → IsPermutation groups ordered → AreGroupsSearched most_tries copies ps ordered tries found used
+    → AreGroupsSearched most_tries copies ps groups tries found used
+reordered most_tries copies ps groups ordered tries found used same h = record {
   searched = h.searched;
   in_some_order = IsPermutation-trans groups ordered (map (λ (x : GroupSearched). x.group) h.searched) same h.in_some_order;
   each = h.each;
@@ -210,11 +210,11 @@ reordered limit copies ps groups ordered tries found used same h = record {
 }
 
 -- one group more
-pub one_more_group : (limit copies : ℕ) (ps : List Part) (groups : List Group) (i : ℕ) (d : Group) (tries sum : ℕ) (begun more : Searched)
-    → i < length groups → AreGroupsSearched limit copies ps (take i groups) tries (lists_of begun.splices.items) begun.is_used_up
-    → GoesThroughCopies limit copies ps (get_or groups i d) begun more → sum ≡ min (tries + more.tries) (2 ^ 32 - 1)
-    → AreGroupsSearched limit copies ps (take (i + 1) groups) sum (lists_of more.splices.items) more.is_used_up
-one_more_group limit copies ps groups i d tries sum begun more within h g sum_is =
+pub one_more_group : (most_tries copies : ℕ) (ps : List Part) (groups : List Group) (i : ℕ) (d : Group) (tries sum : ℕ) (begun more : Searched)
+    → i < length groups → AreGroupsSearched most_tries copies ps (take i groups) tries (lists_of begun.splices.items) begun.is_used_up
+    → GoesThroughCopies most_tries copies ps (get_or groups i d) begun more → sum ≡ min (tries + more.tries) (2 ^ 32 - 1)
+    → AreGroupsSearched most_tries copies ps (take (i + 1) groups) sum (lists_of more.splices.items) more.is_used_up
+one_more_group most_tries copies ps groups i d tries sum begun more within h g sum_is =
     let gs : List GroupSearched = h.searched in
     let group : Group = get_or groups i d in
     let one : GroupSearched = record { group = group; settings = g.settings } in
@@ -228,8 +228,8 @@ one_more_group limit copies ps groups i d tries sum begun more within h g sum_is
           (subst (IsPermutation (take i groups ++ group ∷ [])) (sym (map-append (λ (x : GroupSearched). x.group) gs (one ∷ [])))
           (IsPermutation-append_left (group ∷ []) (take i groups) (map (λ (x : GroupSearched). x.group) gs) h.in_some_order));
       each =
-          all_more (IsGroupSearched limit copies ps (lists_of more.splices.items)) gs one
-          (groups_later limit copies ps (lists_of begun.splices.items) (lists_of more.splices.items) (given_in g.settings) g.found g.few gs
+          all_more (IsGroupSearched most_tries copies ps (lists_of more.splices.items)) gs one
+          (groups_later most_tries copies ps (lists_of begun.splices.items) (lists_of more.splices.items) (given_in g.settings) g.found g.few gs
           h.each)
           g.is;
       tries_are = omega (arith, a, b, e, sum_is);

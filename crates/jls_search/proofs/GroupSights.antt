@@ -2,6 +2,7 @@
 use Rattle.std.proofs.Common.{◌≡◌, ℕ, zero, suc, ◌<◌, List, [], ◌∷◌, length, take, drop, Option, refl, sym, ap}
 use Rattle.std.proofs.Common.{◌∙◌, subst, arith, ◌⊎◌, inl, inr, get_or, Vec, Global}
 use Rattle.std.specs.List.{AllByRecursion, Contains}
+use Rattle.jls_diff.specs.Groups.{IsInside}
 use Rattle.jls_diff.specs.Parts.{Part}
 use Rattle.jls_search.specs.Choices.{prefix_of}
 use Rattle.jls_search.specs.Goals.{IsSeenFor}
@@ -27,9 +28,10 @@ begins_or_after (c ∷ path) (d ∷ cs) (inr (e, t)) =
     ]
 
 module _ (ceiling : Option ℕ) (ps : List Part) (s : Setting) (path : List ℕ) where
-  -- a path that is given up
-  pub given_up : (AllByRecursion (λ b. b < 256) (prefix_of ps path) → IsGivenUp ps s.group path) → IsSeenFor ceiling ps (Group s) path Dead
-  given_up up choices sought t =
+  -- a path that is given up at a part of the group
+  pub given_up : IsInside s.group (length path) → (AllByRecursion (λ b. b < 256) (prefix_of ps path) → IsGivenUp ps s.group path)
+      → IsSeenFor ceiling ps (Group s) path Dead
+  given_up inside up choices sought t =
       elim (begins_or_after path choices t) [
         | inr b ↦ inr b
         | inl begins ↦ (
@@ -39,6 +41,7 @@ module _ (ceiling : Option ℕ) (ps : List Part) (s : Setting) (path : List ℕ)
             (subst (AllByRecursion (λ b. b < 256)) (prefix_and_rest ps choices (length path) sought.0.0.0.0) sought.1) in
             inl (inr (
               length path,
+              inside,
               subst (IsGivenUp ps s.group) (sym begins) (up (subst (λ p. AllByRecursion (λ b. b < 256) (prefix_of ps p)) begins low)),
             ))
             )

@@ -24,11 +24,11 @@ came_to parts s h =
     (subst (λ g. StandsOrIsSettled s.judge.ceiling parts g s.path.items found s.goes_on) h.goal_is h.is_at.goes)
 
 -- one that stopped while there was more to try has made all its tries, or found as many files as it finds at most
-pub stopped : (s : Search) (limit : ℕ) → (CanGoOn s limit → ⊥) → s.tries ≤ limit → length (lists_of s.splices.items) ≤ s.most → s.goes_on
+pub stopped : (s : Search) (most_tries : ℕ) → (CanGoOn s most_tries → ⊥) → s.tries ≤ most_tries → length (lists_of s.splices.items) ≤ s.most → s.goes_on
     ≡ true
-    → (s.tries ≡ limit) ⊎ (length (lists_of s.splices.items) ≡ s.most)
-stopped s limit stops within few more =
-    elim (cases_lt s.tries limit) [
+    → (s.tries ≡ most_tries) ⊎ (length (lists_of s.splices.items) ≡ s.most)
+stopped s most_tries stops within few more =
+    elim (cases_lt s.tries most_tries) [
       | inl less ↦ elim (cases_lt (length (lists_of s.splices.items)) s.most) [
         | inl fewer ↦ absurd (stops (more, less, fewer))
         | inr many ↦ inr (omega (arith, many, few))
@@ -37,10 +37,10 @@ stopped s limit stops within few more =
     ]
 
 -- which are 64 for whole files
-pub used_up : (parts : List Part) (s : Search) (limit : ℕ) → IsSearch parts s → (CanGoOn s limit → ⊥) → s.tries ≤ limit → s.goes_on ≡ true
-    → (s.tries ≡ limit) ⊎ (length (lists_of s.splices.items) ≡ 64)
-used_up parts s limit is stops within more =
-    elim (stopped s limit stops within is.is_at.few more) [
+pub used_up : (parts : List Part) (s : Search) (most_tries : ℕ) → IsSearch parts s → (CanGoOn s most_tries → ⊥) → s.tries ≤ most_tries → s.goes_on ≡ true
+    → (s.tries ≡ most_tries) ⊎ (length (lists_of s.splices.items) ≡ 64)
+used_up parts s most_tries is stops within more =
+    elim (stopped s most_tries stops within is.is_at.few more) [
       | inl all ↦ inl all
       | inr full ↦ inr (let most = is.most_is in omega (arith, full, most))
     ]

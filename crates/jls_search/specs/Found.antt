@@ -38,13 +38,13 @@ pub record IsByGroups (parts : List Part) (b : ByGroups) : Type 0 where
 
 -- a search by groups searched groups that take in each part in which copies differ, so often each at most, with each of so many copies
 -- outside of it. What it tells of its groups, of its tries, of its splices and of whether it was cut off is so
-pub record IsGroupSearch (limit copies : ℕ) (parts : List Part) (b : ByGroups) : Type 0 where
+pub record IsGroupSearch (most_tries copies : ℕ) (parts : List Part) (b : ByGroups) : Type 0 where
   pub groups : List Group
   pub are_groups : AllByRecursion (IsGroup parts) groups
   pub cover : CoverParts parts groups
   pub count_is : b.groups ≡ length groups
   pub once : IsOnce b.choices
-  pub searched : AreGroupsSearched limit copies parts groups b.tries b.choices b.is_used_up
+  pub searched : AreGroupsSearched most_tries copies parts groups b.tries b.choices b.is_used_up
 
 -- a search over these copies, for files under the ceiling, found it; groups, which have no ceiling, were searched where the search of all
 -- splices was cut off or came to nothing, and only there

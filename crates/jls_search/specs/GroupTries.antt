@@ -39,29 +39,29 @@ is_cut_in settings = list_any (λ s. s.is_cut_off) settings
 -- of a group that was tried so often, where these splices were found in all: with the copy of this number outside of it at most 64 were
 -- found, which read so. It was tried, and each splice of bytes that reads so is among those found, or is passed by; or it was cut off,
 -- where the group had all its tries, 64 were found, or 4,096 were in all
-pub record IsSettingSearched (limit tries : ℕ) (parts : List Part) (found : List (List ℕ)) (group : Group) (copy : ℕ) (s : SettingSearched)
+pub record IsSettingSearched (most_tries tries : ℕ) (parts : List Part) (found : List (List ℕ)) (group : Group) (copy : ℕ) (s : SettingSearched)
     : Type 0 where
   pub few : length s.splices ≤ 64
   pub each : AllByRecursion (ReadsWith parts group copy) s.splices
   pub some : s.is_cut_off ≡ false → 0 < s.tries
-  pub cut_off : s.is_cut_off ≡ true → (tries ≡ limit) ⊎ ((length s.splices ≡ 64) ⊎ (length found ≡ 4096))
+  pub cut_off : s.is_cut_off ≡ true → (tries ≡ most_tries) ⊎ ((length s.splices ≡ 64) ⊎ (length found ≡ 4096))
   pub all : s.is_cut_off ≡ false → (choices : List ℕ) → ReadsWith parts group copy choices
       → AllByRecursion (λ b. b < 256) (prefix_of parts choices) → Contains found choices ⊎ IsPassedBy parts group choices
 
 -- a group was searched with each of so many copies outside of it, and has so many tries
-pub record IsGroupSearched (limit copies : ℕ) (parts : List Part) (found : List (List ℕ)) (g : GroupSearched) : Type 0 where
+pub record IsGroupSearched (most_tries copies : ℕ) (parts : List Part) (found : List (List ℕ)) (g : GroupSearched) : Type 0 where
   pub each_copy : length g.settings ≡ copies
-  pub within : tries_in g.settings ≤ limit
+  pub within : tries_in g.settings ≤ most_tries
   pub each : (copy : ℕ) (s : SettingSearched) → slice_get g.settings copy ≡ Some s
-      → IsSettingSearched limit (tries_in g.settings) parts found g.group copy s
+      → IsSettingSearched most_tries (tries_in g.settings) parts found g.group copy s
 
 -- a search of these groups, in some order, each with tries of its own: what it tried in all, as far as 32 bits tell it; what it found in
 -- all, at most 4,096 splices; and whether it was cut off anywhere
-pub record AreGroupsSearched (limit copies : ℕ) (parts : List Part) (groups : List Group) (tries : ℕ) (found : List (List ℕ))
+pub record AreGroupsSearched (most_tries copies : ℕ) (parts : List Part) (groups : List Group) (tries : ℕ) (found : List (List ℕ))
     (is_used_up : Bool) : Type 0 where
   pub searched : List GroupSearched
   pub in_some_order : IsPermutation groups (map (λ g. g.group) searched)
-  pub each : AllByRecursion (IsGroupSearched limit copies parts found) searched
+  pub each : AllByRecursion (IsGroupSearched most_tries copies parts found) searched
   pub tries_are : tries ≡ min (sum_by (λ g. tries_in g.settings) searched) (2 ^ 32 - 1)
   pub found_are : found ≡ flat_map (λ g. given_in g.settings) searched
   pub few : length found ≤ 4096
@@ -76,19 +76,19 @@ IsGroupBegun setting before s =
     × (s.most ≡ min (length before.splices.items + 64) 4096)
 
 -- a search of a group went on with one copy more outside of it
-pub record GoesThrough (limit : ℕ) (parts : List Part) (setting : Setting) (before more : Searched) : Type 0 where
+pub record GoesThrough (most_tries : ℕ) (parts : List Part) (setting : Setting) (before more : Searched) : Type 0 where
   pub came_to : SettingSearched
-  pub is : IsSettingSearched limit more.tries parts (lists_of more.splices.items) setting.group setting.copy came_to
+  pub is : IsSettingSearched most_tries more.tries parts (lists_of more.splices.items) setting.group setting.copy came_to
   pub tries : more.tries ≡ before.tries + came_to.tries
-  pub within : more.tries ≤ limit
+  pub within : more.tries ≤ most_tries
   pub found : lists_of more.splices.items ≡ lists_of before.splices.items ++ came_to.splices
   pub few : length (lists_of more.splices.items) ≤ 4096
   pub used_up : more.is_used_up ≡ (came_to.is_cut_off || before.is_used_up)
 
 -- a search went on with a group, with each of so many copies outside of it. Its tries are those of the group
-pub record GoesThroughCopies (limit copies : ℕ) (parts : List Part) (group : Group) (before more : Searched) : Type 0 where
+pub record GoesThroughCopies (most_tries copies : ℕ) (parts : List Part) (group : Group) (before more : Searched) : Type 0 where
   pub settings : List SettingSearched
-  pub is : IsGroupSearched limit copies parts (lists_of more.splices.items) (record { group = group; settings = settings })
+  pub is : IsGroupSearched most_tries copies parts (lists_of more.splices.items) (record { group = group; settings = settings })
   pub tries : more.tries ≡ tries_in settings
   pub found : lists_of more.splices.items ≡ lists_of before.splices.items ++ given_in settings
   pub few : length (lists_of more.splices.items) ≤ 4096

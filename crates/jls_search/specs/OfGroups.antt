@@ -40,10 +40,11 @@ pub data IsGivenUp (parts : List Part) (group : Group) (path : List ℕ) : Type 
       → (ReadsBetween (offset_of parts path group.begin) None (prefix_of parts path) → HasManyFaults (prefix_of parts path))
       → IsGivenUp parts group path
 
--- a file that choices make is passed by: it has too many faulty pieces, or what some of its first choices make was given up
+-- a file that choices make is passed by: it has too many faulty pieces, or what its first choices make was given up, up to a part of the
+-- group
 abbrev pub IsPassedBy : List Part → Group → List ℕ → Type 0
 IsPassedBy parts group choices =
-    HasManyFaults (prefix_of parts choices) ⊎ ((count : ℕ) × IsGivenUp parts group (take count choices))
+    HasManyFaults (prefix_of parts choices) ⊎ ((count : ℕ) × IsInside group count × IsGivenUp parts group (take count choices))
 
 -- the copy of this number has something at the part, were it nothing
 abbrev pub HasCopy : ℕ → Part → Type 0

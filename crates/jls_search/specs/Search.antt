@@ -90,7 +90,7 @@ pub record IsSearch (parts : List Part) (s : Search) : Type 0 where
 
 -- a search can go on: there is more to try, fewer tries than these were made, and fewer files were found than it finds at most
 abbrev pub CanGoOn : Search → ℕ → Type 0
-CanGoOn s limit = (s.goes_on ≡ true) × (s.tries < limit) × (length (lists_of s.splices.items) < s.most)
+CanGoOn s most_tries = (s.goes_on ≡ true) × (s.tries < most_tries) × (length (lists_of s.splices.items) < s.most)
 
 -- its goal, its ceiling and the number of files that it finds at most are the same
 abbrev pub IsAlike : Search → Search → Type 0
@@ -114,8 +114,8 @@ pub data Tried (parts : List Part) : Search → Search → Type 0 where
 abbrev pub IsBegun : Search → Type 0
 IsBegun s = (s.tries ≡ 0) × (s.splices.items ≡ []) × (s.goes_on ≡ true)
 
--- so many tries, from the begin of a search over parts under this ceiling on, found these
-pub record WereTried (ceiling : Option ℕ) (parts : List Part) (tries : ℕ) (found : List (List ℕ)) : Type 0 where
+-- so many tries, from the begin of a search over parts under this ceiling on, found these, and there was more to try, or not
+pub record WereTried (ceiling : Option ℕ) (parts : List Part) (tries : ℕ) (found : List (List ℕ)) (more : Bool) : Type 0 where
   pub begun : Search
   pub ceiling_is : begun.judge.ceiling ≡ ceiling
   pub is_begun : IsBegun begun
@@ -124,15 +124,16 @@ pub record WereTried (ceiling : Option ℕ) (parts : List Part) (tries : ℕ) (f
   pub tried : Tried parts begun last
   pub tries_are : last.tries ≡ tries
   pub found_are : lists_of last.splices.items ≡ found
+  pub more_is : last.goes_on ≡ more
 
 -- a search went on by tries, up to so many in all. It has forgotten none, and has made one at least if it could go on
-pub record GoesFrom (parts : List Part) (old new : Search) (limit : ℕ) : Type 0 where
+pub record GoesFrom (parts : List Part) (old new : Search) (most_tries : ℕ) : Type 0 where
   pub tried : Tried parts old new
   pub tries : old.tries ≤ new.tries
   pub files : length (lists_of old.splices.items) ≤ length (lists_of new.splices.items)
-  pub within : new.tries ≤ max old.tries limit
+  pub within : new.tries ≤ max old.tries most_tries
   pub ceiling : new.judge.ceiling ≡ old.judge.ceiling
-  pub some : CanGoOn old limit → old.tries < new.tries
+  pub some : CanGoOn old most_tries → old.tries < new.tries
 
 -- Inside the crate -------------------------------------------------------------------------------------------------
 

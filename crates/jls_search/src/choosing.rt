@@ -57,7 +57,7 @@ fn next_way(part: &Part<'_>, after: usize) -> Option<usize>
 }
 
 /// The next way of the part at this place after one, before which none has the same bytes.
-pub fn next_way_at(parts: &Parts<'_>, place: usize, after: usize) -> Option<usize>
+pub(crate) fn next_way_at(parts: &Parts<'_>, place: usize, after: usize) -> Option<usize>
     requires place { place < length parts.now }
     requires first { IsFirstWay (get_or parts.now place (Same [])) after }
     ensures some { IfSome result (λ choice. IsFirstWay (get_or parts.now place (Same [])) choice

@@ -85,7 +85,7 @@ pub fn complete_by_groups<'a>(
     copies: &[&'a [u8]],
     parts: Parts<'a>,
     searched: Searched,
-    limit: u32,
+    most_tries: u32,
 ) -> Result<FoundSplices<'a>, AllocError>
     requires some_copy { 0 < length copies.now }
     requires short { AreShort (bytes_of copies.now) }
@@ -103,7 +103,7 @@ pub fn complete_by_groups<'a>(
     ensures each { IfOk result (λ more. AllByRecursion (IsWhole more.parts) (lists_of more.splices.items)) }
     ensures whole { IfOk result (λ more. more.whole ≤ length more.splices.items) }
     ensures by_groups { IfOk result
-        (λ more. IfSome (found_of more).by_groups (IsGroupSearch limit (length copies.now) more.parts)) }
+        (λ more. IfSome (found_of more).by_groups (IsGroupSearch most_tries (length copies.now) more.parts)) }
 {
     let Searched {
         ceiling,
@@ -127,7 +127,7 @@ pub fn complete_by_groups<'a>(
     if !wants {
         return Ok(found);
     }
-    let by = search_groups(alloc, copies, &found.parts, limit)?;
+    let by = search_groups(alloc, copies, &found.parts, most_tries)?;
     let reported = reported_of(&by);
     let mut given = splices_given(by);
     found.splices.append(&mut given)?;

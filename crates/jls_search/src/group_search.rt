@@ -36,7 +36,7 @@ pub const MOST_BY_GROUPS: usize = 4096;
 #[derive(Clone, Copy)]
 struct Extent {
     copies: usize,
-    limit: u32,
+    most_tries: u32,
 }
 
 /// How many splices there are at most when one copy more was gone through after so many.
@@ -66,22 +66,22 @@ fn search_setting(
     alloc: Global,
     parts: &Parts<'_>,
     setting: Setting,
-    limit: u32,
+    most_tries: u32,
     gone: Gone,
 ) -> Result<Gone, AllocError>
     requires setting { IsSetting parts.now setting }
     requires short { IsShort parts.now }
     requires splices { AreOfGroups parts.now (lists_of gone.searched.splices.items) }
-    requires few { (gone.searched.tries ≤ limit) × (length gone.searched.splices.items ≤ 4096) }
+    requires few { (gone.searched.tries ≤ most_tries) × (length gone.searched.splices.items ≤ 4096) }
     requires kept { IfSome gone.kept (IsKeptReader parts.now) }
     ensures splices { IfOk result (λ more. AreOfGroups parts.now (lists_of more.searched.splices.items)) }
-    ensures goes { IfOk result (λ more. GoesThrough limit parts.now setting gone.searched more.searched) }
+    ensures goes { IfOk result (λ more. GoesThrough most_tries parts.now setting gone.searched more.searched) }
     ensures kept { IfOk result (λ more. IfSome more.kept (IsKeptReader parts.now)) }
 {
     let Gone { searched, kept } = gone;
     let is_cut = searched.is_used_up;
     let mut search = begin(alloc, parts, setting, searched, kept)?;
-    search.run(alloc, parts, limit)?;
+    search.run(alloc, parts, most_tries)?;
     Ok(went(search, is_cut))
 }
 
@@ -179,7 +179,7 @@ fn search_group(
     requires kept { AreEachKept parts.now gone.kept.items }
     ensures splices { IfOk result (λ more. AreOfGroups parts.now (lists_of more.searched.splices.items)) }
     ensures goes { IfOk result
-        (λ more. GoesThroughCopies extent.limit extent.copies parts.now group gone.searched more.searched) }
+        (λ more. GoesThroughCopies extent.most_tries extent.copies parts.now group gone.searched more.searched) }
     ensures kept { IfOk result (λ more. AreEachKept parts.now more.kept.items) }
 {
     let GoneThrough {
@@ -193,7 +193,7 @@ fn search_group(
             alloc,
             parts,
             setting,
-            extent.limit,
+            extent.most_tries,
             Gone {
                 searched,
                 kept: begin,
@@ -227,7 +227,7 @@ fn search_in_turn(
     requires groups { AllByRecursion (IsGroup parts.now) groups.now }
     requires short { IsShort parts.now }
     ensures splices { IfOk result (λ searched. AreOfGroups parts.now (lists_of searched.splices.items)) }
-    ensures searched { IfOk result (λ searched. AreGroupsSearched extent.limit extent.copies parts.now groups.now
+    ensures searched { IfOk result (λ searched. AreGroupsSearched extent.most_tries extent.copies parts.now groups.now
         searched.tries (lists_of searched.splices.items) searched.is_used_up) }
 {
     let mut kept = no_readers(alloc, extent.copies)?;
@@ -254,8 +254,9 @@ fn search_in_turn(
 /// could give more splices than are found at most.
 ///
 /// In a group the search goes depth first, part by part: ways in the order of the copies, those with equal bytes once. A prefix is given
-/// up where the piece in hand begins in the group, or the group begins in it, and it is broken. Each prefix and each file that is tried
-/// counts. The reading of the copies, which orders the groups, does not. Each group may be tried `limit` times, with all copies together.
+/// up before a part of the group. There the piece in hand begins in the group, or the group begins in it, and it is broken. Or the file has
+/// ended there, before the group, or without reading in it. Each prefix and each file that is tried
+/// counts. The reading of the copies, which orders the groups, does not. Each group may be tried `most_tries` times, with all copies together.
 /// A group with one copy gives 64 files at most, and all groups 4,096.
 ///
 /// Where the search of a group with a copy wasn't cut off, each splice that reads so was found, or was passed by. It is passed by where
@@ -267,7 +268,7 @@ pub fn search_groups(
     alloc: Global,
     copies: &[&[u8]],
     parts: &Parts<'_>,
-    limit: u32,
+    most_tries: u32,
 ) -> Result<SearchedGroups, AllocError>
     requires some_copy { 0 < length copies.now }
     requires short { AreShort (bytes_of copies.now) }
@@ -276,7 +277,7 @@ pub fn search_groups(
     ensures cover { IfOk result (λ found. CoverParts parts.now found.groups.items) }
     ensures splices { IfOk result (λ found. AllByRecursion (IsOfGroup parts.now) (lists_of found.searched.splices.items)) }
     ensures once { IfOk result (λ found. IsOnce (lists_of found.searched.splices.items)) }
-    ensures searched { IfOk result (λ found. AreGroupsSearched limit (length copies.now) parts.now found.groups.items
+    ensures searched { IfOk result (λ found. AreGroupsSearched most_tries (length copies.now) parts.now found.groups.items
         found.searched.tries (lists_of found.searched.splices.items) found.searched.is_used_up) }
 {
     parts_can_be_searched();
@@ -284,7 +285,7 @@ pub fn search_groups(
     let ordered = groups_in_order(alloc, parts, copies.len(), &groups)?;
     let extent = Extent {
         copies: copies.len(),
-        limit,
+        most_tries,
     };
     let searched = search_in_turn(alloc, parts, &ordered, extent)?;
     Ok(SearchedGroups { groups, searched })

@@ -1,6 +1,6 @@
 //! The search of whole files level by level, as a value that goes on one level at a time.
 
-ghost use Rattle.std.specs.Prelude.{◌≡◌, ◌↔◌, ◌<◌, ◌≤◌, List, length, IsTrue, IfOk, IfSome, OnOk};
+ghost use Rattle.std.specs.Prelude.{◌≡◌, ◌↔◌, ◌<◌, ◌≤◌, false, List, length, IsTrue, IfOk, IfSome, OnOk};
 ghost use Rattle.std.specs.List.{AllByRecursion};
 ghost use Rattle.jls_diff.specs.Parts.{Part as SpecPart};
 ghost use Rattle.jls_diff.specs.PartsOf.{parts_of};
@@ -134,6 +134,7 @@ impl LevelSearch {
         requires short { IsShort parts.now }
         ensures stands { IfOk result (λ begun. IsLevelSearch parts.now begun) }
         ensures rules { IfOk result (λ begun. begun.rules ≡ rules) }
+        ensures untried { IfOk result (λ begun. (begun.tries ≡ 0) × (begun.is_used_up ≡ false)) }
     {
         let from = no_path(alloc, rules.lets_go);
         let mut living = Vec::new(alloc);
@@ -200,6 +201,8 @@ impl LevelSearch {
         ensures came_to { IfOk result
             (λ searched. CameTo (IsSought self.rules.ceiling) parts.now (lists_of searched.splices.items) searched.is_used_up) }
         ensures ceiling { IfOk result (λ searched. searched.ceiling ≡ self.rules.ceiling) }
+        ensures tries { IfOk result (λ searched. searched.tries ≡ self.tries) }
+        ensures used_up { IfOk result (λ searched. searched.is_used_up ≡ self.is_used_up) }
         ensures reader { IfOk result (λ searched. IfSome searched.reader (IsKeptReader parts.now)) }
     {
         let found = take_files(alloc, parts, self.rules.ceiling, &self.living)?;

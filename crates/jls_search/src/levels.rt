@@ -242,16 +242,16 @@ fn lone_paths(
     alloc: Global,
     parts: &Parts<'_>,
     ceiling: Option<u16>,
-    limit: u32,
+    most_tries: u32,
 ) -> Result<Vec<Vec<usize>>, AllocError>
     requires some_way { AllByRecursion HasSomeWay parts.now }
     requires short { IsShort parts.now }
     ensures lone { IfOk result (λ found. AllByRecursion (IsLone (IsSought ceiling) parts.now) (lists_of found.items)) }
-    ensures some { IfOk result (λ found. (limit ≡ 0) ⊎ IsFirstDead (IsSought ceiling) parts.now ⊎ (0 < length (lists_of found.items))) }
-    ensures untried { limit ≡ 0 → IfOk result (λ found. lists_of found.items ≡ []) }
+    ensures some { IfOk result (λ found. (most_tries ≡ 0) ⊎ IsFirstDead (IsSought ceiling) parts.now ⊎ (0 < length (lists_of found.items))) }
+    ensures untried { most_tries ≡ 0 → IfOk result (λ found. lists_of found.items ≡ []) }
 {
     let mut lone = Vec::new(alloc);
-    if limit == 0 {
+    if most_tries == 0 {
         return Ok(lone);
     }
     let mut judge = Judge {
@@ -260,7 +260,7 @@ fn lone_paths(
         kept: None,
         found: None,
     };
-    let mut left = limit - 1;
+    let mut left = most_tries - 1;
     let Some(mut level) = first_level(alloc, parts, &judge)? else {
         return Ok(lone);
     };
@@ -296,15 +296,15 @@ pub fn lone_path(
     alloc: Global,
     parts: &Parts<'_>,
     ceiling: Option<u16>,
-    limit: u32,
+    most_tries: u32,
 ) -> Result<Option<Vec<usize>>, AllocError>
     requires some_way { AllByRecursion HasSomeWay parts.now }
     requires short { IsShort parts.now }
     ensures lone { IfOk result (λ found. IfSome found (λ path. IsLone (IsSought ceiling) parts.now path.items)) }
-    ensures some { IfOk result (λ found. IfNone found ((limit ≡ 0) ⊎ IsFirstDead (IsSought ceiling) parts.now)) }
-    ensures untried { limit ≡ 0 → IfOk result (λ found. found ≡ None) }
+    ensures some { IfOk result (λ found. IfNone found ((most_tries ≡ 0) ⊎ IsFirstDead (IsSought ceiling) parts.now)) }
+    ensures untried { most_tries ≡ 0 → IfOk result (λ found. found ≡ None) }
 {
-    let paths = lone_paths(alloc, parts, ceiling, limit)?;
+    let paths = lone_paths(alloc, parts, ceiling, most_tries)?;
     let last = paths.len();
     Ok(path_at(paths, last))
 }
@@ -316,15 +316,15 @@ pub fn trusted_path(
     alloc: Global,
     parts: &Parts<'_>,
     ceiling: Option<u16>,
-    limit: u32,
+    most_tries: u32,
 ) -> Result<Option<Vec<usize>>, AllocError>
     requires some_way { AllByRecursion HasSomeWay parts.now }
     requires short { IsShort parts.now }
     ensures lone { IfOk result (λ found. IfSome found (λ path. IsLone (IsSought ceiling) parts.now path.items)) }
-    ensures some { IfOk result (λ found. IfNone found ((limit ≡ 0) ⊎ IsFirstDead (IsSought ceiling) parts.now)) }
-    ensures untried { limit ≡ 0 → IfOk result (λ found. found ≡ None) }
+    ensures some { IfOk result (λ found. IfNone found ((most_tries ≡ 0) ⊎ IsFirstDead (IsSought ceiling) parts.now)) }
+    ensures untried { most_tries ≡ 0 → IfOk result (λ found. found ≡ None) }
 {
-    let paths = lone_paths(alloc, parts, ceiling, limit)?;
+    let paths = lone_paths(alloc, parts, ceiling, most_tries)?;
     let trusted = last_trusted(alloc, parts, ceiling, &paths)?;
     Ok(path_at(paths, trusted))
 }

@@ -1,12 +1,14 @@
 //! What is seen of a path of the search.
 
 ghost use Rattle.std.specs.Prelude.{◌≡◌, ℕ, List, Option, Some, ◌-◌, ◌^◌, ◌<◌, ◌≤◌, length, IfOk, IfSome};
+ghost use Rattle.jls_diff.specs.Groups.{IsInside};
 ghost use Rattle.jls_diff.specs.Parts.{Part as SpecPart};
 ghost use Rattle.jls_diff.specs.PartsOf.{parts_of};
 ghost use Rattle.jls_search.specs.Choices.{IsPath, prefix_of};
 ghost use Rattle.jls_search.specs.Goals.{IsGoal, IsSeenFor};
 ghost use Rattle.jls_search.specs.Search.{AreKept, IsKeptReader};
 ghost use Rattle.jls_search.specs.OfGroups.{IsSetting};
+ghost use Rattle.jls_search.specs.Tried.{IsStop};
 ghost use Rattle.jls_search.specs.declared.setting.Goal.TheVariants.{Whole, Group as ForGroup};
 
 use crate::ceiling::is_above;
@@ -98,7 +100,7 @@ fn look_for_whole(
     }
 }
 
-/// What a search of a group sees of a path that has no choice for some part. The reader was fed what it makes. The path is dead where the
+/// What a search of a group sees of a path that goes up to a part of the group. The reader was fed what it makes. The path is dead where the
 /// piece in hand begins in the group, or the group begins in it, and it is broken. It is dead too where the file is at its end, and reads
 /// no more.
 fn look_at_prefix_in_group(
@@ -110,6 +112,7 @@ fn look_at_prefix_in_group(
     requires setting { IsSetting parts.now setting }
     requires path { IsPath parts.now path.now }
     requires more { length path.now < length parts.now }
+    requires stop { IsInside setting.group (length path.now) }
     requires fed { reader ≡ Some (prefix_of parts.now path.now) }
     ensures { (ceiling : Option ℕ) → IfOk result (λ sight. IsSeenFor ceiling parts.now (ForGroup setting) path.now sight) }
 {
@@ -147,6 +150,7 @@ pub(crate) fn judge_path(
     requires goal { IsGoal parts.now goal }
     requires kept { AreKept parts.now judge.now }
     requires path { IsPath parts.now path.now }
+    requires stop { IsStop parts.now goal path.now }
     requires few { length (prefix_of parts.now path.now) ≤ 2 ^ 63 - 1 }
     ensures { IfOk result (λ sight. IsSeenFor judge.now.ceiling parts.now goal path.now sight) }
 {

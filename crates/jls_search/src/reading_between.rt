@@ -70,7 +70,7 @@ fn told_between(read: &CopyRead, from: u64, to: Option<u64>) -> Option<bool>
 
 /// Whether what was read is a file that reads between two offsets: no piece that begins at the first or after it, and before the second,
 /// is faulty. Without a second one it goes to the file's end. `false` comes too where the file has more than 4,096 faulty pieces.
-pub fn reads_between(read: &CopyRead, from: u64, to: Option<u64>) -> bool
+pub(crate) fn reads_between(read: &CopyRead, from: u64, to: Option<u64>) -> bool
     ensures reads { result ≡ true → (file : List ℕ) → CopyReadsUnder Wide file read.now → ReadsBetween from to file }
     ensures unread { result ≡ false → (file : List ℕ) → CopyReadsUnder Wide file read.now → AllByRecursion (λ b. b < 256) file
         → ReadsBetween from to file → HasManyFaults file }

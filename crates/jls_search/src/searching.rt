@@ -77,24 +77,29 @@ impl Search {
     }
 
     /// Whether it can go on: there is more to try, fewer tries than these were made, and fewer files were found than it finds at most.
-    pub fn can_go_on(&self, limit: u32) -> bool
-        ensures { IsTrue result ↔ CanGoOn self.now limit }
+    pub fn can_go_on(&self, most_tries: u32) -> bool
+        ensures { IsTrue result ↔ CanGoOn self.now most_tries }
     {
-        self.goes_on && self.tries < limit && self.splices.len() < self.most
+        self.goes_on && self.tries < most_tries && self.splices.len() < self.most
     }
 
     /// Goes on until so many tries were made in all, or it can't. It is over these parts. `Err` comes where memory is refused.
-    pub fn go_on(&mut self, alloc: Global, parts: &Parts<'_>, limit: u32) -> Result<(), AllocError>
+    pub fn go_on(
+        &mut self,
+        alloc: Global,
+        parts: &Parts<'_>,
+        most_tries: u32,
+    ) -> Result<(), AllocError>
         requires some_way { AllByRecursion HasSomeWay parts.now }
         requires short { IsShort parts.now }
         requires stands { IsSearch parts.now self.old }
         ensures stands { OnOk result (IsSearch parts.now self.new) }
-        ensures stops { OnOk result (CanGoOn self.new limit → ⊥) }
-        ensures went { OnOk result (GoesFrom parts.now self.old self.new limit) }
+        ensures stops { OnOk result (CanGoOn self.new most_tries → ⊥) }
+        ensures went { OnOk result (GoesFrom parts.now self.old self.new most_tries) }
         ensures found { IfSome self.old.judge.found (IsKeptReader parts.now)
             → OnOk result (IfSome self.new.judge.found (IsKeptReader parts.now)) }
     {
-        self.run(alloc, parts, limit)
+        self.run(alloc, parts, most_tries)
     }
 
     /// Goes on so, whatever its goal is.
@@ -102,19 +107,19 @@ impl Search {
         &mut self,
         alloc: Global,
         parts: &Parts<'_>,
-        limit: u32,
+        most_tries: u32,
     ) -> Result<(), AllocError>
         requires some_way { AllByRecursion HasSomeWay parts.now }
         requires short { IsShort parts.now }
         requires stands { IsAt parts.now self.old }
         ensures stands { OnOk result (IsAt parts.now self.new) }
         ensures alike { OnOk result (IsAlike self.old self.new) }
-        ensures stops { OnOk result (CanGoOn self.new limit → ⊥) }
-        ensures went { OnOk result (GoesFrom parts.now self.old self.new limit) }
+        ensures stops { OnOk result (CanGoOn self.new most_tries → ⊥) }
+        ensures went { OnOk result (GoesFrom parts.now self.old self.new most_tries) }
         ensures found { IfSome self.old.judge.found (IsKeptReader parts.now)
             → OnOk result (IfSome self.new.judge.found (IsKeptReader parts.now)) }
     {
-        while self.can_go_on(limit) {
+        while self.can_go_on(most_tries) {
             self.tries += 1;
             self.goes_on = self.try_next(alloc, parts)?;
         }

@@ -192,7 +192,7 @@ impl Walk<'_> {
     }
 }
 
-/// What a path makes.
+/// What a path makes, in memory.
 #[derive(Drop)]
 struct Made {
     bytes: Vec<u8>,
@@ -200,7 +200,7 @@ struct Made {
     borders: Vec<usize>,
 }
 
-/// What a path makes.
+/// Makes it: the bytes of the path, and the border before each of its choices.
 fn made_by(alloc: Global, parts: &Parts<'_>, path: &[usize]) -> Result<Made, AllocError> {
     let mut bytes = Vec::new(alloc);
     let mut borders = Vec::new(alloc);

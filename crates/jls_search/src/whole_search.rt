@@ -34,12 +34,13 @@ pub struct Searched {
 ///
 /// Parts of short copies are as it requires them (`parts_can_be_searched`).
 ///
-/// `is_used_up` says that the search ended with its tries, or with its 64th file, while there was more to try.
+/// `is_used_up` says that the search ended with its tries, or with its 64th file, while there was more to try. `Err` comes where memory is
+/// refused.
 pub fn search(
     alloc: Global,
     parts: &Parts<'_>,
     ceiling: Option<u16>,
-    limit: u32,
+    most_tries: u32,
 ) -> Result<Searched, AllocError>
     requires some_way { AllByRecursion HasSomeWay parts.now }
     requires short { IsShort parts.now }
@@ -48,12 +49,13 @@ pub fn search(
     ensures all { IfOk result (λ searched. searched.is_used_up ≡ false
         → HasEachSplice (IsSought ceiling) parts.now (files_of parts.now (lists_of searched.splices.items))) }
     ensures used_up { IfOk result
-        (λ searched. searched.is_used_up ≡ true → (searched.tries ≡ limit) ⊎ (length searched.splices.items ≡ 64)) }
-    ensures few { IfOk result (λ searched. (searched.tries ≤ limit) × (length searched.splices.items ≤ 64)) }
-    ensures tried { IfOk result (λ searched. WereTried ceiling parts.now searched.tries (lists_of searched.splices.items)) }
+        (λ searched. searched.is_used_up ≡ true → (searched.tries ≡ most_tries) ⊎ (length searched.splices.items ≡ 64)) }
+    ensures few { IfOk result (λ searched. (searched.tries ≤ most_tries) × (length searched.splices.items ≤ 64)) }
+    ensures tried { IfOk result (λ searched. WereTried ceiling parts.now searched.tries (lists_of searched.splices.items)
+        searched.is_used_up) }
     ensures reader { IfOk result (λ searched. IfSome searched.reader (IsKeptReader parts.now)) }
 {
     let mut begun = Search::begin(alloc, parts, ceiling)?;
-    begun.go_on(alloc, parts, limit)?;
+    begun.go_on(alloc, parts, most_tries)?;
     Ok(begun.into_searched())
 }

@@ -4,7 +4,7 @@ use Rattle.std.specs.Prelude.{nat_lt, if◌then◌else◌}
 use Rattle.std.specs.List.{flat_map}
 use Rattle.jls_splice_run.specs.declared.differences.Difference.{Difference}
 use Rattle.jls_splice_run.specs.declared.found.GroupSearch.{GroupSearch}
-use Rattle.jls_splice_run.specs.declared.found.CutEnd.{CutEnd}
+use Rattle.jls_splice_run.specs.declared.found.CutFileEnd.{CutFileEnd}
 use Rattle.jls_splice_run.specs.declared.found.Promise.{Promise}
 use Rattle.jls_splice_run.specs.declared.found.Promise.TheVariants.{Held, Picture, Lines}
 use Rattle.jls_splice_run.specs.declared.found.SearchReport.{SearchReport}
@@ -49,7 +49,7 @@ samples_end words None = codes "\n"
 samples_end words (Some limit) = words ++ decimal limit ++ codes "\n"
 
 -- the line of where the cut file ends: its offset in the first copy; no line if none was taken
-abbrev pub before_line : Option CutEnd → List ℕ
+abbrev pub before_line : Option CutFileEnd → List ℕ
 before_line None = []
 before_line (Some end) = codes "before " ++ decimal end.offset ++ samples_end (codes ", samples up to ") end.limit
 
@@ -73,7 +73,7 @@ promise_line has_lists (Picture limit) = picture_words ++ lists_words has_lists 
 promise_line has_lists Held = held_words ++ lists_words has_lists ++ codes "\n"
 promise_line has_lists Lines = codes "promise lines\n"
 
--- the line of how many files have no fault; no line if they were not asked for
+-- the line of how many files get numbers; no line if these were not asked for
 abbrev pub files_line : Option ℕ → List ℕ
 files_line None = []
 files_line (Some count) = codes "files " ++ decimal count ++ codes "\n"

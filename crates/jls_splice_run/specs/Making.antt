@@ -20,7 +20,7 @@ use Rattle.jls_carried.specs.declared.carrying.Between.{Between}
 use Rattle.jls_splice_run.specs.CodingLines.{carried_noted_text, carried_text}
 use Rattle.jls_splice_run.specs.Differences.{differences, offset_at}
 use Rattle.jls_splice_run.specs.Lines.{found_text, noted_text}
-use Rattle.jls_splice_run.specs.declared.found.CutEnd.{CutEnd}
+use Rattle.jls_splice_run.specs.declared.found.CutFileEnd.{CutFileEnd}
 use Rattle.jls_splice_run.specs.declared.found.GroupSearch.{GroupSearch}
 use Rattle.jls_splice_run.specs.declared.found.Promise.{Promise}
 use Rattle.jls_splice_run.specs.declared.found.Promise.TheVariants.{Held, Picture, Lines}
@@ -110,8 +110,8 @@ abbrev pub IsCarriedFor : List (List ℕ) → Made → Type 0
 IsCarriedFor copies m =
     IfSome m.carried (λ c. IsCarried copies (files_taken copies m.found) m.given.shape c × (m.cut ≡ None))
 
--- The single file, if it is asked for: the one of the files taken that has no fault, or the first mended file where each of them has a
--- fault. It is completed by EOI
+-- The single file, if it is asked for: the one of the files taken that has no fault. Of copies in several codings it is the first mended
+-- file where each file taken has a fault, and else there is none. It is completed by EOI
 abbrev pub IsSingleOf : Asked → List (List ℕ) → Option Carried → Option (List ℕ) → Type 0
 IsSingleOf a taken None single = IsSingleAsked a.options.file taken single
 IsSingleOf a taken (Some c) single =
@@ -158,7 +158,7 @@ groups_reported None = None
 groups_reported (Some b) = Some (record { groups = b.groups; is_used_up = b.is_used_up })
 
 -- where the cut file ends
-abbrev pub cut_end : List Part → Option ℕ → List ℕ → CutEnd
+abbrev pub cut_end : List Part → Option ℕ → List ℕ → CutFileEnd
 cut_end parts ceiling path = record { offset = offset_at parts (length path); limit = ceiling }
 
 -- the limit of the search that counts, where none was given
@@ -264,8 +264,8 @@ CantMake a copies r =
 
 -- ---- as the code has it
 
--- what was made where copies gave each other nothing: by what was found with the limit of a cut file, the choices of the
--- one found and of the one taken, the picture, whether each line of it is settled, and what the code holds of it
+-- what was made where copies gave each other nothing. It is told by what was found with the limit of a cut file, and by the choices of
+-- the one found and of the one taken; by the picture, by whether each line of it is settled, and by what the code holds of it
 abbrev pub made_of : FoundInTurn → Option (Vec ℕ Global) → Option (Vec ℕ Global) → PartialPicture → Bool → MadeValue → Made
 made_of all lone cut p is_settled v = record {
   ceiling = all.splices.ceiling;
@@ -281,8 +281,9 @@ made_of all lone cut p is_settled v = record {
   files = named_files v.files.items;
 }
 
--- and what was made of copies in several codings under a source: by what was found, the choices of the cut file that was found, what the
--- files taken give, what the copies gave each other, whether each line that is handed out is settled, and what the code holds of it
+-- and what was made of copies in several codings under a source. It is told by what was found, and by the choices of the cut file that was
+-- found; by what the files taken give, and what the copies gave each other; by whether each line that is handed out is settled, and by what
+-- the code holds of it
 abbrev pub carried_made : Option ℕ → FoundInTurn → Option (Vec ℕ Global) → PartialPicture → Carried → Bool → MadeValue → Made
 carried_made source all lone given c is_settled v = record {
   ceiling = all.splices.ceiling;

@@ -14,7 +14,7 @@ pub struct GroupSearch {
 
 /// Where the cut file ends. All other choices up to there are dead.
 #[derive(Clone, Copy, Debug, PartialEq, Eq)]
-pub struct CutEnd {
+pub struct CutFileEnd {
     /// The offset in the first copy.
     pub offset: u64,
     /// The limit of samples of the files that were sought, if there was one.
@@ -58,12 +58,12 @@ pub struct SearchReport {
     /// What the search by groups came to, if there was one.
     pub by_groups: Option<GroupSearch>,
     /// Where the cut file ends, if one was taken.
-    pub before: Option<CutEnd>,
-    /// How many files have no fault, if they were asked for.
+    pub before: Option<CutFileEnd>,
+    /// How many files get a number, if these were asked for: those without a fault, or the mended files of copies in several codings.
     pub files: Option<usize>,
     /// Whether EOI was added to a file that is handed out.
     pub is_eoi_added: bool,
-    /// Whether a single file was asked for, and there is none.
+    /// Whether a single file was asked for, and none is handed out.
     pub lacks_single_file: bool,
     /// Whether there are lists of bad places, so that a promise is of copies without these.
     pub has_lists: bool,

@@ -23,8 +23,9 @@
 //! - `printing`: the lines on the fault output that this program alone has
 //!
 //! Definitions: `Tasks`, `Copies`, `BadLists`, `Inputs`, `Making`, `Carrying`, `ReadsAs`, `Completing`, `Single`, `Files`, `Listing`,
-//! `Handing`, `Runs`; `Limits`, `Telling`; `Differences`, `Lines`, `CodingLines`; `FaultLines`. `PrintedLineExamples` of `proofs/` has each
-//! line, and all lines of three runs, worked by hand. What came of a run, why it stopped, its exit status and its fault line are in jls_cli.
+//! `Handing`, `Runs`; `Limits`, `Telling`; `Differences`, `Lines`, `CodingLines`; `FaultLines`. `PrintedLineExamples` of `proofs/` has
+//! each line, and all lines of three runs, worked by hand. What came of a run, why it stopped, its exit status and its fault line are in
+//! jls_cli.
 //!
 //! Not proved:
 //!
@@ -67,7 +68,7 @@ mod telling_apart;
 
 pub use coding_lines::put_carried;
 pub use differences::{Difference, differences_of};
-pub use found::{CutEnd, GroupSearch, Promise, SearchReport};
+pub use found::{CutFileEnd, GroupSearch, Promise, SearchReport};
 pub use hosted::Splice;
 pub use limits::{FoundInTurn, search_and_tell};
 pub use lines::{put_found, put_progress};

@@ -8,7 +8,7 @@ ghost use Rattle.jls_splice_run.specs.Lines.{outcome_lines, progress_line, promi
 ghost use Rattle.jls_splice_run.specs.Lines.{search_lines, single_line, splices_line, used_up_line};
 
 use crate::differences::Difference;
-use crate::found::{CutEnd, GroupSearch, Promise, SearchReport};
+use crate::found::{CutFileEnd, GroupSearch, Promise, SearchReport};
 use jls_report::put_number;
 use std::alloc::AllocError;
 
@@ -142,7 +142,7 @@ fn put_samples(out: &mut Vec<u8>, words: &[u8], limit: Option<u16>) -> Result<()
 }
 
 /// Appends where the cut file ends, if one was taken.
-fn put_before(out: &mut Vec<u8>, before: Option<CutEnd>) -> Result<(), AllocError>
+fn put_before(out: &mut Vec<u8>, before: Option<CutFileEnd>) -> Result<(), AllocError>
     ensures { OnOk result (out.new.items ≡ out.old.items ++ before_line before) }
 {
     let Some(end) = before else {
@@ -201,7 +201,7 @@ fn put_promise(out: &mut Vec<u8>, has_lists: bool, promise: Promise) -> Result<(
     }
 }
 
-/// Appends how many files have no fault, if they were asked for.
+/// Appends how many files get numbers, if these were asked for.
 fn put_files(out: &mut Vec<u8>, files: Option<usize>) -> Result<(), AllocError>
     ensures { OnOk result (out.new.items ≡ out.old.items ++ files_line files) }
 {
@@ -255,8 +255,8 @@ pub(crate) fn put_outcome(out: &mut Vec<u8>, report: &SearchReport) -> Result<()
     put_promise(out, report.has_lists, report.promise)
 }
 
-/// Appends the lines of what was found, in ASCII: where copies differ, in order, and what the search came to. Each ends with a newline. At
-/// `Err` a prefix of them may have been appended.
+/// Appends the lines of what was found, in ASCII: where copies differ, in order, and what the search came to. Each ends with a newline.
+/// `Err` comes where memory is refused, and says nothing of what was appended.
 pub fn put_found(
     out: &mut Vec<u8>,
     differences: &[Difference],

@@ -25,7 +25,7 @@ pub(crate) struct Naming<'a> {
     pub(crate) most: usize,
 }
 
-/// A file without a fault, completed by EOI, and the name that it gets.
+/// A file that gets a number, completed by EOI, and its name.
 #[derive(Drop)]
 pub struct NumberedFile {
     pub name: String,

@@ -26,7 +26,7 @@ use crate::carried::carried_texts;
 use crate::copies::slices_of;
 use crate::differences::offset_at;
 use crate::files::{count_new, is_eoi_added};
-use crate::found::{CutEnd, GroupSearch, Promise, SearchReport};
+use crate::found::{CutFileEnd, GroupSearch, Promise, SearchReport};
 use crate::limits::{FoundInTurn, search_and_tell};
 use crate::listing::{MOST_NAMED, Naming, NumberedFile, name_files};
 use crate::options::SearchOptions;
@@ -50,9 +50,9 @@ pub struct Made {
     pub notes: Vec<u8>,
     /// The text of the partial picture.
     pub text: Vec<u8>,
-    /// The single file without a fault, completed by EOI, if one is asked for and there is one.
+    /// The single file, completed by EOI, if one is asked for and there is one: that without a fault, or the mended file of a coding.
     pub file: Option<Vec<u8>>,
-    /// The files without a fault, completed by EOI, with their names, if they are asked for.
+    /// The files that get numbers, completed by EOI, with their names, if they are asked for: those without a fault, and mended ones.
     pub files: Vec<NumberedFile>,
     /// Which promise is printed.
     pub promise: Promise,
@@ -64,7 +64,7 @@ fn find_cut(
     found: &FoundInTurn<'_>,
     copies: &[&[u8]],
     witnesses: &[CopyFile],
-    limit: u32,
+    most_tries: u32,
 ) -> Result<Option<Vec<usize>>, AllocError>
     requires some_way { AllByRecursion HasSomeWay found.now.splices.parts }
     requires short { IsShort found.now.splices.parts }
@@ -78,7 +78,7 @@ fn find_cut(
     if are_of_other_codings(alloc, copies, &witnesses)? {
         return Ok(None);
     }
-    trusted_path(alloc, &found.splices.parts, found.cut_limit, limit)
+    trusted_path(alloc, &found.splices.parts, found.cut_limit, most_tries)
 }
 
 /// The single file, if a name is given for it.
@@ -175,14 +175,14 @@ fn promise_of(found: &FoundSplices<'_>, settled: bool) -> Promise
 }
 
 /// Where the cut file ends, if one was taken.
-fn cut_end(found: &FoundInTurn<'_>, cut: &Option<Vec<usize>>) -> Option<CutEnd>
+fn cut_end(found: &FoundInTurn<'_>, cut: &Option<Vec<usize>>) -> Option<CutFileEnd>
     requires path { IfSome cut.now (λ path. IsPath found.now.splices.parts path.items) }
     requires small { length (made 0 found.now.splices.parts) < 2 ^ 64 }
     ensures { result
         ≡ option_map (λ path. spec.cut_end found.now.splices.parts found.now.cut_limit path.items) cut.now }
 {
     match cut {
-        Some(path) => Some(CutEnd {
+        Some(path) => Some(CutFileEnd {
             offset: offset_at(&found.splices.parts, path.len()),
             limit: found.cut_limit,
         }),

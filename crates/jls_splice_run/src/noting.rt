@@ -27,8 +27,8 @@ fn put_first(out: &mut Vec<u8>, text: &[u8]) -> Result<(), AllocError>
     Ok(())
 }
 
-/// Appends the lines of what the searches came to and of what is made of it, each with the program's name first. At `Err` a prefix of
-/// them may have been appended.
+/// Appends the lines of what the searches came to and of what is made of it, each with the program's name first. `Err`
+/// comes where memory is refused, and says nothing of what was appended.
 pub fn put_noted(alloc: Global, out: &mut Vec<u8>, report: &SearchReport) -> Result<(), AllocError>
     ensures { OnOk result (out.new.items ≡ out.old.items ++ noted_text report.now) }
 {
@@ -39,7 +39,7 @@ pub fn put_noted(alloc: Global, out: &mut Vec<u8>, report: &SearchReport) -> Res
 }
 
 /// Appends these lines, and between them those of the codings of so many copies, each with the program's name first. Strangers are copies
-/// that agree with no other, by their indices. At `Err` a prefix of the lines may have been appended.
+/// that agree with no other, by their indices. `Err` comes where memory is refused, and says nothing of what was appended.
 pub fn put_carried_noted(
     alloc: Global,
     out: &mut Vec<u8>,

@@ -2,7 +2,8 @@
 
 use jls_diff::find_parts;
 use jls_splice_run::{
-    CutEnd, Difference, GroupSearch, Promise, SearchReport, differences_of, put_found, put_progress,
+    CutFileEnd, Difference, GroupSearch, Promise, SearchReport, differences_of, put_found,
+    put_progress,
 };
 use std::alloc::{AllocError, Global};
 use std::test::Fail;
@@ -36,7 +37,7 @@ fn one_byte_differs(rt: HostRuntime) -> Result<(), Fail> {
                 groups: 1,
                 is_used_up: true,
             }),
-            before: Some(CutEnd {
+            before: Some(CutFileEnd {
                 offset: 4321,
                 limit: Some(4095),
             }),

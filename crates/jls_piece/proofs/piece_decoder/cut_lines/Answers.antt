@@ -3,7 +3,7 @@ use Rattle.jls_interval.specs.declared.decode_piece.PieceFault.{PieceFault}
 use Rattle.jls_pixel.specs.PixelBytes.{pixels_asked}
 use Rattle.jls_piece.specs.Lines.{pixel_piece, lines_of}
 use Rattle.jls_piece.specs.CutEnds.{CutEndIs}
-use Rattle.jls_piece.specs.declared.cut_end.CutEnd.TheVariants.{Head}
+use Rattle.jls_piece.specs.declared.cut_end.PieceCutEnd.TheVariants.{Head}
 use Rattle.jls_piece.proofs.CutOutcomes.{PixelCutFinishes, whole_cut_finishes, head_cut_finishes}
 use Rattle.jls_piece.proofs.piece_decoder.cut_lines.Goals as goal
 

@@ -8,7 +8,7 @@ returns c =
     let shape = c.args.shape.now in
     let out = c.args.out.now.items in
     let number : c.put_number.new.out.items ≡ c.extend_from_slice.new.self.items ++ decimal shape.precision =
-    c.in_ok-put_number.ensures ∙ ap (λ n. c.extend_from_slice.new.self.items ++ decimal n) (c.from.ensures ∙ c.precision.ensures.value) in
+    c.in_ok-put_number.ensures.appended ∙ ap (λ n. c.extend_from_slice.new.self.items ++ decimal n) (c.from.ensures ∙ c.precision.ensures.value) in
     appended out (codes ", " ++ decimal shape.precision) (codes " bits, components ") c.put_number.new.out.items
     c.extend_from_slice-2.new.self.items
     (appended out (codes ", ") (decimal shape.precision) c.extend_from_slice.new.self.items c.put_number.new.out.items

@@ -88,14 +88,14 @@ returns-clause-by_groups c =
     let e = c.in_ok-by.ensures in
     let groups = e.groups in
     let cover = e.cover in
-    let searched : AreGroupsSearched c.args.limit copies ps gs reported.tries more reported.is_used_up =
-    subst (λ (k : ℕ). AreGroupsSearched c.args.limit copies ps gs k more reported.is_used_up) (sym is.tries)
-    (subst (λ (u : Bool). AreGroupsSearched c.args.limit copies ps gs by.searched.tries more u) (sym is.is_used_up)
+    let searched : AreGroupsSearched c.args.most_tries copies ps gs reported.tries more reported.is_used_up =
+    subst (λ (k : ℕ). AreGroupsSearched c.args.most_tries copies ps gs k more reported.is_used_up) (sym is.tries)
+    (subst (λ (u : Bool). AreGroupsSearched c.args.most_tries copies ps gs by.searched.tries more u) (sym is.is_used_up)
     (e.searched)) in
-    subst (λ (xs : List (Vec ℕ Global)). IsGroupSearch c.args.limit copies ps (by_groups_of (drop n (lists_of xs)) reported))
+    subst (λ (xs : List (Vec ℕ Global)). IsGroupSearch c.args.most_tries copies ps (by_groups_of (drop n (lists_of xs)) reported))
     (sym (appended vs c.splices_given-given.result by.searched.splices c.append.new.self.items c.in_ok-append.ensures.items
     c.splices_given-given.ensures))
-    (group_search vs by.searched.splices.items n at c.args.limit copies ps gs reported groups cover is.groups e.once searched)
+    (group_search vs by.searched.splices.items n at c.args.most_tries copies ps gs reported groups cover is.groups e.once searched)
 
 pub returns-clause-splices : goal.returns-clause-splices
 returns-clause-splices c =

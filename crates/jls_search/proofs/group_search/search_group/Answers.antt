@@ -10,7 +10,7 @@ pub loop-copy-init : goal.loop-copy-init
 loop-copy-init c = record {
   splices = c.requires.splices;
   kept = c.requires.kept;
-  goes = goes_first c.args.extent.limit c.args.parts.now c.args.group c.args.gone.searched c.requires.untried c.requires.few;
+  goes = goes_first c.args.extent.most_tries c.args.parts.now c.args.group c.args.gone.searched c.requires.untried c.requires.few;
 }
 
 pub search_setting-requires-clause-setting : goal.search_setting-requires-clause-setting
@@ -28,6 +28,6 @@ loop-copy-preserved c = record {
       c.in_ok-more.ensures.kept in
       subst (AreEachKept ps) (sym c.in_ok-push.ensures.items) all;
   goes =
-      goes_more c.args.extent.limit c.loop-copy.copy c.args.parts.now c.args.group c.args.gone.searched c.loop-copy.searched _
+      goes_more c.args.extent.most_tries c.loop-copy.copy c.args.parts.now c.args.group c.args.gone.searched c.loop-copy.searched _
       c.loop-copy.invariant.goes c.in_ok-more.ensures.goes;
 }

@@ -7,5 +7,5 @@ abbrev pub invariant-loop-copy : goal.invariant-loop-copy
 invariant-loop-copy l = record {
   splices : AreOfGroups l.parts (lists_of l.searched.splices.items);
   kept : AreEachKept l.parts l.kept.items;
-  goes : GoesThroughCopies l.extent.limit l.copy l.parts l.group l.initial.searched l.searched;
+  goes : GoesThroughCopies l.extent.most_tries l.copy l.parts l.group l.initial.searched l.searched;
 }

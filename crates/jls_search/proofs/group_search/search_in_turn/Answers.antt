@@ -16,14 +16,14 @@ search_group-requires-clause-group c =
 pub loop-group-init : goal.loop-group-init
 loop-group-init c =
     let ps = c.args.parts.now in
-    let limit = c.args.extent.limit in
+    let most_tries = c.args.extent.most_tries in
     let copies = c.args.extent.copies in
     record {
       kept = c.in_ok-kept.ensures ps;
       splices = subst (λ (vs : List (Vec ℕ Global)). AreOfGroups ps (lists_of vs)) (sym c.new.ensures.items) (tt, tt);
       searched =
-          subst (λ (vs : List (Vec ℕ Global)). AreGroupsSearched limit copies ps (take 0 c.args.groups.now) 0 (lists_of vs) false)
-          (sym c.new.ensures.items) (none_searched limit copies ps c.args.groups.now);
+          subst (λ (vs : List (Vec ℕ Global)). AreGroupsSearched most_tries copies ps (take 0 c.args.groups.now) 0 (lists_of vs) false)
+          (sym c.new.ensures.items) (none_searched most_tries copies ps c.args.groups.now);
     }
 
 pub loop-group-preserved : goal.loop-group-preserved
@@ -34,7 +34,7 @@ loop-group-preserved c =
       splices = c.in_ok-more.ensures.splices;
       kept = c.in_ok-more.ensures.kept;
       searched =
-          one_more_group c.args.extent.limit c.args.extent.copies c.args.parts.now c.args.groups.now c.loop-group.group-index _ was.tries
+          one_more_group c.args.extent.most_tries c.args.extent.copies c.args.parts.now c.args.groups.now c.loop-group.group-index _ was.tries
           c.saturating_add.result (record
           { ceiling = was.ceiling; splices = was.splices; reader = was.reader; tries = 0; is_used_up = was.is_used_up })
           c.in_ok-more.more.searched
@@ -45,6 +45,6 @@ pub returns-clause-searched : goal.returns-clause-searched
 returns-clause-searched c =
     let s = c.loop-group.searched in
     let end = c.loop-group-test.false in
-    subst (λ (gs : List Group). AreGroupsSearched c.args.extent.limit c.args.extent.copies c.args.parts.now gs s.tries
+    subst (λ (gs : List Group). AreGroupsSearched c.args.extent.most_tries c.args.extent.copies c.args.parts.now gs s.tries
     (lists_of s.splices.items) s.is_used_up) (take_all c.loop-group.group-index c.args.groups.now (omega (arith, end)))
     c.loop-group.invariant.searched

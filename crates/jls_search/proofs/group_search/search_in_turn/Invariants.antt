@@ -8,6 +8,6 @@ abbrev pub invariant-loop-group : goal.invariant-loop-group
 invariant-loop-group l = record {
   splices : AreOfGroups l.parts (lists_of l.searched.splices.items);
   kept : AreEachKept l.parts l.kept.items;
-  searched : AreGroupsSearched l.extent.limit l.extent.copies l.parts (take l.group-index l.groups) l.searched.tries
+  searched : AreGroupsSearched l.extent.most_tries l.extent.copies l.parts (take l.group-index l.groups) l.searched.tries
       (lists_of l.searched.splices.items) l.searched.is_used_up;
 }

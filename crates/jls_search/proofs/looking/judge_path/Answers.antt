@@ -1,6 +1,7 @@
-use Rattle.std.proofs.Common.{None, sym, subst, arith}
+use Rattle.std.proofs.Common.{None, sym, subst, arith, inl, inr}
 use Rattle.std.specs.Prelude.{IfOk}
 use Rattle.jls_search.specs.Goals.{IsGoal, IsSeenFor}
+use Rattle.jls_search.specs.Tried.{IsStop}
 use Rattle.jls_search.specs.declared.looking.PathVerdict.TheVariants.{Dead, Found}
 use Rattle.jls_search.proofs.GroupSights.{unread}
 use Rattle.jls_search.proofs.Paths.{path_len}
@@ -11,6 +12,14 @@ reader_on-requires-clause-kept c = c.nearest-kept.ensures c.args.parts.now c.req
 
 pub look_at_prefix_in_group-requires-clause-setting : goal.look_at_prefix_in_group-requires-clause-setting
 look_at_prefix_in_group-requires-clause-setting c = subst (IsGoal c.args.parts.now) c.in-Group.is c.requires.goal
+
+pub look_at_prefix_in_group-requires-clause-stop : goal.look_at_prefix_in_group-requires-clause-stop
+look_at_prefix_in_group-requires-clause-stop c =
+    let less = c.if-path-len.true in
+    elim (subst (λ g. IsStop c.args.parts.now g c.args.path.now) c.in-Group.is c.requires.stop) [
+      | inl free ↦ free.0
+      | inr end ↦ absurd (omega (arith, less, end))
+    ]
 
 pub returns-then-path-len : goal.returns-then-path-len
 returns-then-path-len c =

@@ -67,7 +67,7 @@ returns-clause-went c =
           elim so_far.some [
             | inl more ↦ more
             | inr same ↦ (
-                let yes = c.can_go_on.ensures.1 (subst (λ (s : Search). CanGoOn s c.args.limit) (sym same) can) in
+                let yes = c.can_go_on.ensures.1 (subst (λ (s : Search). CanGoOn s c.args.most_tries) (sym same) can) in
                 let no = c.loop-alloc-test.false in absurd cc)
           ];
     }

@@ -10,10 +10,10 @@ invariant-loop-alloc l = record {
   tried : Tried l.parts l.fn.self l.self;
   tries : l.fn.self.tries ≤ l.self.tries;
   files : length (lists_of l.fn.self.splices.items) ≤ length (lists_of l.self.splices.items);
-  within : l.self.tries ≤ max l.fn.self.tries l.limit;
+  within : l.self.tries ≤ max l.fn.self.tries l.most_tries;
   some : (l.fn.self.tries < l.self.tries) ⊎ (l.self ≡ l.fn.self);
   found : IfSome l.fn.self.judge.found (IsKeptReader l.parts) → IfSome l.self.judge.found (IsKeptReader l.parts);
 }
 
 abbrev pub decreases-loop-alloc : goal.decreases-loop-alloc
-decreases-loop-alloc l = l.limit - l.self.tries
+decreases-loop-alloc l = l.most_tries - l.self.tries
