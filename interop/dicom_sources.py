@@ -3,6 +3,8 @@
 What these packages have in another coding is coded by DCMTK (dcmcjpls) or GDCM (gdcmconv). Files of several frames are made of one
 picture: its tiles are the frames, as in a mosaic. DEBIAN_ROOT is as in interop/real_pictures.py.
 """
+from __future__ import annotations
+
 import glob
 import os
 import shutil
@@ -29,7 +31,7 @@ TILED += [("siemens_dwi_0", 128, 12), ("siemens_dwi_1000", 64, 60), ("philips_mp
 LARGEST = 1 << 20  # bytes of a file that is taken, so that the run stays short
 
 
-def coded(plain, name):
+def coded(plain: str, name: str) -> bool:
     """Codes a file as JPEG-LS lossless; answers whether a DICOM program could."""
     for words in (["dcmcjpls", "--interleave-line", plain, name], ["gdcmconv", "--jpegls", plain, name]):
         if run(*words) and pydicom.dcmread(name, stop_before_pixels=True).file_meta.TransferSyntaxUID == "1.2.840.10008.1.2.4.80":
@@ -37,7 +39,7 @@ def coded(plain, name):
     return False
 
 
-def tiled(path, name, size, frames):
+def tiled(path: str, name: str, size: int, frames: int) -> bool:
     """Writes a file whose frames are tiles of one picture, not compressed."""
     data = pydicom.dcmread(path)
     samples = data.pixel_array
@@ -56,9 +58,9 @@ def tiled(path, name, size, frames):
     return True
 
 
-def make(folder):
+def make(folder: str) -> list[str]:
     """The paths of JPEG-LS files, made in this folder."""
-    found = []
+    found: list[str] = []
     for path in SINGLE:
         if not os.path.exists(path):
             continue

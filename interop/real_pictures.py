@@ -41,11 +41,11 @@ class Refused(Exception):
 # DICOM files -----------------------------------------------------------------------------------------
 
 
-def run(*words):
+def run(*words: str) -> bool:
     return subprocess.run(words, capture_output=True).returncode == 0
 
 
-def unpacked(path, folder):
+def unpacked(path: str, folder: str) -> str:
     if not path.endswith(".gz"):
         return path
     name = os.path.join(folder, os.path.basename(path)[:-3])
@@ -54,7 +54,7 @@ def unpacked(path, folder):
     return name
 
 
-def plain_of(path, name):
+def plain_of(path: str, name: str) -> bool:
     """Writes a file without compression."""
     return run("gdcmconv", "--raw", path, name) or run("dcmconv", "+te", path, name)
 

@@ -14,6 +14,8 @@ import re
 import shutil
 import subprocess
 import sys
+from collections.abc import Sequence
+from typing import Optional
 
 TOP = os.path.dirname(os.path.dirname(os.path.realpath(__file__)))
 PROGRAMS = ("jls-salvage", "jls-splice")
@@ -28,11 +30,11 @@ class Missing(Exception):
     """What is not there, in a line."""
 
 
-def path(*names):
+def path(*names: str) -> str:
     return os.path.join(TOP, *names)
 
 
-def content(name):
+def content(name: str) -> bytes:
     with open(name, "rb") as file:
         return file.read()
 
@@ -40,7 +42,7 @@ def content(name):
 # The crates ------------------------------------------------------------------
 
 
-def libraries():
+def libraries() -> dict[str, list[str]]:
     """Each crate of crates.txt, with the libraries that it names."""
     found = {}
     with open(path("crates.txt"), encoding="utf-8") as file:
@@ -51,21 +53,22 @@ def libraries():
     return found
 
 
-def made():
+def made() -> tuple[str, ...]:
     """What dist/ has objects of: the programs, and the library if crates.txt lists its crate."""
     return (*PROGRAMS, LIBRARY) if LIBRARY_CRATE in libraries() else PROGRAMS
 
 
-def crate_of(program):
+def crate_of(program: str) -> str:
     """The crate of a program has its name. That of the library is its own."""
     return LIBRARY_CRATE if program == LIBRARY else program.replace("-", "_")
 
 
-def crates_of(crate):
+def crates_of(crate: str) -> list[str]:
     """The crates that a crate depends on, each after those below it, and the crate itself at the end."""
-    named, order = libraries(), []
+    named = libraries()
+    order: list[str] = []
 
-    def add(name):
+    def add(name: str) -> None:
         for low in named[name]:
             if low in named and low not in order:
                 add(low)
@@ -76,15 +79,15 @@ def crates_of(crate):
     return order
 
 
-def of_toolchain(crates):
+def of_toolchain(crates: Sequence[str]) -> list[str]:
     """The libraries of the toolchain that these crates name."""
     named = libraries()
     return sorted({low for crate in crates for low in named[crate] if low not in named})
 
 
-def files_of(crates):
+def files_of(crates: Sequence[str]) -> list[str]:
     """The files that these crates are made of, from the top, in the order of their names."""
-    found = []
+    found: list[str] = []
     for crate in crates:
         for part in PARTS:
             for folder, _, names in os.walk(path("crates", crate, part)):
@@ -92,7 +95,7 @@ def files_of(crates):
     return sorted(found)
 
 
-def sum_of(program):
+def sum_of(program: str) -> tuple[str, int, int]:
     """The sum of the sources of a program, with how many crates and files there are."""
     crates = crates_of(crate_of(program))
     files = files_of(crates)
@@ -103,7 +106,7 @@ def sum_of(program):
 # What dist/ was made of ------------------------------------------------------
 
 
-def toolchain():
+def toolchain() -> Optional[str]:
     """The line of the toolchain, or None if there is none."""
     try:
         return subprocess.run(["rt", "version"], capture_output=True, text=True, check=True).stdout.strip()
@@ -111,7 +114,7 @@ def toolchain():
         return None
 
 
-def sources():
+def sources() -> str:
     """What dist/SOURCES says if dist/ is made of these sources by this toolchain."""
     lines = [f"toolchain  {toolchain()}\n"]
     for program in made():
@@ -120,29 +123,31 @@ def sources():
     return "".join(lines)
 
 
-def told():
+def told() -> list[str]:
     """The lines of a toolchain that `--version` of the programs tells, by their sources. There is one."""
     sources = (content(name).decode() for name in glob.glob(path("crates", "*", "src", "*.rt")))
     return [line for source in sources for line in VERSION.findall(source)]
 
 
-def said():
+def said() -> dict[str, str]:
     """What dist/SOURCES says: the line of the toolchain, and the sum of each program's sources."""
-    rows = {}
+    rows: dict[str, str] = {}
     if os.path.exists(path("dist", "SOURCES")):
         with open(path("dist", "SOURCES"), encoding="utf-8") as file:
-            rows = dict(line.rstrip("\n").split("  ")[:2] for line in file)
+            for line in file:
+                name, total = line.rstrip("\n").split("  ")[:2]
+                rows[name] = total
     return rows
 
 
-def newer(names=PROGRAMS):
+def newer(names: Sequence[str] = PROGRAMS) -> list[str]:
     """What is newer than dist/, in words: the sources of one of these, or the toolchain. Without a toolchain only sources are compared."""
     rows, here = said(), toolchain()
     found = [f"the sources of {program}" for program in names if rows.get(program) != sum_of(program)[0]]
     return found + (["the toolchain"] if here and rows.get("toolchain") != here else [])
 
 
-def is_made_after(made, crate):
+def is_made_after(made: str, crate: str) -> bool:
     """Whether a file or folder is there, and was made after each source of a crate and of those below it."""
     if not os.path.exists(made):
         return False
@@ -150,15 +155,16 @@ def is_made_after(made, crate):
     return all(os.stat(file).st_mtime_ns <= os.stat(made).st_mtime_ns for file in files)
 
 
-def proved(crate, end=""):
+def proved(crate: str, end: str = "") -> Optional[str]:
     """The program of a crate as the proof left it, or with the end ".o" its object. None if it is not there or older than a source."""
     found = path("crates", crate, "out", crate + end)
     return found if is_made_after(found, crate) else None
 
 
-def member_of(archive):
+def member_of(archive: str) -> bytes:
     """The object in an archive of one object, as that of a static library is."""
-    data, at, found = content(archive), 8, []
+    data, at = content(archive), 8
+    found: list[bytes] = []
     while at + 60 <= len(data):
         name, size = data[at : at + 16], int(data[at + 48 : at + 58])
         if not name.startswith((b"/ ", b"// ", b"/SYM64/")):
@@ -169,11 +175,11 @@ def member_of(archive):
     return found[0]
 
 
-def packed(processor, program):
+def packed(processor: str, program: str) -> str:
     return path("dist", processor, f"{program}.o.gz")
 
 
-def unpacked(processor, program):
+def unpacked(processor: str, program: str) -> bytes:
     """The object of a program in dist/."""
     with gzip.open(packed(processor, program)) as file:
         return file.read()
@@ -182,7 +188,7 @@ def unpacked(processor, program):
 # Making them -----------------------------------------------------------------
 
 
-def kit():
+def kit() -> str:
     """The folder of the toolchain."""
     try:
         page = subprocess.run(["rt", "doc"], capture_output=True, text=True, check=True).stdout.strip()
@@ -191,16 +197,16 @@ def kit():
     return os.path.dirname(page)
 
 
-def rlib(crate):
+def rlib(crate: str) -> str:
     return path("crates", crate, "out", "rlib", f"{crate}.rlib")
 
 
-def lacks_libraries(crate):
+def lacks_libraries(crate: str) -> bool:
     """Whether a library below a crate is not built, or older than a source."""
     return not all(is_made_after(rlib(low), low) for low in crates_of(crate)[:-1])
 
 
-def words(crate, processor, to):
+def words(crate: str, processor: str, to: str) -> list[str]:
     """The toolchain's command that proves a crate over the libraries as they were built, and makes its object, or the library's archive."""
     home, named, below = kit(), libraries(), crates_of(crate)[:-1]
     kind = ["src/lib.rt", "--crate-type", "staticlib"] if crate == LIBRARY_CRATE else ["src/main.rt"]
@@ -216,7 +222,7 @@ def words(crate, processor, to):
     return found + ["--links", f"{crate}=", "--target", f"{processor}-unknown-linux-gnu", "--toolchain", f"{home}/toolchain", "-o", to]
 
 
-def make_object(program, processor, to):
+def make_object(program: str, processor: str, to: str) -> None:
     """Makes the object of a program or of the library for a processor. The libraries below have to be built."""
     crate = crate_of(program)
     ran = subprocess.run(words(crate, processor, to), cwd=path("crates", crate), capture_output=True, text=True, errors="replace")
@@ -228,7 +234,7 @@ def make_object(program, processor, to):
             file.write(inside)
 
 
-def link(made, to):
+def link(made: str, to: str) -> None:
     """Links an object for x86-64 as the toolchain links its own programs."""
     home = kit()
     command = [f"{home}/bin/rattle-link", "--target", "x86_64-unknown-linux-gnu", "--toolchain", f"{home}/toolchain", "-o", to, made]
@@ -238,7 +244,7 @@ def link(made, to):
 # What the tests run ----------------------------------------------------------
 
 
-def tested(name):
+def tested(name: str) -> str:
     """The program of this name that the tests run, as tests/program says."""
     named = os.environ.get(name.upper().replace("-", "_"))
     if named:
