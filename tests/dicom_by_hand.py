@@ -65,16 +65,24 @@ def checks_of_put_in_by_hand(rng: random.Random) -> Iterator[Check]:
     ):
         part = (100, 100 + size)
         copies = [Copy("a", data), Copy("b", data, [part])]
-        yield f"{name}: {wanted}", inserted.is_put_in(copies, part) == wanted
-        yield f"{name}, as what can be cut out: {wanted}", list(inserted.combinations(copies, [part])) == ([(part,)] if wanted else [])
+        yield f"{name}: {wanted}", inserted.is_no_element(copies, part) == wanted
+        yield f"{name}, as what can be cut out", list(inserted.combinations(copies, [part])) == [(part,)]
     twice, part = before[:80] + block + block + behind, (100, end)
     for name, other in (("before", changed(twice, (70, b"?"))), ("behind", changed(twice, (end + 10, b"?")))):
-        yield f"a byte {name} it differs", not inserted.is_put_in([Copy("a", twice), Copy("b", other, [part])], part)
-    yield "one lacks bytes beside it", not inserted.is_put_in([Copy("a", twice), Copy("b", twice, [(90, end)])], part)
-    for is_in_frame, wanted in ((True, True), (False, False)):
-        stub: Any = types.SimpleNamespace(is_held_alike=lambda _: True, is_in_frame=lambda _, own=is_in_frame: own)
-        copies = [Copy("a", before + block + behind), Copy("b", before + block + behind, [part])]
-        yield f"a block in a frame, or in the header: {wanted}", layout.is_put_in(copies, stub, part, [part]) == wanted
+        copies = [Copy("a", twice), Copy("b", other, [part])]
+        yield f"a byte {name} it differs", not inserted.is_clear(copies, part) and not list(inserted.combinations(copies, [part]))
+    yield "one lacks bytes beside it", not inserted.is_clear([Copy("a", twice), Copy("b", twice, [(90, end)])], part)
+    copies = [Copy("a", before + block + behind), Copy("b", before + block + behind, [part])]
+    for name, is_in_frame, goes_on, hides in (
+        ("in a frame", True, False, False),
+        ("in a header", False, False, False),
+        ("in a value that goes on", False, True, False),
+        ("in a value that goes on, and ends with an element", False, True, True),
+    ):
+        answers = {"is_in_frame": is_in_frame, "goes_on": goes_on, "can_hide_element": hides, "is_held_alike": True}
+        stub: Any = types.SimpleNamespace(**{key: lambda *_, own=own: own for key, own in answers.items()})
+        wanted = is_in_frame or goes_on and not hides
+        yield f"a block {name}: {wanted}", layout.is_put_in(copies, stub, part, [part]) == wanted
 
 
 def checks_of_places_by_hand(rng: random.Random) -> Iterator[Check]:

@@ -25,6 +25,7 @@ def checks_of_bytes_put_in(bench: Bench, made: File, rng: random.Random) -> Iter
     true, first, second, third = made.bytes, *made.items[:3]
     text, begin = with_value(made, b"".join(b"sSlice[%d].dTra = %d\n" % (at, at * 7) for at in range(200)))
     zeros, broken = (first + 70, bytes(8)), (made.name_at - 3, b"\7")
+    lost = (-(-(begin + 1000) // 512) * 512, bytes(512))
     more, hurt = put(true[: second + 60] + true[second + 90 :], third + 60, b"\x91\x77\x13"), (text.index(made.frames[0]) + 70, bytes(8))
     cases = {
         "two bytes in a frame": (true, [put(true, second + 70, b"\x91\x3c"), changed(true, zeros)]),
@@ -35,6 +36,8 @@ def checks_of_bytes_put_in(bench: Bench, made: File, rng: random.Random) -> Iter
         "a loss and more bytes": (true, [more, changed(true, zeros)]),
         "two bytes in a header": (true, [put(true, made.name_at + 3, b"\x91\x3c"), changed(true, zeros)]),
         "a block of a private text twice": (text, [twice(text, begin + 300, 512), changed(text, hurt)]),
+        "noise in a private text": (text, [put(text, begin + 300, rng.randbytes(64)), changed(text, hurt)]),
+        "two bytes in a text of which another copy lost a part": (text, [put(text, begin + 300, b"\x91\x3c"), changed(text, lost, hurt)]),
     }
     for name, (wanted, copies) in cases.items():
         yield told(bench, name, copies, wanted)
@@ -47,6 +50,7 @@ def checks_of_bytes_put_in(bench: Bench, made: File, rng: random.Random) -> Iter
         yield told(bench, f"an element's bytes lost, and {name}", [lost, copy], true, False)
     noise = changed(true, (made.name_at - 8, rng.randbytes(size)))
     yield told(bench, "an element's bytes lost, and noise over that element", [lost, noise], true, False, 1)
+    yield from checks_of_elements_lost(bench, made, rng)
     inner = true.index(b"Doe^Jane")
     yield told(bench, "a text of ten letters more", [put(true, inner + 3, b"anna^maria"), changed(true, zeros)], true, False)
     begin = text.index(b"sSlice[0]")
@@ -65,6 +69,24 @@ def checks_of_bytes_put_in(bench: Bench, made: File, rng: random.Random) -> Iter
     tail = [put(true, second + 70, b"\x91\x3c"), true + bytes(2)]
     yield told(bench, "two bytes in a frame, and two zeros behind the other copy", tail, true, False)
     yield told(bench, "these, and zeros behind a third", [*tail, changed(true, zeros) + bytes(2)], true, False)
+
+
+def checks_of_elements_lost(bench: Bench, made: File, rng: random.Random) -> Iterator[Check]:
+    """Bytes of a value were lost, and it takes the next element in, which has as many bytes, and whose header no copy has."""
+    text, begin = with_value(made, b"".join(b"sSlice[%d].dTra = %d\n" % (at, at * 7) for at in range(40)))
+    end = text.index(b"sSlice[39].dTra = 273\n") + len(b"sSlice[39].dTra = 273\n")
+    size = len(element(0x100010, "PN", "Doe^Jane"))
+    assert text[end : end + size] == element(0x100010, "PN", "Doe^Jane")
+    noise = [changed(text, (end - part, rng.randbytes(8 + part))) for part in (0, 0, 5)]
+    inside = [noise[0], noise[1][: begin + 100] + noise[1][begin + 100 + size :]]
+    yield told(bench, "bytes of a text lost, and noise of each copy over the next header", inside, text, False, 1)
+    across = [noise[0], noise[1][: end - 6] + noise[1][end - 6 + size :]]
+    yield told(bench, "the end of a text lost with the next header, and noise over that", across, text, False, 1)
+    before = [noise[2], text[: end - 10] + text[end - 10 + size :]]
+    yield told(bench, "the same, and noise over the end of the text too", before, text, False, 1)
+    same = changed(text, (end, b"\xff" * 8))
+    filled = [same, same[: begin + 100] + same[begin + 100 + size :]]
+    yield told(bench, "bytes of a text lost, and one value over the next header in both", filled, text, False, 1)
 
 
 def stuck(data: bytes, begin: int, lane: int, mask: int, is_set: bool, until: int = PAGE) -> bytes:

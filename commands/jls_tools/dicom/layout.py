@@ -1,6 +1,7 @@
 """What stands where in a file of which there are several copies: its structure, its frames, and its header as far as it is decided."""
 from __future__ import annotations
 
+import itertools
 from collections.abc import Sequence
 from typing import Optional
 
@@ -8,7 +9,6 @@ from jls_tools.dicom.axis import inserted
 from jls_tools.dicom.axis.align import SHIFTED, Copy, differing, on_one_axis, size_of
 from jls_tools.dicom.axis.bad_places import Range
 from jls_tools.dicom.axis.inserted import SMALLEST_ELEMENT
-from jls_tools.dicom.axis.periods import TEXT
 from jls_tools.dicom.axis.placed import placed
 from jls_tools.dicom.axis.runs import FINEST, Runs
 from jls_tools.dicom.axis.stuck import unstuck
@@ -81,28 +81,41 @@ class Layout:
         return any(begin < place < end for each in self.places for begin, end in each.fragments)
 
     def is_held_alike(self, place: int) -> bool:
-        """Whether all copies have the same headers of the elements and items that hold a place, and the same value, but for a frame's."""
+        """Whether all copies have the same headers of the elements and items that hold a place."""
         for step in self.structure.steps:
             element = step.element
             if element is None or element.length == UNDEFINED or not element.start <= place <= element.end:
                 continue
-            begin, end = element.start, element.end if step.kind == "leaf" else element.value
-            if self.runs.touching(begin, end) or any(copy.lacks(begin, end) for copy in self.copies):
+            if not self.is_alike(element.start, element.value):
                 return False
         return True
+
+    def is_alike(self, begin: int, end: int) -> bool:
+        """Whether all copies have the same bytes in a range."""
+        return not self.runs.touching(begin, end) and not any(copy.lacks(begin, end) for copy in self.copies)
+
+    def goes_on(self, place: int, size: int) -> bool:
+        """Whether the value that holds a place goes on for so many bytes behind it: then no element begins there that copies lost."""
+        leaves = (step.element for step in self.structure.steps if step.kind == "leaf" and step.element)
+        return any(element.value < place <= element.end - size for element in leaves)
 
     def can_hide_element(self, place: int, sizes: dict[int, int]) -> bool:
         """Whether the value that holds a place can end with an element whose header is damaged in each copy.
 
-        It has taken that in if other copies lost as many bytes of it. `sizes` are those that were cut out, by place. No header is text.
+        It has taken that in if other copies lost as many bytes of it. `sizes` are those that were cut out, by place. Damage that is the same
+        in all copies is of one value.
         """
         for element in (step.element for step in self.structure.steps if step.kind == "leaf"):
             if element is not None and element.value <= place <= element.end:
-                size = sum(own for at, own in sizes.items() if element.value <= at <= element.end)
-                tail = self.copies[0].data[element.end - size : element.end].rstrip(b"\0")
-                if SMALLEST_ELEMENT <= size <= element.length and not TEXT.match(tail):
-                    return True
+                own = [size for at, size in sizes.items() if element.value <= at <= element.end]
+                sums = {sum(part) for count in range(1, len(own) + 1) for part in itertools.combinations(own, count)}
+                return any(self.can_begin_at(element.end - size) for size in sums if SMALLEST_ELEMENT <= size <= element.length)
         return False
+
+    def can_begin_at(self, place: int) -> bool:
+        """Whether the header of an element can be damaged at a place in each copy."""
+        head = self.copies[0].data[place : place + SMALLEST_ELEMENT]
+        return not self.is_alike(place, place + SMALLEST_ELEMENT) or len(set(head)) == 1
 
     def header(self, shape: Optional[Shape], count: int) -> Header:
         """The Header, decided as far as the file can say."""
@@ -171,7 +184,8 @@ def is_put_in(copies: Sequence[Copy], layout: Layout, part: Range, parts: Sequen
     for begin, end in parts:
         at = inserted.place_without(begin, parts)
         sizes[at] = sizes.get(at, 0) + end - begin
-    return layout.is_in_frame(place) or inserted.is_put_in(copies, part) and not layout.can_hide_element(place, sizes)
+    is_no_element = inserted.is_no_element(copies, part) or layout.goes_on(place, part[1] - part[0])
+    return layout.is_in_frame(place) or inserted.is_clear(copies, part) and is_no_element and not layout.can_hide_element(place, sizes)
 
 
 def told_of(copies: Sequence[Copy], part: Range) -> tuple[str, int, int]:

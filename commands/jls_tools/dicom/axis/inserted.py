@@ -1,8 +1,8 @@
 """Bytes that one copy alone has and that were put into it: a block written twice, or bytes of something else.
 
 Elements and items go on only without them, by lengths that all copies have: so none of these is damaged. But in a header the other copies
-can have lost as many bytes as an element has, and read on. So there the bytes have to be fewer than an element has, or a second time what
-stands beside them. Noise can be over that element.
+can have lost as many bytes as an element has, and read on; noise can be over that element. So there the bytes have to be fewer than an
+element has, a second time what stands beside them, or in a value that goes on behind them for as many bytes.
 """
 from __future__ import annotations
 
@@ -32,7 +32,7 @@ def held_alone(copies: Sequence[Copy]) -> list[Range]:
 def combinations(copies: Sequence[Copy], ranges: Sequence[Range]) -> Iterator[tuple[Range, ...]]:
     """What of these ranges can have been put in: each combination, those of few first."""
     pixels = min((found.end() for copy in copies if (found := PIXELS_BEGIN.search(copy.data))), default=END)
-    likely = [part for part in ranges if part[0] > pixels or is_put_in(copies, part)]
+    likely = [part for part in ranges if part[0] > pixels or is_clear(copies, part)]
     for count in range(1, len(likely) + 1):
         yield from itertools.combinations(likely, count)
 
@@ -73,14 +73,18 @@ def place_in(copy: Copy, place: int) -> int:
     return place_without(place, copy.absent)
 
 
-def is_put_in(copies: Sequence[Copy], part: Range) -> bool:
-    """Whether bytes of one copy can't be what the others lost of a header."""
-    (begin, end), data = part, owner_of(copies, part).data
+def is_clear(copies: Sequence[Copy], part: Range) -> bool:
+    """Whether all copies have the same bytes before and behind a range."""
+    begin, end = part
     around = [copy.data[max(0, begin - BESIDE) : begin] + copy.data[end : end + BESIDE] for copy in copies]
     are_there = not any(copy.lacks(begin - BESIDE, begin) or copy.lacks(end, end + BESIDE) for copy in copies)
-    if not are_there or any(own != around[0] for own in around):
-        return False
-    return end - begin < SMALLEST_ELEMENT or stands_beside(data, begin, end)
+    return are_there and all(own == around[0] for own in around)
+
+
+def is_no_element(copies: Sequence[Copy], part: Range) -> bool:
+    """Whether bytes of one copy can't be an element that the others lost: they are fewer, or stand twice."""
+    begin, end = part
+    return end - begin < SMALLEST_ELEMENT or stands_beside(owner_of(copies, part).data, begin, end)
 
 
 def stands_beside(data: bytes, begin: int, end: int) -> bool:
