@@ -10,7 +10,7 @@ from typing import Any
 from dicom_files import File, changed
 from jls_tools.dicom import layout
 from jls_tools.dicom.axis import bad_places, inserted, stuck
-from jls_tools.dicom.axis.align import Copy, meet_again
+from jls_tools.dicom.axis.align import Copy, meet_again, pieces
 from jls_tools.dicom.axis.sectors import Pair
 from jls_tools.dicom.copies.instance import Instances
 from jls_tools.dicom.evidence.witnessed import denied, is_same, why_odd
@@ -93,6 +93,16 @@ def checks_of_places_by_hand(rng: random.Random) -> Iterator[Check]:
     two = lines[0] + rng.randbytes(50) + kept + rng.randbytes(400) + lines[2]
     found = meet_again(one, two, begin, begin)
     yield f"a nearer place, through which less is lost: {found}", found == (begin + 20, begin + 50)
+    even = b"".join(b"\xff\x7f" * rng.randrange(20, 40) + rng.randbytes(2) for _ in range(80))
+    for size in (64, 8):  # most of what follows is equal at equal offsets too
+        begin = even.index(b"\xff\x7f\xff\x7f", 1000)
+        longer = even[:begin] + rng.randbytes(size) + even[begin:]
+        found = list(pieces(longer, even))
+        yield f"{size} bytes put into even bytes: {found}", (size, 0) in found and len(found) <= 6
+    runs = even[:2000] + bytes(3000) + even[2000:]
+    flipped = changed(runs[:4000] + runs[4100:], (2500, b"\x10"))
+    found = list(pieces(runs, flipped))
+    yield f"a flip in zeros, and some lost behind it: {found}", found[:2] == [(2500, 2500), (1, 1)]
     noise, text = rng.randbytes(SECTOR), (b"this sector was not read\n" * 60)[:SECTOR]
     lone = b"\0" + bytes(byte | 1 for byte in noise[1:])
     pair = Pair(bytes(SECTOR) + lone + bytes(SECTOR), bytes(SECTOR) + text + noise, [])

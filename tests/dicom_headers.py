@@ -87,7 +87,7 @@ def damaged_value(true: bytes, at: int) -> bytes:
     return changed(true, (at - 60, bytes(20)))
 
 
-def checks_of_transfers(bench: Bench, made: File) -> Iterator[Check]:
+def checks_of_transfers(bench: Bench, made: File, small: File) -> Iterator[Check]:
     """A carriage return before each line feed of a copy is taken out again, if the copy has then the length of another one."""
     lines = b"".join(b"<Step.%d> of a slice\n" % at for at in range(60))
     for name, text in (("line feeds", lines), ("carriage returns and line feeds", lines.replace(b"\n", b"\r\n") + bytes([10, 7] * 40))):
@@ -108,9 +108,33 @@ def checks_of_transfers(bench: Bench, made: File) -> Iterator[Check]:
     noise = changed(true, (at + 300, b"\n\3\n\7" * 60))
     few, place = with_value(made, lines + b"of a slice\r\n" * 12)
     yield case(bench, "some line feeds, and as many lost bytes", [few, few[: place + 700] + few[place + 712 :]], 0, few)
+    yield from of_few_returns(bench, made, small)
     for copies in ([true, noise], [noise, true]):
         status, out, printed, _, _ = bench.mend(copies)
         yield f"line feeds of noise in the other copy ({status}, {printed})", "carriage return" not in printed and out in (None, true)
+
+
+def of_few_returns(bench: Bench, made: File, small: File) -> Iterator[Check]:
+    """Few line feeds are enough where a copy reads to its end only so; and two copies lost what a transfer takes away."""
+    true, _ = with_value(small, b"a slice\nof two lines.\n")
+    assert true.count(b"\n") < 8 and b"\r\n" not in true
+    both = [sent_as_text(changed(true, (made_items(true, small)[0] + at, bytes(2)))) for at in (60, 90)]
+    yield case(bench, "few line feeds, each copy sent as text", both, 0, true, "carriage return before each line feed")
+    one, place = with_value(made, b"one of three copies\r\nhas it, and a line feed\n\n")
+    hurt = changed(one, (made_items(one, made)[1] + 70, bytes(8)))
+    gone = [changed(one, (item + 70, bytes(8))).replace(b"\r\n", b"\n") for item in (made_items(one, made)[0], made_items(one, made)[2])]
+    yield case(bench, "two of three copies without carriage returns", [gone[0], hurt, gone[1]], 0, one)
+    put_in = [text[: place + 10] + text[place + 11 :] for text in gone]
+    yield case(bench, "they lost another byte too", [put_in[0], hurt, put_in[1]], 1, b"", "OUT is not written")
+    whole, place = with_value(made, b"a line\r\nand more of it to come")
+    more = whole[: place + 20] + b"x" + whole[place + 20 :]
+    status, out, printed, _, _ = bench.mend([more, changed(whole, (made_items(whole, made)[0] + 70, bytes(8)))])
+    yield f"a true carriage return, and a byte put in: nothing false ({status}, {printed})", out in (None, whole) and (out is None) == (status != 0)
+
+
+def made_items(data: bytes, made: File) -> list[int]:
+    """Where the items of a file stand that has another private value."""
+    return [data.index(stream) - 8 for stream in made.frames]
 
 
 HEADERS = [checks_of_versions, checks_of_damaged_versions, checks_of_transfers]

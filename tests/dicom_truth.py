@@ -226,6 +226,12 @@ def checks_of_tails(bench: Bench, made: File, neighbour: File) -> Iterator[Check
     yield case(bench, "a tail, and a letter of a name", [true, flipped + zeros], 1, b"", "(0010,0010), undecided")
 
 
+def more_in_frame(made: File) -> bytes:
+    """A copy with five bytes too many in its last frame."""
+    at = made.items[-1] + 60
+    return made.bytes[:at] + b"\x13\x57\x9b\xdf\x11" + made.bytes[at:]
+
+
 def of_shorter_copies(bench: Bench, made: File, zeros: bytes, rest: bytes) -> Iterator[Check]:
     """A copy that lost bytes ends where the elements of another one do. One that was cut at a border of sectors does not show it.
 
@@ -243,6 +249,10 @@ def of_shorter_copies(bench: Bench, made: File, zeros: bytes, rest: bytes) -> It
     turned = changed(bare, (SECTOR, bare[-size:]), (len(bare) - size, bare[SECTOR : SECTOR + size]))
     found = without_tails([bare[:900] + bare[916:], turned])
     yield f"a copy whose end stands elsewhere in it: no cut ({found.cut})", not found.cut
+    more = true[:700] + b"\x91\x3c\x77" + true[700:]
+    for name, tail in (("zeros", zeros), ("the rest of another file", rest)):
+        yield case(bench, f"{name} behind a copy that has bytes too many", [more + tail, damaged(made)], 0, true, "they were cut from")
+        yield case(bench, f"{name}, and each has bytes too many", [more + tail, more_in_frame(made)], 0, true, "they were cut from")
     yield "no tail: no cut", not without_tails([gone, true]).cut
     yield case(bench, "the same, and it ends before", [gone[:-1], true + zeros], 1, b"", "what stands after the last element")
     size = -(len(true) + 12) % 512  # bytes of an element that ends the file at a border of sectors

@@ -174,6 +174,15 @@ def lost_here(one: bytes, other: bytes, at: int, beside: int) -> Optional[tuple[
     return meet if len(left) == len(right) == SHIFTED and left == right else None
 
 
+def goes_to_end(one: bytes, other: bytes, at: int, beside: int, step: Optional[int]) -> Optional[tuple[int, int]]:
+    """Where both go on after bytes that one of them lost, if as many follow in both then: equal for long, and longer than at equal offsets."""
+    more = len(one) - at - (len(other) - beside)
+    meet = at + max(0, more), beside + max(0, -more)
+    size = equal_length(one, other, *meet) if more else 0
+    own = 0 if step is None else step + equal_length(one, other, at + step, beside + step)
+    return meet if size > own and size >= max(SHIFTED, min(FURTHER, len(one) - meet[0])) else None
+
+
 def back(one: bytes, other: bytes, at: int, beside: int, meet: int, meets: int) -> tuple[int, int]:
     """The first of the equal bytes before a place where both are equal."""
     while meet > at and meets > beside and one[meet - 1] == other[meets - 1]:
@@ -192,7 +201,9 @@ def pieces(one: bytes, other: bytes, is_free: bool = False) -> Iterator[tuple[in
         if count == 0 and (is_free or len(one) - at != len(other) - beside):
             step = same_way_on(one, other, at, beside)
             looks += step is not None
-            meet = lost_here(one, other, at, beside) if step is not None and looks < MOST_LOOKS else None
+            meet = goes_to_end(one, other, at, beside, step)
+            if meet is None and step is not None and looks < MOST_LOOKS:
+                meet = lost_here(one, other, at, beside)
             if step is None or meet is not None:
                 meet = meet or meet_again(one, other, at, beside)
                 if meet is not None:

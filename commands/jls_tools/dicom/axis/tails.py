@@ -1,7 +1,7 @@
 """Bytes after the last element of a copy: the rest of a sector, of a block of a tape, or of an older file.
 
 A tail is cut where a copy that reads whole lacks it, where most copies lack it, or where another copy ends just where the elements do, also
-if that one lost bytes ahead of its end. If all copies read to one place, and go on to the end of a sector, two of them at least with bytes
+if one of both lost bytes ahead of its end, or has too many. If all copies read to one place, and go on to the end of a sector, two of them at least with bytes
 of their own that are no padding, these are cut from all. A tail that all copies have stays. Another one is undecided: then a SHA-256 alone
 can say which file is true.
 """
@@ -54,7 +54,7 @@ def without_tails(texts: list[bytes]) -> Tails:
     """Cuts the tails that can be told."""
     ends = ends_of(texts)
     likely = [end if end is not None else end_behind(text) for text, end in zip(texts, ends)]
-    borders = [end_in_both(texts, ends, at) or border_of(texts, ends, at, likely[at]) for at in range(len(texts))]
+    borders = [end_in_both(texts, at, ends[at], likely[at]) or border_of(texts, ends, at, likely[at]) for at in range(len(texts))]
     found = Tails([text if border is None else text[:border] for text, border in zip(texts, borders)])
     found.cut = [at for at, border in enumerate(borders) if border is not None]
     if found.cut:
@@ -121,12 +121,24 @@ def border_of(texts: list[bytes], ends: list[Optional[int]], at: int, own: Optio
     return None
 
 
-def end_in_both(texts: list[bytes], ends: list[Optional[int]], at: int) -> Optional[int]:
-    """Where a copy that reads whole goes on behind its last element, if another one, which can have lost bytes, ends just there."""
-    text, end = texts[at], ends[at]
-    if end is None or end == len(text):
+def end_in_both(texts: list[bytes], at: int, end: Optional[int], likely: Optional[int]) -> Optional[int]:
+    """Where a copy goes on behind its last element, if another one, which can have lost bytes or have more, ends just there.
+
+    One that does not read whole ends behind its last delimiter, unless the other copy has what follows there.
+    """
+    text, border = texts[at], likely if end is None else end
+    if border is None or border == len(text):
         return None
-    return end if any(is_one_end(text[:end], other) for number, other in enumerate(texts) if number != at) else None
+    others = [other for number, other in enumerate(texts) if number != at and is_one_end(text[:border], other)]
+    if end is None and any(stands_in(text[border:], other) for other in others):
+        return None
+    return border if others else None
+
+
+def stands_in(tail: bytes, other: bytes) -> bool:
+    """Whether another copy has the beginning of a tail, beside what is of one value in it."""
+    begin = tail.lstrip(tail[:1])[:BESIDE]
+    return begin != b"" and begin in other
 
 
 def is_one_end(text: bytes, other: bytes) -> bool:

@@ -22,6 +22,7 @@ from jls_tools.dicom.axis.media import SECTOR
 from jls_tools.dicom.axis.periods import period_of
 from jls_tools.dicom.axis.placed import in_no_copy
 from jls_tools.dicom.axis.runs import Run
+from jls_tools.dicom.axis.transfers import lost_returns
 from jls_tools.dicom.read.elements import DELIMITER
 from jls_tools.dicom.result import Place
 
@@ -73,8 +74,12 @@ def hole_in_text(places: Iterable[Place], data: bytes) -> Optional[int]:
 
 
 def lost_in_most(copies: Sequence[Copy]) -> Optional[int]:
-    """Where most copies lost the same bytes, and go on behind them: a foreign file that stands over another copy can have moved it."""
-    inner = (pair for copy in copies for pair in copy.lost if 0 < pair[0] and pair[1] < len(copy.data) and not in_both([pair], copy.bad))
+    """Where most copies lost the same bytes, and go on behind them: a foreign file that stands over another copy can have moved it.
+
+    Those that lost carriage returns to a transfer as text lack the same ones, and the others have them all.
+    """
+    damaged = (copy for copy in copies if not lost_returns(copy, copies))
+    inner = (pair for copy in damaged for pair in copy.lost if 0 < pair[0] and pair[1] < len(copy.data) and not in_both([pair], copy.bad))
     for (begin, _), count in Counter(inner).items():
         if count > 1 and count * 2 > len(copies):
             return begin
