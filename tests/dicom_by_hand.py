@@ -97,12 +97,12 @@ def checks_of_places_by_hand(rng: random.Random) -> Iterator[Check]:
     for size in (64, 8):  # most of what follows is equal at equal offsets too
         begin = even.index(b"\xff\x7f\xff\x7f", 1000)
         longer = even[:begin] + rng.randbytes(size) + even[begin:]
-        found = list(pieces(longer, even))
-        yield f"{size} bytes put into even bytes: {found}", (size, 0) in found and len(found) <= 6
+        parts = list(pieces(longer, even))
+        yield f"{size} bytes put into even bytes: {parts}", (size, 0) in parts and len(parts) <= 6
     runs = even[:2000] + bytes(3000) + even[2000:]
     flipped = changed(runs[:4000] + runs[4100:], (2500, b"\x10"))
-    found = list(pieces(runs, flipped))
-    yield f"a flip in zeros, and some lost behind it: {found}", found[:2] == [(2500, 2500), (1, 1)]
+    parts = list(pieces(runs, flipped))
+    yield f"a flip in zeros, and some lost behind it: {parts}", parts[:2] == [(2500, 2500), (1, 1)]
     noise, text = rng.randbytes(SECTOR), (b"this sector was not read\n" * 60)[:SECTOR]
     lone = b"\0" + bytes(byte | 1 for byte in noise[1:])
     pair = Pair(bytes(SECTOR) + lone + bytes(SECTOR), bytes(SECTOR) + text + noise, [])

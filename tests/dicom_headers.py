@@ -129,7 +129,8 @@ def of_few_returns(bench: Bench, made: File, small: File) -> Iterator[Check]:
     whole, place = with_value(made, b"a line\r\nand more of it to come")
     more = whole[: place + 20] + b"x" + whole[place + 20 :]
     status, out, printed, _, _ = bench.mend([more, changed(whole, (made_items(whole, made)[0] + 70, bytes(8)))])
-    yield f"a true carriage return, and a byte put in: nothing false ({status}, {printed})", out in (None, whole) and (out is None) == (status != 0)
+    is_safe = out in (None, whole) and (out is None) == (status != 0)
+    yield f"a true carriage return, and a byte put in: nothing false ({status}, {printed})", is_safe
 
 
 def made_items(data: bytes, made: File) -> list[int]:

@@ -25,7 +25,7 @@ def checks_of_bytes_put_in(bench: Bench, made: File, rng: random.Random) -> Iter
     true, first, second, third = made.bytes, *made.items[:3]
     text, begin = with_value(made, b"".join(b"sSlice[%d].dTra = %d\n" % (at, at * 7) for at in range(200)))
     zeros, broken = (first + 70, bytes(8)), (made.name_at - 3, b"\7")
-    lost = (-(-(begin + 1000) // 512) * 512, bytes(512))
+    sector = (-(-(begin + 1000) // 512) * 512, bytes(512))
     more, hurt = put(true[: second + 60] + true[second + 90 :], third + 60, b"\x91\x77\x13"), (text.index(made.frames[0]) + 70, bytes(8))
     cases = {
         "two bytes in a frame": (true, [put(true, second + 70, b"\x91\x3c"), changed(true, zeros)]),
@@ -37,7 +37,7 @@ def checks_of_bytes_put_in(bench: Bench, made: File, rng: random.Random) -> Iter
         "two bytes in a header": (true, [put(true, made.name_at + 3, b"\x91\x3c"), changed(true, zeros)]),
         "a block of a private text twice": (text, [twice(text, begin + 300, 512), changed(text, hurt)]),
         "noise in a private text": (text, [put(text, begin + 300, rng.randbytes(64)), changed(text, hurt)]),
-        "two bytes in a text of which another copy lost a part": (text, [put(text, begin + 300, b"\x91\x3c"), changed(text, lost, hurt)]),
+        "two bytes in a text of which another copy lost a part": (text, [put(text, begin + 300, b"\x91\x3c"), changed(text, sector, hurt)]),
     }
     for name, (wanted, copies) in cases.items():
         yield told(bench, name, copies, wanted)

@@ -102,8 +102,8 @@ class Layout:
     def can_hide_element(self, place: int, sizes: dict[int, int]) -> bool:
         """Whether the value that holds a place can end with an element whose header is damaged in each copy.
 
-        It has taken that in if other copies lost as many bytes of it. `sizes` are those that were cut out, by place. Damage that is the same
-        in all copies is of one value.
+        It has taken that in if other copies lost as many bytes of it. `sizes` are those that were cut out, by place. Damage that is the
+        same in all copies is of one value.
         """
         for element in (step.element for step in self.structure.steps if step.kind == "leaf"):
             if element is not None and element.value <= place <= element.end:

@@ -175,7 +175,7 @@ def lost_here(one: bytes, other: bytes, at: int, beside: int) -> Optional[tuple[
 
 
 def goes_to_end(one: bytes, other: bytes, at: int, beside: int, step: Optional[int]) -> Optional[tuple[int, int]]:
-    """Where both go on after bytes that one of them lost, if as many follow in both then: equal for long, and longer than at equal offsets."""
+    """Where both go on after bytes that one lost, if as many follow in both then: equal for long, and longer than at equal offsets."""
     more = len(one) - at - (len(other) - beside)
     meet = at + max(0, more), beside + max(0, -more)
     size = equal_length(one, other, *meet) if more else 0
