@@ -155,6 +155,25 @@ def checks_of_one_uid(bench: Bench, made: File) -> Iterator[Check]:
     yield f"a copy with one UID: the same file ({status}, {printed})", (status, out == true) == (0, True)
 
 
+def checks_of_series(bench: Bench, made: File) -> Iterator[Check]:
+    """A UID that differs in its last number alone can be another file's of the series, unless two copies have the other one twice."""
+    true, other = made.bytes, UID[:-1] + chr(ord(UID[-1]) ^ 1)
+    in_meta, in_data = true.index(UID.encode()), true.rindex(UID.encode(), 0, made.name_at)
+    hurt = [(item + 70, bytes(8)) for item in made.items]
+    foreign = [changed(true, (in_data, other.encode()), hurt[0]), changed(true, (in_meta, other.encode()), (in_data, other.encode()))]
+    one = changed(true, (in_data, other.encode()))
+    before = changed(true, (in_data + 4, bytes([true[in_data + 4] ^ 1])))
+    assert UID[4].isdigit() and "." in UID[5:]
+    for name, copies, is_back in (
+        ("of three UIDs two are another file's", foreign, False),
+        ("of four UIDs one differs in the last number", [one, changed(true, hurt[0])], False),
+        ("of six UIDs one does", [one, changed(true, hurt[0]), changed(true, hurt[1])], True),
+        ("a flip in another number", [before, changed(true, hurt[0])], True),
+    ):
+        status, out, printed, faults, _ = bench.mend(copies)
+        yield f"{name}: {is_back} ({status}, {printed}, {faults})", (status, out) == ((0, true) if is_back else (1, None))
+
+
 def put_before(data: bytes, tag: int, *elements: bytes) -> bytes:
     """A file with these elements before one of the top level that has the VR US or LO."""
     at = next(at for vr in (b"US", b"LO") if (at := data.find(struct.pack("<HH", tag >> 16, tag & 0xFFFF) + vr, 132)) >= 0)
@@ -200,6 +219,30 @@ def checks_of_false_readings(bench: Bench, made: File, rng: random.Random) -> It
     yield from checks_of_two_damages(bench, made, rng)
 
 
+def checks_of_true_zeros(bench: Bench, made: File, rng: random.Random) -> Iterator[Check]:
+    """Zeros that are true: of an empty text, over which another copy has noise; and a sector of them, in which a third copy has a byte.
+
+    Where the third copy has a sector of its own, the zeros of the others look lost, and outvote nothing.
+    """
+    true = put_before(made.bytes, 0x90010, element(0x80050, "SH", bytes(2)))
+    at, hurt = true.index(element(0x80050, "SH", bytes(2))) + 8, (true.index(made.frames[0]) + 70, bytes(8))
+    for noise, is_back in ((b"\xee\xe4", True), (b"P1", False)):
+        lost = changed(true, (0, rng.randbytes(512)), (at, noise))
+        status, out, printed, faults, _ = bench.mend([lost, changed(true, hurt)])
+        wanted = (0, true) if is_back else (1, None)
+        yield f"zeros of an empty text, and noise {noise!r}: {wanted[0]} ({status}, {printed}, {faults})", (status, out) == wanted
+    true, begin = with_value(made, b"of a slice " * 30 + bytes(2000) + b"of a slice " * 30)
+    first, hurt = (begin // 512 + 2) * 512, (true.index(made.frames[0]) + 70, bytes(8))
+    for size, is_back in ((1, True), (64, False)):
+        other = changed(true, (first + 100, b"\xf7" * size))
+        status, out, printed, faults, _ = bench.mend([true, other, changed(true, hurt)])
+        yield f"{size} bytes of a third copy in zeros ({status}, {printed}, {faults})", ((status, out) == (0, true)) == is_back
+        changed_too = [changed(copy, (begin + 3, letter)) for copy, letter in ((true, b"?"), (other, b"!"), (changed(true, hurt), b"a"))]
+        status, out, printed, faults, _ = bench.mend(changed_too)
+        is_taken = f"differ {first + 100} {size} (0009,1001), taken: 00" in printed
+        yield f"the same, and no header of most ({status}, {printed}, {faults})", is_taken == is_back
+
+
 def checks_of_two_damages(bench: Bench, made: File, rng: random.Random) -> Iterator[Check]:
     """Damage of one copy speaks for no other place of it that does not lie within that damage."""
     true, name = made.bytes, made.name_at
@@ -225,4 +268,4 @@ def checks_of_two_damages(bench: Bench, made: File, rng: random.Random) -> Itera
 
 
 RULES = [checks_of_csa_headers, checks_of_terms, checks_of_lost_sectors, checks_of_tables, checks_of_one_uid, checks_of_halves]
-RULES += [checks_of_one_picture, checks_of_false_readings]
+RULES += [checks_of_one_picture, checks_of_false_readings, checks_of_true_zeros, checks_of_series]

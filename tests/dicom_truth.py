@@ -219,11 +219,31 @@ def checks_of_tails(bench: Bench, made: File, neighbour: File) -> Iterator[Check
     yield case(bench, "such elements behind each copy", [true + lower, damaged(made) + lower], 0, true + lower, "every copy has it so")
     yield case(bench, "the rest of another file, zeros, and zeros", [true + rests[0], damaged(made) + zeros, true + zeros], 1, b"")
     yield from of_shorter_copies(bench, made, zeros, rests[0])
+    yield from of_padded_copies(bench, made, rests[0])
     padding = changed(true, (len(true) - 42, b"\x13\x57\x9b\xdf"))
     yield case(bench, "the last element's tag is damaged", [padding, damaged(made)], 0, true)
     both = [changed(true, (len(true) - 38, b"z")), changed(true, (len(true) - 36, b"\x07"))]
     yield case(bench, "the last element's header is damaged in each copy", both, 0, true)
     yield case(bench, "a tail, and a letter of a name", [true, flipped + zeros], 1, b"", "(0010,0010), undecided")
+
+
+def of_padded_copies(bench: Bench, made: File, rest: bytes) -> Iterator[Check]:
+    """Bytes of one value behind the elements are no part of the file, where not all copies have the same."""
+    true = made.bytes
+    for name, copies in (
+        ("two zeros, and a hundred", [true + bytes(2), damaged(made) + bytes(100)]),
+        ("zeros, and ones", [true + bytes(64), damaged(made) + b"\xff" * 64]),
+        ("zeros, and the other copy is cut", [true + bytes(300), true[:-60]]),
+        ("zeros behind a copy with bytes too many, and behind another one", [more_in_frame(made) + bytes(512), damaged(made) + bytes(2)]),
+    ):
+        for order in (copies, copies[::-1]):
+            yield case(bench, name, order, 0, true, "they were cut from")
+    whole = true + bytes(100)
+    yield case(bench, "the same zeros, and a third copy is cut", [whole, damaged(made) + bytes(100), true[:-60]], 0, whole, "every copy")
+    for other in (true[:-60], damaged(made) + bytes(2), more_in_frame(made) + bytes(2)):
+        yield case(bench, "a rest of several values, and none or zeros", [true + rest, other], 1, b"", "OUT is not written")
+    hidden = [changed(true, (len(true) - 42, bytes(size)), (len(true) - 9, b"x")) for size in (5, 9)]
+    yield case(bench, "an element whose header is zeroed in each, and not its value", hidden, 1, b"", "OUT is not written")
 
 
 def more_in_frame(made: File) -> bytes:
@@ -243,7 +263,7 @@ def of_shorter_copies(bench: Bench, made: File, zeros: bytes, rest: bytes) -> It
             yield case(bench, f"{name}, and the other copy lost bytes", order, 0, true, "they were cut from")
     at = made.items[-1] + len(made.frames[-1]) - 20
     strange = changed(true, (at, bytes(byte ^ 0x55 for byte in true[at : at + 20])))
-    found = without_tails([gone, strange + zeros])
+    found = without_tails([gone, strange + rest])
     yield f"the same, and another end of the last frame: no cut ({found.cut})", not found.cut and not found.is_decided
     bare, size = true[:-42], (len(true) - 42) % SECTOR + SECTOR  # without the element behind Pixel Data
     turned = changed(bare, (SECTOR, bare[-size:]), (len(bare) - size, bare[SECTOR : SECTOR + size]))
@@ -254,20 +274,20 @@ def of_shorter_copies(bench: Bench, made: File, zeros: bytes, rest: bytes) -> It
         yield case(bench, f"{name} behind a copy that has bytes too many", [more + tail, damaged(made)], 0, true, "they were cut from")
         yield case(bench, f"{name}, and each has bytes too many", [more + tail, more_in_frame(made)], 0, true, "they were cut from")
     yield "no tail: no cut", not without_tails([gone, true]).cut
-    yield case(bench, "the same, and it ends before", [gone[:-1], true + zeros], 1, b"", "what stands after the last element")
+    yield case(bench, "the same, and it ends before", [gone[:-1], true + rest], 1, b"", "what stands after the last element")
     size = -(len(true) + 12) % 512  # bytes of an element that ends the file at a border of sectors
     even = true + element(0xFFFCFFFC, "OB", bytes(size))
     shorter = even[:600] + even[616:]
-    yield case(bench, "the same, and the elements end at a border", [shorter, even + zeros], 1, b"", "what stands after the last element")
+    yield case(bench, "the same, and the elements end at a border", [shorter, even + rest], 1, b"", "what stands after the last element")
     size = -(len(true) - 16 + 12) % 512  # the same of the shorter copy alone
     even = true + element(0xFFFCFFFC, "OB", bytes(size))
     shorter = even[:600] + even[616:]
-    yield case(bench, "the same, and the shorter one does", [shorter, even + zeros], 1, b"", "what stands after the last element")
+    yield case(bench, "the same, and the shorter one does", [shorter, even + rest], 1, b"", "what stands after the last element")
     other = changed(gone, (len(gone) - 9, b"\1"))
-    yield case(bench, "the same, and it ends with other bytes", [other, true + zeros], 1, b"", "what stands after the last element")
+    yield case(bench, "the same, and it ends with other bytes", [other, true + rest], 1, b"", "what stands after the last element")
     padded = true + element(0xFFFCFFFC, "OB", bytes(300))
     cut = padded[:600] + padded[616:-100]
-    yield case(bench, "the same, and it is cut inside of zeros", [cut, padded + zeros], 1, b"", "what stands after the last element")
+    yield case(bench, "the same, and it is cut inside of zeros", [cut, padded + rest], 1, b"", "what stands after the last element")
 
 
 # Most copies ---------------------------------------------------------------------------------------

@@ -2,7 +2,8 @@
 
 A tail is cut where a copy that reads whole lacks it, where most copies lack it, or where another copy ends just where the elements do, also
 if one of both lost bytes ahead of its end, or has too many. If all copies read to one place, and go on to the end of a sector, two of them
-at least with bytes of their own that are no padding, these are cut from all. A tail that all copies have stays. Another one is undecided:
+at least with bytes of their own that are no padding, these are cut from all. So are tails of one value that are not the same in all copies
+that have some: a file ends with its last element (PS3.10, 7), and none is so. A tail that all copies have stays. Another one is undecided:
 then a SHA-256 alone can say which file is true.
 """
 from __future__ import annotations
@@ -65,6 +66,13 @@ def without_tails(texts: list[bytes]) -> Tails:
         return found
     if None not in ends and are_strange(texts, end):
         return Tails([text[:end] for text in texts], list(range(len(texts))), [b"", *(text[end:] for text in texts)])
+    owns = [own if own is not None else may_be for own, may_be in zip(ends, likely)]
+    if are_padded(texts, owns, end):
+        tails = [text[own:] for text, own in zip(texts, owns)]
+        found.texts = [text[:own] for text, own in zip(texts, owns)]
+        found.cut = [at for at, tail in enumerate(tails) if tail]
+        found.ways += dict.fromkeys(filter(None, tails))
+        return found
     # One that does not read whole can be longer and end as a file does: bytes were put into it, and it has no tail
     longer = [at for at, text in enumerate(texts) if len(text) > end]
     with_tails = [at for at in longer if ends[at] is not None or likely[at] != len(texts[at])]
@@ -78,6 +86,18 @@ def without_tails(texts: list[bytes]) -> Tails:
     found.texts = [text[:end] if at in with_tails else text for at, text in enumerate(texts)]
     found.ways = [*tails, b""] if found.is_decided else [b"", *tails]
     return found
+
+
+def are_padded(texts: list[bytes], owns: list[Optional[int]], end: int) -> bool:
+    """Whether bytes of one value stand behind the elements, and not the same in all copies that have some: no element is so.
+
+    `owns` are where the elements of each may end. One that is longer, and in which this is not known, can have anything behind them.
+    """
+    if any(own is None and len(text) > end for text, own in zip(texts, owns)):
+        return False
+    tails = [text[own:] for text, own in zip(texts, owns) if own is not None and own < len(text)]
+    is_one = len(tails) > 1 and len(set(tails)) == 1
+    return not is_one and len(texts) > 1 and all(not tail.strip(tail[:1]) for tail in tails)
 
 
 def are_strange(texts: list[bytes], end: int) -> bool:

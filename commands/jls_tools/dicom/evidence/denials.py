@@ -3,12 +3,13 @@ from __future__ import annotations
 
 from typing import Optional
 
+from jls_tools.dicom.axis.periods import TEXT
 from jls_tools.dicom.evidence.alone import is_against_rules
 from jls_tools.dicom.evidence.header import Header
 from jls_tools.dicom.evidence.most import BY_MOST
 from jls_tools.dicom.read.elements import JPEG_LS, Element, tag_name
 from jls_tools.dicom.read.tags import ALLOCATED, COLUMNS, FRAMES, ROWS, SAMPLES, STORED, SYNTAX, TWINS
-from jls_tools.dicom.read.values import DIGITS_AND_DOTS, NOT_IN_TEXT, TEXTS, is_doubtful, is_written
+from jls_tools.dicom.read.values import DIGITS_AND_DOTS, NOT_IN_TEXT, SHORT_PAD, TEXTS, is_doubtful, is_written
 from jls_tools.frames.codestream import Shape, shape_of
 
 OVERWRITTEN = 8  # so many bytes of one value in a text, at least, can be written over it
@@ -38,11 +39,16 @@ def forbidden(header: Header) -> Optional[str]:
             return f"{tag_name(leaf.tag)} has what its VR forbids"
         if value is not None and header.elements.get(leaf.tag) is leaf and is_against_rules(header, leaf, value):
             return f"{tag_name(leaf.tag)} has what PS3.5 or PS3.10 forbids"
-        if value and leaf.vr in TEXTS and not value.strip(b"\0") and any(leaf.bytes_of(copy.data).strip(b"\0") for copy in header.copies):
+        if value and leaf.vr in TEXTS and not value.strip(b"\0") and any(is_text(leaf.bytes_of(copy.data)) for copy in header.copies):
             return f"{tag_name(leaf.tag)} has zeros, and a copy has a text there"
         if value and leaf.vr in TEXTS and is_overwritten(header, leaf):
             return f"{tag_name(leaf.tag)} has one value many times where copies differ"
     return None
+
+
+def is_text(value: bytes) -> bool:
+    """Whether a copy has a text in place of zeros. Few bytes that are no ASCII can be noise over what a writer fills an empty text with."""
+    return bool(value.strip(b"\0")) and (len(value) > SHORT_PAD or bool(TEXT.match(value)))
 
 
 def is_overwritten(header: Header, leaf: Element) -> bool:

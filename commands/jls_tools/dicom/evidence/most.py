@@ -7,10 +7,13 @@ from __future__ import annotations
 
 from collections.abc import Collection, Sequence
 from dataclasses import dataclass
+from operator import ne
 from typing import Optional
 
 from jls_tools.dicom.axis.align import Copy
-from jls_tools.dicom.axis.bad_places import clipped, in_all, in_both
+from jls_tools.dicom.axis.bad_places import Range, clipped, in_all, in_both
+from jls_tools.dicom.axis.media import SECTOR
+from jls_tools.dicom.axis.sectors import LEAST
 from jls_tools.dicom.read.elements import Element
 from jls_tools.dicom.read.reading import Reading
 from jls_tools.dicom.read.tags import FIRST, PIXEL_DATA
@@ -47,10 +50,18 @@ def agreed(copies: Sequence[Copy], ranges: list[tuple[int, int]]) -> Optional[Ag
 
 
 def are_lost_alike(copies: Sequence[Copy], alike: Collection[int], ranges: Sequence[tuple[int, int]]) -> bool:
-    """Whether some of these ranges looks lost in each of the copies that are alike, and another copy has other bytes there."""
+    """Whether some of these ranges looks lost in each of the copies that are alike, and another copy has far other bytes there."""
     others = [copy for at, copy in enumerate(copies) if at not in alike]
     filled = in_both(ranges, in_all([copies[at].seen for at in alike]))
-    return any(not copy.lacks(*pair) and not clipped(copy.seen, *pair) for pair in filled for copy in others)
+    models = [copies[at].data for at in alike]
+    return any(has_other(copy, model, pair) for pair in filled for copy in others for model in models)
+
+
+def has_other(copy: Copy, model: bytes, pair: Range) -> bool:
+    """Whether a copy has, in the sectors of a range that looks lost, other bytes that do not; a few can be damage of its own."""
+    begin, end = pair[0] // SECTOR * SECTOR, -(-pair[1] // SECTOR) * SECTOR
+    is_there = not copy.lacks(*pair) and not clipped(copy.seen, *pair)
+    return is_there and sum(map(ne, copy.data[begin:end], model[begin:end])) >= LEAST
 
 
 def header_end(data: bytes, ranges: list[tuple[int, int]]) -> Optional[int]:

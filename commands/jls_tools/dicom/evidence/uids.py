@@ -23,6 +23,21 @@ def are_denied(copies: Sequence[Copy], uids: set[str], elements: Sequence[Elemen
     return denying * 2 >= agreeing
 
 
+def may_be_of_series(copies: Sequence[Copy], uids: set[str], elements: Sequence[Element], is_lost: Callable[[int, Element], bool]) -> bool:
+    """Whether an element of a copy has another instance's UID of this series, and fewer than two copies have one of these in each place.
+
+    Such UIDs differ in their last numbers alone. A flip makes one of the other, and so does a sector of another file in each copy.
+    """
+    values = [[(each, text_of(each.bytes_of(copy.data))) for each in elements if not copy.lacks(each.value, each.end)] for copy in copies]
+    agreeing = sum(len(own) == len(elements) and all(uid in uids for _, uid in own) for own in values)
+    others = (uid for number, own in enumerate(values) for each, uid in own if uid not in uids and not is_lost(number, each))
+    return agreeing < 2 and any(is_uid(other.encode()) and any(are_of_series(other, uid) for uid in uids) for other in others)
+
+
+def are_of_series(one: str, other: str) -> bool:
+    return one.rpartition(".")[0] == other.rpartition(".")[0]
+
+
 def is_flip(one: str, other: str) -> bool:
     """Whether one bit alone makes a text of another one."""
     apart = [ord(left) ^ ord(right) for left, right in zip(one, other) if left != right]
