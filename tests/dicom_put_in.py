@@ -35,6 +35,7 @@ def checks_of_bytes_put_in(bench: Bench, made: File, rng: random.Random) -> Iter
         "in three copies": (true, [put(true, at + 60, rng.randbytes(5 + size)) for size, at in enumerate((first, second, third))]),
         "a loss and more bytes": (true, [more, changed(true, zeros)]),
         "two bytes in a header": (true, [put(true, made.name_at + 3, b"\x91\x3c"), changed(true, zeros)]),
+        "elements twice": (true, [twice(true, true.index(b"\x08\0\x08\0CS"), 80), changed(true, zeros)]),
         "a block of a private text twice": (text, [twice(text, begin + 300, 512), changed(text, hurt)]),
         "noise in a private text": (text, [put(text, begin + 300, rng.randbytes(64)), changed(text, hurt)]),
         "two bytes in a text of which another copy lost a part": (text, [put(text, begin + 300, b"\x91\x3c"), changed(text, sector, hurt)]),

@@ -155,6 +155,36 @@ def checks_of_one_uid(bench: Bench, made: File) -> Iterator[Check]:
     yield f"a copy with one UID: the same file ({status}, {printed})", (status, out == true) == (0, True)
 
 
+def exchanged(data: bytes, begin: int) -> bytes:
+    """A copy with the two bytes of each pair of a sector exchanged."""
+    copy = bytearray(data)
+    copy[begin : begin + 512 : 2], copy[begin + 1 : begin + 512 : 2] = data[begin + 1 : begin + 512 : 2], data[begin : begin + 512 : 2]
+    return bytes(copy)
+
+
+def checks_of_exchanged_bytes(bench: Bench, made: File, rng: random.Random) -> Iterator[Check]:
+    """A sector in another order of bytes is seen where a place of it was decided so, or where the other copy follows what stands around."""
+    lines = b"".join(b"<Step.%d> sSlice[%d].dTra = %d\n" % (at % 9, at, rng.randrange(10**6)) for at in range(200))
+    text, begin = with_value(made, lines[:5000])
+    noise, at = with_value(made, rng.randbytes(3000))
+    behind = (at + 3000) // 512 * 512  # the sector in which the value ends and other elements begin
+    first = -(-begin // 512) * 512 + 1024
+    for name, true, places, is_back in (
+        ("a text", text, [first], True),
+        ("two sectors of a text side by side", text, [first, first + 512], True),
+        ("noise", noise, [at // 512 * 512 + 1024], False),
+        ("noise, and elements behind it", noise, [behind], True),
+    ):
+        hurt = changed(true, (true.index(made.frames[0]) + 70, bytes(8)))
+        lost = true
+        for place in places:
+            lost = exchanged(lost, place)
+        for copies in ([lost, hurt], [hurt, lost]):
+            status, out, printed, faults, _ = bench.mend(copies)
+            wanted = (0, true) if is_back else (1, None)
+            yield f"bytes exchanged in {name}: {wanted[0]} ({status}, {printed}, {faults})", (status, out) == wanted
+
+
 def checks_of_series(bench: Bench, made: File) -> Iterator[Check]:
     """A UID that differs in its last number alone can be another file's of the series, unless two copies have the other one twice."""
     true, other = made.bytes, UID[:-1] + chr(ord(UID[-1]) ^ 1)
@@ -268,4 +298,4 @@ def checks_of_two_damages(bench: Bench, made: File, rng: random.Random) -> Itera
 
 
 RULES = [checks_of_csa_headers, checks_of_terms, checks_of_lost_sectors, checks_of_tables, checks_of_one_uid, checks_of_halves]
-RULES += [checks_of_one_picture, checks_of_false_readings, checks_of_true_zeros, checks_of_series]
+RULES += [checks_of_one_picture, checks_of_false_readings, checks_of_true_zeros, checks_of_series, checks_of_exchanged_bytes]

@@ -135,6 +135,10 @@ def is_through(structure: Structure) -> bool:
     return structure.is_found and not structure.jumps and not structure.is_cut
 
 
+def is_in_order(structure: Structure) -> bool:
+    return is_through(structure) and not structure.descends
+
+
 def rank(structure: Structure) -> tuple[bool, bool, bool, int]:
     """What is worse comes later: not found, jumps, an end before the last element's, cost."""
     return (not structure.is_found, bool(structure.jumps), structure.is_cut, structure.cost or 0)
@@ -146,7 +150,7 @@ def laid_out(copies: Sequence[Copy], named: Optional[str] = None) -> tuple[list[
     A copy that is `named` for its header keeps its bits.
     """
     found, layout, shifted = on_best_axis(copies, named)
-    if is_through(layout.structure):
+    if is_in_order(layout.structure):
         return found, layout
     ways = [found] if [copy.absent for copy in shifted] == [copy.absent for copy in found] else [found, shifted]
     others = (without_inserted(way) for way in ways)
@@ -167,7 +171,7 @@ def without_inserted(copies: Sequence[Copy]) -> Optional[tuple[list[Copy], Layou
         walk = Walk(Runs(rest, 1), [copy.data for copy in rest])
         goes_on = walk.goes_on()
         steps += walk.looks + len(walk.steps)
-        if goes_on and is_through((layout := Layout(rest)).structure):
+        if goes_on and is_in_order((layout := Layout(rest)).structure):
             if not all(is_put_in(copies, layout, part, parts) for part in parts):
                 return None
             layout.put_in = [told_of(copies, part) for part in parts]

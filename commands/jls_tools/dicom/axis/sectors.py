@@ -213,6 +213,17 @@ class Pair:
         limit, kind = self.limit(left, right)
         return kind.bits(other) <= limit + FITS
 
+    def are_exchanged(self, begin: int, end: int) -> bool:
+        """Whether a range of one copy is that of the other with the bytes of each pair exchanged, as a wrong order of bytes makes it."""
+        own, other = self.own[begin:end], self.other[begin:end]
+        return begin >= 0 and own != other and len(own) % 2 == 0 and own[::2] == other[1::2] and own[1::2] == other[::2]
+
+    def fits_less(self, begin: int, end: int) -> bool:
+        """Whether what a copy has in a range follows the bytes before and behind it less than what the other one has there."""
+        context = b"".join(self.beside(begin, end))
+        kind = Kind(context)
+        return len(context) >= CONTEXT and kind.bits(self.own[begin:end]) >= kind.bits(self.other[begin:end]) + FITS
+
     def is_lost_between(self, begin: int, end: int) -> bool:
         """Whether a copy lost all of a range: it has one value alone, or most of it differs."""
         own = self.own[begin:end]

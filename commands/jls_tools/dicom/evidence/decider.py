@@ -5,6 +5,7 @@ import itertools
 from collections.abc import Iterator, Sequence
 from typing import TYPE_CHECKING, Optional
 
+from jls_tools.dicom.axis.inserted import place_in
 from jls_tools.dicom.axis.media import NEAR_PLACES, SECTOR
 from jls_tools.dicom.axis.runs import Run
 from jls_tools.dicom.axis.sectors import BESIDE, IS_NOISE, NEAR, Pair, is_noise_alone
@@ -13,6 +14,7 @@ if TYPE_CHECKING:
     from jls_tools.dicom.evidence.header import Header
 
 DECIDED = 3  # so many places of a range were decided, at least, where others go with them
+IS_EXCHANGED = "others have the two bytes of each pair exchanged in this sector"
 IS_COMPANY = "the places around it in its sector are of that copy"
 IS_PATCH = "others are noise, and what stands around them is none"
 IS_SECTOR = "the copy lost this sector"
@@ -38,6 +40,7 @@ class Decider:
             for begin, end in self.wholes():
                 if pair.is_patch(begin, end):
                     self.drop(own, other, begin, end, IS_PATCH)
+            self.by_exchanged_bytes(pair, own, other)
             self.by_noise(pair, own, other)
             self.by_company(pair, own, other)
             self.by_runs_of_one_value(pair, own, other)
@@ -80,6 +83,17 @@ class Decider:
             return False
         holders = self.header.holders(number)
         return one in holders and two not in holders
+
+    def by_exchanged_bytes(self, pair: Pair, own: int, other: int) -> None:
+        """Open sectors of a copy in which the bytes of each pair are exchanged: a place of them was decided so, or the other one fits."""
+        copy = self.header.copies[own]
+        begins = (self.runs.runs[number].begin for number in self.header.open_runs())
+        for border in sorted({begin - place_in(copy, begin) % SECTOR for begin in begins if not copy.lacks(begin, begin + 1)}):
+            end = min(border + SECTOR, len(copy.data))
+            if pair.are_exchanged(border, end):
+                numbers = [number for number in self.runs.touching(border, end) if number in self.header.left]
+                if any(self.is_for(number, other, own) for number in numbers) or pair.fits_less(border, end):
+                    self.drop(own, other, border, end, IS_EXCHANGED)
 
     def by_noise(self, pair: Pair, own: int, other: int) -> None:
         """Open sectors next to others of noise, in which places were decided against a copy: that one lost all of them."""

@@ -102,6 +102,12 @@ class Structure:
         return next((element for element in self.elements if element.tag == PIXEL_DATA), None)
 
     @property
+    def descends(self) -> bool:
+        """Whether an element follows one of a tag that is not lower (PS3.5, 7.1)."""
+        leads = (step for step in self.steps if step.kind in ("leaf", "open") and step.element)
+        return any(step.element.tag <= step.before[2] for step in leads if step.element)
+
+    @property
     def is_cut_outside(self) -> bool:
         """Whether the file ends in an element or its header that is no part of Pixel Data."""
         return self.is_cut and bool(self.steps) and self.steps[-1].before[1][-1][0] != PIXELS
