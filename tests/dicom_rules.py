@@ -164,16 +164,17 @@ def exchanged(data: bytes, begin: int) -> bytes:
 
 def checks_of_exchanged_bytes(bench: Bench, made: File, rng: random.Random) -> Iterator[Check]:
     """A sector in another order of bytes is seen where a place of it was decided so, or where the other copy follows what stands around."""
-    lines = b"".join(b"<Step.%d> sSlice[%d].dTra = %d\n" % (at % 9, at, rng.randrange(10**6)) for at in range(200))
-    text, begin = with_value(made, lines[:5000])
+    kinds = [range(0x21 + 31 * kind, 0x40 + 31 * kind) for kind in range(3)]  # each of three letters is of another kind
+    text, begin = with_value(made, bytes(rng.choice(kinds[at % 3]) for at in range(8000)))
     noise, at = with_value(made, rng.randbytes(3000))
-    behind = (at + 3000) // 512 * 512  # the sector in which the value ends and other elements begin
-    first = -(-begin // 512) * 512 + 1024
+    behind = 4096  # the sector in which the value ends and other elements begin
+    few, _ = with_value(made, ((bytes(76) + rng.randbytes(4)) * 60)[: behind + 400 - begin])
+    first = -(-begin // 512) * 512 + 2048
     for name, true, places, is_back in (
         ("a text", text, [first], True),
         ("two sectors of a text side by side", text, [first, first + 512], True),
         ("noise", noise, [at // 512 * 512 + 1024], False),
-        ("noise, and elements behind it", noise, [behind], True),
+        ("few places, and elements behind them", few, [behind], True),
     ):
         hurt = changed(true, (true.index(made.frames[0]) + 70, bytes(8)))
         lost = true
