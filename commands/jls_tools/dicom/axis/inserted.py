@@ -2,7 +2,7 @@
 
 Elements and items go on only without them, by lengths that all copies have: so none of these is damaged. But in a header the other copies
 can have lost as many bytes as an element has, and read on; noise can be over that element. So there the bytes have to be fewer than an
-element has, a second time what stands beside them, or in a value that goes on behind them for as many bytes.
+element has, stand twice, or lie in a value that goes on for as many bytes.
 """
 from __future__ import annotations
 

@@ -1,10 +1,10 @@
 """Bytes after the last element of a copy: the rest of a sector, of a block of a tape, or of an older file.
 
-A tail is cut where a copy that reads whole lacks it, where most copies lack it, or where another copy ends just where the elements do, also
-if one of both lost bytes ahead of its end, or has too many. If all copies read to one place, and go on to the end of a sector, two of them
-at least with bytes of their own that are no padding, these are cut from all. So are tails of one value that are not the same in all copies
-that have some: a file ends with its last element (PS3.10, 7), and none is so. A tail that all copies have stays. Another one is undecided:
-then a SHA-256 alone can say which file is true.
+A tail is cut where a copy that reads whole lacks it, where most copies lack it, or where another copy ends just where the elements do. One
+of both can have lost bytes ahead of its end, or have too many. If all copies read to one place, and go on to the end of a sector, two of
+them at least with bytes of their own that are no padding, these are cut from all. So are tails of one value that are not the same in all
+copies that have some: a file ends with its last element (PS3.10, 7), and none is so. A tail that all copies have stays. Another one is
+undecided: then a SHA-256 alone can say which file is true.
 """
 from __future__ import annotations
 
