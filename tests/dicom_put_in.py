@@ -72,6 +72,16 @@ def checks_of_bytes_put_in(bench: Bench, made: File, rng: random.Random) -> Iter
     yield told(bench, "these, and zeros behind a third", [*tail, changed(true, zeros) + bytes(2)], true, False)
 
 
+def checks_of_zeros_behind(bench: Bench, made: File, rng: random.Random) -> Iterator[Check]:
+    """Bytes put into a value that ends with zeros: an element can be hidden there, unless two other copies lack the bytes."""
+    true, begin = with_value(made, b"".join(b"sSlice[%d].dTra = %d\n" % (at, at * 7) for at in range(40)) + bytes(40))
+    more = put(true, begin + 300, rng.randbytes(8))
+    hurt = [changed(true, (true.index(stream) + 70, bytes(8))) for stream in made.frames]
+    yield told(bench, "bytes put into a value that ends with zeros", [more, hurt[0]], true, False, 1)
+    yield told(bench, "the same, and two copies lack them", [hurt[1], more, hurt[0]], true)
+    yield told(bench, "the same, and one of both is cut", [hurt[1][: begin + 200], more, hurt[0]], true, False, 1)
+
+
 def checks_of_elements_lost(bench: Bench, made: File, rng: random.Random) -> Iterator[Check]:
     """Bytes of a value were lost, and it takes the next element in, which has as many bytes, and whose header no copy has."""
     text, begin = with_value(made, b"".join(b"sSlice[%d].dTra = %d\n" % (at, at * 7) for at in range(40)))
@@ -158,4 +168,4 @@ def record(rng: random.Random, ways: Sequence[int], mask: int = 0xFF, first: int
     return bytes(byte & mask | bits.get(at, 0) for at, byte in enumerate(rng.randbytes(LANE)))
 
 
-PUT_IN = [checks_of_bytes_put_in, checks_of_stuck_bits, checks_of_records]
+PUT_IN = [checks_of_bytes_put_in, checks_of_zeros_behind, checks_of_stuck_bits, checks_of_records]
