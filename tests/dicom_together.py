@@ -93,7 +93,7 @@ def checks_of_other_ends() -> Iterator[Check]:
         yield f"{name}: {wanted} ({found})", found == wanted
 
 
-def checks_of_sectors_twice(bench: Bench, made: File, rng: random.Random) -> Iterator[Check]:
+def checks_of_sectors_twice(bench: Bench, made: File, single: File, rng: random.Random) -> Iterator[Check]:
     """A sector that was written to a wrong place in two of three copies: it stands in the file twice."""
     letters = bytes(rng.choice(b"abcdefgh ijklm.nop=") for _ in range(4000))
     true, begin = with_value(made, letters)
@@ -108,6 +108,18 @@ def checks_of_sectors_twice(bench: Bench, made: File, rng: random.Random) -> Ite
     copies = [changed(twice, in_frame(made, twice, at)) for at in range(2)]
     status, out, printed, _, _ = bench.mend(copies)
     yield f"a file that has a sector twice ({status}, {printed})", (status, out == twice) == (0, True)
+    true, _ = with_value(single, letters[:300])
+    at = true.index(single.frames[0])
+    border = -(-at // SECTOR) * SECTOR
+    assert border + SECTOR + 100 < at + len(single.frames[0])
+    for behind in (0, 1):  # the sector in which elements stand, and the one after it
+        first, second = border - SECTOR * (2 - behind), border
+        one, two = true[first : first + SECTOR], true[second : second + SECTOR]
+        copies = [changed(true, (first, two), (second, one)), changed(true, (second + SECTOR + 60, bytes(8)))]
+        for order in (copies, copies[::-1]):
+            status, out, printed, _, _ = bench.mend(order)
+            is_back = (status, out == true) == (0, True)
+            yield f"a sector of the header exchanged with one of a frame: {behind} ({status}, {printed})", is_back
 
 
 def checks_of_others_in_a_lost_sector(bench: Bench, made: File) -> Iterator[Check]:

@@ -11,6 +11,7 @@ from jls_tools.dicom.evidence.header import Header
 from jls_tools.dicom.evidence.witnessed import why_odd
 from jls_tools.dicom.mended_frames import MendedFrames
 from jls_tools.dicom.result import NOT_SUPPORTED
+from jls_tools.dicom.write.build import put_frames
 from jls_tools.dicom.write.finished import faults_of
 from jls_tools.frames.codestream import Shape
 
@@ -70,11 +71,19 @@ class Verdict:
         at = ends_before(self.frames.copies, self.layout.structure.end_of_pixels())
         if at is not None:
             return f"a copy has the end of Pixel Data before {at}, where others go on"
-        at = stands_twice(self.header, data)
+        at = stands_twice(self.header, self.with_frames())
         if at is not None:
             return f"the sector at {at} stands elsewhere in the file too"
         at = change_at(self.header)
         return None if at is None else f"damage of two copies has to touch at {at}, inside of a sector"
+
+    def with_frames(self) -> bytes:
+        """The file with the frames that are whole in their places; others are as the first copy has them."""
+        data, copies = bytearray(self.data), self.frames.copies
+        for place, frame in zip(self.layout.places, self.frames.mended):
+            if frame.is_whole and frame.stream is not None:
+                put_frames(data, [place], [frame.stream], copies)
+        return bytes(data)
 
     def is_in_pixels(self, begin: int, end: int) -> bool:
         structure = self.layout.structure
