@@ -103,6 +103,9 @@ def checks_of_places_by_hand(rng: random.Random) -> Iterator[Check]:
     flipped = changed(runs[:4000] + runs[4100:], (2500, b"\x10"))
     parts = list(pieces(runs, flipped))
     yield f"a flip in zeros, and some lost behind it: {parts}", parts[:2] == [(2500, 2500), (1, 1)]
+    long = rng.randbytes(3000) + bytes(3000) + rng.randbytes(3000)
+    parts = list(pieces(long[:-500] + long[-499:], long[:2600] + long[3112:]))
+    yield f"bytes lost before zeros, and one lost in the other one behind them: {parts[:4]}", (512, 0) in parts
     noise, text = rng.randbytes(SECTOR), (b"this sector was not read\n" * 60)[:SECTOR]
     lone = b"\0" + bytes(byte | 1 for byte in noise[1:])
     pair = Pair(bytes(SECTOR) + lone + bytes(SECTOR), bytes(SECTOR) + text + noise, [])

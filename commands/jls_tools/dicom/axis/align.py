@@ -175,12 +175,12 @@ def lost_here(one: bytes, other: bytes, at: int, beside: int) -> Optional[tuple[
 
 
 def goes_to_end(one: bytes, other: bytes, at: int, beside: int, step: Optional[int]) -> Optional[tuple[int, int]]:
-    """Where both go on after bytes that one lost, if as many follow in both then: equal for long, and longer than at equal offsets."""
+    """Where both go on after bytes that one lost, if all that follows in both is equal then, and less at equal offsets."""
     more = len(one) - at - (len(other) - beside)
     meet = at + max(0, more), beside + max(0, -more)
     size = equal_length(one, other, *meet) if more else 0
     own = 0 if step is None else step + equal_length(one, other, at + step, beside + step)
-    return meet if size > own and size >= max(SHIFTED, min(FURTHER, len(one) - meet[0])) else None
+    return meet if size > own and size >= SHIFTED and size == len(one) - meet[0] else None
 
 
 def back(one: bytes, other: bytes, at: int, beside: int, meet: int, meets: int) -> tuple[int, int]:
