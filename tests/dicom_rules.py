@@ -187,7 +187,7 @@ def checks_of_exchanged_bytes(bench: Bench, made: File, rng: random.Random) -> I
 
 
 def checks_of_series(bench: Bench, made: File) -> Iterator[Check]:
-    """A UID that differs in its last number alone can be another file's of the series, unless two copies have the other one twice."""
+    """A UID that differs in its last digits alone can be another file's of the series, unless two copies have the other one twice."""
     true, other = made.bytes, UID[:-1] + chr(ord(UID[-1]) ^ 1)
     in_meta, in_data = true.index(UID.encode()), true.rindex(UID.encode(), 0, made.name_at)
     hurt = [(item + 70, bytes(8)) for item in made.items]
@@ -197,12 +197,28 @@ def checks_of_series(bench: Bench, made: File) -> Iterator[Check]:
     assert UID[4].isdigit() and "." in UID[5:]
     for name, copies, is_back in (
         ("of three UIDs two are another file's", foreign, False),
-        ("of four UIDs one differs in the last number", [one, changed(true, hurt[0])], False),
+        ("of four UIDs one differs in the last digit", [one, changed(true, hurt[0])], False),
         ("of six UIDs one does", [one, changed(true, hurt[0]), changed(true, hurt[1])], True),
         ("a flip in another number", [before, changed(true, hurt[0])], True),
     ):
         status, out, printed, faults, _ = bench.mend(copies)
         yield f"{name}: {is_back} ({status}, {printed}, {faults})", (status, out) == ((0, true) if is_back else (1, None))
+
+
+def checks_of_votes_of_series(bench: Bench, made: File) -> Iterator[Check]:
+    """A copy with the UID of another file of the series has no vote on numbers, which that file has otherwise."""
+    true = put_before(made.bytes, 0x280002, element(0x180050, "DS", "1.5 "))
+    number, name = true.index(b"1.5 "), true.index(b"Doe^Jane")
+    hurt = [(true.index(stream) + 70, bytes(8)) for stream in made.frames]
+    other = (true.rindex(UID.encode(), 0, name), (UID[:-1] + chr(ord(UID[-1]) ^ 1)).encode())
+    for what, change, uid, is_back in (
+        ("a number, and another UID", (number + 2, b"6"), other, False),
+        ("a number", (number + 2, b"6"), hurt[2], True),
+        ("a letter, and another UID", (name, b"E"), other, True),
+    ):
+        copies = [changed(true, uid, hurt[0]), changed(true, hurt[1]), changed(true, change)]
+        status, out, printed, faults, _ = bench.mend(copies)
+        yield f"{what}: {is_back} ({status}, {printed}, {faults})", (status, out) == ((0, true) if is_back else (1, None))
 
 
 def put_before(data: bytes, tag: int, *elements: bytes) -> bytes:
@@ -299,4 +315,5 @@ def checks_of_two_damages(bench: Bench, made: File, rng: random.Random) -> Itera
 
 
 RULES = [checks_of_csa_headers, checks_of_terms, checks_of_lost_sectors, checks_of_tables, checks_of_one_uid, checks_of_halves]
-RULES += [checks_of_one_picture, checks_of_false_readings, checks_of_true_zeros, checks_of_series, checks_of_exchanged_bytes]
+RULES += [checks_of_one_picture, checks_of_false_readings, checks_of_true_zeros, checks_of_series, checks_of_votes_of_series]
+RULES += [checks_of_exchanged_bytes]

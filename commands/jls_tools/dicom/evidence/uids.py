@@ -1,11 +1,14 @@
 """Which of two UIDs that should be equal a file has: what denies one that two elements of a copy agree on."""
 from __future__ import annotations
 
+import os
 from collections.abc import Callable, Sequence
 
 from jls_tools.dicom.axis.align import Copy
 from jls_tools.dicom.read.elements import Element, text_of
 from jls_tools.dicom.read.values import is_uid
+
+COUNTED = 3  # last digits in which the UIDs of the files of one series differ
 
 
 def are_denied(copies: Sequence[Copy], uids: set[str], elements: Sequence[Element], is_lost: Callable[[int, Element], bool]) -> bool:
@@ -26,7 +29,7 @@ def are_denied(copies: Sequence[Copy], uids: set[str], elements: Sequence[Elemen
 def may_be_of_series(copies: Sequence[Copy], uids: set[str], elements: Sequence[Element], is_lost: Callable[[int, Element], bool]) -> bool:
     """Whether an element of a copy has another instance's UID of this series, and fewer than two copies have one of these in each place.
 
-    Such UIDs differ in their last numbers alone. A flip makes one of the other, and so does a sector of another file in each copy.
+    A flip makes one of the other, and so does a sector of another file in each copy.
     """
     values = [[(each, text_of(each.bytes_of(copy.data))) for each in elements if not copy.lacks(each.value, each.end)] for copy in copies]
     agreeing = sum(len(own) == len(elements) and all(uid in uids for _, uid in own) for own in values)
@@ -35,7 +38,18 @@ def may_be_of_series(copies: Sequence[Copy], uids: set[str], elements: Sequence[
 
 
 def are_of_series(one: str, other: str) -> bool:
-    return one.rpartition(".")[0] == other.rpartition(".")[0]
+    """Whether two UIDs differ in their last digits alone, as those of the files of a series do."""
+    return one != other and max(len(one), len(other)) - len(os.path.commonprefix([one, other])) <= COUNTED
+
+
+def of_series(copies: Sequence[Copy], uid: str, elements: Sequence[Element]) -> set[int]:
+    """The copies that have another instance's UID of this series in one of these elements: so they can have more of that file."""
+    found = set()
+    for number, copy in enumerate(copies):
+        texts = (text_of(each.bytes_of(copy.data)) for each in elements if not copy.lacks(each.value, each.end))
+        if any(is_uid(text.encode()) and are_of_series(text, uid) for text in texts):
+            found.add(number)
+    return found
 
 
 def is_flip(one: str, other: str) -> bool:

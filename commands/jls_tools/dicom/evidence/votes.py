@@ -2,6 +2,7 @@
 from __future__ import annotations
 
 import bisect
+import re
 from collections.abc import Collection
 from typing import TYPE_CHECKING
 
@@ -9,10 +10,13 @@ from jls_tools.dicom.axis.media import SECTOR
 from jls_tools.dicom.axis.sectors import is_noise_alone
 from jls_tools.dicom.evidence.decider import DECIDED, IS_SECTOR
 from jls_tools.dicom.evidence.most import BY_MOST, are_lost_alike
+from jls_tools.dicom.evidence.uids import of_series
+from jls_tools.dicom.read.tags import INSTANCE, INSTANCE_IN_META
 
 if TYPE_CHECKING:
     from jls_tools.dicom.evidence.header import Header
 
+NUMBER = re.compile(rb"[0-9.+-]+\Z")
 IN_FRAMES = "what is left differs in frames alone"
 
 
@@ -47,10 +51,16 @@ def looks_lost(header: Header, number: int, ways: set[int]) -> bool:
 
 
 def by_most(header: Header) -> None:
-    """Three copies or more: what most of them have, unless these lost the sector together."""
+    """Three copies or more: what most of them have, unless these lost the sector together.
+
+    A copy with another file's UID says nothing of numbers, which files of a series have otherwise.
+    """
+    strange = with_other_uid(header)
     for number in header.open_runs():
-        present = sum(len(each) for each in header.runs.runs[number].holders)
-        holders = {way: header.holders_of(number, way) for way in header.left[number]}
+        run = header.runs.runs[number]
+        present = sum(len(each) for each in run.holders)
+        are_numbers = all(NUMBER.match(run.ways[way]) for way in header.left[number])
+        holders = {way: header.holders_of(number, way) - (strange if are_numbers else set()) for way in header.left[number]}
         most = next((way for way in header.left[number] if present >= 3 and len(holders[way]) * 2 > present), None)
         if most is None:
             continue
@@ -59,6 +69,13 @@ def by_most(header: Header) -> None:
             header.keep(number, set(header.left[number]) - set(header.alike(number, most)), IS_SECTOR)
         elif count == 0 and not is_filled:
             header.keep(number, {most}, BY_MOST)
+
+
+def with_other_uid(header: Header) -> set[int]:
+    """The copies that have the UID of another file of the series."""
+    uid = header.text(INSTANCE)
+    elements = [header.elements[tag] for tag in (INSTANCE_IN_META, INSTANCE) if tag in header.elements]
+    return of_series(header.copies, uid, elements) if uid else set()
 
 
 def by_frames_alone(header: Header) -> None:
