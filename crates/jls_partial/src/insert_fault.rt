@@ -45,9 +45,9 @@ impl<T: Drop> From<AllocFailed<T>> for InsertFault {
     }
 }
 
-/// Whether a sample has more bits than the precision: so has then the union of all bits. Each sample is looked at, so that the machine
-/// can take several at once.
-#[tactic(auto, using(std::proofs::lemmas::List::Folds::list_any_more, crate::proofs::LargeSamples::large_union, crate::proofs::LargeSamples::large_none))]
+/// Whether a sample has more bits than the precision. One has exactly if the OR of all samples does. Each sample is looked at, so that the
+/// machine can take several at once.
+#[tactic(auto, using(crate::proofs::LargeSamples::large_none))]
 fn has_large_sample(samples: &[u16], precision: u8) -> bool
     requires { precision ≤ 16 }
     ensures { result ≡ list_any (λ x. nat_le (2 ^ precision) x) samples.now }
