@@ -94,7 +94,7 @@ impl Options {
     }
 
     /// How many components each scan has.
-    fn components_of_scan(&self, shape: &Shape) -> u8
+    pub(crate) fn components_of_scan(&self, shape: &Shape) -> u8
         ensures value { result ≡ spec.components_of_scan shape.now self.now }
         ensures few { result ≤ 4 }
     {
@@ -105,7 +105,7 @@ impl Options {
         }
     }
 
-    /// How many rows the longest restart interval has: the first one.
+    /// How many rows the longest restart interval has, which is the first one.
     fn rows_of_interval(&self, shape: &Shape) -> u16
         ensures { result ≡ spec.rows_of_interval shape.now self.now }
     {
@@ -116,7 +116,7 @@ impl Options {
         }
     }
 
-    /// How many samples it has.
+    /// How many samples the longest restart interval has.
     fn samples_of_interval(&self, shape: &Shape) -> u64
         ensures { result ≡ shape.now.width * spec.components_of_scan shape.now self.now * spec.rows_of_interval shape.now self.now }
     {

@@ -19,15 +19,11 @@ pub(crate) fn scan_count(picture: &Picture<'_>, options: &Options) -> u8
     if options.line() { 1 } else { components }
 }
 
-/// How many components each of them has.
+/// How many components each scan of a picture has.
 pub(crate) fn components_of_scan(picture: &Picture<'_>, options: &Options) -> u8
     ensures { result ≡ written.components_of_scan picture.now.shape options.now }
 {
-    if options.line() {
-        picture.shape().ids().len() as u8
-    } else {
-        1
-    }
+    options.components_of_scan(picture.shape())
 }
 
 /// The scan of `count` components of a picture, from the one with the index `first` on.
@@ -40,7 +36,7 @@ pub(crate) struct ScanPart<'a, 'b> {
 }
 
 impl<'a, 'b> ScanPart<'a, 'b> {
-    /// How many restart intervals it has.
+    /// How many restart intervals the scan has.
     pub(crate) fn intervals(&self) -> u32
         ensures value { result ≡ intervals (scan_from self.now.picture.now self.now.options self.now.first self.now.count) }
         ensures few { result ≤ 65535 }
