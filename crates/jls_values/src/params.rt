@@ -56,12 +56,14 @@ impl Model for Params {
     ghost inverse = { λ p. record { precision = p.precision; maxval = p.maxval; t1 = p.t1; t2 = p.t2; t3 = p.t3; reset = p.reset } };
 }
 
+/// The default, where 0 is given, and else what is given.
 fn or_default(given: u16, default: u16) -> u16
     ensures { result ≡ Rattle.jls_values.specs.ParamsOf.or_default given default }
 {
     if given == 0 { default } else { given }
 }
 
+/// The value, if it is from `low` to MAXVAL, and else `low` (ITU-T T.87, C.2.4.1.1.1).
 fn clamped(maxval: u16, low: u16, value: u16) -> u16
     ensures { result ≡ Rattle.jls_values.specs.ParamsOf.clamped maxval low value }
 {
@@ -72,6 +74,7 @@ fn clamped(maxval: u16, low: u16, value: u16) -> u16
     }
 }
 
+/// FACTOR, from which the default thresholds at this MAXVAL follow (ITU-T T.87, C.2.4.1.1.1).
 fn factor(maxval: u16) -> u16
     ensures value { result ≡ Rattle.jls_values.specs.ParamsOf.factor maxval }
     ensures at_least { 1 ≤ result }
@@ -84,6 +87,7 @@ fn factor(maxval: u16) -> u16
     }
 }
 
+/// The default of T1 at this MAXVAL.
 fn default_t1(maxval: u16) -> u16
     ensures { result ≡ Rattle.jls_values.specs.ParamsOf.default_t1 maxval }
 {
@@ -96,6 +100,7 @@ fn default_t1(maxval: u16) -> u16
     clamped(maxval, 1, value)
 }
 
+/// The default of T2 at this MAXVAL, which is not below T1.
 fn default_t2(maxval: u16, t1: u16) -> u16
     ensures { result ≡ Rattle.jls_values.specs.ParamsOf.default_t2 maxval t1 }
 {
@@ -108,6 +113,7 @@ fn default_t2(maxval: u16, t1: u16) -> u16
     clamped(maxval, t1, value)
 }
 
+/// The default of T3 at this MAXVAL, which is not below T2.
 fn default_t3(maxval: u16, t2: u16) -> u16
     ensures { result ≡ Rattle.jls_values.specs.ParamsOf.default_t3 maxval t2 }
 {
@@ -120,6 +126,7 @@ fn default_t3(maxval: u16, t2: u16) -> u16
     clamped(maxval, t2, value)
 }
 
+/// The largest sample of a precision.
 fn largest_sample(precision: u8) -> u16
     requires { precision ≤ 16 }
     ensures { result ≡ 2 ^ precision - 1 }
@@ -135,6 +142,7 @@ struct Thresholds {
     t3: u16,
 }
 
+/// The first of the values that is outside its range, in the order of `ParamFault`. The precision is in its range already.
 fn range_fault(precision: u8, maxval: u16, thresholds: Thresholds, reset: u16) -> Option<ParamFault>
     requires at_least { 2 ≤ precision }
     requires at_most { precision ≤ 16 }

@@ -123,8 +123,8 @@ fn move_up_to<'a>(numbers: &mut Vec<u32>, above: &'a [u32], last: u32) -> &'a [u
     &[]
 }
 
-/// Puts all of the others into the numbers and those of `above`, where there is room for all: one pass over each list where
-/// the others ascend.
+/// Puts all of the others in, and the numbers of `above`, where there is room for all. Where the others ascend, this is one pass over each
+/// list.
 fn put_all(numbers: &mut Vec<u32>, above: &[u32], others: &[u32])
     requires sources { IsSourceList (numbers.old.items ++ above.now) }
     requires room { vec_len numbers.old + length above.now + length others.now ≤ vec_capacity numbers.old }
