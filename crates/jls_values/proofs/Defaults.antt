@@ -21,6 +21,7 @@ all [] = true
 all (true ∷ xs) = all xs
 all (false ∷ xs) = false
 
+-- where all tests hold, each does
 each : (xs : List Bool) (i : ℕ) → all xs ≡ true → get_or xs i true ≡ true
 each [] i e = refl
 each (true ∷ xs) zero e = refl
@@ -34,6 +35,7 @@ in_range : (p : CodingParameters) (f : Option ParamFault) → is_none f ≡ true
 in_range p None e = refl
 in_range p (Some f) e = absurd cc
 
+-- with no values given, the parameters of a precision are its defaults
 pub defaults_are : (p : ℕ) → 2 ≤ p → p ≤ 16 → params_of p no_presets ≡ Ok (in_force p no_presets)
 defaults_are p low high =
     let passes : test p ≡ true =
@@ -46,6 +48,6 @@ pub never_both : (r : Result CodingParameters ParamFault) (p : CodingParameters)
 never_both (Ok q) p f d e = absurd cc
 never_both (Err g) p f d e = absurd cc
 
--- and it is one value
+-- two values of one result are one value
 pub one_value : (r : Result CodingParameters ParamFault) (p q : CodingParameters) → r ≡ Ok p → r ≡ Ok q → p ≡ q
 one_value r p q d e = let same : Ok p ≡ Ok q = sym d ∙ e in cc

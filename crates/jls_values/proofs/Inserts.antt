@@ -7,18 +7,21 @@ use Rattle.std.specs.Cmp.{IsTotalOrder}
 use Rattle.std.specs.Ordering.{eq_by_cmp, is_eq, ordering_reverse}
 use Rattle.std.specs.List.{list_any, insert, AllByRecursion}
 
+-- the image of a list with an item put in
 pub map-insert : {A B : Type 0} (f : A → B) (xs : List A) (i : ℕ) (x : A) → i ≤ length xs
     → map f (insert xs i x) ≡ insert (map f xs) i (f x)
 map-insert f xs zero x le = refl
 map-insert f [] (suc i) x le = absurd (omega arith)
 map-insert f (y ∷ xs) (suc i) x le = ap (λ t. f y ∷ t) (map-insert f xs i x (omega arith))
 
+-- what holds of all items and of one more holds with it put in
 pub all-insert : {A : Type 0} (P : A → Type 0) (xs : List A) (i : ℕ) (x : A) → i ≤ length xs → AllByRecursion P xs → P x
     → AllByRecursion P (insert xs i x)
 all-insert P xs zero x le h p = (p, h)
 all-insert P [] (suc i) x le h p = absurd (omega arith)
 all-insert P (y ∷ xs) (suc i) x le h p = (h.0, all-insert P xs i x (omega arith) h.1 p)
 
+-- a test passes some item of a list with one more exactly where it passes that one or one of the list
 pub any-insert : {A : Type 0} (p : A → Bool) (xs : List A) (i : ℕ) (x : A) → i ≤ length xs
     → list_any p (insert xs i x) ≡ (p x || list_any p xs)
 any-insert p xs zero x le = refl

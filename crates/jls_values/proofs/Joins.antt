@@ -59,12 +59,14 @@ module _ {V : Type 0} {same_shape : V → V → Bool} {join : V → V → V} (la
   joined_fit : (x y : V) (ys : List V) → same_shape x y ≡ true → AllOfShape same_shape x ys → AllOfShape same_shape (join x y) ys
   joined_fit x y ys f h = moved x (join x y) ys (turned x (join x y) (laws.join_same_shape x y f)) h
 
+  -- the first of a join has the shape of the join
   pub fits_all : (x : V) (ys : List V) → AllOfShape same_shape x ys → same_shape x (join_all join x ys) ≡ true
   fits_all x [] h = laws.reflexive x
   fits_all x (y ∷ ys) h =
       laws.transitive x (join x y) (join_all join (join x y) ys) (laws.join_same_shape x y h.0)
       (fits_all (join x y) ys (joined_fit x y ys h.0 h.1))
 
+  -- the first of a join is below the join
   pub below_all : (x : V) (ys : List V) → AllOfShape same_shape x ys → IsBelow join x (join_all join x ys)
   below_all x [] h = laws.idempotent x
   below_all x (y ∷ ys) h =
@@ -72,6 +74,7 @@ module _ {V : Type 0} {same_shape : V → V → Bool} {join : V → V → V} (la
       below_along x (join x y) (join_all join (join x y) ys) (laws.join_same_shape x y h.0) (fits_all (join x y) ys h') (below_join x y h.0)
       (below_all (join x y) ys h')
 
+  -- each member of a join is below the join
   pub member_below : (x : V) (ys : List V) (k : ℕ) (d : V) → k < length ys → AllOfShape same_shape x ys
       → IsBelow join (get_or ys k d) (join_all join x ys)
   member_below x [] k d lt h = absurd (omega arith)
@@ -85,6 +88,7 @@ module _ {V : Type 0} {same_shape : V → V → Bool} {join : V → V → V} (la
   pub contained_below : (x : V) (ys : List V) (y : V) → AllOfShape same_shape x ys → Contains ys y → IsBelow join y (join_all join x ys)
   contained_below x ys y h c = subst (λ (z : V). IsBelow join z (join_all join x ys)) c.2 (member_below x ys c.0 y c.1 h)
 
+  -- what each member of a join is below, the join is below
   pub all_least : (x z : V) (ys : List V) → AllOfShape same_shape x ys → same_shape x z ≡ true → IsBelow join x z
       → ((k : ℕ) (d : V) → k < length ys → IsBelow join (get_or ys k d) z) → IsBelow join (join_all join x ys) z
   all_least x z [] h f p each = p
@@ -106,6 +110,7 @@ module _ {V : Type 0} {same_shape : V → V → Bool} {join : V → V → V} (la
   whole_below x xs y h (zero, lt, e) = subst (λ (z : V). IsBelow join z (join_all join x xs)) e (below_all x xs h)
   whole_below x xs y h (suc k, lt, e) = contained_below x xs y h (k, omega (arith, lt), e)
 
+  -- each member has the shape of the first
   member_fits : (x : V) (xs : List V) (k : ℕ) (d : V) → k < length xs → AllOfShape same_shape x xs → same_shape x (get_or xs k d) ≡ true
   member_fits x [] k d lt h = absurd (omega arith)
   member_fits x (y ∷ ys) zero d lt h = h.0
@@ -116,6 +121,7 @@ module _ {V : Type 0} {same_shape : V → V → Bool} {join : V → V → V} (la
   contained_fits x xs y h (zero, lt, e) = subst (λ (z : V). same_shape x z ≡ true) e (laws.reflexive x)
   contained_fits x xs y h (suc k, lt, e) = subst (λ (z : V). same_shape x z ≡ true) e (member_fits x xs k y (omega (arith, lt)) h)
 
+  -- a join whose members are all members of another is below that other
   half : (x : V) (xs : List V) (y : V) (ys : List V) → AllOfShape same_shape x xs → AllOfShape same_shape y ys
       → ((z : V) → Contains (x ∷ xs) z → Contains (y ∷ ys) z) → IsBelow join (join_all join x xs) (join_all join y ys)
   half x xs y ys h g inside =
@@ -151,6 +157,7 @@ module _ {V : Type 0} (join : V → V → V) where
   join_all-push x [] y = refl
   join_all-push x (z ∷ ys) y = join_all-push (join x z) ys y
 
+  -- the join of one member more is the join so far, joined with that member
   pub join_all-take_more : (x : V) (ys : List V) (k : ℕ) (y : V) → k < length ys → y ≡ get_or ys k y
       → join_all join x (take (k + 1) ys) ≡ join (join_all join x (take k ys)) y
   join_all-take_more x ys k y lt is =

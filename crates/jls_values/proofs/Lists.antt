@@ -28,6 +28,7 @@ module _ {X : Type 0} where
 pub in_map : {X Y : Type 0} (f : X → Y) (xs : List X) (x : X) → Contains xs x → Contains (map f xs) (f x)
 in_map f xs x c = (c.0, omega (arith, length-map xs f, c.1), get_or-map f xs c.0 x (f x) c.1 ∙ ap f c.2)
 
+-- a member of a mapped list is what some member is mapped to
 pub of_map : {X Y : Type 0} (f : X → Y) (xs : List X) (y : Y) → Contains (map f xs) y → (x : X) × Contains xs x × (f x ≡ y)
 of_map f [] y c = absurd (none_in y c)
 of_map f (x ∷ xs) y c =
@@ -36,12 +37,14 @@ of_map f (x ∷ xs) y c =
       | inr later ↦ (let from = of_map f xs y later in (from.0, in_rest from.0 x xs from.1, from.2))
     ]
 
+-- a member of what a member makes is one of all that they make
 pub in_flat_map : {X Y : Type 0} (f : X → List Y) (xs : List X) (x : X) (y : Y) → Contains xs x → Contains (f x) y
     → Contains (flat_map f xs) y
 in_flat_map f [] x y c d = absurd (none_in x c)
 in_flat_map f (z ∷ zs) x y (zero, l, e) d = Contains-append_left (f z) (flat_map f zs) y (subst (λ v. Contains (f v) y) (sym e) d)
 in_flat_map f (z ∷ zs) x y (suc k, l, e) d = Contains-append_right (f z) (flat_map f zs) y (in_flat_map f zs x y (k, omega (arith, l), e) d)
 
+-- a member of a list that is made of lists is one of the list that some member makes
 pub of_flat_map : {X Y : Type 0} (f : X → List Y) (xs : List X) (y : Y) → Contains (flat_map f xs) y → (x : X) × Contains xs x
     × Contains (f x) y
 of_flat_map f [] y c = absurd (none_in y c)
@@ -87,6 +90,7 @@ all_at_most n xs all = λ k d below. let less = All-from_recursion (λ x. x < n)
 
 -- One more ---------------------------------------------------------------------------------------------------------
 
+-- a range and one number more
 range-suc : (a n : ℕ) → range_with_len a (suc n) ≡ range_with_len a n ++ (a + n) ∷ []
 range-suc a zero = ap (λ k. k ∷ []) (sym (add-zero a))
 range-suc a (suc n) =

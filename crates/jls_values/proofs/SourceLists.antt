@@ -23,6 +23,7 @@ use Rattle.jls_values.proofs.Inserts.{all-insert, any-insert, none_at_gap}
 abbrev pub Rises : List ℕ → Type 0
 Rises xs = IsStrictlySortedBy nat_cmp xs
 
+-- in a list that rises, a later number is at least an earlier one
 pub never_falls : (xs : List ℕ) → Rises xs → (i j : ℕ) → i ≤ j → j < length xs → get_or xs i 0 ≤ get_or xs j 0
 never_falls xs h i j le lt =
     elim (cases_lt i j) [
@@ -50,6 +51,7 @@ pub record IsGap (xs : List ℕ) (i x : ℕ) : Type 0 where
   pub below : (k : ℕ) → k < i → get_or xs k 0 < x
   pub above : (k : ℕ) → i ≤ k → k < length xs → x < get_or xs k 0
 
+-- a gap behind the first number is a gap of the rest
 next : (y : ℕ) (xs : List ℕ) (i x : ℕ) → IsGap (y ∷ xs) (suc i) x → IsGap xs i x
 next y xs i x g = record {
   within = omega (arith, g.within);
@@ -78,6 +80,7 @@ all-above : (x : ℕ) (xs : List ℕ) → ((k : ℕ) → k < length xs → x < g
 all-above x [] h = tt
 all-above x (y ∷ xs) h = (is_less x y (h 0 (omega arith)), all-above x xs (λ k lt. h (suc k) (omega arith)))
 
+-- a list that rises still does with a number put in at its gap
 pub rises-insert : (xs : List ℕ) (i x : ℕ) → IsGap xs i x → Rises xs → Rises (insert xs i x)
 unfolding IsStrictlySortedBy
 rises-insert xs zero x g h = (all-above x xs (λ k lt. g.above k (omega arith) lt), h)
@@ -119,7 +122,7 @@ found xs ys i x s kept is same search =
     (never_falls xs kept.sorted) in
     ap (λ (t : set.OrderedSet nat_cmp). set.contains t x) (sym is) ∙ there-held xs i x r.0 r.1
 
--- and belongs where the search did not find it
+-- where the search did not find the number, it belongs at the place that the search came to
 pub gap : (xs ys : List ℕ) (i x : ℕ) → IsSourceList xs → ys ≡ xs → IsBinarySearchResult (λ y. nat_cmp y x) ys (Err i) → IsGap xs i x
 gap xs ys i x kept same search =
     let r = searched xs x (Err i) (subst (λ (zs : List ℕ). IsBinarySearchResult (λ y. nat_cmp y x) zs (Err i)) same search)

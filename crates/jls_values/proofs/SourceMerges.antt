@@ -21,11 +21,13 @@ all-left : (P : ℕ → Type 0) (xs ys : List ℕ) → AllByRecursion P (xs ++ y
 all-left P [] ys h = tt
 all-left P (x ∷ xs) ys h = (h.0, all-left P xs ys h.1)
 
+-- the first part of a list that rises does
 rises-left : (xs ys : List ℕ) → Rises (xs ++ ys) → Rises xs
 unfolding IsStrictlySortedBy
 rises-left [] ys h = tt
 rises-left (x ∷ xs) ys h = (all-left (λ y. nat_cmp x y ≡ Less) xs ys h.0, rises-left xs ys h.1)
 
+-- the second part of a list that rises does
 rises-right : (xs ys : List ℕ) → Rises (xs ++ ys) → Rises ys
 unfolding IsStrictlySortedBy
 rises-right [] ys h = h
@@ -39,6 +41,7 @@ all-made : (x : ℕ) (xs : List ℕ) → ((k : ℕ) → k < length xs → x < ge
 all-made x [] h = tt
 all-made x (y ∷ xs) h = (h 0 (omega arith), all-made x xs (λ k lt. h (suc k) (omega arith)))
 
+-- what is below all numbers is below the one at a place
 all-at : (x : ℕ) (xs : List ℕ) → AllByRecursion (λ n. x < n) xs → (k : ℕ) → k < length xs → x < get_or xs k 0
 all-at x [] h k lt = absurd (omega arith)
 all-at x (y ∷ xs) h zero lt = h.0

@@ -3,6 +3,7 @@ use Rattle.std.proofs.lemmas.Result.{err_from_is_err_and}
 use Rattle.jls_values.proofs.Joins.{join_all-take_more, AllOfShape-take_more, stops_at_shape, stops_inside, not_false-true}
 use Rattle.jls_values.proofs.merge.merge_all.Goals as goal
 
+-- one member more is merged
 pub loop-one-preserved : goal.loop-one-preserved
 loop-one-preserved g c =
     let m = g.M.Merge in
@@ -16,6 +17,7 @@ loop-one-preserved g c =
       shape = m.laws.transitive _ _ _ c.loop-one.invariant.shape c.in_ok-merge.ensures.keeps_shape;
     }
 
+-- a member has another shape
 pub returns-in_err-merge-clause-shape_differs : goal.returns-in_err-merge-clause-shape_differs
 returns-in_err-merge-clause-shape_differs g c =
     let p = err_from_is_err_and c.from_residual.result c.from_residual.ensures.1 in
@@ -24,6 +26,7 @@ returns-in_err-merge-clause-shape_differs g c =
     c.loop-one.invariant.members c.loop-one.invariant.shape (c.in_err-merge.ensures.shape_differs.0 h) c.merge.new.self
     (c.in_err-merge.ensures.unchanged h ∙ c.loop-one.invariant.held))
 
+-- memory ran out at a member
 pub returns-in_err-merge-clause-out_of_memory : goal.returns-in_err-merge-clause-out_of_memory
 returns-in_err-merge-clause-out_of_memory g c =
     let p = err_from_is_err_and c.from_residual.result c.from_residual.ensures.1 in

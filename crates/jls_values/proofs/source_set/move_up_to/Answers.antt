@@ -4,6 +4,7 @@ use Rattle.std.proofs.lemmas.List.{take_all}
 use Rattle.jls_values.proofs.SourceMerges.{above_from}
 use Rattle.jls_values.proofs.source_set.move_up_to.Goals as goal
 
+-- the numbers that are left are above the last
 pub returns-then-last-number-clause-above : goal.returns-then-last-number-clause-above
 returns-then-last-number-clause-above c =
     let xs = c.args.above.now in

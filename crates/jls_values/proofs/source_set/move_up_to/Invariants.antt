@@ -1,6 +1,7 @@
 use Rattle.std.proofs.Common.{◌≡◌, ◌+◌, ◌++◌, take, vec_len, vec_capacity}
 use Rattle.jls_values.proofs.source_set.move_up_to.Given as goal
 
+-- the first i numbers are moved
 abbrev pub invariant-loop-i : goal.invariant-loop-i
 invariant-loop-i l = record {
   moved : l.numbers.items ≡ l.fn.numbers.items ++ take l.i l.above;

@@ -5,6 +5,7 @@ use Rattle.jls_values.proofs.SourceLists.{found, gap, from_list-insert, insert-t
 use Rattle.jls_values.proofs.SourceMerges.{sources-insert-before}
 use Rattle.jls_values.proofs.source_set.put.Goals as goal
 
+-- the number is there already
 pub returns-in-Ok-clause-held : goal.returns-in-Ok-clause-held
 returns-in-Ok-clause-held c =
     let xs = c.args.numbers.now.items in
@@ -12,6 +13,7 @@ returns-in-Ok-clause-held c =
     (found xs c.deref.result.now c.in-Ok.field-0 c.args.number (set.from_list xs) c.requires.sources refl c.deref.ensures.value
     c.in-Ok.ensures.position))
 
+-- the numbers rise with the new one
 pub returns-in-Ok-insert-clause-sources : goal.returns-in-Ok-insert-clause-sources
 returns-in-Ok-insert-clause-sources c = λ above h all.
     let xs = c.args.numbers.now.items in

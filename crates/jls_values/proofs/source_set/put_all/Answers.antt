@@ -12,6 +12,7 @@ put-requires-clause-sources c =
     sources-left c.move_up_to-left.new.numbers.items c.move_up_to-left.result.now
     (subst IsSourceList (sym c.move_up_to-left.ensures.moved) c.loop-number.invariant.sources)
 
+-- one number more is put in, and those above stay above
 pub loop-number-preserved : goal.loop-number-preserved
 loop-number-preserved c =
     let others = c.args.others.now in

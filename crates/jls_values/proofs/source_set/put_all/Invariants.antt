@@ -4,6 +4,7 @@ use Rattle.jls_values.specs.OrderedSet as set
 use Rattle.jls_values.specs.SourceList.{IsSourceList}
 use Rattle.jls_values.proofs.source_set.put_all.Given as goal
 
+-- the numbers so far and those left are a list of sources, with what was put in
 abbrev pub invariant-loop-number : goal.invariant-loop-number
 invariant-loop-number l = record {
   sources : IsSourceList (l.numbers.items ++ l.left);

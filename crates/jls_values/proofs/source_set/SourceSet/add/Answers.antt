@@ -19,6 +19,7 @@ returns-in-Ok-clause-added c =
     sym (ap not (found c.self.inside.numbers.items c.deref.result.now c.in-Ok.field-0 c.args.source c.args.self.now c.self.invariant
     c.self.view_is c.deref.ensures.value c.in-Ok.ensures.position))
 
+-- a number that is there needs no memory
 pub returns-in_err-insert-in-Err-clause-no_memory : goal.returns-in_err-insert-in-Err-clause-no_memory
 returns-in_err-insert-in-Err-clause-no_memory c = λ h.
     let g = gap c.self.inside.numbers.items c.deref.result.now c.in-Err.at c.args.source c.self.invariant c.deref.ensures.value
@@ -26,6 +27,7 @@ returns-in_err-insert-in-Err-clause-no_memory c = λ h.
     let bad : true ≡ false = sym h ∙ absent c.self.inside.numbers.items c.in-Err.at c.args.source c.args.self.now c.self.view_is g in
     absurd cc
 
+-- the numbers rise with the new one
 pub invariant_of-self-in-Err : goal.invariant_of-self-in-Err
 invariant_of-self-in-Err c =
     let g = gap c.self.inside.numbers.items c.deref.result.now c.in-Err.at c.args.source c.self.invariant c.deref.ensures.value
@@ -34,6 +36,7 @@ invariant_of-self-in-Err c =
     subst IsSourceList (sym c.in_ok-insert-in-Err.ensures.items)
     (sources-insert c.self.inside.numbers.items c.in-Err.at c.args.source fits g c.self.invariant)
 
+-- the new number is in the set
 pub returns-in_ok-insert-in-Err-clause-held : goal.returns-in_ok-insert-in-Err-clause-held
 returns-in_ok-insert-in-Err-clause-held c =
     let g = gap c.self.inside.numbers.items c.deref.result.now c.in-Err.at c.args.source c.self.invariant c.deref.ensures.value

@@ -19,6 +19,7 @@ pub put_all-requires-clause-sources : goal.put_all-requires-clause-sources
 put_all-requires-clause-sources c =
     subst IsSourceList (sym (whole (goal.at.put_all-requires-clause-sources c).After-deref-3)) c.self.invariant
 
+-- all numbers are in the set
 pub returns-clause-held : goal.returns-clause-held
 returns-clause-held c =
     c.put_all.ensures.held

@@ -5,6 +5,7 @@ use Rattle.jls_values.specs.OrderedSet as set
 use Rattle.jls_values.proofs.SourceLists.{prefix_between}
 use Rattle.jls_values.proofs.source_set.SourceSetMerge.merge.Goals as goal
 
+-- memory ran out, and nothing has changed
 pub returns-in-Err-clause-out_of_memory : goal.returns-in-Err-clause-out_of_memory
 returns-in-Err-clause-out_of_memory c = λ _.
     let others = set.items c.args.other.now in
