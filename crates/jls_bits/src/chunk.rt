@@ -137,8 +137,8 @@ impl Chunk {
         Some((self.count - first - 1, first, self.value % (1 << first)))
     }
 
-    /// Takes fewer than `limit` zeros, a one, and the k bits after it, where they stand at the start: how many zeros,
-    /// and the number of the one and the k bits. Else it takes nothing.
+    /// Takes fewer than `limit` zeros, a one, and the k bits after it, if they stand whole at the start. Else it takes nothing. The answer
+    /// is how many zeros there are, and the number of the one and the k bits.
     #[tactic(auto, using(crate::proofs::ChunkBits::below_place))]
     pub(crate) fn take_short(&mut self, limit: u8, k: u8) -> Option<(u8, u32)>
         requires k { k ≤ 16 }

@@ -10,7 +10,7 @@ use crate::reader::BitReader;
 use crate::writer::BitWriter;
 use std::alloc::AllocError;
 
-/// Reads a code. It goes past some bits where none stands.
+/// Reads a code. Where none stands, it goes past some bits all the same.
 fn read_code(reader: &mut BitReader<'_>, k: u8, g: u8, qbpp: u8) -> Option<u32>
     requires k { k ≤ 16 }
     requires qbpp { (1 ≤ qbpp) × (qbpp ≤ 16) }
@@ -30,10 +30,10 @@ fn read_code(reader: &mut BitReader<'_>, k: u8, g: u8, qbpp: u8) -> Option<u32>
     None
 }
 
-/// Reads the code LG(k, g) that comes next, and gives its number (ITU-T T.87, A.5.3). Here k is the number of bits of the remainder,
-/// and g the length of an escape in bits. An escape has `qbpp` bits after its zeros and its one. The number may be above 2^qbpp, since
-/// a short code has no such bound. The answer is None if no code comes next: the bits end before the code does, or they are no
-/// number's, as an escape for a number that has a short code. Then the reader does not move.
+/// Reads the code LG(k, g) that comes next, and gives its number (ITU-T T.87, A.5.3). Here k is the number of bits of the remainder, and g
+/// the length of an escape in bits. An escape has `qbpp` bits after its zeros and its one. The number may be above 2^qbpp, since a short
+/// code has no such bound. The answer is None if no code comes next, and then the reader does not move. Either the bits end before the code
+/// does, or they are no number's code. Such is an escape for a number that has a short code.
 pub fn read_golomb(reader: &mut BitReader<'_>, k: u8, g: u8, qbpp: u8) -> Option<u32>
     requires k { k ≤ 16 }
     requires qbpp { (1 ≤ qbpp) × (qbpp ≤ 16) }

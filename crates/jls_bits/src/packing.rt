@@ -18,11 +18,11 @@ use std::alloc::{AllocError, Global};
 pub(crate) struct Packing {
     /// The bytes that are whole.
     bytes: Vec<u8>,
-    /// The last of them, or 0 where there is none.
+    /// The last whole byte, or 0 where there is none.
     last: u8,
-    /// How many bits wait after them.
+    /// How many bits wait after the whole bytes.
     count: u8,
-    /// Those bits.
+    /// The bits that wait, as a number.
     waiting: u64,
 }
 

@@ -84,7 +84,7 @@ impl BitWriter {
         self.put_zeros_then_bits(zeros, value, count)
     }
 
-    /// Does the same where not all of these bits can wait.
+    /// Appends zeros, and then the low `count` bits of `value`, where not all of these bits can wait.
     #[inline(never)]
     fn put_zeros_then_bits(&mut self, zeros: u8, value: u32, count: u8) -> Result<(), AllocError>
         requires count { count ≤ 32 }
