@@ -27,6 +27,7 @@ fits_width before x h l =
     elim (cases_Bool (eqb before 255))
     [ inl e ↦ (let f : leb 128 x ≡ false = rw e at h in let g = leb-false 128 x f in rw e (omega arith)) | inr e ↦ rw e (omega arith) ]
 
+-- a byte whose bits fill the width after the one before does not end the data
 pub goes_on : (before x : ℕ) → x < 2 ^ width_after before → ends_data before x ≡ false
 unfolding ends_data width_after
 goes_on before x l =
@@ -55,6 +56,7 @@ pub whole_append : (before : ℕ) (xs ys : List ℕ) → is_whole_after before x
 whole_append before [] ys h j = j
 whole_append before (x ∷ xs) ys h j = let p = whole_parts before x xs h in whole_more before x (xs ++ ys) p.0 ∙ whole_append x xs ys p.1 j
 
+-- whole bytes in two parts are whole in each
 pub whole_prefix : (before : ℕ) (xs ys : List ℕ) → is_whole_after before (xs ++ ys) ≡ true
     → (is_whole_after before xs ≡ true) × (is_whole_after (last_after before xs) ys ≡ true)
 whole_prefix before [] ys h = (whole_end before, h)

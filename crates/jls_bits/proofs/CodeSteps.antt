@@ -34,6 +34,7 @@ escape_shifted k g q h l = shl_whole (g - q - 1) 6 k 32 (omega arith) (omega ari
 pub one_shifted : (q : ℕ) → q ≤ 16 → 1 * 2 ^ q % 4294967296 ≡ 2 ^ q
 one_shifted q h = shl_whole 1 1 q 32 (omega arith) (omega arith) ∙ omega arith
 
+-- the greatest number that begins so, as 32 bits compute it
 pub largest_shifted : (q n w : ℕ) → q ≤ 16 → n ≤ q → w < 2 ^ n → (w + 1) * 2 ^ (q - n) % 4294967296 ≡ (w + 1) * 2 ^ (q - n)
 largest_shifted q n w h l b =
     let p = power_of_rest n q l in let m : 2 ^ q ≤ 2 ^ 16 = pow_mono {i = q} {j = 16} h in
@@ -101,6 +102,7 @@ module _ (k g q : ℕ) (room : q + 2 ≤ g) where
   pub joined : (s t u : List Bool) (given : List Bool) → t ≡ given ++ u → s ++ true ∷ t ≡ (s ++ true ∷ given) ++ u
   joined s t u given e = ap (λ z. s ++ true ∷ z) e ∙ sym (append_assoc s (true ∷ given) u)
 
+  -- the zeros of a short code, the one and fewer than k bits after it begin a code
   remainder_open : (z c v : ℕ) → z < esc → c < k → v < 2 ^ c → BeginsCode k g q (replicate z false ++ true ∷ bits c v)
   remainder_open z c v l s b =
       let d = k - c in let p = power_of_rest c k (omega arith) in
@@ -119,6 +121,7 @@ module _ (k g q : ℕ) (room : q + 2 ≤ g) where
             ∙ ap (λ x. replicate x false ++ true ∷ bits k m) h ∙ joined (replicate z false) (bits k m) (r.0 ∷ r.1) (bits c v) r.2;
       }
 
+  -- the zeros of an escape, the one and fewer than qbpp bits begin a code, if some number that begins so has no short code
   escape_open : (c v : ℕ) → c < q → v < 2 ^ c → esc * 2 ^ k ≤ (v + 1) * 2 ^ (q - c)
       → BeginsCode k g q (replicate esc false ++ true ∷ bits c v)
   escape_open c v s b l =
@@ -175,6 +178,7 @@ module _ (k g q : ℕ) (room : q + 2 ≤ g) where
   pub zero_too_many : (z : ℕ) (bit : Bool) → bit ≡ false → z ≡ esc → RefusesCode k g q (replicate z false ++ bit ∷ [])
   zero_too_many z bit e h m more rest has c = many_zeros k g q (z + 1) more m rest (omega arith) (sym (one_more_zero z bit more e) ∙ c)
 
+  -- where each number has a short code, the zeros of an escape begin no code
   pub zero_without_escape : (z : ℕ) (bit : Bool) → bit ≡ false → z + 1 ≡ esc → 2 ^ q < esc * 2 ^ k
       → RefusesCode k g q (replicate z false ++ bit ∷ [])
   zero_without_escape z bit e h l m more rest has c =
@@ -199,6 +203,7 @@ module _ (k g q : ℕ) (room : q + 2 ≤ g) where
       → StepIs k g q (replicate z false ++ bit ∷ []) (More (Remainder z 0 0))
   one_of_short z bit e l h = fed (Remainder z 0 0) (replicate z false ++ bit ∷ []) (l, h, omega arith) (one_bits z bit e)
 
+  -- where k is 0, a one after fewer zeros than an escape has makes the code whole
   pub one_alone : (z : ℕ) (bit : Bool) → bit ≡ true → z < esc → k ≡ 0 → StepIs k g q (replicate z false ++ bit ∷ []) (Done z)
   one_alone z bit e l h =
       let n : z * 2 ^ k + 0 ≡ z = ap (λ x. z * 2 ^ x + 0) h ∙ omega arith in
@@ -218,6 +223,7 @@ module _ (k g q : ℕ) (room : q + 2 ≤ g) where
       fed (Remainder z (c + 1) (2 * v + bool_byte bit)) ((replicate z false ++ true ∷ bits c v) ++ bit ∷ [])
       (l, s, (bits_push_bool bit c v b).1) (more_bits (replicate z false) bit c v b)
 
+  -- the last bit of a remainder makes a short code whole
   pub remainder_whole : (z c v m : ℕ) (bit : Bool) → z < esc → v < 2 ^ c → c + 1 ≡ k → m ≡ z * 2 ^ k + (2 * v + bool_byte bit)
       → StepIs k g q ((replicate z false ++ true ∷ bits c v) ++ bit ∷ []) (Done m)
   remainder_whole z c v m bit l b s e =
@@ -235,6 +241,7 @@ module _ (k g q : ℕ) (room : q + 2 ≤ g) where
       fed (Escape (c + 1) (2 * v + bool_byte bit)) ((replicate esc false ++ true ∷ bits c v) ++ bit ∷ [])
       (s, (bits_push_bool bit c v b).1, l) (more_bits (replicate esc false) bit c v b)
 
+  -- the last bit of an escape's number makes its code whole
   pub escape_whole : (c v : ℕ) (bit : Bool) → v < 2 ^ c → c + 1 ≡ q → esc * 2 ^ k ≤ 2 * v + bool_byte bit + 1
       → StepIs k g q ((replicate esc false ++ true ∷ bits c v) ++ bit ∷ []) (Done (2 * v + bool_byte bit + 1))
   escape_whole c v bit b s l =

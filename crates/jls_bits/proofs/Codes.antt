@@ -9,6 +9,7 @@ use Rattle.jls_bits.specs.Bits.{bits}
 use Rattle.jls_bits.specs.Golomb.{is_short, golomb, has_golomb}
 use Rattle.jls_bits.proofs.NumberBits.{bits_same, bits_cong, bits_more, cons_same, length-bits}
 
+-- zeros and a one that begin the same bits are as many, and the rest is the same
 pub zeros_then_one : (a b : ℕ) (s t : List Bool)
     → replicate a false ++ true ∷ s ≡ replicate b false ++ true ∷ t → (a ≡ b) × (s ≡ t)
 zeros_then_one zero zero s t e = (refl, cc)
@@ -51,6 +52,7 @@ module _ (k g q : ℕ) where
   unfolding golomb
   golomb_long m s h = rw (h, append_assoc) refl
 
+  -- a number with an escape is from 1 to 2^qbpp
   pub escape_range : (m : ℕ) → has_golomb k g q m ≡ true → is_short k g q m ≡ false → (1 ≤ m) × (m ≤ 2 ^ q)
   escape_range m h l =
       let both : (leb 1 m && leb m (2 ^ q)) ≡ true = rw l at h in
@@ -113,7 +115,7 @@ module _ (k g q : ℕ) where
             ∙ ap (λ x. replicate z false ++ true ∷ x) (append-nil (bits k m) ∙ c) ∙ sym a,
       )
 
-  -- the same for an escape, where its number has no short code
+  -- where the zeros of an escape, the one and its number stand, and that has no short code, the code is whole
   pub escape_code : (v : ℕ) (given : List Bool) → v < 2 ^ q → esc ≤ (v + 1) / 2 ^ k → given ≡ replicate esc false ++ true ∷ bits q v
       → (has_golomb k g q (v + 1) ≡ true) × (golomb k g q (v + 1) ≡ given)
   escape_code v given b j a =
@@ -134,6 +136,7 @@ leading_one n low x l e =
 
 -- a code in two parts
 module _ (k g q : ℕ) where
+  -- a short code in two parts: its zeros, and then the one with the remainder
   pub parts_of_short : (m : ℕ) → m / 2 ^ k < g - q - 1 → replicate (m / 2 ^ k) false ++ bits (k + 1) (2 ^ k + m % 2 ^ k) ≡ golomb k g q m
   parts_of_short m l =
       let low = mod_below m (2 ^ k) (pow_pos k) in
@@ -141,6 +144,7 @@ module _ (k g q : ℕ) where
       (leading_one k (m % 2 ^ k) m low (mod-eq_of_lt low) ∙ sym (ap (λ z. true ∷ z) (append-nil (bits k m))))
       ∙ sym (golomb_short k g q m [] (lt-ltb (m / 2 ^ k) (g - q - 1) l)) ∙ append-nil (golomb k g q m)
 
+  -- an escape in two parts: its zeros, and then the one with the number
   pub parts_of_escape : (m : ℕ) → g - q - 1 ≤ m / 2 ^ k → m - 1 < 2 ^ q
       → replicate (g - q - 1) false ++ bits (q + 1) (2 ^ q + (m - 1)) ≡ golomb k g q m
   parts_of_escape m l b =

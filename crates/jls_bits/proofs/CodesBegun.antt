@@ -130,11 +130,12 @@ module _ (k g q : ℕ) (room : q + 2 ≤ g) where
               (ltb-false (m / 2 ^ k) esc s, sym high ∙ low ∙ v_is))
         ]
 
-  -- the same as tests
+  -- the first bits of a number as tests: which answer is right
   pub zeros_decided : (z m : ℕ) → z ≤ esc → Decides (leb z (m / 2 ^ k)) (BeginsCodeOf k g q (replicate z false) m)
   zeros_decided z m few =
       (λ t. zeros_begin_code z m few (leb-true z (m / 2 ^ k) t), λ b. le-leb z (m / 2 ^ k) (zeros_counted z m few b))
 
+  -- the first bits of a remainder, where they are tested
   pub remainder_decided : (z c v m : ℕ) → z < esc → c < k → v < 2 ^ c → (w : ℕ) → w ≡ z * 2 ^ c + v
       → Decides (eqb (m / 2 ^ (k - c)) w) (BeginsCodeOf k g q (replicate z false ++ true ∷ bits c v) m)
   remainder_decided z c v m few open_yet small w e = (
@@ -142,6 +143,7 @@ module _ (k g q : ℕ) (room : q + 2 ≤ g) where
     λ b. eq-eqb (m / 2 ^ (k - c)) w (remainder_counted z c v m few open_yet small b ∙ sym e),
   )
 
+  -- the first bits of an escape's number, where they are tested
   pub escape_decided : (c v m : ℕ) → c < q → v < 2 ^ c → m ≤ 2 ^ q → esc ≤ m / 2 ^ k
       → Decides (eqb ((m - 1) / 2 ^ (q - c)) v) (BeginsCodeOf k g q (replicate esc false ++ true ∷ bits c v) m)
   escape_decided c v m open_yet small few l = (
@@ -149,6 +151,7 @@ module _ (k g q : ℕ) (room : q + 2 ≤ g) where
     λ b. eq-eqb ((m - 1) / 2 ^ (q - c)) v (escape_counted c v m open_yet small few b).1,
   )
 
+  -- the first bits of an escape are those of no number that has a short code
   pub short_decided : (c v m : ℕ) → c < q → v < 2 ^ c → m ≤ 2 ^ q → m / 2 ^ k < esc
       → Decides (leb esc (m / 2 ^ k)) (BeginsCodeOf k g q (replicate esc false ++ true ∷ bits c v) m)
   short_decided c v m open_yet small few l = (
@@ -166,6 +169,7 @@ module _ (k g q : ℕ) (room : q + 2 ≤ g) where
             (append-nil (golomb k g q m) ∙ b.code)).0),
       )
 
+  -- bits that begin no code are the first bits of no number's code
   pub refused_decided : (given : List Bool) (m : ℕ) → RefusesCode k g q given → m ≤ 2 ^ q → Decides false (BeginsCodeOf k g q given m)
   refused_decided given m h few = (
     λ (t : false ≡ true). cc,

@@ -43,7 +43,7 @@ length_more before x xs h =
     let a = ap length (data_more before x xs h) in let b = length-append (bits (width_after before) x) (bits_read_after x xs) in
     let c = length-bits (width_after before) x in omega (arith, a, b, c)
 
--- the same at a place in the bytes: the bytes after place i follow `before`
+-- how many data bits the byte at place i adds: the bytes from place i on follow `before`
 module _ (before : ℕ) (xs : List ℕ) (i : ℕ) where
   pub data_at_end : length xs ≤ i → bits_read_after before (drop i xs) ≡ []
   data_at_end h = ap (bits_read_after before) (drop_all i xs h) ∙ data_end before
@@ -62,6 +62,7 @@ module _ (before : ℕ) (xs : List ℕ) (i : ℕ) where
   pub whole_at_stop : i < length xs → ends_data before (get_or xs i 0) ≡ true → is_whole_after before (drop i xs) ≡ false
   whole_at_stop h e = ap (is_whole_after before) (drop_more xs i 0 h) ∙ whole_stop before (get_or xs i 0) (drop (i + 1) xs) e
 
+  -- if a byte does not end the data, the bytes from it on are whole exactly where those after it are
   pub whole_at_more : i < length xs → ends_data before (get_or xs i 0) ≡ false
       → is_whole_after before (drop i xs) ≡ is_whole_after (get_or xs i 0) (drop (i + 1) xs)
   whole_at_more h e = ap (is_whole_after before) (drop_more xs i 0 h) ∙ whole_more before (get_or xs i 0) (drop (i + 1) xs) e

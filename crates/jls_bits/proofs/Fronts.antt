@@ -36,6 +36,7 @@ begins xs ys u v f g e few =
       | inr longer ↦ same_stream 0 ys xs v u g.are_bytes f.are_bytes g.whole f.whole (sym e) longer
     ]
 
+-- bytes begin with the front of their first data bits
 pub fronts_begin_bytes : FrontsBeginBytes
 fronts_begin_bytes given more bytes front f e h =
     let w = width_bounds (last_after 0 bytes) in
@@ -47,12 +48,14 @@ fronts_grow given more front longer h k =
     begins longer front k.over (h.over ++ more) k.filled h.filled
     (sym k.given_is ∙ ap (λ z. z ++ more) h.given_is ∙ append_assoc (bits_read front) h.over more) k.few
 
+-- two lists of which each begins with the other are one
 none_left : (xs ys m n : List ℕ) → xs ≡ ys ++ m → ys ≡ xs ++ n → xs ≡ ys
 none_left xs ys [] n e f = e ∙ append-nil ys
 none_left xs ys (x ∷ m) n e f =
     let a = ap length e in let b = length-append ys (x ∷ m) in let c = ap length f in let d = length-append xs n in
     absurd (omega (arith, a, b, c, d))
 
+-- bits have one front
 pub fronts_are_one : FrontsAreOne
 fronts_are_one given front other h k =
     let a = begins front other h.over k.over h.filled k.filled (sym h.given_is ∙ k.given_is) h.few in

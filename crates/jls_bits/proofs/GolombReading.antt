@@ -16,12 +16,14 @@ module _ (k g q : ℕ) (room : q + 2 ≤ g) where
   begun_is_open (Refused s x) i b h =
       let given = bits_fed g q s ++ x ∷ [] in begun_not_none k g q room given b (refused_begins_none k g q room given i)
 
+  -- bits that are a number's code are that of no other
   pub done_allows : (p : Progress) (n m : ℕ) → p ≡ Done n → IsProgress k g q p → m ≤ 2 ^ q
       → Decides (eqb n m) (BeginsCodeOf k g q (bits_of k g q p) m)
   done_allows p n m e i few =
       subst (λ x. Decides (eqb n m) (BeginsCodeOf k g q (bits_of k g q x) m)) (sym e)
       (whole_decided k g q room n m (subst (IsProgress k g q) e i) few)
 
+  -- bits that were refused are the first of no number's code
   pub refused_allows : (p : Progress) (s : CodeState) (x : Bool) (m : ℕ) → p ≡ Refused s x → IsProgress k g q p → m ≤ 2 ^ q
       → Decides false (BeginsCodeOf k g q (bits_of k g q p) m)
   refused_allows p s bit m e i few =

@@ -17,18 +17,21 @@ ends_after_ff : (x : ℕ) → 128 ≤ x → ends_data 255 x ≡ true
 unfolding ends_data
 ends_after_ff x h = le-leb 128 x h
 
+-- a byte below 0x80 after FF, and any byte after another, does not end the data
 goes_on_below : (before x : ℕ) → (before ≡ 255 → x < 128) → ends_data before x ≡ false
 unfolding ends_data
 goes_on_below before x h =
     elim (cases_Bool (eqb before 255))
     [ inl e ↦ (let f : leb 128 x ≡ false = lt-leb 128 x (h (eqb-true before 255 e)) in rw (e, f) refl) | inr e ↦ rw e refl ]
 
+-- in whole bytes each byte after FF is below 0x80
 pub below_markers : (bytes : List ℕ) → is_whole bytes ≡ true → BelowMarkers bytes
 below_markers bytes h prefix back x e =
     let w = whole_prefix 0 prefix (255 ∷ (x ∷ back)) (subst (λ z. is_whole_after 0 z ≡ true) e h) in
     let p = whole_parts (last_after 0 prefix) 255 (x ∷ back) w.1 in
     let q = whole_parts 255 x back p.1 in below_after_ff x q.0
 
+-- bytes of which each after FF is below 0x80 are whole
 whole_from : (before : ℕ) (bytes : List ℕ) → BelowMarkers (before ∷ bytes) → is_whole_after before bytes ≡ true
 whole_from before [] h = whole_end before
 whole_from before (x ∷ xs) h =
@@ -45,6 +48,7 @@ after_zero bytes h (f ∷ prefix) back x e = h prefix back x (cc)
 pub whole_below : (bytes : List ℕ) → BelowMarkers bytes → is_whole bytes ≡ true
 whole_below bytes h = whole_from 0 bytes (after_zero bytes h)
 
+-- what follows FF and a byte of 0x80 or more is not read
 pub read_before : (prefix back : List ℕ) (x : ℕ) → is_whole (prefix ++ 255 ∷ []) ≡ true → 128 ≤ x
     → bits_read (prefix ++ 255 ∷ (x ∷ back)) ≡ bits_read (prefix ++ 255 ∷ [])
 read_before prefix back x h l =

@@ -38,6 +38,7 @@ bits_split (suc m) n x =
     let d : x / 2 ^ n / 2 ^ m ≡ x / 2 ^ (m + n) = shr-shr x n m ∙ ap (λ z. x / 2 ^ z) f in
     ap (λ z. bits z x) e ∙ cons_same (ap (λ z. eqb (z % 2) 1) (sym d)) (bits_split m n x)
 
+-- a bit at the end of a number is shifted out with the bits before it
 half_shift : (n x y : ℕ) → y < 2 → (2 * x + y) / 2 ^ suc n ≡ x / 2 ^ n
 half_shift n x y h =
     let a : (2 * x + y) / 2 ≡ x = omega arith in
@@ -55,7 +56,7 @@ bits_push (suc n) x y h =
     let d : (2 * x + y) / 2 ^ suc n ≡ x / 2 ^ n = half_shift n x y h in
     ap (λ z. bits z (2 * x + y)) e ∙ cons_same (ap (λ z. eqb (z % 2) 1) d) (ap (λ z. bits z (2 * x + y)) f ∙ bits_push n x y h)
 
--- the same by a `bool`, and the number stays as small as its bits are few
+-- a bit more at the end, as a `bool`: the number stays as small as its bits are few
 pub bits_push_bool : (b : Bool) (n x : ℕ) → x < 2 ^ n
     → (bits (n + 1) (2 * x + bool_byte b) ≡ bits n x ++ b ∷ []) × (2 * x + bool_byte b < 2 ^ (n + 1))
 bits_push_bool true n x h = let p : 2 ^ (n + 1) ≡ 2 ^ n * 2 = pow_more 2 n in (bits_push n x 1 (omega arith), omega arith)
@@ -64,6 +65,7 @@ bits_push_bool false n x h = let p : 2 ^ (n + 1) ≡ 2 ^ n * 2 = pow_more 2 n in
 bit_same : (x y : ℕ) → eqb (x % 2) 1 ≡ eqb (y % 2) 1 → x % 2 ≡ y % 2
 bit_same x y e = grind (arith, nat_tests)
 
+-- numbers that agree modulo a power of 2, and in the next bit, agree modulo the next power
 bits_step : (n x y : ℕ) → x / 2 ^ n % 2 ≡ y / 2 ^ n % 2 → x % 2 ^ n ≡ y % 2 ^ n → x % 2 ^ suc n ≡ y % 2 ^ suc n
 bits_step n x y b r =
     let p : x % 2 ^ (1 + n) ≡ (x / 2 ^ n % 2) * 2 ^ n + x % 2 ^ n = mod-pow-add x 1 n in
@@ -79,7 +81,7 @@ bits_same (suc n) x y s t e =
     let rest : (x % 2 ^ n ≡ y % 2 ^ n) × (s ≡ t) = bits_same n x y s t (cc) in
     (bits_step n x y (bit_same (x / 2 ^ n) (y / 2 ^ n) head) rest.0, rest.1)
 
--- and the other way round
+-- numbers that agree modulo a power of 2 have equal bits
 pub bits_cong : (n x y : ℕ) → x % 2 ^ n ≡ y % 2 ^ n → bits n x ≡ bits n y
 unfolding bits
 bits_cong zero x y h = refl

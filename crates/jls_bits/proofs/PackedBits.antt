@@ -19,6 +19,7 @@ module _ (count waiting n value : ℕ) (few : count + n < 64) (small : waiting <
   pub waiting_small : waiting * 2 ^ n % 18446744073709551616 + value < 2 ^ (count + n)
   waiting_small = subst (λ z. z + value < 2 ^ (count + n)) (sym waiting_shifted.0) (joined_small count n waiting value small low)
 
+  -- bits appended to those that wait
   pub waiting_bits : (given : List Bool) → given ++ bits (count + n) (waiting * 2 ^ n % 18446744073709551616 + value)
       ≡ (given ++ bits count waiting) ++ bits n value
   waiting_bits given =
@@ -53,6 +54,7 @@ module _ (bytes : List ℕ) (last width left waiting : ℕ) (f : AreFilled bytes
   pub byte_fills : AreFilled (bytes ++ (waiting / 2 ^ rest) ∷ [])
   byte_fills = fills.0
 
+  -- a byte that is taken from the start of the waiting bits leaves all bits as they were
   pub byte_taken : (kept : ℕ) → kept ≡ waiting % 2 ^ rest
       → bits_read (bytes ++ (waiting / 2 ^ rest) ∷ []) ++ bits rest kept ≡ bits_read bytes ++ bits left waiting
   byte_taken kept is =

@@ -60,6 +60,7 @@ value_bound [] = omega arith
 value_bound (b ∷ bs) = let r = value_bound bs in let p : 2 ^ suc (length bs) ≡ 2 ^ length bs * 2 = pow-suc 2 (length bs) in
     rw p (elim (cases_Bool b) [ inl h ↦ rw h (omega arith) | inr h ↦ rw h (omega arith) ])
 
+-- the bits of the number that some bits are, are these bits
 pub bits_of_value : (bs : List Bool) → bits (length bs) (value_of_bits bs) ≡ bs
 unfolding bits value_of_bits
 bits_of_value [] = refl
@@ -250,6 +251,7 @@ top_bits w count partial l b =
 
 -- the three ends of a writer
 module _ (bytes : List ℕ) (last count partial : ℕ) (f : AreFilled bytes) (e : last ≡ last_after 0 bytes) where
+  -- the last byte, filled up with zeros, makes the bytes so far the pad of all bits
   pub finish_partial : (x : ℕ) → count < width_after last → partial < 2 ^ count → 0 < count
       → x ≡ partial * 2 ^ (width_after last - count) % 256
       → IsPad (bits_read bytes ++ bits count partial) (bytes ++ x ∷ [])

@@ -21,6 +21,7 @@ returns-then-largest-escape c =
     let s = sides c.args.k c.args.g c.args.qbpp count value c.args.bit c.requires.k c.requires.qbpp c.requires.g o in
     escape_too_small c.args.k c.args.g c.args.qbpp c.requires.g.0 count value c.args.bit o.1 (omega (arith, o.0)) (omega (arith, s.0, s.1))
 
+-- the escape's number still lacks bits
 pub returns-then-count-qbpp : goal.returns-then-count-qbpp
 returns-then-count-qbpp c =
     let o = c.requires.open in let count : ℕ = c.args.number.count in let value : ℕ = c.args.number.value in

@@ -4,6 +4,7 @@ use Rattle.std.proofs.lemmas.Nat.{shl_whole}
 use Rattle.jls_bits.proofs.CodeSteps.{remainder_more, remainder_whole}
 use Rattle.jls_bits.proofs.code_state.push_to_remainder.Goals as goal
 
+-- the remainder still lacks bits
 pub returns-then-count-k : goal.returns-then-count-k
 returns-then-count-k c = λ g qbpp room short.
     let w : c.args.quotient * 2 ^ c.args.k % 4294967296 ≡ c.args.quotient * 2 ^ c.args.k =

@@ -30,6 +30,7 @@ returns-then-qbpp-escape c =
     zero_without_escape c.args.k c.args.g c.args.qbpp c.requires.g.0 c.args.zeros c.args.bit c.if-bit.false (omega arith)
     (omega (arith, e, o))
 
+-- one zero more is still no more than an escape has
 pub returns-else-zeros-escape-3 : goal.returns-else-zeros-escape-3
 returns-else-zeros-escape-3 c =
     let e = escape_shifted c.args.k c.args.g c.args.qbpp c.requires.k c.requires.g.1 in let o = one_shifted c.args.qbpp c.requires.qbpp.1 in

@@ -9,6 +9,7 @@ returns-then-quotient-escape-clause-code c =
     ap (λ z. replicate (c.args.mapped / 2 ^ c.args.k) false ++ bits (c.args.k + 1) (z + c.args.mapped % z))
     (one_shifted c.args.k c.requires.k) ∙ parts_of_short c.args.k c.args.g c.args.qbpp c.args.mapped (omega arith)
 
+-- the two parts of an escape
 pub returns-else-quotient-escape-clause-code : goal.returns-else-quotient-escape-clause-code
 returns-else-quotient-escape-clause-code c =
     let a = escape_above_0 c.args.k c.args.g c.args.qbpp c.args.mapped c.requires.g.0 (omega arith) in

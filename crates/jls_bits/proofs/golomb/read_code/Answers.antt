@@ -9,6 +9,7 @@ returns-in-Refused-clause-none c = λ m rest has e.
     (fed_on c.args.reader.now.left (bits_fed c.args.g c.args.qbpp c.loop-bit.state) c.loop-bit.reader.left c.read_bit.new.self.left
     c.in-Some.bit c.loop-bit.invariant.fed c.in-Some.ensures.some ∙ e)
 
+-- the bits end before the code does
 pub returns-clause-none : goal.returns-clause-none
 returns-clause-none c = λ m rest has e.
     let t = bits_fed c.args.g c.args.qbpp c.loop-bit.state in

@@ -8,6 +8,7 @@ returns-then-ends_data-clause-count c =
     (sym c.ends_data.ensures ∙ c.if-ends_data.true)) in
     omega (arith, a, c.loop-next.invariant.counted)
 
+-- the bits of one byte more are counted
 pub loop-next-preserved : goal.loop-next-preserved
 loop-next-preserved c =
     let a = length_at_more c.loop-next.before c.args.bytes.now c.loop-next.next-index (omega arith)

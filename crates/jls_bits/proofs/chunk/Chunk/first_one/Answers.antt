@@ -11,6 +11,7 @@ returns-then-self-eq0-clause-none c =
     let e : c.args.self.now ≡ replicate n false = sym c.self.view_is ∙ ap (λ z. bits n z) c.if-self-eq0.true ∙ zero_bits n in
     e ∙ ap (λ z. replicate z false) (sym (length-bits n v) ∙ ap length c.self.view_is)
 
+-- the highest one of the number is the first one of the bits
 pub returns-clause-some : goal.returns-clause-some
 returns-clause-some c =
     let n : ℕ = c.self.inside.count in let b : ℕ = c.ilog2-first.result in let v : ℕ = c.self.inside.value in

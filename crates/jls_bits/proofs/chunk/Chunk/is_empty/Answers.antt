@@ -4,6 +4,7 @@ use Rattle.jls_bits.specs.Bits.{bits}
 use Rattle.jls_bits.proofs.NumberBits.{bits_none, length-bits}
 use Rattle.jls_bits.proofs.chunk.Chunk.is_empty.Goals as goal
 
+-- no bit is counted exactly where there is none
 pub returns : goal.returns
 returns c =
     let n = c.self.inside.count in let v = c.self.inside.value in (

@@ -14,6 +14,7 @@ pub returns-clause-number : goal.returns-clause-number
 returns-clause-number c =
     first_number c.args.count (c.self.inside.count - c.args.count) c.self.inside.count c.self.inside.value (omega arith) c.self.invariant.1
 
+-- the bits taken are the first, and the others are left
 pub returns-clause-some : goal.returns-clause-some
 returns-clause-some c =
     let n : ℕ = c.args.count in let m : ℕ = c.self.inside.count - n in let v : ℕ = c.self.inside.value in

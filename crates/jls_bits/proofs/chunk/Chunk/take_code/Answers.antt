@@ -3,6 +3,7 @@ use Rattle.jls_bits.proofs.ChunkBits.{one_zero_less}
 use Rattle.jls_bits.proofs.ChunkSteps.{short_prefix, not_short}
 use Rattle.jls_bits.proofs.chunk.Chunk.take_code.Goals as goal
 
+-- the bits taken are the code of the number
 pub returns-in-Some-clause-some : goal.returns-in-Some-clause-some
 returns-in-Some-clause-some c =
     let k : ℕ = c.args.k in let z : ℕ = c.in-Some.zeros in let x : ℕ = c.in-Some.number in let e = c.in-Some.ensures in

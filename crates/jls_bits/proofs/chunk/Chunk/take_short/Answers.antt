@@ -18,6 +18,7 @@ returns-clause-number c =
     one_and_bits c.ilog2-first.result c.args.k c.self.inside.value c.ilog2-first.ensures.power_le c.ilog2-first.ensures.next_power_gt
     (omega (arith, c.if-first-k.false))
 
+-- the zeros, the one and the k bits stand at the start, and the rest is left
 pub returns-clause-some : goal.returns-clause-some
 returns-clause-some c =
     let b : ℕ = c.ilog2-first.result in let k : ℕ = c.args.k in let v : ℕ = c.self.inside.value in
@@ -35,6 +36,7 @@ returns-then-self-eq0-clause-none_stands c =
     subst (NoShortPrefix c.args.limit c.args.k) c.self.view_is
     (no_one c.self.inside.count c.self.inside.value c.args.limit c.args.k c.if-self-eq0.true)
 
+-- with too many zeros, or too few bits after the one, no short code stands whole
 pub returns-then-limit-zeros-clause-none_stands : goal.returns-then-limit-zeros-clause-none_stands
 returns-then-limit-zeros-clause-none_stands c =
     let b : ℕ = c.ilog2-first.result in let v : ℕ = c.self.inside.value in let n : ℕ = c.self.inside.count in

@@ -9,6 +9,7 @@ returns-else-len-escape-clause-none c =
     zeros_left c.args.k c.args.g c.args.qbpp _ c.args.chunk.now c.in-None.ensures.none
     (let l = c.len.ensures in let f = c.if-len-escape.false in omega arith)
 
+-- too many zeros for a short code
 pub returns-else-quotient-escape-clause-none : goal.returns-else-quotient-escape-clause-none
 returns-else-quotient-escape-clause-none c =
     let z : ℕ = c.in-Some.quotient in let n : ℕ = c.in-Some.count in let v : ℕ = c.in-Some.value in

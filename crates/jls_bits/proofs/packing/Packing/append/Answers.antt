@@ -10,6 +10,7 @@ overflow_add-self c =
     waiting_shifted s.count s.waiting c.args.count c.args.value c.requires.place c.requires.packing.waiting c.requires.value in
     omega (arith, w.0, w.1)
 
+-- the bits that wait are still fewer than 64, in a number that they fit
 pub returns-clause-packing : goal.returns-clause-packing
 returns-clause-packing c =
     let s = c.args.self.now in let p = c.requires.packing in
@@ -21,6 +22,7 @@ returns-clause-packing c =
           waiting_small s.count s.waiting c.args.count c.args.value c.requires.place p.waiting c.requires.value;
     }
 
+-- the bits are those from before, and then these
 pub returns-clause-bits : goal.returns-clause-bits
 unfolding bits_put
 returns-clause-bits c =

@@ -4,6 +4,7 @@ use Rattle.jls_bits.specs.Packing.{bits_put}
 use Rattle.jls_bits.proofs.NumberBits.{length-bits}
 use Rattle.jls_bits.proofs.packing.Packing.into_front.Goals as goal
 
+-- the bytes are those that the bits fill
 pub returns : goal.returns
 unfolding bits_put
 returns c =

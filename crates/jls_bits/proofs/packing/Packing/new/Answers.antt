@@ -6,6 +6,7 @@ use Rattle.jls_bits.proofs.NumberBits.{bits_none}
 use Rattle.jls_bits.proofs.DataBits.{data_end, whole_end, width_bounds}
 use Rattle.jls_bits.proofs.packing.Packing.new.Goals as goal
 
+-- no byte and no bit are in order
 pub returns-clause-packing : goal.returns-clause-packing
 returns-clause-packing c =
     let w = width_bounds 0 in

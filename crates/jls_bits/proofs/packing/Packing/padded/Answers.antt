@@ -13,6 +13,7 @@ overflow_cast-partial c =
     let m : 2 ^ s.count ≤ 2 ^ 8 = pow_mono {i = s.count} {j = 8} (omega (arith, w, c.requires.few)) in
     omega (arith, m, c.requires.packing.waiting)
 
+-- the bytes with the last one filled up are the pad of the bits
 pub returns : goal.returns
 unfolding bits_put
 returns c =

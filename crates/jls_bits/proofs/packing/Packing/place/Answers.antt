@@ -4,6 +4,7 @@ use Rattle.jls_bits.specs.Packing.{bits_put}
 use Rattle.jls_bits.proofs.NumberBits.{length-bits}
 use Rattle.jls_bits.proofs.packing.Packing.place.Goals as goal
 
+-- the bits end after the whole bytes and those that wait
 pub returns : goal.returns
 unfolding bits_put
 returns c =

@@ -9,6 +9,7 @@ use Rattle.jls_bits.proofs.ChunkBits.{one_of_64}
 use Rattle.jls_bits.proofs.PackedBits.{byte_small, byte_fills, byte_taken, kept_small}
 use Rattle.jls_bits.proofs.packing.Packing.put_bytes.Goals as goal
 
+-- before the first byte, the bits that wait are all there
 pub loop-width-init : goal.loop-width-init
 unfolding bits_put
 loop-width-init c =
@@ -39,6 +40,7 @@ pub loop-width-smaller : goal.loop-width-smaller
 loop-width-smaller c =
     let i = c.loop-width.invariant in let w = width_bounds c.loop-width.self.last in omega (arith, w, i.width, c.loop-width-test.true)
 
+-- a byte that is put leaves all bits as they were, and fewer that wait
 pub loop-width-preserved : goal.loop-width-preserved
 loop-width-preserved c =
     let l = c.loop-width in let i = l.invariant in let w = width_bounds l.self.last in let h = c.loop-width-test.true in

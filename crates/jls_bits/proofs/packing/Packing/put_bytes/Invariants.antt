@@ -4,6 +4,7 @@ use Rattle.jls_bits.specs.Appending.{last_after, AreFilled}
 use Rattle.jls_bits.specs.Packing.{bits_put}
 use Rattle.jls_bits.proofs.packing.Packing.put_bytes.Given as goal
 
+-- before each byte: the same bits are put or wait, and there is room for them
 abbrev pub invariant-loop-width : goal.invariant-loop-width
 invariant-loop-width l = record {
   filled : AreFilled l.self.bytes.items;

@@ -4,6 +4,7 @@ use Rattle.jls_bits.proofs.Padding.{zero_bits}
 use Rattle.jls_bits.proofs.PackedBits.{zeros_more}
 use Rattle.jls_bits.proofs.packing.Packing.put_zeros.Goals as goal
 
+-- 32 zeros more are put, and so many fewer are left
 pub loop-left-preserved : goal.loop-left-preserved
 loop-left-preserved c =
     let l = c.loop-left in let i = l.invariant in let e = c.put_bits.ensures in

@@ -2,6 +2,7 @@ use Rattle.std.proofs.Common.{◌≡◌, ◌≤◌, ◌+◌, ◌*◌, ◌++◌, 
 use Rattle.jls_bits.specs.Packing.{IsPacking, bits_put}
 use Rattle.jls_bits.proofs.packing.Packing.put_zeros.Given as goal
 
+-- the zeros put and those left are all of them, and there is room for the latter
 abbrev pub invariant-loop-left : goal.invariant-loop-left
 invariant-loop-left l = record {
   packing : IsPacking l.self;

@@ -4,6 +4,7 @@ use Rattle.jls_bits.specs.Packing.{bits_put}
 use Rattle.jls_bits.specs.Appending.{last_after, AreFilled}
 use Rattle.jls_bits.proofs.packing.Packing.reserve.Goals as goal
 
+-- the bytes are the same, so they are in order
 pub returns-clause-packing : goal.returns-clause-packing
 returns-clause-packing c =
     record {

@@ -4,6 +4,7 @@ use Rattle.jls_bits.specs.Unread.{Unread}
 use Rattle.jls_bits.proofs.NumberBits.{length-bits}
 use Rattle.jls_bits.proofs.reader.BitReader.left.Goals as goal
 
+-- the bits left are those of the byte in hand and of the bytes after it
 pub returns : goal.returns
 returns c =
     let v = ap (λ (z : Unread). length z.left) c.self.view_is in

@@ -17,6 +17,7 @@ returns-in-None-clause-none c =
     let l = left_is (goal.at.returns-in-None-clause-none c).After-next_byte in let n = c.in-None.ensures.none in
     let r : c.args.self.now.left ≡ [] = cc in (r, r)
 
+-- the bit read is the first of the next byte
 pub returns-in-Some-clause-some : goal.returns-in-Some-clause-some
 returns-in-Some-clause-some c =
     let l = left_is (goal.at.returns-in-Some-clause-some c).After-next_byte in let d = c.in-Some.ensures.bits in
