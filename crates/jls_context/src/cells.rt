@@ -113,6 +113,7 @@ impl Cells {
         Mode::of(first, second, third)
     }
 
+    /// The cell of a context of regular mode.
     fn regular_cell(&self, cell: u16) -> Cell
         requires { cell ≤ 364 }
         ensures value { result ≡ cell_at self.now cell }
@@ -133,6 +134,7 @@ impl Cells {
         &self.codes[usize::from(cell)]
     }
 
+    /// The cell of run interruption for this RItype.
     fn run_cell(&self, same: bool) -> RunCell
         ensures value { result ≡ run_cell_at self.now same }
         ensures cell { IsRunCell self.now.parameters.reset result }

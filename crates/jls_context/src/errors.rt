@@ -33,7 +33,8 @@ pub(crate) fn is_error(params: &Params, error: i32) -> bool
     limit - range_of(params) <= error && error < limit
 }
 
-/// The same of a number that is mapped to another. Below MAXVAL each one is an error that a prediction can have.
+/// Whether this error, which is mapped to the number `mapped`, is one that a prediction can have. Below MAXVAL each number is that of such
+/// an error.
 pub(crate) fn is_error_of(params: &Params, special: bool, mapped: u32, error: i32) -> bool
     requires { Rattle.jls_context.specs.Errors.error_mapped special error ≡ mapped }
     ensures { IsTrue result ↔ IsError params.now error }

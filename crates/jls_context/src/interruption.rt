@@ -20,7 +20,7 @@ pub struct RunCell {
     pub negative_errors: u32,
 }
 
-/// EM, where `first` says whether `map` is 1 for errors above 0, and not for those below.
+/// The mapped error EM (ITU-T T.87, A.7.2). If `first` is true, `map` is 1 for errors above 0, and else for those below.
 fn mapped_by_sign(same: bool, first: bool, error: i32) -> u32
     requires error_at_least { negsuc (2 ^ 17) ≤ℤ error }
     requires error_at_most { error ≤ℤ pos (2 ^ 17) }
@@ -35,7 +35,7 @@ fn mapped_by_sign(same: bool, first: bool, error: i32) -> u32
     2 * error.unsigned_abs() - u32::from(same) - u32::from(map)
 }
 
-/// The error with this EM.
+/// The error whose EM is this number; `first` is as for `mapped_by_sign`.
 fn unmapped_by_sign(same: bool, first: bool, mapped: u32) -> i32
     requires { mapped < 2 ^ 31 }
     ensures value { Rattle.jls_context.specs.Interruption.mapped_by_sign same first result ≡ mapped }
@@ -84,7 +84,7 @@ impl RunCell {
         golomb_k(self.occurrences, self.interruption_magnitudes(same))
     }
 
-    /// Whether `map` is 1 for errors above 0, and not for those below.
+    /// Whether `map` is 1 for errors above 0. Else it is 1 for errors below 0.
     fn maps_positive(self, same: bool) -> bool
         requires cell { (reset : ℕ) × (reset < 2 ^ 16) × IsRunCell reset self }
         ensures { result ≡ Rattle.jls_context.specs.Interruption.maps_positive same self }
