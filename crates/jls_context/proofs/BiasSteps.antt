@@ -17,6 +17,7 @@ chosen true high cell b1 b2 c1 c2 = refl
 chosen false true cell b1 b2 c1 c2 = refl
 chosen false false cell b1 b2 c1 c2 = refl
 
+-- B and C, each computed by itself, are those of the bias computation
 pub by_steps : (cell : Cell)
     → record cell {
       bias = computed_bias cell.occurrences cell.bias;

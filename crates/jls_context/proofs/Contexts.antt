@@ -8,6 +8,7 @@ use Rattle.jls_context.specs.Mode.{with_sign, quantized_gradient, quantized_grad
 use Rattle.jls_context.specs.Mode.{ContextsAreApart, IsQuantizedGradient}
 use Rattle.jls_context.proofs.Gradients.{gradient_range, sign_is, size_is}
 
+-- a quantized gradient with its sign turned is one
 signed_step : (negative : Bool) (q : ℤ) → IsQuantizedGradient q → IsQuantizedGradient (with_sign negative q)
 signed_step true q s = let low = s.at_least in let high = s.at_most in
     record { at_least = omega (arith, ints); at_most = omega (arith, ints) }
@@ -30,6 +31,7 @@ steps_apart : (q1 q2 q3 r1 r2 r3 : ℤ) → IsQuantizedGradient q1 → IsQuantiz
     → (q1 ≡ r1) × (q2 ≡ r2) × (q3 ≡ r3)
 steps_apart q1 q2 q3 r1 r2 r3 a b c d e f same = (omega (arith, ints), omega (arith, ints), omega (arith, ints))
 
+-- two samples whose contexts have one number have the same quantized gradients, with their signs
 pub apart : ContextsAreApart
 apart p near other same =
     let q = quantized_gradients p near in let r = quantized_gradients p other in

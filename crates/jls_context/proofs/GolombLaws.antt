@@ -13,6 +13,7 @@ use Rattle.jls_values.specs.Params.{least_from}
 use Rattle.jls_context.specs.Regular.{golomb_k, IsGolombK}
 use Rattle.jls_context.proofs.Sizes.{least_from-passes}
 
+-- a number is less than its power of 2
 pub self-lt-pow : (n : ℕ) → n < 2 ^ n
 self-lt-pow zero = omega arith
 self-lt-pow (suc n) =
@@ -33,6 +34,7 @@ golomb_k-least n a k some here before =
     small (suc m) (suc j) some before =
         let below : suc m * 2 ^ j < a = before j (omega arith) in let size : j < 2 ^ j = self-lt-pow j in omega arith
 
+-- the number that a search finds is not below the one that it begins with
 least_from-at_least : (passes : ℕ → Bool) (count from : ℕ) → from ≤ least_from passes count from
 unfolding least_from
 least_from-at_least passes zero from = omega arith

@@ -10,6 +10,7 @@ use Rattle.jls_context.specs.declared.mode.Neighbours.{Neighbours}
 use Rattle.jls_context.specs.Mode.{with_sign, is_run_mode, quantized_size, quantized_gradient, quantized_gradients, is_first_negative}
 use Rattle.jls_context.specs.Mode.{is_negative, weighed, context, IsRegularMode, IsQuantizedGradient, AreGradients}
 
+-- a gradient downwards is quantized by its size, with the sign turned
 pub gradient_below : (p : CodingParameters) (to from : ℕ) → to < from
     → quantized_gradient p (pos to -ℤ pos from) ≡ neg_ℤ (pos (quantized_size p (from - to)))
 unfolding quantized_gradient
@@ -17,6 +18,7 @@ gradient_below p to from h =
     let negative : int_lt (pos to -ℤ pos from) (pos 0) ≡ true = grind (arith, ints) in
     let size : unsigned_abs (pos to -ℤ pos from) ≡ from - to = omega (arith, ints) in rw (negative, size) refl
 
+-- a gradient upwards, or of 0, is quantized by its size
 pub gradient_above : (p : CodingParameters) (to from : ℕ) → from ≤ to
     → quantized_gradient p (pos to -ℤ pos from) ≡ pos (quantized_size p (to - from))
 unfolding quantized_gradient
@@ -145,6 +147,7 @@ module _ (p : CodingParameters) (near : Neighbours) (number : ℤ)
   abbrev d3 : ℤ
   d3 = pos near.rc -ℤ pos near.ra
 
+  -- where the weighed sum is 0, the sample is in run mode
   pub run_mode : number ≡ pos 0 → is_run_mode near ≡ true
   run_mode e =
       let zeros = none (quantized_gradient p d1) (quantized_gradient p d2) (quantized_gradient p d3) (gradient_range p d1)
@@ -153,6 +156,7 @@ module _ (p : CodingParameters) (near : Neighbours) (number : ℤ)
       let e3 = same near.rc near.ra (gradient_zero p d3 zeros.2) in
       rw (e1, e2, e3) refl
 
+  -- where the weighed sum is not 0, the sample is not in run mode
   pub no_run_mode : (number ≡ pos 0 → ⊥) → is_run_mode near ≡ false
   no_run_mode some =
       elim (cases_Bool (eqb near.rd near.rb)) [

@@ -17,7 +17,7 @@ median_is a b c =
       ])
     ]
 
--- the same computed on integers
+-- the prediction computed on integers is that of `edge_detecting_predictor`
 pub median_of : (a b c : ℕ) (m r : ℤ) → m ≡ int_max (pos a +ℤ pos b -ℤ pos c) (pos (min a b)) → r ≡ int_min m (pos (max a b))
     → nat_abs r ≡ edge_detecting_predictor a b c
 median_of a b c m r raised clamped = let is = median_is a b c in omega (arith, ints, clamps)

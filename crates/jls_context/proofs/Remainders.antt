@@ -12,11 +12,13 @@ pub remainder_within : (r : ℕ) (z : ℤ) → pos 0 ≤ℤ z → z <ℤ pos r �
 remainder_within r (pos n) a b = ap pos (mod-eq_of_lt (omega (arith, ints)))
 remainder_within r (negsuc n) a b = absurd (omega (arith, ints))
 
+-- the remainder of a negative number, at most RANGE below 0
 pub remainder_below : (r : ℕ) (z : ℤ) → neg_ℤ (pos r) ≤ℤ z → z <ℤ pos 0 → int_rem_euclid z (pos r) ≡ z +ℤ pos r
 remainder_below r (pos n) a b = absurd (omega (arith, ints))
 remainder_below r (negsuc n) a b =
     let small : n % r ≡ n = mod-eq_of_lt (omega (arith, ints)) in rw small (omega (arith, ints))
 
+-- the remainder of a number from RANGE on and below twice RANGE
 pub remainder_above : (r : ℕ) (z : ℤ) → pos r ≤ℤ z → z <ℤ pos (2 * r) → int_rem_euclid z (pos r) ≡ z -ℤ pos r
 remainder_above r (pos n) a b =
     let split : n ≡ (n - r) + r = omega (arith, ints) in
@@ -24,6 +26,7 @@ remainder_above r (pos n) a b =
     rw small (omega (arith, ints))
 remainder_above r (negsuc n) a b = absurd (omega (arith, ints))
 
+-- the remainder of a number at most RANGE away, in three cases
 pub remainder_cases : (r : ℕ) (z : ℤ) → neg_ℤ (pos r) ≤ℤ z → z <ℤ pos (2 * r)
     → (int_rem_euclid z (pos r) ≡ z) ⊎ ((int_rem_euclid z (pos r) ≡ z +ℤ pos r) ⊎ (int_rem_euclid z (pos r) ≡ z -ℤ pos r))
 remainder_cases r z a b =

@@ -34,6 +34,7 @@ restored p false s x e f a b i g h =
     let r = modulo_reduced_near p (pos s -ℤ pos x) (omega (arith, ints)) (omega (arith, ints)) in
     let v = error_range p false s x in omega (arith, ints)
 
+-- the sample that is the prediction plus the signed error, modulo RANGE, has this error against the prediction
 pub restored_remainder : (p : CodingParameters) (negative : Bool) (s x : ℕ) (e f z : ℤ) → s ≤ p.maxval → x ≤ p.maxval → IsError p e
     → f ≡ with_sign negative e
     → z ≡ pos x +ℤ f → pos s ≡ int_rem_euclid z (pos (range p)) → prediction_error p negative s x ≡ e

@@ -41,6 +41,7 @@ pub cell_at-written_other : (v : Variables) (i : ℕ) (x : Cell) (other : ℕ) �
 unfolding cell_at
 cell_at-written_other v i x other apart = get_or-set_other v.regular i other x _ apart
 
+-- cells in their ranges stay in them when one is set to a cell in its range
 all_set : (reset : ℕ) (cells : List Cell) (i : ℕ) (x : Cell) → All (IsCell reset) cells → i < length cells → IsCell reset x
     → All (IsCell reset) (set cells i x)
 all_set reset cells i x all h ok k d l =
@@ -52,6 +53,7 @@ all_set reset cells i x all h ok k d l =
           subst (λ z. IsCell reset z) (sym (get_or-set_other cells i k x d ne)) (all k d (omega arith))
     ]
 
+-- variables stay in their ranges when a cell of regular mode is set to one in its range
 pub written_right : (v : Variables) (i : ℕ) (x : Cell) → i < 365 → AreVariables v → IsCell v.parameters.reset x
     → AreVariables (written v i x)
 written_right v i x within are ok = record {

@@ -4,6 +4,7 @@ use Rattle.jls_context.specs.Mode.{with_sign}
 use Rattle.jls_context.proofs.Samples.{restored_remainder, sample_same}
 use Rattle.jls_context.proofs.errors.restored.Goals as goal
 
+-- the sample has this error against the prediction
 pub returns-clause-error : goal.returns-clause-error
 returns-clause-error c =
     let p = c.args.params.now in

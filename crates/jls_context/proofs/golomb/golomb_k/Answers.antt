@@ -9,6 +9,7 @@ overflow_sub-order c =
     order_within c.args.occurrences c.args.magnitudes c.max.result c.ilog2.result c.ilog2-2.result c.max.ensures c.ilog2-2.ensures.power_le
     c.ilog2-2.ensures.next_power_gt c.ilog2.ensures.power_le c.ilog2.ensures.next_power_gt
 
+-- k by the bits of A and N, or one more, is the least
 pub returns-clause-least : goal.returns-clause-least
 returns-clause-least c =
     let n : ℕ = c.args.occurrences in let a : ℕ = c.args.magnitudes in let e : ℕ = c.ilog2.result in let f : ℕ = c.ilog2-2.result in

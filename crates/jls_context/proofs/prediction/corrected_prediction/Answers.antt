@@ -4,6 +4,7 @@ use Rattle.jls_context.specs.Mode.{with_sign}
 use Rattle.jls_context.specs.Prediction.{clamped_prediction, corrected_prediction}
 use Rattle.jls_context.proofs.prediction.corrected_prediction.Goals as goal
 
+-- the prediction with SIGN times C, clamped
 pub returns-clause-value : goal.returns-clause-value
 unfolding corrected_prediction
 returns-clause-value c =

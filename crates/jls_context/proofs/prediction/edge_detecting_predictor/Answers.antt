@@ -5,6 +5,7 @@ use Rattle.std.proofs.lemmas.Int.{ints}
 use Rattle.jls_context.proofs.Predictions.{median_of}
 use Rattle.jls_context.proofs.prediction.edge_detecting_predictor.Goals as goal
 
+-- the prediction, by whether Rc is above, below or between Ra and Rb
 pub returns : goal.returns
 returns c =
     let a : ℕ = c.args.ra in let b : ℕ = c.args.rb in let d : ℕ = c.args.rc in

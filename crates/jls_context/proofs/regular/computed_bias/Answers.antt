@@ -5,6 +5,7 @@ use Rattle.jls_context.proofs.Updates.{bias_low, bias_high, neither}
 use Rattle.jls_context.proofs.regular.computed_bias.Goals as goal
 use Rattle.jls_context.proofs.regular.computed_bias.Goals.{then-bias-count, else-bias-count, then-bias-gt0, else-bias-gt0}
 
+-- B, brought back by N if it has left its range
 pub returns-clause-value : goal.returns-clause-value
 returns-clause-value c =
     let n : ℕ = c.args.occurrences in let b : ℤ = c.args.bias in let max = c.max.ensures.value in let min = c.min.ensures.value in

@@ -5,6 +5,7 @@ use Rattle.jls_context.proofs.Updates.{correction_low, correction_high, neither}
 use Rattle.jls_context.proofs.regular.computed_correction.Goals as goal
 use Rattle.jls_context.proofs.regular.computed_correction.Goals.{then-bias-count, else-bias-count, then-bias-gt0, else-bias-gt0}
 
+-- C, moved by one step where B has left its range
 pub returns-clause-value : goal.returns-clause-value
 returns-clause-value c =
     let n : ℕ = c.args.occurrences in let b : ℤ = c.args.bias in let d : ℤ = c.args.correction in let bounded = c.bounded.ensures in

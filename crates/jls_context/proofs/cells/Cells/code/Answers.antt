@@ -12,6 +12,7 @@ returns-clause-value c =
     rw c.from.ensures (code_there _ c.self.inside.codes c.args.cell _ c.self.invariant (omega arith))
     ∙ ap (λ (v : Variables). code_of (cell_at v c.args.cell)) c.self.view_is
 
+-- k is the least one for the cell
 pub returns-clause-least : goal.returns-clause-least
 returns-clause-least c =
     let at = cell_at c.args.self.now c.args.cell in

@@ -2,6 +2,7 @@ use Rattle.std.proofs.Common.{◌≡◌, w32, to_z, of_z, ◌∙◌, arith}
 use Rattle.std.proofs.lemmas.Int.{ints}
 use Rattle.jls_context.proofs.cells.Cells.mode.Goals as goal
 
+-- the mode by the three gradients is that of the sample
 pub returns : goal.returns
 returns c =
     let a : to_z w32 (of_z w32 c.gradient-first.result) ≡ c.gradient-first.result = omega (arith, ints) in

@@ -6,6 +6,7 @@ use Rattle.jls_context.proofs.Writes.{cell_at-start, codes_alike}
 use Rattle.jls_context.proofs.Sizes.{maxval_small, reset_small}
 use Rattle.jls_context.proofs.cells.Cells.new.Goals as goal
 
+-- cells at the start are in their ranges, each with the code that it says
 pub invariant_of-result : goal.invariant_of-result
 invariant_of-result c = record {
   variables = record {

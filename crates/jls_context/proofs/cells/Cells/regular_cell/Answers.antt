@@ -3,6 +3,7 @@ use Rattle.std.proofs.lemmas.List.{get_or_default}
 use Rattle.jls_context.specs.Variables.{Variables, cell_at}
 use Rattle.jls_context.proofs.cells.Cells.regular_cell.Goals as goal
 
+-- the cell of a context in the list
 pub returns-clause-value : goal.returns-clause-value
 unfolding cell_at
 returns-clause-value c =

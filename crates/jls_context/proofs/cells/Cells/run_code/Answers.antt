@@ -3,6 +3,7 @@ use Rattle.std.proofs.lemmas.Int.{ints}
 use Rattle.jls_context.proofs.Sizes.{range-le-pow, interruption_mapped_at_most}
 use Rattle.jls_context.proofs.cells.Cells.run_code.Goals as goal
 
+-- the mapped error is at most 2^qbpp
 pub returns-clause-mapped_at_most : goal.returns-clause-mapped_at_most
 returns-clause-mapped_at_most c =
     let p = c.args.self.now.parameters in let same : to_z w32 (of_z w32 c.args.error) ≡ c.args.error = omega (arith, ints) in

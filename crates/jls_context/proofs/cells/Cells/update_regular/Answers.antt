@@ -6,6 +6,7 @@ use Rattle.jls_context.specs.Variables.{Variables, cell_at}
 use Rattle.jls_context.proofs.Writes.{cell_at-written_same, cell_at-written_other, codes_right}
 use Rattle.jls_context.proofs.cells.Cells.update_regular.Goals as goal
 
+-- the cells are in their ranges, with the one updated
 pub invariant_of-self : goal.invariant_of-self
 invariant_of-self c =
     let inside = c.self.inside in
@@ -15,6 +16,7 @@ invariant_of-self c =
     rw (c.from.ensures, c.from-2.ensures)
     (codes_right _ inside.codes c.args.cell c.updated-new.result c.code.result (omega arith) c.self.invariant ok c.code.ensures.value)
 
+-- the cell is the updated one
 pub returns-clause-updated : goal.returns-clause-updated
 returns-clause-updated c =
     let length_is = c.self.invariant.variables.length_is in

@@ -9,6 +9,7 @@ overflow_cast-result c =
     let low = c.weighed-number.ensures.at_least in let high = c.weighed-number.ensures.at_most in
     omega (arith, ints, c.unsigned_abs.ensures.value)
 
+-- all gradients are 0: run mode
 pub returns-then-number-eq0 : goal.returns-then-number-eq0
 returns-then-number-eq0 c = λ p near are.
     let value : c.weighed-number.result ≡ weighed c.args.q1 c.args.q2 c.args.q3 =
@@ -18,6 +19,7 @@ returns-then-number-eq0 c = λ p near are.
     run_mode p near c.weighed-number.result (weighed_is p near c.args.q1 c.args.q2 c.args.q3 c.weighed-number.result are value)
     (let e = c.if-number-eq0.true in omega (arith, ints))
 
+-- the weighed sum decides the mode, the context and SIGN
 pub returns : goal.returns
 returns c = λ p near are.
     let value : c.weighed-number.result ≡ weighed c.args.q1 c.args.q2 c.args.q3 =

@@ -7,6 +7,7 @@ use Rattle.jls_context.proofs.BiasSteps.{by_steps}
 use Rattle.jls_context.proofs.Updates.{updated-grown, updated-aged}
 use Rattle.jls_context.proofs.regular.Cell.updated.Goals as goal
 
+-- at RESET the numbers are halved before the bias is computed
 pub returns-then-self-reset-clause-value : goal.returns-then-self-reset-clause-value
 returns-then-self-reset-clause-value c =
     let cell = c.args.self in let half : ℤ = c.div_euclid.result in
@@ -29,6 +30,7 @@ pub returns-then-self-reset-clause-cell : goal.returns-then-self-reset-clause-ce
 returns-then-self-reset-clause-cell c =
     c.bias_computed.ensures.cell c.args.reset (omega arith) (omega (arith, c.unsigned_abs.ensures.value, ints))
 
+-- below RESET the numbers are only added to before the bias is computed
 pub returns-else-self-reset-clause-value : goal.returns-else-self-reset-clause-value
 returns-else-self-reset-clause-value c =
     let cell = c.args.self in
