@@ -8,7 +8,7 @@ use crate::finished_lines::FinishedLines;
 pub enum CutEnd {
     /// The lines that they read as.
     Whole(FinishedLines),
-    /// They read as no lines, for this fault, which is never `OutOfMemory`. The lines are those of their head: in order, row by row
-    /// and in a row by component, so they may end inside a row.
+    /// They read as no lines, for this fault, which is never `OutOfMemory`. The lines are those of their head: in order, row by row and in
+    /// a row by component. So they may end inside a row.
     Head(FinishedLines, PieceFault),
 }

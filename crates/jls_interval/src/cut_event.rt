@@ -37,8 +37,8 @@ fn least_count(value: u32, bits: u8, order: u8) -> u32
     value << (order - bits)
 }
 
-/// Whether the bits of a run that isn't whole can go on to a run: ones for full blocks always, and a count if the least number that
-/// begins so is below the columns left.
+/// Whether the bits of a run that isn't whole can go on to a run. Ones for full blocks always can. The first bits of a count can if the
+/// least count that begins so is below the columns left.
 fn run_goes_on(state: RunState) -> bool
     requires { (w0 : ℕ) × IsRunState w0 state }
     ensures yes { result ≡ true → (r0 w0 : ℕ) (fed : List Bool) → IsRunState w0 state → RunAt r0 w0 fed state → BeginsRun r0 w0 fed }

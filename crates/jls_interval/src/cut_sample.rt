@@ -64,8 +64,8 @@ pub(crate) fn sample_goes_on(
     false
 }
 
-/// Whether the first bits of a code are those of the sample, after J bits of a run's count, whose error is mapped to this number,
-/// and whether that sample can interrupt the run.
+/// Whether the first bits of a code, after J bits of a run's count, are those of a sample that can interrupt the run. Its error is mapped
+/// to this number.
 fn interruption_begins(
     coder: &Coder,
     neighbours: Neighbours,

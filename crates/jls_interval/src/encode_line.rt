@@ -84,8 +84,8 @@ fn write_run(
     Ok(stop + 1)
 }
 
-/// Writes the stretch that begins at column x, a sample of regular mode or a run with the sample that
-/// interrupts it, and gives the column after it.
+/// Writes the stretch that begins at column x, and gives the column after it. A stretch is a sample of regular mode, or a run with the
+/// sample that interrupts it.
 fn write_stretch(
     encoder: &mut Encoder,
     place: &Place<'_>,

@@ -41,8 +41,7 @@ fn append_byte(unstuffer: &mut Unstuffer, byte: u8, chunk: &mut Chunk) -> bool
     }
 }
 
-/// Appends the data bits of bytes to a chunk that has room for them, and says whether none of the bytes so far
-/// ends the data.
+/// Appends the data bits of bytes to a chunk that has room for them. The answer is whether none of the bytes so far ends the data.
 fn append_bytes(unstuffer: &mut Unstuffer, bytes: &[u8], chunk: &mut Chunk) -> bool
     requires some { 0 < length bytes.now }
     requires room { length chunk.old + 8 * length bytes.now ≤ 64 }
@@ -59,8 +58,8 @@ fn append_bytes(unstuffer: &mut Unstuffer, bytes: &[u8], chunk: &mut Chunk) -> b
     whole
 }
 
-/// As long as a chunk has so many bits, events are taken from it. Fewer wait for the bytes that follow, since an
-/// event whose bits are all there is read at once.
+/// Events are taken from a chunk as long as it has so many bits. Fewer bits wait for the next bytes, since an event whose bits are all
+/// there is read in one go.
 const WAITING: u8 = 32;
 
 /// Gives back the bits of the sample in hand, where no byte so far ends the data: else none.

@@ -61,8 +61,8 @@ impl IntervalReader {
         })
     }
 
-    /// Takes the bits of the event in hand, where lines are still to come, and says whether it is whole. Else
-    /// nothing more is to be taken.
+    /// Takes the bits of the event in hand, where lines are still to come, and says whether it is whole. If it isn't, nothing more is to be
+    /// taken.
     #[inline(never)]
     fn push_event(&mut self, chunk: &mut Chunk) -> Result<bool, AllocError>
         requires state { self.old.state ≡ State.Working }
@@ -91,7 +91,8 @@ impl IntervalReader {
         }
     }
 
-    /// Gives back the bits of the sample in hand, to be taken once more with those that follow them: none, where no short code has begun.
+    /// Gives back the bits of the sample in hand, to be taken once more with those that follow them. There are none if no short code has
+    /// begun.
     pub(crate) fn take_back(&mut self) -> Chunk
         requires { (p : CodingParameters) × (given : List Bool) × IsReading p given self.old }
         ensures shape { KeepsShape self.old self.new }
@@ -140,8 +141,8 @@ impl IntervalReader {
         matches!(self.state, State::Working)
     }
 
-    /// Takes bits from the start of a chunk, an event after another, as long as there are at least `waiting`: all of
-    /// them where that is 0.
+    /// Takes bits from the start of a chunk, an event after another, as long as there are at least `waiting` of them. If that is 0, it
+    /// takes all.
     #[inline(always)]
     pub(crate) fn push_chunk(&mut self, waiting: u8, chunk: &mut Chunk) -> Result<(), AllocError>
         requires { (p : CodingParameters) × (given : List Bool) × IsReading p given self.old }

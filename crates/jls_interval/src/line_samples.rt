@@ -41,8 +41,8 @@ struct GradientsAbove {
     second: i32,
 }
 
-/// Takes a sample of regular mode whose code is short, where it stands whole at the start, or the first bits of one, where these are all
-/// bits. Its gradients in the line above are given, and the lengths of the scan's codes.
+/// Takes a sample of regular mode whose code is short, if that stands whole at the start. If all bits are the first ones of such a code, it
+/// takes these. The sample's gradients in the line above are given, and the lengths of the scan's codes.
 #[inline(always)]
 fn take_sample(
     coder: &mut Coder,
@@ -95,8 +95,8 @@ fn take_sample(
     }
 }
 
-/// Takes samples of regular mode as long as there are at least `looked_for` bits and their codes are short and stand whole at the
-/// prefix: none, where an event has begun. Where one bit is enough, it takes the first bits of a code after them too. The last column of
+/// Takes samples of regular mode, as long as there are at least `looked_for` bits and the next code is short and stands whole at the start.
+/// It takes none where an event has begun. Where one bit is enough, it takes the first bits of a code after them too. The last column of
 /// the line is not taken.
 #[inline(always)]
 pub(crate) fn take_samples(
@@ -117,7 +117,7 @@ pub(crate) fn take_samples(
     taken
 }
 
-/// The same, from a chunk that nothing else refers to.
+/// Takes samples as `take_samples` does, from a chunk that nothing else refers to.
 #[inline(always)]
 fn take_samples_of(
     reader: &mut LineReader,

@@ -25,8 +25,8 @@ fn are_lines(params: &Params, width: u16, lines: &[&[u16]]) -> bool
 }
 
 /// Whether these lines can be written as one interval. They stand row by row, and in a row by component (ITU-T T.87, B.2). The width is
-/// that of a line in samples. It is so where the width is at least 1, there are 1 to 4 components, and the lines are a positive multiple
-/// of that. Each line has `width` samples of at most MAXVAL. There are at most 2^28 samples in all, which is this project's bound.
+/// that of a line in samples. The width is at least 1, there are 1 to 4 components, and the number of lines is a positive multiple of that.
+/// Each line has `width` samples of at most MAXVAL. There are at most 2^28 samples in all, which is this project's bound.
 pub fn fits(params: &Params, width: u16, components: u8, lines: &[&[u16]]) -> bool
     ensures { IsTrue result ↔ FitsInterval params.now width components (map (λ l. l.now) lines.now) }
 {

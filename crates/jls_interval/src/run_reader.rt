@@ -85,6 +85,7 @@ impl RunState {
         match chunk.take_bits(run_order(run_index)) {
             None => None,
             Some(value) => {
+                // After its full blocks the run has `value` columns, and the line has `columns`.
                 if value < columns {
                     let count = width - columns + value;
                     Some(RunStep::Done(Run::Interrupted { count, run_index }))
