@@ -142,7 +142,7 @@ module _ (p : CodingParameters) (cells : Variables) (run_indices : List ℕ) (ea
             (index_interrupted earlier k count near s (get_or run_indices k 0) (t.run_indices_are k) r r_is);
       }
 
--- the same variables and RUNindices
+-- equal variables and RUNindices are those after the same events
 pub after_same : (p : CodingParameters) (cells cells' : Variables) (run_indices run_indices' : List ℕ) (earlier : List Event)
     → cells' ≡ cells → run_indices' ≡ run_indices → IsAfter p cells run_indices earlier → IsAfter p cells' run_indices' earlier
 after_same p cells cells' run_indices run_indices' earlier a b h =

@@ -13,6 +13,7 @@ use Rattle.jls_interval.specs.Code.{interrupted_run_bits}
 use Rattle.jls_bits.proofs.NumberBits.{bits_same}
 use Rattle.jls_interval.proofs.Runs.{risen, blocks_step, blocks_none, broken_none, broken_step, end_none, end_step, run_apart, tail_same}
 
+-- before the first bit of a run nothing is taken, and all bits are left
 pub taken_start : (r w : ℕ) (given : List Bool) → r ≤ 31 → Taken r w given r w given
 taken_start r w given small = record {
   begins_within = small;
@@ -33,6 +34,7 @@ ones_push zero s = refl
 ones_push (suc n) s = let e : suc n + 1 ≡ suc (n + 1) = omega arith in
     ap (λ z. true ∷ z) (ones_push n s) ∙ ap (λ z. replicate z true ++ s) (sym e)
 
+-- ones in two parts
 ones_add : (m n : ℕ) (s : List Bool) → replicate (m + n) true ++ s ≡ replicate m true ++ (replicate n true ++ s)
 ones_add zero n s = let e : 0 + n ≡ n = omega arith in ap (λ z. replicate z true ++ s) e
 ones_add (suc m) n s = let e : suc m + n ≡ suc (m + n) = omega arith in
@@ -83,6 +85,7 @@ module _ (r0 w0 : ℕ) (given : List Bool) (r w : ℕ) (left : List Bool) (t : T
   end_index : (blocks r0 w0).run_index ≡ (blocks r w).run_index
   end_index = ap (λ z. (blocks r0 z).run_index) t.total ∙ ap (λ (b : Blocks). b.run_index) (t.blocks_are w)
 
+  -- the bits of a run to the end are the ones taken, and then those of the columns left
   end_is : (s : List Bool) → run_to_end_bits (blocks r0 w0) ++ s ≡ replicate t.full_blocks true ++ (run_to_end_bits (blocks r w) ++ s)
   end_is s =
       ap (λ z. run_to_end_bits (blocks r0 z) ++ s) t.total ∙ ap (λ b. run_to_end_bits b ++ s) (t.blocks_are w)
@@ -91,6 +94,7 @@ module _ (r0 w0 : ℕ) (given : List Bool) (r w : ℕ) (left : List Bool) (t : T
       parts : (n : ℕ) (b : Blocks) (s : List Bool) → run_to_end_bits (after_blocks n b) ++ s ≡ replicate n true ++ (run_to_end_bits b ++ s)
       parts n b s = ap (λ z. z ++ s) (ones_add n b.full_blocks _) ∙ append_assoc (replicate n true) (run_to_end_bits b) s
 
+  -- the bits of an interrupted run are the ones taken, and then those of the columns left
   broken_prefix : (n : ℕ) (s : List Bool)
       → interrupted_run_bits (blocks r0 (t.taken + n)) s ≡ replicate t.full_blocks true ++ interrupted_run_bits (blocks r n) s
   broken_prefix n s = ap (λ b. interrupted_run_bits b s) (t.blocks_are n) ∙ prefix t.full_blocks (blocks r n) s
@@ -141,6 +145,7 @@ module _ (r0 w0 : ℕ) (given : List Bool) (r w : ℕ) (left : List Bool) (t : T
   end_after rest e = append_cancel_left (replicate t.full_blocks true) left (run_to_end_bits (blocks r w) ++ rest)
       (sym t.bits_are ∙ e ∙ end_is rest)
 
+  -- if the bits given begin an interrupted run of c columns, the bits left begin that run without the columns taken
   pub broken_after : (c : ℕ) (rest : List Bool) → c < w0 → given ≡ interrupted_run_bits (blocks r0 c) rest
       → (n : ℕ) × (c ≡ t.taken + n) × (n < w) × (left ≡ interrupted_run_bits (blocks r n) rest)
   broken_after c rest h e =
@@ -177,6 +182,7 @@ end_cases r w s small h =
           (run_to_end_bits (blocks (risen r) (w - 2 ^ run_order r)) ++ s, end_step r w s small l)
     ]
 
+-- the bits left of an interrupted run begin with the zero and the count, or with a one
 broken_cases : (r n : ℕ) (s left : List Bool) → r ≤ 31 → left ≡ interrupted_run_bits (blocks r n) s
     → ((n < 2 ^ run_order r) × (left ≡ false ∷ (bits (run_order r) n ++ s))) ⊎ ((more : List Bool) × (left ≡ true ∷ more))
 broken_cases r n s left small e =

@@ -28,12 +28,14 @@ grown_samples : (p : CodingParameters) (w : ℕ) (lines : List (List ℕ)) (line
 grown_samples p w lines line earlier h j =
     elim (cases_Bool (eqb (length line) w)) [ inl e ↦ rw e (lines_append p lines line h j, tt) | inr e ↦ rw e (h, j) ]
 
+-- Ra is at most MAXVAL, if the samples round it are
 pub a_small : (p : CodingParameters) (w : ℕ) (up : Above) (line : List ℕ) (x : ℕ) → Small p up.line_above → Small p line
     → (neighbours w up line x).ra ≤ p.maxval
 a_small p w up line zero h j = small_get up.line_above 0 p.maxval h
 a_small p w up line (suc x) h j = small_get line x p.maxval j
 
 module _ (p : CodingParameters) (w c n : ℕ) where
+  -- an event that can come next leaves samples of at most MAXVAL
   pub kept : IsKept (interval_steps p w c n)
   kept s e sound next =
       let up = above c s.lines in let v = (here w c s).ra in
@@ -42,6 +44,7 @@ module _ (p : CodingParameters) (w c n : ℕ) where
       grown_samples p w s.lines (s.line ++ added v e) (s.earlier ++ e ∷ []) sound.0
       (all_append (λ x. x ≤ p.maxval) s.line (added v e) sound.1 small)
 
+  -- the bits of steps are the bits of their events
   bits_is : (es : List Event) (s : Position) → bits_of_steps (interval_steps p w c n) s es ≡ bits_of_events p s.earlier es
   unfolding bits_of_events
   bits_is [] s = refl
@@ -57,6 +60,7 @@ module _ (p : CodingParameters) (w c n : ℕ) where
   pub finished : (lines : List (List ℕ)) → length lines ≡ n → IsEnd (interval_steps p w c n) (finish w c lines)
   finished lines h e next = let l : length lines < n = next.0 in omega arith
 
+-- two lists of lines of one shape whose codes begin the same bits are one, and the rest of the bits is the same
 pub codes_apart : (p : CodingParameters) (w c n : ℕ) → AreCodingParameters p → 0 < w → (xs ys : List (List ℕ)) (s t : List Bool)
     → AreLines p w n xs → AreLines p w n ys
     → code p w c xs ++ s ≡ code p w c ys ++ t → (xs ≡ ys) × (s ≡ t)

@@ -66,6 +66,7 @@ cut_steps m s y (f ∷ fs) given b more l e =
     ]
 
 module _ (p : CodingParameters) (w c n : ℕ) (some : 0 < w) (given : List Bool) where
+  -- a proper prefix of the code of some lines is whole events and then a cut event
   pub cut_code_cuts : IsCutCode (interval_shape p w c n) given → IsCutEvent (interval_shape p w c n) given
   cut_code_cuts h =
       let r = cut_steps (interval_steps p w c n) start (finish w c h.lines) (events w c h.lines) given h.missing h.more_missing
@@ -83,6 +84,7 @@ module _ (p : CodingParameters) (w c n : ℕ) (some : 0 < w) (given : List Bool)
         bits_are = r.bits_are;
       }
 
+  -- whole events and then a cut event are a proper prefix of the code of some lines
   pub cut_event_cuts : IsCutEvent (interval_shape p w c n) given → IsCutCode (interval_shape p w c n) given
   cut_event_cuts h =
       let any : 0 < n = (let q = h.is_next.0 in omega arith) in

@@ -98,6 +98,7 @@ module _ (p : CodingParameters) (ok : AreCodingParameters p) (w c n : ℕ) (z : 
   same_cut : {a b : List Bool} (begun : List Bool) → a ≡ b → IsProperPrefix begun a → IsProperPrefix begun b
   same_cut begun e h = record { missing = h.missing; more_missing = h.more_missing; whole_is = sym e ∙ h.whole_is }
 
+  -- a proper prefix of the bits of an event that can come next, by the kind of the event
   cases : (begun : List Bool) (e : Event) → IsNext p w c n z e → IsProperPrefix begun (event_bits p z.earlier e) → CutsByCases p w c z begun
   unfolding event_bits
   cases begun (regular i s) a h =

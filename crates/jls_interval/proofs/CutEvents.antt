@@ -49,6 +49,7 @@ module _ (p : CodingParameters) (w c n : ℕ) (some : 0 < w) where
   room n l h = let m = n - l - 1 in let e : n - l ≡ suc m = omega arith in let f : suc m * w ≡ m * w + w = suc-mul m w in
       subst (λ z. w ≤ z * w) (sym e) (omega arith)
 
+  -- an event that can come next leaves fewer columns, so that the bound on them falls by one
   less : (fuel : ℕ) (z : Position) (e : Event) → length z.line < w → IsNext p w c n z e → Within (suc fuel) z → Within fuel (moved w c z e)
   less fuel z e o a h =
       let line = z.line ++ added (here w c z).ra e in let es = z.earlier ++ e ∷ [] in
@@ -109,6 +110,7 @@ module _ (p : CodingParameters) (w c n : ℕ) (some : 0 < w) where
 
 -- Every event has a bit ----------------------------------------------------------------
 
+-- no Golomb code is empty
 golomb_some : (k g q m : ℕ) → golomb k g q m ≡ [] → ⊥
 golomb_some k g q m e =
     elim (cases_Bool (ltb (m / 2 ^ k) (g - q - 1))) [
@@ -120,6 +122,7 @@ golomb_some k g q m e =
     not_none [] y ys h = cc
     not_none (x ∷ xs) y ys h = cc
 
+-- an event that can come next has a bit
 pub event_some : (p : CodingParameters) (w c n : ℕ) (z : Position) (e : Event) → length z.line < w → IsNext p w c n z e
     → event_bits p z.earlier e ≡ [] → ⊥
 unfolding event_bits

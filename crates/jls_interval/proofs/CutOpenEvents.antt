@@ -52,6 +52,7 @@ module _ (p : CodingParameters) (ok : AreCodingParameters p) (w k : ℕ) (up : A
       first [] none = absurd (none refl)
       first (x ∷ xs) none = record { missing = x; more_missing = xs; whole_is = refl }
 
+  -- the first bits of a sample that can come next are those of a regular event that can
   pub sample_begins : is_run_mode near ≡ false → (fed : List Bool) → BeginsSample p (cell_at cells (context p near)) near fed
       → BeginsEvent p w k up line fed earlier
   sample_begins mode fed b = record {

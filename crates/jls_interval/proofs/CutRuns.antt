@@ -36,6 +36,7 @@ module _ (r0 w0 : ℕ) (fed : List Bool) (r w : ℕ) where
         };
       }
 
+  -- the bits of full blocks, with columns left after them, are the first bits of some run
   pub blocks_go_on : IsRunState w0 (Blocks r w) → RunAt r0 w0 fed (Blocks r w) → BeginsRun r0 w0 fed
   blocks_go_on i t =
       let q = pow_pos (run_order r) in
@@ -96,6 +97,7 @@ pub run_continues : (r0 w0 : ℕ) (fed : List Bool) (s : RunState) → IsRunStat
 run_continues r0 w0 fed (Blocks r w) i t g = blocks_go_on r0 w0 fed r w i t
 run_continues r0 w0 fed (Count r w have x) i t g = count_goes_on r0 w0 fed r w have x i t g
 
+-- bits of a run that passes the columns left are those of no run
 pub run_passes : (r0 w0 : ℕ) (fed : List Bool) (s : RunState) → IsRunState w0 s → RunAt r0 w0 fed s → Passes s → (more : List Bool)
     → NoRun r0 w0 (fed ++ more)
 run_passes r0 w0 fed (Blocks r w) i t g = absurd g

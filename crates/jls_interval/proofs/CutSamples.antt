@@ -53,6 +53,7 @@ module _ (k g q : ℕ) (fed : List Bool) (Missing : List Bool → Type 0) where
   pub tried_none : Tried k g q fed Missing 0
   tried_none m l = absurd (omega arith)
 
+  -- after one number more was tried, all below the next one were
   pub tried_more : (i : ℕ) → Tried k g q fed Missing i
       → (BeginsCodeOf k g q fed i → (given unread : List Bool) → given ≡ golomb k g q i ++ unread → Missing given)
       → Tried k g q fed Missing (i + 1)
@@ -71,6 +72,7 @@ module _ (p : CodingParameters) (ok : AreCodingParameters p) where
       (error_range p (is_negative p near) s (regular_prediction p cell near)) in
       omega (arith, w, m)
 
+  -- the error of a sample that interrupts a run is mapped to at most 2^qbpp
   pub interruption_small : (cell : RunCell) (near : Neighbours) (s : ℕ)
       → interruption_mapped (is_same near) cell (interruption_error p near s) ≤ 2 ^ qbpp p
   interruption_small cell near s =
@@ -93,6 +95,7 @@ module _ (p : CodingParameters) (ok : AreCodingParameters p) where
       t m (omega arith) (begun (regular_k cell) (limit p) (qbpp p) room_of code o m more rest has e)
       (bits_fed (limit p) (qbpp p) code ++ more) rest e s rest l e
 
+  -- where all numbers were tried and none can be, no sample that interrupts a run begins so
   pub no_interruption : (cell : RunCell) (near : Neighbours) (j : ℕ) → j ≤ 15 → (code : CodeState)
       → IsOpen (run_k (is_same near) cell) (limit p - j - 1) (qbpp p) code
       → (i : ℕ) → 2 ^ qbpp p < i

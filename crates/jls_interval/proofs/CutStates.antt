@@ -88,6 +88,7 @@ module _ (p : CodingParameters) (d : IntervalReader) (given : List Bool) (h : Is
   abbrev lines : List (List ℕ)
   lines = d.lines
 
+  -- bits after which a reader is not at work any more have an empty head
   pub reading_idle : (d.state ≡ Working → ⊥) → IsHead (interval_shape p w n d.count) given []
   reading_idle none =
       idle_head p (subst AreCodingParameters h.parameters d.reader.coder.in_range) w n d.count h.width_at_least given lines line cells ri

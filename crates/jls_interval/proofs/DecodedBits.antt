@@ -20,6 +20,7 @@ pub record Decoded (p : CodingParameters) (w c n : ℕ) (given : List Bool) (z :
   pub samples : HasSamples p z
   pub unfinished : length z.line < w
 
+-- the bits of steps and one more are those of the steps, and then of that one
 bits_more : (m : StepwiseCode) (s z : m.State) (es : List m.Event) (e : m.Event) → Leads m s es z
     → bits_of_steps m s (es ++ e ∷ []) ≡ bits_of_steps m s es ++ m.step_bits z e
 bits_more m s z [] e l = append-nil (m.step_bits s e) ∙ ap (λ v. m.step_bits v e) l
@@ -27,6 +28,7 @@ bits_more m s z (f ∷ es) e l = ap (λ v. m.step_bits s f ++ v) (bits_more m (m
     ∙ sym (append_assoc (m.step_bits s f) (bits_of_steps m (m.after s f) es) (m.step_bits z e))
 
 module _ (p : CodingParameters) (w c n : ℕ) (some : 0 < w) where
+  -- after an event that can come next, the line in work has room again, or is the next one
   pub moved_open : (z : Position) (e : Event) → length z.line < w → IsNext p w c n z e → length (moved w c z e).line < w
   moved_open z e o a =
       let line = z.line ++ added (here w c z).ra e in let es = z.earlier ++ e ∷ [] in

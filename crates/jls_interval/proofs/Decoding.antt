@@ -119,7 +119,7 @@ module _ (p : CodingParameters) (ok : AreCodingParameters p) (w c n : ℕ) (some
       open_event_at = refl;
     }
 
-    -- and the line goes on
+    -- after a whole event the line goes on, if it is not full
     pub working_on : length line' < w → IsWorking p w c n (given ++ taken) lines line' cells' run_indices' NotBegun
     working_on short =
         let at : moved w c z m.event ≡ record { lines = lines; line = line'; earlier = later } =
@@ -131,12 +131,12 @@ module _ (p : CodingParameters) (ok : AreCodingParameters p) (w c n : ℕ) (some
         subst (λ v. Decoded p w c n (given ++ taken) v [])
         (ap (λ v. grown w lines v later) (sym m.line_is) ∙ grown_full p w c n some lines line' later whole) after
 
-    -- and its line, with lines still to come
+    -- after a whole event that fills the line, the next line begins, if lines are still to come
     pub working_line : length line' ≡ w → length (lines ++ line' ∷ []) < n
         → IsWorking p w c n (given ++ taken) (lines ++ line' ∷ []) [] cells' run_indices' NotBegun
     working_line whole few = working_next (lines ++ line' ∷ []) [] (full whole) few
 
-    -- and its line, the last one
+    -- after a whole event that fills the last line, all lines are there
     pub working_over : length line' ≡ w → n ≤ length (lines ++ line' ∷ []) → IsComplete p w c n (given ++ taken) (lines ++ line' ∷ []) 0
     working_over whole all =
         let r = decoded_end p w c n some (given ++ taken) (record { lines = lines ++ line' ∷ []; line = []; earlier = later }) []

@@ -26,6 +26,7 @@ use Rattle.jls_interval.proofs.WrittenRuns.{interruption_then}
 
 -- One list of events after another ----------------------------------------------------
 
+-- the bits of some events with more are those of the events, and then those of the others after them
 pub bits_append : (p : CodingParameters) (earlier xs ys : List Event)
     → bits_of_events p earlier (xs ++ ys) ≡ bits_of_events p earlier xs ++ bits_of_events p (earlier ++ xs) ys
 unfolding bits_of_events
@@ -45,12 +46,14 @@ unfolding bits_of_events
 bits_one p earlier e = append-nil (event_bits p earlier e)
 
 module _ (p : CodingParameters) where
+  -- writing no event changes nothing
   pub writes_none : (old : Written) → Writes p old old []
   writes_none old = record {
     is_after = λ earlier h. subst (IsAfter p old.cells old.run_indices) (sym (append-nil earlier)) h;
     bits_are = λ earlier h. sym (append-nil old.written) ∙ ap (λ z. old.written ++ z) (sym (bits_none p earlier));
   }
 
+  -- writing some events, and then others, is writing all of them
   pub writes_then : (a b c : Written) (xs ys : List Event) → Writes p a b xs → Writes p b c ys → Writes p a c (xs ++ ys)
   writes_then a b c xs ys f g = record {
     is_after = λ earlier h. subst (IsAfter p c.cells c.run_indices) (append_assoc earlier xs ys)
@@ -108,6 +111,7 @@ module _ (old new : Variables) (near : Neighbours) (cell : ℕ) (negative : Bool
       golomb_same k (regular_k used) g (limit scan) q (qbpp scan) m (regular_mapped used (regular_error scan used near sample)) a b c
       (d ∙ ap (regular_mapped used) e)
 
+  -- writing a regular sample, and updating its cell alone, is writing this one event
   pub regular_writes : (error : ℤ) → error ≡ regular_error scan used near sample → new.parameters ≡ scan
       → cell_at new cell ≡ updated old.parameters.reset used error
       → ((other : ℕ) → (other ≡ cell → ⊥) → cell_at new other ≡ cell_at old other)
@@ -130,6 +134,7 @@ event_to_end : (p : CodingParameters) (earlier : List Event) (component count : 
 unfolding event_bits
 event_to_end p earlier component count = refl
 
+-- writing a run to the end of its line is writing this one event
 pub to_end_writes : (p : CodingParameters) (cells : Variables) (run_indices : List ℕ) (component index count : ℕ) (before after : List Bool)
     → component < length run_indices → after ≡ before ++ run_to_end_bits (blocks (get_or run_indices component 0) count)
     → index ≡ (blocks (get_or run_indices component 0) count).run_index
@@ -144,6 +149,7 @@ to_end_writes p cells run_indices component index count before after within a b 
 
 -- An interrupted run -------------------------------------------------------------------
 
+-- the bits of an interrupted run are those of its columns, and then those of its last sample
 event_interrupted : (p : CodingParameters) (earlier : List Event) (component count : ℕ) (near : Neighbours) (sample : ℕ)
     → event_bits p earlier (interrupted_run component count near sample)
     ≡ interrupted_run_bits (blocks (run_index_before earlier component) count)

@@ -28,6 +28,7 @@ module _ (p : CodingParameters) (component : ℕ) (up : Above) (line : List ℕ)
   pub columns_none : (x : ℕ) (old : Written) → WritesColumns p component up line x x old old
   columns_none x old = record { first = []; writes = writes_none p old; parted = refl }
 
+  -- writing columns up to one, and then from it on, is writing all of them
   pub columns_then : (x y z : ℕ) (old middle new : Written) → WritesColumns p component up line x y old middle
       → WritesColumns p component up line y z middle new → WritesColumns p component up line x z old new
   columns_then x y z old middle new a b = record {
@@ -50,6 +51,7 @@ module _ (p : CodingParameters) (component : ℕ) (up : Above) (line : List ℕ)
             ∙ ap (λ z. s.event ∷ events_from (stretch width component up line) width width z) (sym e);
       }
 
+  -- writing all columns is writing the events of the line
   pub columns_end : (x : ℕ) (old new : Written) → width ≤ x → WritesColumns p component up line 0 x old new
       → Writes p old new (line_events width component up line)
   columns_end x old new l b =
@@ -86,6 +88,7 @@ module _ (w : ℕ) (up : Above) (line : List ℕ) where
 
 -- The lines of an interval -----------------------------------------------------------------
 
+-- the events of some lines with one more are those of the lines, and then those of that line
 pub events_line : (w c : ℕ) (before xs : List (List ℕ)) (line : List ℕ)
     → events_after w c before (xs ++ line ∷ []) ≡ events_after w c before xs
     ++ line_events w (length (before ++ xs) % c) (above c (before ++ xs)) line
@@ -100,6 +103,7 @@ events_line w c before (x ∷ xs) line =
     (append_assoc before (x ∷ []) xs)
 
 module _ (w c : ℕ) (lines : List (List ℕ)) (j : ℕ) (within : j < length lines) where
+  -- the events of one line more are those of the lines before, and then its own
   events_taken : events w c (take (j + 1) lines) ≡ events w c (take j lines)
       ++ line_events w (j % c) (above c (take j lines)) (get_or lines j [])
   events_taken =
@@ -116,6 +120,7 @@ unfolding code
 code_is p w c lines = refl
 
 module _ (p : CodingParameters) where
+  -- before the first line nothing is written, and each cell and RUNindex is as at the start
   pub written_start : (w c : ℕ) (lines : List (List ℕ)) (cells : Variables) (run_indices : List ℕ) (written : List Bool)
       → cells ≡ initial_variables p → ((component : ℕ) → get_or run_indices component 0 ≡ 0) → written ≡ []
       → AreWritten p w c lines 0 (record { cells = cells; run_indices = run_indices; written = written })
@@ -152,6 +157,7 @@ pub none_back : (lines : List (List ℕ)) (j back : ℕ) → j ≤ length lines 
 none_back lines j back l h = let n = length-take-le j lines l in
     let t : ltb (length (take j lines)) back ≡ true = lt-ltb _ _ (omega arith) in rw t refl
 
+-- a line so many places back is there, if that many are
 pub some_back : (lines : List (List ℕ)) (j back : ℕ) → j ≤ length lines → 0 < back → back ≤ j
     → line_back (take j lines) back ≡ get_or lines (j - back) []
 some_back lines j back l some h =

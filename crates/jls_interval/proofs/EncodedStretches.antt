@@ -19,6 +19,7 @@ module _ (line : List ℕ) (x value count : ℕ) (within : x < length line) (is 
   stop_within =
       let a = prefix_len-le-length (λ s. eqb s value) (drop x line) in let b = length-drop x line in omega arith
 
+  -- the sample at which a counted run stops, if the line goes on, differs from the run's value
   pub stop_differs : (x + count ≡ length line → ⊥) → get_or line (x + count) 0 ≡ value → ⊥
   stop_differs short e =
       let n = prefix_len (λ s. eqb s value) (drop x line) in let w = stop_within in let b = length-drop x line in

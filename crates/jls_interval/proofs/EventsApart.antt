@@ -42,6 +42,7 @@ has_from k g q m h j =
           rw e (and_from (leb 1 m) (leb m (2 ^ q)) (le-leb _ _ (omega arith)) (le-leb _ _ j)))
     ]
 
+-- the limit after J bits has room for an escape
 pub limit_room : (p : CodingParameters) (j : ℕ) → j ≤ 15 → qbpp p + 2 ≤ limit p - j - 1
 limit_room p j h = generic (qbpp p)
   where
@@ -128,6 +129,7 @@ run_value w up line (suc c) =
     ap (λ z. (neighbours w up (line ++ replicate (suc c) v) z).ra) step ∙ get_or-append-add line (replicate (suc c) v) c 0
     ∙ get_or-replicate (suc c) c v 0 (omega arith)
 
+-- a sample that is predicted right has the error 0
 pub same_is : (p : CodingParameters) (x : ℕ) → prediction_error p false x x ≡ pos 0
 same_is p x =
     let z : pos x -ℤ pos x ≡ pos 0 = omega (arith, ints) in
@@ -220,12 +222,14 @@ module _ (p : CodingParameters) (wide : range p ≤ 2 ^ qbpp p) (w k : ℕ) (up 
   unfolding event_bits
   regular_case s s' t u a b e = regular_same p (cell_before p earlier (context p now)) now s s' t u wide a b e
 
+  -- an interrupted run and a run to the end do not begin the same bits
   apart_case : (c n' : ℕ) (n : Neighbours) (s : ℕ) (t u : List Bool) → c < n'
       → event_bits p earlier (interrupted_run k c n s) ++ t ≡ event_bits p earlier (run_to_end k n') ++ u → ⊥
   unfolding event_bits
   apart_case c n' n s t u h e = run_apart c (run_index_before earlier k) c n' _ u (run_index_before_small earlier k) (omega arith) h
       (sym (broken_is c n s t) ∙ e)
 
+  -- two interrupted runs whose bits begin alike have as many columns, and are interrupted by the same sample
   broken_case : (c c' : ℕ) (n n' : Neighbours) (s s' : ℕ) (t u : List Bool) → Possible (interrupted_run k c n s)
       → Possible (interrupted_run k c' n' s')
       → event_bits p earlier (interrupted_run k c n s) ++ t ≡ event_bits p earlier (interrupted_run k c' n' s') ++ u → (c ≡ c') × (s ≡ s')
@@ -282,6 +286,7 @@ module _ (p : CodingParameters) (wide : range p ≤ 2 ^ qbpp p) (w k : ℕ) (up 
       interrupted_event k' k'' c c' n n' s s' (h.1 ∙ sym j.1) b.0
       (h.3 ∙ ap (λ z. neighbours w up (line ++ replicate z now.ra) (length line + z)) b.0 ∙ sym j.3) b.1
 
+-- no event's bits begin another's, after the same earlier events
 pub events_apart : (p : CodingParameters) (width components count : ℕ) → AreCodingParameters p
     → IsPrefixFree (interval_steps p width components count)
 events_apart p width components count ok s e f t u sound a b eq =

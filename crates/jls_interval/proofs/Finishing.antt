@@ -63,6 +63,7 @@ module _ (p : CodingParameters) (w c n : ℕ) (bytes : List ℕ) where
     not_long = λ l. none l.lines l.unread l.begins.are_lines l.begins.data_bits.read;
   }
 
+  -- bytes whose data bits begin with the code of no lines are broken
   pub no_code_breaks : BeginsNoCode p w c n (bits_read bytes) → IsBroken (interval_shape p w c n) bytes
   no_code_breaks d = broken_bits (subst (NoLines p w c n) (append-nil (bits_read bytes)) (d []))
 
@@ -98,6 +99,7 @@ module _ (p : CodingParameters) (w c n : ℕ) (bytes : List ℕ) where
 
 -- a reader in the middle of its lines, and one that found no code: the bytes are broken
 module _ (p : CodingParameters) (d : IntervalReader) (bytes : List ℕ) (reading : IsReading p (bits_read bytes) d) where
+  -- where lines are still to come, the bytes are broken
   pub working_breaks : d.state ≡ Working → IsBroken (interval_shape p d.reader.width d.components d.count) bytes
   working_breaks is =
       broken_bits p d.reader.width d.components d.count bytes
@@ -109,6 +111,7 @@ module _ (p : CodingParameters) (d : IntervalReader) (bytes : List ℕ) (reading
   stopped_breaks is =
       no_code_breaks p d.reader.width d.components d.count bytes (state_of p d (bits_read bytes) reading NoCode is)
 
+-- what an outcome says of bytes says which lines they read as
 pub read_of : (p : CodingParameters) (w c n : ℕ) → AreCodingParameters p → 0 < w
     → (result : Result (List (List ℕ)) PieceFault) (Q : Type 0) (o : Option (List ℕ))
     → MatchOption o Q (λ bytes. OutcomeIs (interval_shape p w c n) bytes result)
@@ -136,6 +139,7 @@ lengths_more bytes more d h = record {
 }
 
 module _ (p : CodingParameters) (bytes : List ℕ) (d : IntervalReader) where
+  -- before the bits of a chunk are taken, the lengths that a reader holds are bounded by the bytes
   pub before_lengths : (chunk : List Bool) → IsReadingBefore p bytes chunk d → HasLengths bytes d
   before_lengths chunk h = record {
     lines_paid = (let a = h.reading.lines_paid in let e = ap length h.bits_are in let s = length-append h.given chunk in
@@ -145,6 +149,7 @@ module _ (p : CodingParameters) (bytes : List ℕ) (d : IntervalReader) where
     line_at_most = h.reading.line_at_most;
   }
 
+  -- a reader that took all bits has none of a chunk before it
   pub before_start : (chunk : List Bool) → chunk ≡ [] → IsReading p (bits_read bytes) d → IsReadingBefore p bytes chunk d
   before_start chunk e h = record {
     given = bits_read bytes;
@@ -183,6 +188,7 @@ pub before_back : (p : CodingParameters) (bytes : List ℕ) (d d' : IntervalRead
 before_back p bytes d d' chunk h b = let g = b p (bits_read bytes) h in
     record { given = g.before; bits_are = g.given_is; reading = g.reading }
 
+-- the bounds on lengths stay where lines and the line in work stay
 pub lengths_same : (bytes : List ℕ) (d d' : IntervalReader) → KeepsShape d d' → (d'.lines ≡ d.lines) × (d'.reader.line ≡ d.reader.line)
     → HasLengths bytes d
     → HasLengths bytes d'

@@ -43,6 +43,7 @@ index_before_more earlier e k = fold_passing run_index_after (is_run_of k) 0 ear
 
 -- The cells of run interruption -----------------------------------------------------
 
+-- a run cell after one event more is updated if the event uses it
 pub run_cell_more : (p : CodingParameters) (earlier : List Event) (e : Event) (same : Bool)
     → run_cell_before p (earlier ++ e ∷ []) same
     ≡ cond (uses_run_cell same e) (run_cell_after p same (run_cell_before p earlier same) e) (run_cell_before p earlier same)
@@ -60,6 +61,7 @@ run_cell_learned p earlier k c near s same cell h x e =
 
 -- RUNindex ------------------------------------------------------------------------
 
+-- RUNindex after a run to the end is that of its full blocks
 pub index_end : (earlier : List Event) (k count r : ℕ) → r ≡ run_index_before earlier k → (x : ℕ) → x ≡ (blocks r count).run_index
     → x ≡ run_index_before (earlier ++ run_to_end k count ∷ []) k
 index_end earlier k count r h x e =
@@ -68,6 +70,7 @@ index_end earlier k count r h x e =
     ∙ sym (index_before_more earlier (run_to_end k count) k
     ∙ ap (λ z. cond z (run_index_after (run_index_before earlier k) (run_to_end k count)) (run_index_before earlier k)) t)
 
+-- RUNindex after an interrupted run is that of its full blocks, lowered
 pub index_interrupted : (earlier : List Event) (k count : ℕ) (near : Neighbours) (s r : ℕ) → r ≡ run_index_before earlier k → (x : ℕ)
     → x ≡ run_index_lowered (blocks r count).run_index → x ≡ run_index_before (earlier ++ interrupted_run k count near s ∷ []) k
 index_interrupted earlier k count near s r h x e =

@@ -14,7 +14,7 @@ use Rattle.jls_interval.proofs.HeadLines.{code_parts}
 abbrev pub EndBefore : CodingParameters → ℕ → ℕ → List (List ℕ) → ℕ → List BitPlace → Type 0
 EndBefore p w c lines j ends = (t : ℕ) → t < j → EndsAt (code p w c (take (t + 1) lines)) (get_or ends t nowhere)
 
--- and where one line more ends
+-- where the first j lines and one more end
 pub one_more : (p : CodingParameters) (w c : ℕ) (lines : List (List ℕ)) (j : ℕ) (ends : List BitPlace) (end : BitPlace) (more : List BitPlace)
     → length ends ≡ j → more ≡ ends ++ end ∷ [] → EndsAt (code p w c (take (j + 1) lines)) end → EndBefore p w c lines j ends
     → EndBefore p w c lines (j + 1) more
@@ -31,6 +31,7 @@ one_more p w c lines j ends end more n is own before t l =
           (subst (λ z. EndsAt (code p w c (take (z + 1) lines)) end) (sym same) own))
     ]
 
+-- pieces begin with the front of their first lines
 pub fronts_begin : FrontsBeginBytes → FrontsBeginPieces
 fronts_begin law i piece first others unread front b h =
     let parts = code_parts i.params i.width i.components first others in

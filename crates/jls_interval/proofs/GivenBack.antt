@@ -49,6 +49,7 @@ module _ (p : CodingParameters) (w c n : ℕ) (some : 0 < w) where
       let sum = length-append (event_bits p s.earlier e) (bits_of_steps m (moved w c s e) es) in omega arith
 
 module _ (p : CodingParameters) (given : List Bool) (d : IntervalReader) (h : IsReading p given d) (is : d.state ≡ Working) where
+  -- the first bits of a sample are an open code
   pub sample_open : (code : CodeState) → d.reader.open_event ≡ Sample code → (k : ℕ) × IsOpen k (limit p) (qbpp p) code
   sample_open code open_event =
       let x = working p d given h is in let L = d.lines in

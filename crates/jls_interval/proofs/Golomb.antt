@@ -27,12 +27,14 @@ long_same q m m' a b c d e =
     let f : (m - 1) % 2 ^ q ≡ m - 1 = mod-eq_of_lt (omega arith) in
     let f' : (m' - 1) % 2 ^ q ≡ m' - 1 = mod-eq_of_lt (omega arith) in omega arith
 
+-- a number with an escape is from 1 to 2^qbpp
 long_range : (k g qbpp m : ℕ) → has_golomb k g qbpp m ≡ true → ltb (m / 2 ^ k) (g - qbpp - 1) ≡ false → (1 ≤ m) × (m ≤ 2 ^ qbpp)
 long_range k g qbpp m h l =
     let both : (leb 1 m && leb m (2 ^ qbpp)) ≡ true = rw l at h in
     let parts = and_parts (leb 1 m) (leb m (2 ^ qbpp)) both in
     (leb-true 1 m parts.0, leb-true m (2 ^ qbpp) parts.1)
 
+-- two numbers whose Golomb codes begin the same bits are one, and the rest of the bits is the same
 pub golomb_same : (k g qbpp m m' : ℕ) (s t : List Bool) → has_golomb k g qbpp m ≡ true → has_golomb k g qbpp m' ≡ true
     → golomb k g qbpp m ++ s ≡ golomb k g qbpp m' ++ t → (m ≡ m') × (s ≡ t)
 golomb_same k g qbpp m m' s t h h' e =

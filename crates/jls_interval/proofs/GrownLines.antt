@@ -14,6 +14,7 @@ use Rattle.jls_interval.specs.Growth.{Fits, added, Position, here, IsNext, grown
 use Rattle.jls_interval.proofs.Stretches.{past, more, fits_stretch}
 
 module _ (w k : ℕ) (up : Above) where
+  -- a stretch goes past the column at which it begins
   pub stretch_moves : (line : List ℕ) (x : ℕ) → x < w → x < (stretch w k up line x).next
   stretch_moves line x h =
       let v = (neighbours w up line x).ra in
@@ -23,6 +24,7 @@ module _ (w k : ℕ) (up : Above) where
             rw r (omega arith)
       ]
 
+  -- the events from a column on are the same, whatever bound there is, if it is large enough
   pub fuel_same : (f g : ℕ) (line : List ℕ) (x : ℕ) → w ≤ x + f → w ≤ x + g → events_from (stretch w k up line) w f x
       ≡ events_from (stretch w k up line) w g x
   fuel_same zero g line x h j = past w k up zero line x (omega arith) ∙ sym (past w k up g line x (omega arith))
@@ -41,6 +43,7 @@ pub all_append : (P : ℕ → Type 0) (xs ys : List ℕ) → AllByRecursion P xs
 all_append P [] ys h j = j
 all_append P (x ∷ xs) ys h j = (h.0, all_append P xs ys h.1 j)
 
+-- what holds of a value holds of a list of it alone
 all_replicate : (P : ℕ → Type 0) (n v : ℕ) → P v → AllByRecursion P (replicate n v)
 all_replicate P zero v h = tt
 all_replicate P (suc n) v h = (h, all_replicate P n v h)
@@ -49,6 +52,7 @@ abbrev pub Small : CodingParameters → List ℕ → Type 0
 Small p line = AllByRecursion (λ s. s ≤ p.maxval) line
 
 module _ (p : CodingParameters) (w k : ℕ) (up : Above) where
+  -- an event that fits makes the line longer, and at most as long as the width
   pub added_fits : (line : List ℕ) (e : Event) → length line < w → Fits p w k up line (neighbours w up line (length line)) e
       → (length line < length (line ++ added (neighbours w up line (length line)).ra e))
       × (length (line ++ added (neighbours w up line (length line)).ra e) ≤ w)
@@ -62,6 +66,7 @@ module _ (p : CodingParameters) (w k : ℕ) (up : Above) where
       let g = length-append (replicate count v) (sample ∷ []) in
       (omega (arith, a, b, g), omega (arith, a, b, g))
 
+  -- the samples that an event adds are at most MAXVAL
   pub added_small : (line : List ℕ) (e : Event) → (neighbours w up line (length line)).ra ≤ p.maxval
       → Fits p w k up line (neighbours w up line (length line)) e
       → Small p (added (neighbours w up line (length line)).ra e)
@@ -225,6 +230,7 @@ module _ (p : CodingParameters) (w c n : ℕ) (some : 0 < w) where
             ∙ ap (λ z. z ++ events_after w c (s.lines ++ line' ∷ []) []) (sym (events_from_last p w k up s.line e b h fits));
       }
 
+  -- events that lead from a place to an end are the events of the lines from there on
   pub ends : (es : List Event) (s z : Position) → length s.lines < n → length s.line < w → Leads m s es z → IsEnd m z
       → Ends s.lines s.line es z
   ends [] s z a b l end = let e = some_fits p w (length s.lines % c) (above c s.lines) s.line b in

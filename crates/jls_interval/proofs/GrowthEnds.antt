@@ -33,6 +33,7 @@ module _ (p : CodingParameters) (w c n : ℕ) (some : 0 < w) where
       let given = bits_of_steps (interval_steps p w c n) start es ++ left in
       decoded_along es given left start z (record { leads = refl; bits_are = refl; samples = (tt, tt); unfinished = some }) l
 
+  -- events that lead from a place are added to the earlier ones
   earlier_is : (es : List Event) (s z : Position) → Leads (interval_steps p w c n) s es z → z.earlier ≡ s.earlier ++ es
   earlier_is [] s z l = ap (λ (v : Position). v.earlier) (sym l) ∙ sym (append-nil s.earlier)
   earlier_is (e ∷ es) s z l =

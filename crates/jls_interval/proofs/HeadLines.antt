@@ -54,6 +54,7 @@ code_parts p w c xs ys =
 
 -- Steps one after another -------------------------------------------------------------------------
 
+-- steps that lead on lead over each place between
 leads_apart : (m : StepwiseCode) (a b : List m.Event) (s z : m.State) → Leads m s (a ++ b) z
     → (y : m.State) × (Leads m s a y × Leads m y b z)
 leads_apart m [] b s z l = (s, (refl, l))
@@ -68,6 +69,7 @@ one_place : (m : StepwiseCode) (a : List m.Event) (s y z : m.State) → Leads m 
 one_place m [] s y z l k = sym l ∙ k
 one_place m (e ∷ a) s y z l k = one_place m a (m.after s e) y z l.1 k.1
 
+-- the bits of steps in two parts
 bits_join : (m : StepwiseCode) (a b : List m.Event) (s y : m.State) → Leads m s a y
     → bits_of_steps m s (a ++ b) ≡ bits_of_steps m s a ++ bits_of_steps m y b
 bits_join m [] b s y l = ap (λ v. bits_of_steps m v b) l
@@ -75,6 +77,7 @@ bits_join m (e ∷ a) b s y l =
     ap (λ v. m.step_bits s e ++ v) (bits_join m a b (m.after s e) y l.1)
     ∙ sym (append_assoc (m.step_bits s e) (bits_of_steps m (m.after s e) a) (bits_of_steps m y b))
 
+-- a list with an item is not empty
 nothing_is : (xs : List Bool) (y : Bool) (ys : List Bool) → xs ++ y ∷ ys ≡ [] → ⊥
 nothing_is [] y ys h = cc
 nothing_is (x ∷ xs) y ys h = cc
@@ -300,6 +303,7 @@ module _ (p : CodingParameters) (w c : ℕ) (some : 0 < w) where
 
 -- One head ------------------------------------------------------------------------------------------
 
+-- a list is its first n items, and the others
 take_drop : (n : ℕ) (xs : List (List ℕ)) → n ≤ length xs
     → (prefix : List (List ℕ)) × (back : List (List ℕ)) × (xs ≡ prefix ++ back) × (length prefix ≡ n)
 take_drop zero xs h = ([], xs, refl, refl)
@@ -324,6 +328,7 @@ module _ (p : CodingParameters) (w c n : ℕ) (ok : AreCodingParameters p) (some
       (prefix_lines p w n b.lines xs f.others b.are_lines f.lines_are) wide bits_are in
       record { others = t.1; lines_are = t.2 ∙ ap (λ v. v ++ t.1) (sym same.0); unread = f.unread; given_is = f.given_is }
 
+  -- two heads of the same bits are one
   pub one_head : (xs ys : List (List ℕ)) → IsHead (interval_shape p w c n) given xs → IsHead (interval_shape p w c n) given ys → xs ≡ ys
   one_head xs ys (inl (a, f)) (inl (b, g)) =
       let l = f.longest ys (first_of_others a b ys g.begins) in let k = g.longest xs (first_of_others b a xs f.begins) in

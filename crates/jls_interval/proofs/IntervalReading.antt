@@ -33,6 +33,7 @@ taking_none old chunk = λ p given h.
     record { taken = []; chunk_is = refl; reading = subst (λ z. IsReading p z old) (sym (append-nil given)) h }
 
 module _ (old now next : IntervalReader) (chunk unread : List Bool) (t : TakesFirst old chunk now unread) where
+  -- taking the first bits of a chunk, and then the first of the rest, is taking the first of all
   pub taking_then : (unread' : List Bool) → TakesFirst now unread next unread' → TakesFirst old chunk next unread'
   taking_then unread' s = λ p given h.
       let a = t p given h in let b = s p (given ++ a.taken) a.reading in
@@ -46,6 +47,7 @@ module _ (old now next : IntervalReader) (chunk unread : List Bool) (t : TakesFi
   taking_more unread' s =
       taking_then unread' (λ p given h. (let b = s p given h in record { taken = b.taken; chunk_is = b.chunk_is; reading = b.reading }))
 
+  -- taking the first bits of a chunk, and then all of the rest, is taking all of it
   pub taking_all : (none : List Bool) → none ≡ [] → TakesAllBits now next unread → TakesFirst old chunk next none
   taking_all none e s = λ p given h.
       let a = t p given h in
@@ -56,6 +58,7 @@ module _ (old now next : IntervalReader) (chunk unread : List Bool) (t : TakesFi
             (s p (given ++ a.taken) a.reading);
       }
 
+  -- taking a whole event takes a bit
   pub taking_shorter : (unread' : List Bool) → TakesEvent now next unread unread' true → (p : CodingParameters) (given : List Bool)
       → IsReading p given old → length unread' < length unread
   taking_shorter unread' s p given h =
@@ -75,11 +78,12 @@ taking_fewer old new chunk unread t p given h =
 pub wide_same : (w w' : ℕ) (lines : List (List ℕ)) → w' ≡ w → HaveWidth w lines → HaveWidth w' lines
 wide_same w w' lines e h = subst (λ z. HaveWidth z lines) (sym e) h
 
--- and so do they with a line after them that has it
+-- lines of a width have it with a line after them that has it too
 pub wide_more : (w : ℕ) (lines : List (List ℕ)) (line : List ℕ) → HaveWidth w lines → length line ≡ w → HaveWidth w (lines ++ line ∷ [])
 wide_more w [] line h e = (e, tt)
 wide_more w (x ∷ xs) line h e = (h.0, wide_more w xs line h.1 e)
 
+-- a line with one event more is at most as long as the width
 pub line_fits : (p : CodingParameters) (w k : ℕ) (up : Above) (line line' : List ℕ) (cells' : Variables) (run_indices' : List ℕ)
     (fed : List Bool) (earlier : List Event)
     → EventDone p w k up line line' cells' run_indices' fed earlier → length line < w → length line' ≤ w
@@ -87,6 +91,7 @@ line_fits p w k up line line' cells' run_indices' fed earlier m short =
     let f = added_fits p w k up line m.event short m.fits in let e = ap length m.line_is in omega (arith, f, e)
 
 module _ (p : CodingParameters) (n count : ℕ) (lines : List (List ℕ)) (s : State) where
+  -- what a reader's state says stays where lines, bits and variables are the same
   pub state_same : (w w' : ℕ) (given given' : List Bool) (line line' : List ℕ) (cells cells' : Variables) (ri ri' : List ℕ)
       (open_event : OpenEvent)
       → w' ≡ w → given' ≡ given → line' ≡ line → cells' ≡ cells → ri' ≡ ri

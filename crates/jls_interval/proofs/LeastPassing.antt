@@ -25,6 +25,7 @@ least_passes passes (suc fuel) from h =
           (subst (λ z. passes z ≡ true) (let e : from + suc fuel ≡ suc from + fuel = omega arith in e) h))
     ]
 
+-- the number that a search finds lies in its range, or at its end
 pub least_low : (passes : ℕ → Bool) (fuel from : ℕ) → least_from passes fuel from ≤ from + fuel
 unfolding least_from
 least_low passes zero from = omega arith

@@ -53,6 +53,7 @@ module _ (p : CodingParameters) (near : Neighbours) (value : ℕ) (now next : Li
     (s : SampleTaken p near value now.coder next.coder chunk unread)
     (not_begun : now.open_event ≡ NotBegun) (not_begun' : next.open_event ≡ NotBegun) (wide : next.width ≡ now.width)
     (grown : next.line.items ≡ now.line.items ++ value ∷ []) (params : now.coder.cells.parameters ≡ p) where
+  -- a sample that is taken is an event more of the line: what the reader holds stays true of the bits so far
   sample_more : (c n : ℕ) (given : List Bool) (lines : List (List ℕ)) → near ≡ now_at now.width (above c lines) now.line.items
       → length now.line.items + 1 < now.width
       → Works p c n given lines now → TakenBy p c n given lines next chunk unread
@@ -81,6 +82,7 @@ module _ (p : CodingParameters) (near : Neighbours) (value : ℕ) (now next : Li
       }
 
 module _ (k : ℕ) (up : Above) (old now next : LineReader) (chunk unread unread' : List Bool) (near : Neighbours) (value : ℕ) where
+  -- samples that were taken in a line, and one more, are samples taken in that line
   pub taken_more : SampleTaken now.coder.cells.parameters near value now.coder next.coder unread unread' → now.open_event ≡ NotBegun
       → next.open_event ≡ NotBegun
       → next.width ≡ now.width → next.line.items ≡ now.line.items ++ value ∷ [] → now.coder.cells.parameters ≡ old.coder.cells.parameters
@@ -103,6 +105,7 @@ pub taken_none : (k : ℕ) (up : Above) (old : LineReader) (chunk : List Bool) �
 taken_none k up old chunk = λ c n given lines k_is up_is h.
     record { taken = []; chunk_is = refl; works = subst (λ z. Works old.coder.cells.parameters c n z lines old) (sym (append-nil given)) h }
 
+-- samples that are taken in a line, with equal variables
 pub taken_same : (k : ℕ) (up : Above) (old now : LineReader) (chunk unread unread' : List Bool) (coder' : Coder) → coder' ≡ now.coder
     → unread' ≡ unread → TakesInLine k up old now chunk unread → TakesInLine k up old (record now { coder = coder' }) chunk unread'
 taken_same k up old now chunk unread unread' coder' a b t =

@@ -25,6 +25,7 @@ record Split (v : ℕ) (xs : List ℕ) : Type 0 where
   is : xs ≡ replicate n v ++ rest
   stops : Stops v rest
 
+-- each list is as many of one value as it begins with, and a rest that does not begin with it
 split : (v : ℕ) (xs : List ℕ) → Split v xs
 split v [] = record { n = 0; rest = []; is = refl; stops = tt }
 split v (x ∷ xs) =
@@ -33,6 +34,7 @@ split v (x ∷ xs) =
       | inr ne ↦ record { n = 0; rest = x ∷ xs; is = refl; stops = ne }
     ]
 
+-- what holds of each item of two lists in turn holds of each of the second
 pub all_of_append : (P : ℕ → Type 0) (xs ys : List ℕ) → AllByRecursion P (xs ++ ys) → AllByRecursion P ys
 all_of_append P [] ys h = h
 all_of_append P (x ∷ xs) ys h = all_of_append P xs ys h.1
@@ -45,6 +47,7 @@ module _ (p : CodingParameters) (w k : ℕ) (up : Above) where
     pub rest : List ℕ
     pub is : whole ≡ (line ++ added (neighbours w up line (length line)).ra event) ++ rest
 
+  -- in run mode the columns left begin with a run, to the end of the line or interrupted
   run_first : (line left : List ℕ) → length line < w → length line + length left ≡ w → Small p left
       → is_run_mode (neighbours w up line (length line)) ≡ true → Split (neighbours w up line (length line)).ra left
       → First line (line ++ left)
@@ -84,6 +87,7 @@ module _ (p : CodingParameters) (w k : ℕ) (up : Above) where
           shape : (a b : List ℕ) (x : ℕ) (c : List ℕ) → (a ++ (b ++ x ∷ [])) ++ c ≡ (a ++ b) ++ x ∷ c
           shape a b x c = append_assoc a (b ++ x ∷ []) c ∙ regroup a b x c
 
+  -- the columns left of a line begin with an event that can come there
   pub first : (line left : List ℕ) → length line < w → length line + length left ≡ w → Small p left → First line (line ++ left)
   first line [] l h small = absurd (omega arith)
   first line (x ∷ xs) l h small =
@@ -121,6 +125,7 @@ module _ (p : CodingParameters) (w c n : ℕ) (some : 0 < w) where
       → Leads (interval_steps p w c n) s (e ∷ es) y
   leads_cons s y e es a b = (a, b)
 
+  -- the events of the columns left lead to the end of the line; `fuel` bounds how many columns these are
   leads_line : (fuel : ℕ) (lines : List (List ℕ)) (line left whole : List ℕ) (earlier : List Event) → whole ≡ line ++ left
       → length whole ≡ w → length line < w → Small p left
       → w ≤ length line + fuel → length lines < n → Goal lines line whole earlier
@@ -171,6 +176,7 @@ module _ (p : CodingParameters) (w c n : ℕ) (some : 0 < w) where
           (sym t) (subst (λ z. Leads (interval_steps p w c n) (at_line lines line earlier) (e ∷ es) (at_line (lines ++ whole ∷ []) [] z))
           (append_assoc earlier (e ∷ []) es) l)
 
+  -- the events of some lines lead from the lines before them to all of these lines
   leads_lines : (ls before : List (List ℕ)) (earlier : List Event) → length before + length ls ≡ n → AllByRecursion (IsLine p w) ls
       → Leads (interval_steps p w c n) (at_line before [] earlier) (events_after w c before ls)
       (at_line (before ++ ls) [] (earlier ++ events_after w c before ls))

@@ -14,12 +14,14 @@ module _ (p : CodingParameters) (w c n : ℕ) (bytes : List ℕ) where
   pub unwhole_reads_no_more : is_whole bytes ≡ false → ReadsNoMore (interval_shape p w c n) bytes
   unwhole_reads_no_more e more lines r = let t = (whole_prefix 0 bytes more r.begins.data_bits.whole).0 in absurd cc
 
+  -- bytes that begin with the code of no lines read as none, whatever follows
   pub no_code_reads_no_more : BeginsNoCode p w c n (bits_read bytes) → ReadsNoMore (interval_shape p w c n) bytes
   no_code_reads_no_more no_code more lines r =
       let t = (whole_prefix 0 bytes more r.begins.data_bits.whole).0 in
       no_code (bits_read_after (last_after 0 bytes) more) lines r.unread r.begins.are_lines
       (sym (data_append 0 bytes more t) ∙ r.begins.data_bits.read)
 
+  -- bytes with more than seven bits after the code of their lines read as no lines, whatever follows
   pub over_reads_no_more : AreCodingParameters p → 0 < w → (whole : List (List ℕ)) (extra : ℕ)
       → IsComplete p w c n (bits_read bytes) whole extra → 7 < extra → ReadsNoMore (interval_shape p w c n) bytes
   over_reads_no_more ok some whole extra over many more lines r =

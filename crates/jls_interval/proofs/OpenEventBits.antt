@@ -89,6 +89,7 @@ module _ (p : CodingParameters) (ok : AreCodingParameters p) (w k : ℕ) (up : A
   w0_is : length line + (w - length line) ≡ w
   w0_is = omega arith
 
+  -- the bits that the machine in hand was fed are no whole event that can come next
   pub open_event_none : (some : (e : Event) → Fits p w k up line (now_at w up line) e → event_bits p earlier e ≡ [] → ⊥)
       (open_event : OpenEvent) (fed : List Bool)
       → OpenEventAt p w up line cells r open_event fed → NoEvent p w k up line fed earlier

@@ -27,6 +27,7 @@ ended : (x : ℕ) (xs : List ℕ) → Ended (x ∷ xs)
 ended x [] = record { prefix = []; last = x; is = refl }
 ended x (y ∷ ys) = let r = ended y ys in record { prefix = x ∷ r.prefix; last = r.last; is = ap (λ z. x ∷ z) r.is }
 
+-- equal lists in two parts, of which the second are as long, have equal parts
 same_prefix : (a b c d : List Bool) → a ++ b ≡ c ++ d → length b ≡ length d → (a ≡ c) × (b ≡ d)
 same_prefix [] b [] d e l = (refl, e)
 same_prefix [] b (y ∷ c) d e l = let n = ap length e in let m = length-append (y ∷ c) d in absurd (omega (arith, n, m))
@@ -75,6 +76,7 @@ module _ (given : List Bool) (bytes : List ℕ) (is_pad : IsPad given bytes) (ma
       ∙ sym (append_assoc given (replicate fewer false) (replicate width false)))
       (length-bits width x ∙ sym (length-replicate width false))).0
 
+  -- the bytes before the last one do not end in FF: their last bit would be a one
   no_ff : (f : List ℕ) → prefix ≡ f ++ 255 ∷ [] → ⊥
   unfolding width_after
   no_ff f e =
@@ -93,6 +95,7 @@ module _ (given : List Bool) (bytes : List ℕ) (is_pad : IsPad given bytes) (ma
       let bad : true ≡ false = last_same (bits_read_after 0 f ++ bits (m - 1) (255 / 2 ^ 1)) (given ++ replicate (fewer - 1) false) true
       false (sym read ∙ read_less ∙ ap (λ z. given ++ z) zs ∙ sym (append_assoc given (replicate (fewer - 1) false) (false ∷ []))) in cc
 
+  -- bytes of which one less carries the same bits are no pad
   pub not_shortest : ⊥
   not_shortest =
       let s = is_pad.shortest prefix
@@ -104,6 +107,7 @@ module _ (given : List Bool) (bytes : List ℕ) (is_pad : IsPad given bytes) (ma
       }) in
       let l = ap length is in let a = length-append prefix (x ∷ []) in absurd (omega (arith, s, l, a))
 
+-- a pad has at most seven zeros behind the bits
 pub pad_zeros : (given : List Bool) (bytes : List ℕ) → (is_pad : IsPad given bytes) → is_pad.carries.zeros ≤ 7
 pad_zeros given [] is_pad =
     let e = ap length is_pad.carries.data_bits.read in let n = ap length (data_end 0) in
@@ -113,6 +117,7 @@ pad_zeros given (x ∷ xs) is_pad =
     elim (cases_lt 7 is_pad.carries.zeros)
     [ inl many ↦ (let r = ended x xs in absurd (not_shortest given (x ∷ xs) is_pad many r.prefix r.last r.is)) | inr few ↦ few ]
 
+-- what lines are written as reads as these lines
 pub packed_reads : (p : CodingParameters) (w c n : ℕ) (lines : List (List ℕ)) → AreLines p w n lines
     → Reads (interval_shape p w c n) (packed p w c lines) lines
 packed_reads p w c n lines are =

@@ -75,7 +75,7 @@ module _ (w c : ℕ) (lines : List (List ℕ)) (j : ℕ) (some : 0 < c) (within 
       (suc (x + count)) next (let a = h.component_is in let b : x + count - x ≡ count = omega arith in
       let f = h.near_is ∙ near (x + count) in let g = h.sample_is ∙ sample (x + count) in cc) (let e = h.next_is in omega arith)
 
-  -- and the stretch stands there
+  -- the stretch at a column stands there
   stretch_stands : (x : ℕ) → x < w → (e : Event) (next : ℕ) → stretch w k up line x ≡ to e next
       → StandsIn w c lines k (j / c) x e next × (next ≤ w)
   stretch_stands x l e next is =
@@ -145,6 +145,7 @@ module _ (w c : ℕ) (lines : List (List ℕ)) (j : ℕ) (some : 0 < c) (within 
       ap (λ z. e ∷ z) (parted_only es h.0 h.3) ∙ ap (λ (z : Stretch). z.event ∷ events_from (stretch w k up line) w w z.next) (sym s)
       ∙ sym (more w k up w line x l) ∙ fuel_same w k up (suc w) w line x (omega arith) (omega arith)
 
+  -- the events from a column on, one stretch after the other, part the rest of the line
   parted_so : (fuel x : ℕ) → x ≤ w → w ≤ x + fuel → IsParted w c lines k (j / c) x (events_from (stretch w k up line) w fuel x)
   parted_so zero x l f = let e : x ≡ w = omega arith in
       subst (λ z. IsParted w c lines k (j / c) x z) (sym (past w k up zero line x (omega arith))) e
@@ -171,6 +172,7 @@ module _ (p : CodingParameters) (w c : ℕ) (lines : List (List ℕ)) (some : 0 
   abbrev from_line : ℕ → List Event
   from_line j = events_after w c (take j lines) (drop j lines)
 
+  -- the events from a line on are those of the line, and then those from the next on
   first_line : (j : ℕ) → j < length lines
       → from_line j ≡ line_events w (j % c) (above c (take j lines)) (get_or lines j []) ++ from_line (j + 1)
   unfolding events_after
@@ -185,6 +187,7 @@ module _ (p : CodingParameters) (w c : ℕ) (lines : List (List ℕ)) (some : 0 
   unfolding events_after
   no_line j l = ap (λ z. events_after w c (take j lines) z) (drop_all j lines l)
 
+  -- events into which the lines from one on are parted are the events that are computed
   only_so : (n j : ℕ) (es : List Event) → j + n ≡ length lines → AreParted w c lines j n es → es ≡ from_line j
   only_so zero j es e h = h ∙ sym (no_line j (omega arith))
   only_so (suc n) j es e h =
@@ -193,6 +196,7 @@ module _ (p : CodingParameters) (w c : ℕ) (lines : List (List ℕ)) (some : 0 
       ∙ ap (λ z. line_events w (j % c) (above c (take j lines)) (get_or lines j []) ++ z) (only_so n (j + 1) h.1 (omega arith) h.4)
       ∙ sym (first_line j l)
 
+  -- the events that are computed part the lines from one on
   parted_as : (n j : ℕ) → j + n ≡ length lines → AreParted w c lines j n (from_line j)
   parted_as zero j e = no_line j (omega arith)
   parted_as (suc n) j e =

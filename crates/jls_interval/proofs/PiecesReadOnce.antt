@@ -16,12 +16,14 @@ module _ (p : CodingParameters) (ok : AreCodingParameters p) (w c n : ℕ) (some
   pub reads_once : (xs ys : List (List ℕ)) → Reads (interval_shape p w c n) piece xs → Reads (interval_shape p w c n) piece ys → xs ≡ ys
   reads_once xs ys a b = (begins_once xs ys a.unread b.unread a.begins b.begins).0
 
+  -- a piece that reads is not too long
   pub read_not_long : (xs : List (List ℕ)) → Reads (interval_shape p w c n) piece xs → IsLong (interval_shape p w c n) piece → ⊥
   read_not_long xs a b =
       let e = ap length (begins_once xs b.lines a.unread b.unread a.begins b.begins).1 in
       let l = a.at_most_seven in let m = b.more_than_seven in absurd (omega arith)
 
 module _ (p : CodingParameters) (w c n : ℕ) (piece : List ℕ) where
+  -- a broken piece begins with the code of no lines
   pub broken_begins_with_none : IsBroken (interval_shape p w c n) piece → (lines : List (List ℕ)) (unread : List Bool)
       → BeginsWithCode (interval_shape p w c n) piece lines unread → ⊥
   broken_begins_with_none h lines unread b =

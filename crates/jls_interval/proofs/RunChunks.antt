@@ -13,6 +13,7 @@ use Rattle.jls_interval.specs.declared.run_reader.RunStep.{RunStep}
 use Rattle.jls_interval.specs.declared.run_reader.RunStep.TheVariants.{More, Done, Refused}
 use Rattle.jls_interval.proofs.RunSteps.{count_taken, counted, counted_long}
 
+-- a step that asks for no more bits can end the taking
 has_taken : (step : RunStep) (unread : List Bool) → ((next : RunState) → step ≡ More next → ⊥) → HasTakenAll step unread
 has_taken (More next) unread n = absurd (n next refl)
 has_taken (Done run) unread n = tt
@@ -25,6 +26,7 @@ module _ (w0 : ℕ) (first : RunState) (chunk : List Bool) where
     pub chunk_is : chunk ≡ taken ++ unread
     pub at : (r0 : ℕ) (fed : List Bool) → RunAt r0 w0 fed first → RunAt r0 w0 (fed ++ taken) state
 
+  -- before a bit of the chunk is taken, the run is as it was at first
   pub taking_none : Taking first chunk
   taking_none = record { taken = []; chunk_is = refl; at = λ r0 fed h. subst (λ z. RunAt r0 w0 z first) (sym (append-nil fed)) h }
 
@@ -50,7 +52,7 @@ module _ (w0 : ℕ) (first : RunState) (chunk : List Bool) where
   taking_all state left left' t e =
       record { taken = t.taken; chunk_is = t.chunk_is ∙ ap (λ z. t.taken ++ z) (e.0 ∙ sym e.1); step_is = t.at; all = e.1 }
 
-  -- and then several more at once
+  -- several more bits of the chunk are taken at once
   pub taking_then : (state : RunState) (left left' : List Bool) (step : RunStep) → Taking state left → RunPushed w0 state left left' step
       → RunPushed w0 first chunk left' step
   taking_then state left left' step t p = record {
@@ -72,6 +74,7 @@ module _ (w0 : ℕ) (state : RunState) (r w have x j n : ℕ) (chunk unread : Li
   whole r0 fed h = count_taken r0 w0 fed r w x j n
       (subst (λ z. Taken r0 w0 fed r w (false ∷ bits z x)) none (subst (RunAt r0 w0 fed) is h))
 
+  -- a count below the columns left, taken at once, ends the run there
   pub count_at_once : n < w → RunPushed w0 state chunk unread (Done (Interrupted (w0 - w + n) r))
   count_at_once less = record {
     taken = bits j n;
@@ -80,6 +83,7 @@ module _ (w0 : ℕ) (state : RunState) (r w have x j n : ℕ) (chunk unread : Li
     all = tt;
   }
 
+  -- a count that is not below the columns left, taken at once, is refused
   pub no_count_at_once : w ≤ n → RunPushed w0 state chunk unread Refused
   no_count_at_once more = record {
     taken = bits j n;

@@ -32,6 +32,7 @@ module _ (p : CodingParameters) (wide : range p ≤ 2 ^ qbpp p) (w k : ℕ) (up 
   abbrev there : ℕ → Neighbours
   there c = neighbours w up (line ++ replicate c now.ra) (length line + c)
 
+  -- the bits of a run to the end are those of its blocks
   to_end_is : (k' c : ℕ) (more : List Bool) → k' ≡ k → c ≡ w0
       → event_bits p earlier (run_to_end k' c) ++ more ≡ run_to_end_bits (blocks r w0) ++ more
   unfolding event_bits
@@ -40,6 +41,7 @@ module _ (p : CodingParameters) (wide : range p ≤ 2 ^ qbpp p) (w k : ℕ) (up 
       ∙ ap (λ z. run_to_end_bits (blocks (run_index_before earlier k) z) ++ more) b
       ∙ ap (λ z. run_to_end_bits (blocks z w0) ++ more) (sym r_is)
 
+  -- the bits of an interrupted run are those of its blocks and its count, and then those of the sample that interrupts it
   interrupted_is : (k' c : ℕ) (n : Neighbours) (s : ℕ) (more : List Bool) → k' ≡ k
       → event_bits p earlier (interrupted_run k' c n s) ++ more
       ≡ interrupted_run_bits (blocks r c)

@@ -52,6 +52,7 @@ module _ (r : ℕ) where
   unfolding block_columns
   columns_more m = let q = pow_pos (run_order (run_index_raised r m)) in omega arith
 
+  -- more full blocks have at least as many columns
   columns_grow : (a b : ℕ) → a ≤ b → block_columns r a ≤ block_columns r b
   columns_grow a zero h = let e : a ≡ zero = omega arith in subst (λ z. block_columns r z ≤ block_columns r zero) (sym e) (omega arith)
   columns_grow a (suc b) h =
@@ -71,7 +72,7 @@ module _ (r : ℕ) where
       ap (λ z. record { full_blocks = z; run_index = run_index_raised r z; remaining = n - block_columns r z }) f
       ∙ ap (λ z. record { full_blocks = full; run_index = run_index_raised r full; remaining = z }) d
 
-  -- and back
+  -- the full blocks of a count of n columns, and the rest
   pub record Parts (n : ℕ) : Type 0 where
     pub full : ℕ
     pub rest : ℕ
@@ -79,6 +80,7 @@ module _ (r : ℕ) where
     pub count_is : n ≡ block_columns r full + rest
     pub is : blocks r n ≡ record { full_blocks = full; run_index = run_index_raised r full; remaining = rest }
 
+  -- each count of columns is some full blocks and a rest
   pub parts_of : (n : ℕ) → Parts n
   unfolding block_columns
   parts_of n =
@@ -120,6 +122,7 @@ module _ (r : ℕ) where
   InCode full rest code begun =
       (code_begun : List Bool) × (begun ≡ interrupted_bits full rest code_begun) × IsProperPrefix code_begun code
 
+  -- a proper prefix of an interrupted run's bits breaks off in its blocks, in its count, or in the code of its last sample
   pub interrupted_cut : (full rest columns : ℕ) (code begun : List Bool) → rest < 2 ^ run_order (run_index_raised r full)
       → block_columns r full + rest < columns
       → IsProperPrefix begun (interrupted_bits full rest code)

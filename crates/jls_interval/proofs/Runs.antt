@@ -20,6 +20,7 @@ columns_more : (r m : ℕ) → block_columns r m < block_columns r (suc m)
 unfolding block_columns
 columns_more r m = let q = pow_pos (run_order (run_index_raised r m)) in omega arith
 
+-- more full blocks have at least as many columns
 columns_grow : (r a b : ℕ) → a ≤ b → block_columns r a ≤ block_columns r b
 columns_grow r a zero h = let e : a ≡ zero = omega arith in subst (λ z. block_columns r z ≤ block_columns r zero) (sym e) (omega arith)
 columns_grow r a (suc b) h =
@@ -121,6 +122,7 @@ blocks_step r n small h =
     (n - block_columns r (suc m)) (n - b - block_columns (risen r) m) refl (omega arith) (omega arith)
     ∙ ap one_more (sym (made_is (risen r) (n - b) m refl))
 
+-- columns below one block have no full block
 pub blocks_none : (r n : ℕ) → r ≤ 31 → n < 2 ^ run_order r → blocks r n ≡ none r n
 unfolding block_columns
 blocks_none r n small h =
@@ -133,6 +135,7 @@ pub run_index_small : (r n : ℕ) → (blocks r n).run_index ≤ 31
 unfolding blocks
 run_index_small r n = omega arith
 
+-- RUNindex before an event is at most 31
 pub run_index_before_small : (earlier : List Event) (k : ℕ) → run_index_before earlier k ≤ 31
 unfolding run_index_before
 run_index_before_small earlier k = kept (filter (is_run_of k) earlier) 0 (omega arith)
@@ -157,7 +160,7 @@ pub broken_step : (r n : ℕ) (s : List Bool) → r ≤ 31 → 2 ^ run_order r �
     → interrupted_run_bits (blocks r n) s ≡ true ∷ interrupted_run_bits (blocks (risen r) (n - 2 ^ run_order r)) s
 broken_step r n s q h = ap (λ b. interrupted_run_bits b s) (blocks_step r n q h)
 
--- the same of a run to the end
+-- a run to the end that ends in a block, and one that goes on after a full block
 pub end_none : (r n : ℕ) (s : List Bool) → r ≤ 31 → n < 2 ^ run_order r → 0 < n → run_to_end_bits (blocks r n) ++ s ≡ true ∷ s
 end_none r n s q h j =
     let t : eqb n 0 ≡ false = ne_eqb n 0 (λ e. omega arith) in

@@ -23,6 +23,7 @@ use Rattle.jls_interval.proofs.EventsApart.{has_from, limit_room, run_map_is, no
 pub wide : (p : CodingParameters) → AreCodingParameters p → range p ≤ 2 ^ qbpp p
 wide p ok = range-le-pow p (maxval_small p ok)
 
+-- the error of a regular sample has a code
 pub regular_has : (p : CodingParameters) → AreCodingParameters p → (cell : Cell) (near : Neighbours) (s : ℕ) → s ≤ p.maxval
     → has_golomb (regular_k cell) (limit p) (qbpp p) (regular_mapped cell (regular_error p cell near s)) ≡ true
 regular_has p ok cell near s l =
@@ -30,12 +31,14 @@ regular_has p ok cell near s l =
     let m = error_mapped_at_most p (uses_special_mapping cell) v (error_range p (is_negative p near) s (regular_prediction p cell near)) in
     has_from (regular_k cell) (limit p) (qbpp p) (error_mapped (uses_special_mapping cell) v) (omega arith) (omega arith)
 
+-- where no Golomb code begins, no sample of regular mode does
 pub regular_none : (p : CodingParameters) → AreCodingParameters p → (cell : Cell) (near : Neighbours) (given : List Bool)
     → ((m : ℕ) (rest : List Bool) → has_golomb (regular_k cell) (limit p) (qbpp p) m ≡ true → given
     ≡ golomb (regular_k cell) (limit p) (qbpp p) m ++ rest → ⊥) → NoSample p cell near given
 regular_none p ok cell near given none =
     λ s rest l e. none (regular_mapped cell (regular_error p cell near s)) rest (regular_has p ok cell near s l) e
 
+-- where a code stands whose number no error is mapped to, no sample of regular mode begins
 pub regular_wrong : (p : CodingParameters) → AreCodingParameters p
     → (cell : Cell) (near : Neighbours) (given : List Bool) (m : ℕ) (t : List Bool)
     → has_golomb (regular_k cell) (limit p) (qbpp p) m ≡ true → given ≡ golomb (regular_k cell) (limit p) (qbpp p) m ++ t
@@ -56,12 +59,14 @@ module _ (p : CodingParameters) (ok : AreCodingParameters p) (cell : RunCell) (n
   abbrev g : ℕ
   g = limit p - j - 1
 
+  -- the error of a sample that interrupts a run has a code
   run_has : (s : ℕ) → s ≤ p.maxval → has_golomb k g (qbpp p) (interruption_mapped (is_same near) cell (interruption_error p near s)) ≡ true
   run_has s l =
       let w = wide p ok in let room = limit_room p j few in let v = interruption_error p near s in
       let m = interruption_mapped_at_most p (is_same near) cell v (error_range p (ltb near.rb near.ra) s near.rb) in
       has_from k g (qbpp p) (interruption_mapped (is_same near) cell v) room (omega arith)
 
+  -- where no Golomb code begins, no sample that interrupts a run does
   pub interruption_none : (given : List Bool)
       → ((m : ℕ) (rest : List Bool) → has_golomb k g (qbpp p) m ≡ true → given ≡ golomb k g (qbpp p) m ++ rest → ⊥)
       → NoInterruption p cell near j given
@@ -102,6 +107,6 @@ module _ (p : CodingParameters) (ok : AreCodingParameters p) (cell : RunCell) (n
       interruption_right s v a b = is ∙ ap (λ z. golomb k g (qbpp p) z ++ t) (sym a)
           ∙ ap (λ z. golomb k g (qbpp p) (interruption_mapped (is_same near) cell z) ++ t) (sym b)
 
--- the same at equal arguments
+-- what holds of three numbers holds of numbers that are equal to them
 pub along : (P : ℕ → ℕ → ℕ → Type 0) (k k' g g' q q' : ℕ) → k ≡ k' → g ≡ g' → q ≡ q' → P k g q → P k' g' q'
 along P k k' g g' q q' a b c h = subst (λ z. P z g' q') a (subst (λ z. P k z q') b (subst (λ z. P k g z) c h))

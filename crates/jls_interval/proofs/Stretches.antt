@@ -19,6 +19,7 @@ to event next = record { event = event; next = next }
 pub stretch_same : (a b : Event) (m n : ℕ) → a ≡ b → m ≡ n → to a m ≡ to b n
 stretch_same a b m n e f = cc
 
+-- three lists, grouped anew
 pub regroup : (a b : List ℕ) (x : ℕ) (c : List ℕ) → a ++ ((b ++ x ∷ []) ++ c) ≡ (a ++ b) ++ x ∷ c
 regroup a b x c = ap (λ z. a ++ z) (append_assoc b (x ∷ []) c) ∙ sym (append_assoc a b (x ∷ c))
 
@@ -31,6 +32,7 @@ module _ (w k : ℕ) (up : Above) where
   past zero line x h = refl
   past (suc f) line x h = let t : ltb x w ≡ false = le-ltb x w h in rw t
 
+  -- the events from a column on are the stretch there, and then those from its end on
   pub more : (f : ℕ) (line : List ℕ) (x : ℕ) → x < w
       → events_from (stretch w k up line) w (suc f) x ≡ (stretch w k up line x).event
       ∷ events_from (stretch w k up line) w f (stretch w k up line x).next

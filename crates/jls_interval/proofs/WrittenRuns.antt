@@ -7,6 +7,7 @@ use Rattle.jls_interval.proofs.Runs.{risen, blocks_step, blocks_none}
 
 -- one full block more
 module _ (r n : ℕ) (within : r ≤ 31) (full : 2 ^ run_order r ≤ n) where
+  -- a one written, and the ones of the columns left, are the ones of all
   pub block_written : (before : List Bool)
       → (before ++ true ∷ []) ++ replicate (blocks (risen r) (n - 2 ^ run_order r)).full_blocks true ≡ before
       ++ replicate (blocks r n).full_blocks true

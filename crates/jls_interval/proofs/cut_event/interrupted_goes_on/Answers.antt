@@ -31,6 +31,7 @@ there c = record {
   rd = c.neighbours-next.result.rd;
 }
 
+-- the neighbours that the code finds are those after the run
 there_is : (c : After-run_order)
     → there c ≡ following c.args.reader.now.width (above_of c.args.place.now) c.args.reader.now.line.items c.args.interruption.count
 there_is c =

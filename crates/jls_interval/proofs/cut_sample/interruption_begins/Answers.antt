@@ -11,6 +11,7 @@ use Rattle.jls_interval.proofs.SamplesRead.{along}
 use Rattle.jls_interval.proofs.CutSamples.{proper}
 use Rattle.jls_interval.proofs.cut_sample.interruption_begins.Goals as goal
 
+-- a sample is there whose code begins so
 pub returns-in-Some-clause-yes : goal.returns-in-Some-clause-yes
 returns-in-Some-clause-yes c = λ _.
     let coder = c.args.coder.now in let p = coder.cells.parameters in let near = c.args.neighbours in

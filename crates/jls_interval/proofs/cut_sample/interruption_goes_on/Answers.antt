@@ -14,6 +14,7 @@ loop-mapped-init c =
     let cell = run_cell_at c.args.coder.now.cells (is_same near) in let g = limit p - c.args.order - 1 in
     tried_none (run_k (is_same near) cell) g (qbpp p) (bits_fed g (qbpp p) c.args.code) (NoInterruption p cell near c.args.order)
 
+-- one number more was tried, and can't be
 pub loop-mapped-preserved : goal.loop-mapped-preserved
 loop-mapped-preserved c =
     let p = c.args.coder.now.cells.parameters in let near = c.args.neighbours in
@@ -21,6 +22,7 @@ loop-mapped-preserved c =
     tried_more (run_k (is_same near) cell) g (qbpp p) (bits_fed g (qbpp p) c.args.code) (NoInterruption p cell near c.args.order)
     c.loop-mapped.mapped c.loop-mapped.invariant (c.interruption_begins.ensures.no c.if-interruption_begins.false)
 
+-- all numbers were tried, and none can be
 pub returns-clause-no : goal.returns-clause-no
 returns-clause-no c = λ _.
     let coder = c.args.coder.now in let p = coder.cells.parameters in let near = c.args.neighbours in

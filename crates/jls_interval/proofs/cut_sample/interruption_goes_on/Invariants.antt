@@ -8,6 +8,7 @@ use Rattle.jls_interval.specs.Reading.{NoInterruption}
 use Rattle.jls_interval.proofs.CutSamples.{Tried}
 use Rattle.jls_interval.proofs.cut_sample.interruption_goes_on.Given as goal
 
+-- the numbers below this one were tried, and none can be
 abbrev pub invariant-loop-mapped : goal.invariant-loop-mapped
 invariant-loop-mapped l =
     let p = l.coder.cells.parameters in let near = l.neighbours in let cell = run_cell_at l.coder.cells (is_same near) in

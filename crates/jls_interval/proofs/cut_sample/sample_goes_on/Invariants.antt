@@ -6,6 +6,7 @@ use Rattle.jls_interval.specs.Reading.{NoSample}
 use Rattle.jls_interval.proofs.CutSamples.{Tried}
 use Rattle.jls_interval.proofs.cut_sample.sample_goes_on.Given as goal
 
+-- the numbers below this one were tried, and none can be
 abbrev pub invariant-loop-mapped : goal.invariant-loop-mapped
 invariant-loop-mapped l =
     let p = l.coder.cells.parameters in let cell = cell_at l.coder.cells l.mode.context in

@@ -12,6 +12,7 @@ use Rattle.jls_interval.proofs.encode.encode_interval.Goals as goal
 abbrev items : List (Bor (List ℕ)) → List (List ℕ)
 items lines = map (λ l. l.now) lines
 
+-- before the first line nothing is written
 pub write_lines-requires-clause-start : goal.write_lines-requires-clause-start
 write_lines-requires-clause-start c =
     let p : CodingParameters = c.args.params.now in let coder = c.new-2.result in let lines = items c.args.lines.now in
@@ -21,6 +22,7 @@ write_lines-requires-clause-start c =
     (written_start p c.args.width c.args.components lines coder.cells coder.run_indices c.new.result c.new-2.ensures.cells
     c.new-2.ensures.run_indices c.new.ensures)
 
+-- the bytes are the packed lines
 pub returns-clause-packed : goal.returns-clause-packed
 returns-clause-packed c =
     let given : List Bool = c.write_lines.new.encoder.writer in let lines = items c.args.lines.now in
@@ -29,6 +31,7 @@ returns-clause-packed c =
     IfOk-weaker _ _ _ (λ (v : Vec ℕ Global) (h : IsPad given v.items). one_pad given v.items (pad given) h (pad_is_pad given) ∙ ap pad is)
     c.finish.ensures
 
+-- the bytes are the pad of the lines' code
 pub returns-clause-pad : goal.returns-clause-pad
 returns-clause-pad c =
     let given : List Bool = c.write_lines.new.encoder.writer in let lines = items c.args.lines.now in

@@ -16,6 +16,7 @@ write_next_line-requires-clause-before c =
     subst (λ q. AreWritten q c.args.width c.args.components (items c.args.lines.now) c.loop-j.j (written_by c.loop-j.encoder))
     (sym c.loop-j.invariant.parameters) c.loop-j.invariant.are
 
+-- one line more is written
 pub loop-j-preserved : goal.loop-j-preserved
 loop-j-preserved c = record {
   parameters = c.write_next_line.ensures.parameters ∙ c.loop-j.invariant.parameters;

@@ -11,6 +11,7 @@ use Rattle.jls_interval.proofs.encode.write_next_line.Goals as goal
 abbrev items : List (Bor (List ℕ)) → List (List ℕ)
 items lines = map (λ l. l.now) lines
 
+-- the lines above the next one are in their ranges
 pub write_line-requires-clause-above : goal.write_line-requires-clause-above
 write_line-requires-clause-above c =
     let p : CodingParameters = c.args.encoder.now.coder.cells.parameters in let L = items c.args.lines.now in let j : ℕ = c.args.j in
@@ -30,6 +31,7 @@ write_line-requires-clause-samples c =
     subst (AllByRecursion (λ s. s ≤ p.maxval)) (sym c.line_at.ensures)
     (line_in p c.args.width L c.args.j c.requires.each (omega arith)).1
 
+-- the lines up to this one are written
 pub returns-clause-written : goal.returns-clause-written
 returns-clause-written c =
     let p : CodingParameters = c.args.encoder.now.coder.cells.parameters in let L = items c.args.lines.now in let w : ℕ = c.args.width in

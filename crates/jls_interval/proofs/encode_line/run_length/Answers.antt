@@ -23,6 +23,7 @@ run_is xs n v within passed stops =
     sym (prefix_len_is (λ sample. sample == v) xs n 0 within (λ k h. eq-eqb (get_or xs k 0) v (passed k h))
     (λ h. ne_eqb (get_or xs n 0) v (stops h)))
 
+-- sixteen samples more have the value
 pub loop-count-preserved : goal.loop-count-preserved
 loop-count-preserved c = record {
   within = omega arith;

@@ -8,6 +8,7 @@ use Rattle.jls_interval.proofs.GrownLines.{stretch_moves}
 use Rattle.jls_interval.proofs.EncodedLines.{columns_none, columns_one, columns_then, columns_end}
 use Rattle.jls_interval.proofs.encode_line.write_line.Goals as goal
 
+-- before the first column nothing is written
 pub loop-x-init : goal.loop-x-init
 loop-x-init c = record {
   parameters = refl;
@@ -30,6 +31,7 @@ write_stretch-requires-clause-samples c =
     subst (λ (q : CodingParameters). AllByRecursion (λ s. s ≤ q.maxval) c.args.line.now)
     (sym (c.write_samples.ensures.parameters ∙ c.loop-x.invariant.parameters)) c.requires.samples
 
+-- a stretch goes past a column at least
 pub loop-x-smaller : goal.loop-x-smaller
 loop-x-smaller c =
     let e = c.in_ok-next.ensures in
@@ -37,6 +39,7 @@ loop-x-smaller c =
     e.within in
     omega (arith, c.in_ok-x.ensures.column, e.from, e.within, c.loop-x-test.true)
 
+-- one stretch more of the line is written
 pub loop-x-preserved : goal.loop-x-preserved
 loop-x-preserved c =
     let up : Above = above_of c.args.place.now in let k : ℕ = c.args.place.now.component in

@@ -3,6 +3,7 @@ use Rattle.jls_interval.specs.Place.{above_of}
 use Rattle.jls_interval.specs.Encoding.{written_by, WritesColumns}
 use Rattle.jls_interval.proofs.encode_line.write_line.Given as goal
 
+-- the columns before x are written
 abbrev pub invariant-loop-x : goal.invariant-loop-x
 invariant-loop-x l = record {
   parameters : l.encoder.coder.cells.parameters ≡ l.initial.encoder.coder.cells.parameters;

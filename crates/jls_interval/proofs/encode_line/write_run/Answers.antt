@@ -27,6 +27,7 @@ returns-then-stop-line-clause-column c =
     c.args.place.now.component c.requires.run c.if-stop-line.true in
     c.if-stop-line.true ∙ ap (λ (z : Stretch). z.next) (sym s)
 
+-- the run goes to the end of the line: its blocks are written, and no sample
 pub returns-then-stop-line-clause-written : goal.returns-then-stop-line-clause-written
 returns-then-stop-line-clause-written c =
     let up : Above = above_of c.args.place.now in let coder = c.args.encoder.now.coder in let k : ℕ = c.args.place.now.component in
@@ -72,6 +73,7 @@ returns-clause-column c =
     c.args.place.now.component c.requires.run c.if-stop-line.false in
     ap (λ (z : Stretch). z.next) (sym s)
 
+-- the run is interrupted: its columns are written, and then the sample after them
 pub returns-clause-written : goal.returns-clause-written
 returns-clause-written c =
     let up : Above = above_of c.args.place.now in let coder = c.args.encoder.now.coder in let k : ℕ = c.args.place.now.component in

@@ -9,6 +9,7 @@ left_is : (r n now rest : ℕ) → now ≡ run_index_raised r 1 → rest ≡ 2 ^
     → blocks now (n - rest) ≡ blocks (run_index_raised r 1) (n - 2 ^ run_order r)
 left_is r n now rest a b = ap (λ z. blocks z (n - rest)) a ∙ ap (λ z. blocks (run_index_raised r 1) (n - z)) b
 
+-- one full block more is written
 pub loop-remaining-preserved : goal.loop-remaining-preserved
 loop-remaining-preserved c =
     let r = c.loop-remaining.now in let n = c.loop-remaining.remaining in let i = c.loop-remaining.invariant in

@@ -2,6 +2,7 @@ use Rattle.std.proofs.Common.{◌≡◌, ◌≤◌, ◌++◌, true, replicate}
 use Rattle.jls_interval.specs.Runs.{blocks}
 use Rattle.jls_interval.proofs.encode_run.write_full_blocks.Given as goal
 
+-- the ones written and those of the columns left are all of them
 abbrev pub invariant-loop-remaining : goal.invariant-loop-remaining
 invariant-loop-remaining l = record {
   within : l.now ≤ 31;

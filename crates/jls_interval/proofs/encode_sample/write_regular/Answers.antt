@@ -7,6 +7,7 @@ use Rattle.jls_interval.specs.Cells.{regular_error}
 use Rattle.jls_interval.proofs.EncodedEvents.{difference_range, error_is, regular_code_is, regular_writes}
 use Rattle.jls_interval.proofs.encode_sample.write_regular.Goals as goal
 
+-- one sample of regular mode is written, and its cell updated
 pub returns-clause-written : goal.returns-clause-written
 returns-clause-written c =
     let old : Variables = c.args.encoder.now.coder.cells in let new : Variables = c.update_regular.new.self in
@@ -27,6 +28,7 @@ returns-clause-written c =
     coder.lengths.qbpp mapped is c.regular_code-k.ensures.k coder.lengths_are.limit_is coder.lengths_are.qbpp_is
     c.regular_code-k.ensures.mapped)
 
+-- the difference is above -RANGE
 pub reduce-error-requires-clause-above : goal.reduce-error-requires-clause-above
 reduce-error-requires-clause-above c =
     let most : ℕ = c.args.encoder.now.coder.cells.parameters.maxval in
@@ -36,6 +38,7 @@ reduce-error-requires-clause-above c =
     (difference_range c.args.mode.negative c.args.sample c.predict-predicted.result most c.requires.sample
     c.predict-predicted.ensures.sample).0
 
+-- the difference is below RANGE
 pub reduce-error-requires-clause-below : goal.reduce-error-requires-clause-below
 reduce-error-requires-clause-below c =
     let most : ℕ = c.args.encoder.now.coder.cells.parameters.maxval in

@@ -10,6 +10,7 @@ use Rattle.jls_interval.specs.Encoding.{Written, Writes, written_by}
 use Rattle.jls_interval.proofs.EncodedLines.{columns_none, columns_sample, neighbours_next}
 use Rattle.jls_interval.proofs.encode_samples.write_samples.Goals as goal
 
+-- before the first sample nothing more is written
 pub columns-init : goal.columns-init
 columns-init c =
     let same : to_z w32 (of_z w32 c.gradient-second.result) ≡ c.gradient-second.result = omega (arith, ints) in
@@ -24,6 +25,7 @@ columns-init c =
           c.args.line.now c.args.x (written_by c.args.encoder.now);
     }
 
+-- one sample more is written, and the neighbours have moved along
 pub columns-preserved : goal.columns-preserved
 columns-preserved c =
     let i = c.columns.invariant in let up : Above = above_of c.args.place.now in let line : List ℕ = c.args.line.now in

@@ -6,6 +6,7 @@ use Rattle.jls_interval.specs.Place.{above_of}
 use Rattle.jls_interval.specs.Encoding.{WritesColumns, written_by}
 use Rattle.jls_interval.proofs.encode_samples.write_samples.Given as goal
 
+-- before each sample: those before it are written, and these are its neighbours
 abbrev pub invariant-columns : goal.invariant-columns
 invariant-columns l = record {
   from : l.x ≤ l.column;

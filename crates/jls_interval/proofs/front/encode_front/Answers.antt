@@ -8,6 +8,7 @@ use Rattle.jls_interval.proofs.front.encode_front.Goals as goal
 abbrev items : List (Bor (List ℕ)) → List (List ℕ)
 items lines = map (λ l. l.now) lines
 
+-- before the first line nothing is written
 pub write_with_ends-requires-clause-start : goal.write_with_ends-requires-clause-start
 write_with_ends-requires-clause-start c =
     let p : CodingParameters = c.args.params.now in let coder = c.new-2.result in let lines = items c.args.lines.now in

@@ -6,6 +6,7 @@ use Rattle.jls_bits.proofs.Appending.{whole_prefix, bytes_append}
 use Rattle.jls_interval.proofs.Finishing.{all_bytes}
 use Rattle.jls_interval.proofs.interval_decoder.append_bytes.Goals as goal
 
+-- before the first byte nothing is appended
 pub loop-byte-init : goal.loop-byte-init
 loop-byte-init c = record {
   pushed = sym (append-nil c.args.unstuffer.now);
@@ -14,6 +15,7 @@ loop-byte-init c = record {
   few = omega arith;
 }
 
+-- the bits of one byte more are in the chunk
 pub loop-byte-preserved : goal.loop-byte-preserved
 loop-byte-preserved c =
     let u : List ℕ = c.args.unstuffer.now in let now : List ℕ = c.loop-byte.unstuffer in let xs : List ℕ = c.args.bytes.now in

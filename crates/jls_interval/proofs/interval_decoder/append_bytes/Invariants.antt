@@ -2,6 +2,7 @@ use Rattle.std.proofs.Common.{◌≡◌, ◌+◌, ◌*◌, ◌<◌, ◌≤◌, t
 use Rattle.jls_bits.specs.Bits.{bits_read, is_whole}
 use Rattle.jls_interval.proofs.interval_decoder.append_bytes.Given as goal
 
+-- the bits of the bytes so far are in the chunk
 abbrev pub invariant-loop-byte : goal.invariant-loop-byte
 invariant-loop-byte l = record {
   pushed : l.unstuffer ≡ l.initial.unstuffer ++ take l.byte-index l.bytes;

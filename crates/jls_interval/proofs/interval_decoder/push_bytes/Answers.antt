@@ -11,6 +11,7 @@ use Rattle.jls_interval.proofs.Finishing.{lengths_more, before_lengths, before_a
 use Rattle.jls_interval.proofs.interval_decoder.push_bytes.Goals as goal
 use Rattle.jls_interval.proofs.interval_decoder.push_bytes.Goals.{then-at-bytes, else-at-bytes}
 
+-- before the first bytes nothing more is pushed
 pub loop-at-init : goal.loop-at-init
 loop-at-init c =
     record {
@@ -34,6 +35,7 @@ push_chunk-requires c =
     (v.reading h.0 h.1 (whole_prefix 0 now _ (subst (λ z. is_whole z ≡ true) e.pushed w)).0) in
     (h.0, r.given, r.reading)
 
+-- some bytes more are pushed, and their bits taken by the reader
 pub loop-at-preserved-in-Continue-1 : goal.loop-at-preserved-in-Continue-1
 loop-at-preserved-in-Continue-1 c =
     let h = c.requires.reading in let v = c.loop-at.invariant in let e = c.append_bytes-whole.ensures in
@@ -65,6 +67,7 @@ loop-at-preserved-in-Continue-1 c =
       reading = reading;
     }
 
+-- some bytes more are pushed, of which one ends the data
 pub loop-at-preserved : goal.loop-at-preserved
 loop-at-preserved c =
     let v = c.loop-at.invariant in let e = c.append_bytes-whole.ensures in let now : List ℕ = c.loop-at.unstuffer in

@@ -6,6 +6,7 @@ use Rattle.jls_interval.specs.Decoding.{KeepsShape}
 use Rattle.jls_interval.specs.IntervalBytes.{ReadsBefore, IsReadingBefore, HasLengths}
 use Rattle.jls_interval.proofs.interval_decoder.push_bytes.Given as goal
 
+-- before each step: the bytes up to here are pushed, and the reader holds what they give
 abbrev pub invariant-loop-at : goal.invariant-loop-at
 invariant-loop-at l = record {
   within : l.at ≤ length l.bytes;

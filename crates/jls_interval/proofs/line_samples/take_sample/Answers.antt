@@ -36,6 +36,7 @@ sample_of-requires-clause-code c =
 pub update_regular-requires-clause-cell : goal.update_regular-requires-clause-cell
 update_regular-requires-clause-cell c = (mode_is (goal.at.update_regular-requires-clause-cell c).In-Regular).at_most
 
+-- a short code stands whole at the start, and its sample is taken
 pub returns-in-Some-sample_of-clause-prefix : goal.returns-in-Some-sample_of-clause-prefix
 returns-in-Some-sample_of-clause-prefix c =
     let old = c.args.coder.now in let cells : Variables = old.cells in let p = cells.parameters in
@@ -59,6 +60,7 @@ returns-in-Some-sample_of-clause-prefix c =
           ∙ sym (sample_bits p cells old.run_indices earlier t near v));
     }
 
+-- all bits are the first ones of a short code, and are taken
 pub returns-in-Some-of_short-clause-prefix : goal.returns-in-Some-of_short-clause-prefix
 returns-in-Some-of_short-clause-prefix c =
     let old = c.args.coder.now in let cells : Variables = old.cells in let p = cells.parameters in

@@ -10,6 +10,7 @@ use Rattle.jls_interval.specs.Place.{above_of}
 use Rattle.jls_interval.proofs.LineSamples.{taken_more, taken_none, taken_same, begun_same}
 use Rattle.jls_interval.proofs.line_samples.take_samples_of.Goals as goal
 
+-- an event has begun: nothing is taken
 pub returns-in_default : goal.returns-in_default
 returns-in_default c =
     record {
@@ -44,6 +45,7 @@ returns-then-count-reader-clause-taken c =
     c.columns.near c.in-Taken.value c.in-Taken.ensures.prefix i.open_event i.open_event refl c.in_ok-push-in-Taken.ensures.items
     i.parameters i.near i.columns i.taking
 
+-- one sample more is taken, and the neighbours have moved along
 pub columns-preserved : goal.columns-preserved
 columns-preserved c =
     let i = c.columns.invariant in let now = c.columns.reader in let w : ℕ = now.width in let line : List ℕ = now.line.items in

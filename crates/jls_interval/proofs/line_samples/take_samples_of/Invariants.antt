@@ -8,6 +8,7 @@ use Rattle.jls_interval.specs.LineSamples.{TakesInLine}
 use Rattle.jls_interval.specs.declared.line_reader.OpenEvent.TheVariants.{NotBegun}
 use Rattle.jls_interval.proofs.line_samples.take_samples_of.Given as goal
 
+-- before each sample: those before it are taken, and these are its neighbours
 abbrev pub invariant-columns : goal.invariant-columns
 invariant-columns l = record {
   columns : length l.reader.line.items + 1 < l.reader.width;

@@ -2,6 +2,7 @@ use Rattle.jls_interval.specs.Lines.{IsLine}
 use Rattle.jls_interval.proofs.LineLists.{mapped_at}
 use Rattle.jls_interval.proofs.lines.are_lines.Goals as goal
 
+-- one that is no line
 pub returns-then-not-is_line : goal.returns-then-not-is_line
 returns-then-not-is_line c = (
   λ no. cc,

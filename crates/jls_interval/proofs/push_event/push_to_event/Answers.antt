@@ -11,6 +11,7 @@ use Rattle.jls_interval.specs.declared.run_reader.RunState.TheVariants.{Blocks}
 use Rattle.jls_interval.proofs.BlocksTaken.{taken_start}
 use Rattle.jls_interval.proofs.push_event.push_to_event.Goals as goal
 
+-- no event has begun: the mode says whether it is a sample or a run
 pub returns-in-NotBegun-clause-step : goal.returns-in-NotBegun-clause-step
 returns-in-NotBegun-clause-step c =
     let old = c.args.reader.now in let cells : Variables = old.coder.cells in let p = cells.parameters in let w : ℕ = old.width in

@@ -53,6 +53,7 @@ module _ (old : LineReader) (place : Place) (count : ℕ) where
   abbrev Opened : Neighbours → ℕ → CodeState → Type 0
   Opened near order code = IsOpen (run_k (is_same near) (run_cell_at old.coder.cells (is_same near))) (limit p - order - 1) (qbpp p) code
 
+  -- an open code stays one where the neighbours and the order are the same
   opened_same : (code : CodeState) {near near' : Neighbours} {i j : ℕ} → near ≡ near' → i ≡ j → Opened near i code → Opened near' j code
   opened_same code {near} {near'} {i} {j} e f o = subst (λ z. Opened near' z code) f (subst (λ (z : Neighbours). Opened z i code) e o)
 
@@ -124,6 +125,7 @@ push_to_interruption-requires-clause-opened c =
     let there_is = there_at old place count c.len.result c.neighbours-next.ensures c.deref.ensures.value c.requires.value c.len.ensures in
     opened_same old place count _ (sym there_is) (sym c.run_order.ensures.value) c.requires.opened
 
+-- the code of the last sample is still not whole
 pub returns-in-More-clause-step : goal.returns-in-More-clause-step
 returns-in-More-clause-step c = λ fed earlier t s.
     let old = c.args.reader.now in let place = c.args.place.now in let count : ℕ = c.args.interruption.count in let q = c.in-More.ensures in
@@ -146,6 +148,7 @@ returns-in-More-clause-step c = λ fed earlier t s.
       all = q.all;
     }
 
+-- no code of a sample that can interrupt the run begins so
 pub returns-in-Refused-clause-step : goal.returns-in-Refused-clause-step
 returns-in-Refused-clause-step c = λ fed earlier t s.
     let old = c.args.reader.now in let place = c.args.place.now in let count : ℕ = c.args.interruption.count in
@@ -158,6 +161,7 @@ returns-in-Refused-clause-step c = λ fed earlier t s.
       all = tt;
     }
 
+-- the last sample is there, and the interrupted run is whole
 pub returns-in_ok-push-in-Done-clause-step : goal.returns-in_ok-push-in-Done-clause-step
 returns-in_ok-push-in-Done-clause-step c = λ fed earlier t s.
     let old = c.args.reader.now in let cells : Variables = old.coder.cells in let p = cells.parameters in let w : ℕ = old.width in

@@ -15,6 +15,7 @@ use Rattle.jls_interval.proofs.AfterEvents.{after_regular, sample_bits}
 use Rattle.jls_interval.proofs.OpenEventBits.{no_sample_no_event}
 use Rattle.jls_interval.proofs.push_event.push_to_regular.Goals as goal
 
+-- no code of a sample begins so
 pub returns-in-Refused-clause-step : goal.returns-in-Refused-clause-step
 returns-in-Refused-clause-step c = λ k up fed earlier near_is t fed_is.
     let old = c.args.reader.now in let cells : Variables = old.coder.cells in let p = cells.parameters in let w : ℕ = old.width in
@@ -38,6 +39,7 @@ returns-in-Refused-clause-step c = λ k up fed earlier near_is t fed_is.
       all = tt;
     }
 
+-- the sample is there, and the event is whole
 pub returns-in_ok-push-in-Done-clause-step : goal.returns-in_ok-push-in-Done-clause-step
 returns-in_ok-push-in-Done-clause-step c = λ k up fed earlier near_is t fed_is.
     let old = c.args.reader.now in let cells : Variables = old.coder.cells in let p = cells.parameters in let w : ℕ = old.width in

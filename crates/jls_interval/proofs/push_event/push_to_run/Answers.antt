@@ -28,6 +28,7 @@ step_of : (c : After-push_chunk) (step : RunStep)
     → RunPushed (c.args.reader.now.width - length c.args.reader.now.line.items) c.args.state c.args.chunk.now c.push_chunk.new.chunk step
 step_of c step pushed = subst (λ z. RunPushed z c.args.state c.args.chunk.now c.push_chunk.new.chunk step) (left_is c) pushed
 
+-- the bits of the run are still not all there
 pub returns-in-More-clause-step : goal.returns-in-More-clause-step
 returns-in-More-clause-step c = λ fed earlier t h.
     let here = (goal.at.returns-in-More-clause-step c).After-push_chunk in let x = c.in-More in
@@ -44,6 +45,7 @@ returns-in-More-clause-step c = λ fed earlier t h.
       all = s.all;
     }
 
+-- no run begins so
 pub returns-in-Refused-clause-step : goal.returns-in-Refused-clause-step
 returns-in-Refused-clause-step c = λ fed earlier t h.
     let old = c.args.reader.now in let p = old.coder.cells.parameters in let w : ℕ = old.width in
@@ -61,6 +63,7 @@ returns-in-Refused-clause-step c = λ fed earlier t h.
       all = tt;
     }
 
+-- the run goes to the end of the line, and is whole
 pub returns-in_ok-push_run-in-Done-ToEnd-clause-step : goal.returns-in_ok-push_run-in-Done-ToEnd-clause-step
 returns-in_ok-push_run-in-Done-ToEnd-clause-step c = λ fed earlier t h.
     let old = c.args.reader.now in let cells : Variables = old.coder.cells in let p = cells.parameters in let w : ℕ = old.width in
@@ -95,6 +98,7 @@ returns-in_ok-push_run-in-Done-ToEnd-clause-step c = λ fed earlier t h.
       all = tt;
     }
 
+-- the run is interrupted: its last sample comes next
 pub returns-in-Done-Interrupted-clause-step : goal.returns-in-Done-Interrupted-clause-step
 returns-in-Done-Interrupted-clause-step c =
     let old = c.args.reader.now in let cells : Variables = old.coder.cells in let p = cells.parameters in

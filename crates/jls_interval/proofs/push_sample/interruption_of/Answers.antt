@@ -7,6 +7,7 @@ use Rattle.jls_interval.specs.Cells.{is_same}
 use Rattle.jls_interval.proofs.SamplesRead.{interruption_wrong, interruption_own}
 use Rattle.jls_interval.proofs.push_sample.interruption_of.Goals as goal
 
+-- no error is mapped to the number
 pub returns-in-None-clause-none : goal.returns-in-None-clause-none
 returns-in-None-clause-none c = λ given unread e.
     let p = c.args.coder.now.cells.parameters in let near = c.args.neighbours in
@@ -14,6 +15,7 @@ returns-in-None-clause-none c = λ given unread e.
     interruption_wrong p c.args.coder.now.in_range cell near c.requires.above c.args.order c.requires.order given c.args.mapped unread
     c.requires.code e c.in-None.ensures.none
 
+-- the sample would be the run's own value
 pub returns-then-value-ra-clause-none : goal.returns-then-value-ra-clause-none
 returns-then-value-ra-clause-none c = λ given unread e.
     let p = c.args.coder.now.cells.parameters in let near = c.args.neighbours in

@@ -10,6 +10,7 @@ use Rattle.jls_interval.specs.Cells.{is_same}
 use Rattle.jls_interval.proofs.SamplesRead.{interruption_none, along}
 use Rattle.jls_interval.proofs.push_sample.push_to_interruption.Goals as goal
 
+-- the bits begin no code
 pub returns-in-Refused : goal.returns-in-Refused
 returns-in-Refused c =
     let coder = c.args.coder.now in let p = coder.cells.parameters in let near = c.args.neighbours in let j : ℕ = c.args.order in
@@ -27,6 +28,7 @@ returns-in-Refused c =
       all = tt;
     }
 
+-- the bits are the code of a number that no error is mapped to
 pub returns-in-None : goal.returns-in-None
 returns-in-None c =
     let coder = c.args.coder.now in let p = coder.cells.parameters in let near = c.args.neighbours in let j : ℕ = c.args.order in

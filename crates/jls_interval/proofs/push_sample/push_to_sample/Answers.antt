@@ -9,6 +9,7 @@ use Rattle.jls_bits.specs.declared.code_state.CodeStep.TheVariants.{Done, Refuse
 use Rattle.jls_interval.proofs.SamplesRead.{regular_none, along}
 use Rattle.jls_interval.proofs.push_sample.push_to_sample.Goals as goal
 
+-- the bits begin no code
 pub returns-in-Refused : goal.returns-in-Refused
 returns-in-Refused c =
     let coder = c.args.coder.now in let p = coder.cells.parameters in let cell : Cell = cell_at coder.cells c.args.mode.context in
@@ -24,6 +25,7 @@ returns-in-Refused c =
       all = tt;
     }
 
+-- the bits are the code of a number that no error is mapped to
 pub returns-in-None : goal.returns-in-None
 returns-in-None c =
     let coder = c.args.coder.now in let p = coder.cells.parameters in let cell : Cell = cell_at coder.cells c.args.mode.context in

@@ -15,7 +15,7 @@ more_taken : (c : After-run_order) (r0 : ℕ) (given : List Bool)
 more_taken c r0 given t =
     digit_taken r0 c.args.width given c.args.run_index c.args.columns c.args.count.bits c.args.count.value t c.args.bit c.requires.5
 
--- and the last one
+-- the bit is the last one of the count
 whole : (c : After-run_order) → c.run_order.result ≤ c.args.count.bits + 1 → c.args.count.bits + 1 ≡ run_order c.args.run_index
 whole c last = let e = c.run_order.ensures.value in let s = c.requires.3 in omega arith
 

@@ -2,6 +2,7 @@ use Rattle.std.proofs.Common.{◌-◌, ◌∙◌, ap}
 use Rattle.jls_interval.proofs.LinesInBlocks.{into_block}
 use Rattle.jls_interval.proofs.finished_lines.FinishedLines.share.Goals as goal
 
+-- the lines in blocks and those after them are the same lines
 pub returns : goal.returns
 returns c =
     let i = c.self.inside in

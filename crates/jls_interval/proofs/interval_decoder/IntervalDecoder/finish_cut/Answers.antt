@@ -34,6 +34,7 @@ returns-in-Working-clause-cut_end c =
     seen c.args.self (Head c.into_head.result Broken) c.self.invariant c.if-self.false c.self.view_is
     (working_breaks i.params i.reader i.unstuffer r c.in-Working.is, inl (h.whole c.if-ended.false, c.into_head.ensures i.params _ r))
 
+-- the bits begin no code: the piece is broken
 pub returns-in-NoCode-clause-cut_end : goal.returns-in-NoCode-clause-cut_end
 returns-in-NoCode-clause-cut_end c =
     let i = c.self.inside in let h = c.self.invariant.decoding c.if-self.false in let r = h.reading c.if-ended.false in
@@ -42,6 +43,7 @@ returns-in-NoCode-clause-cut_end c =
       inl (h.whole c.if-ended.false, c.into_head-in-NoCode.ensures i.params _ r),
     )
 
+-- too many bits follow the code of the lines
 pub returns-else-extra-le7-clause-cut_end : goal.returns-else-extra-le7-clause-cut_end
 returns-else-extra-le7-clause-cut_end c =
     let i = c.self.inside in let d = i.reader in let h = c.self.invariant.decoding c.if-self.false in

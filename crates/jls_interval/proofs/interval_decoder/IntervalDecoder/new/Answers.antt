@@ -9,6 +9,7 @@ use Rattle.jls_interval.specs.declared.line_reader.OpenEvent.TheVariants.{NotBeg
 use Rattle.jls_interval.proofs.Decoding.{working_start}
 use Rattle.jls_interval.proofs.interval_decoder.IntervalDecoder.new.Goals as goal
 
+-- a decoder of no byte is in order
 pub invariant_of-result-2 : goal.invariant_of-result-2
 invariant_of-result-2 c =
     let p = c.args.params.now in let e : c.new.result ≡ [] = c.new.ensures in let coder = c.new-2.result in

@@ -16,6 +16,7 @@ push_bytes-requires-clause-reading c =
           (b.ensures.bits (not_ended i.unstuffer i.ended h.ended_is w)),
     )
 
+-- the lengths that the reader holds are bounded by the bytes so far
 pub push_bytes-requires-clause-lengths : goal.push_bytes-requires-clause-lengths
 push_bytes-requires-clause-lengths c =
     let i = c.self.inside in let v = c.self.invariant in let h = v.decoding c.if-self.false in let b = c.take_back-given_back in
@@ -27,6 +28,7 @@ push_bytes-requires-clause-lengths c =
       line_at_most = h.line_at_most;
     })
 
+-- the decoder is in order after the bytes, which end the data or not
 pub invariant_of-self : goal.invariant_of-self
 invariant_of-self c =
     let i = c.self.inside in let v = c.self.invariant in let h = v.decoding c.if-self.false in

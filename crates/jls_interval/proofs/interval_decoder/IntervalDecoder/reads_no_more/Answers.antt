@@ -12,6 +12,7 @@ use Rattle.jls_interval.specs.declared.interval_reader.State.{State}
 use Rattle.jls_interval.proofs.NoMore.{unwhole_reads_no_more, no_code_reads_no_more, over_reads_no_more}
 use Rattle.jls_interval.proofs.interval_decoder.IntervalDecoder.reads_no_more.Goals as goal
 
+-- bytes that read as no lines, whatever follows, in the words of the decoder's record
 said : (p : CodingParameters) (w n rows count : ℕ) (refused : Bool) (bytes : List ℕ) (z : IntervalBytes) → refused ≡ false
     → count ≡ rows * n
     → (let v : IntervalBytes = record { parameters = p; width = w; components = n; rows = rows; bytes = bytes_of refused bytes } in v) ≡ z
@@ -22,6 +23,7 @@ said p w n rows count refused bytes z e k view h =
     (subst (λ r. IfSome (bytes_of r bytes) (λ b. ReadsNoMore (interval_shape p w n (rows * n)) b)) (sym e)
     (subst (λ m. ReadsNoMore (interval_shape p w n m) bytes) k h))
 
+-- a byte ended the data: the piece is broken
 pub returns-then-self-2 : goal.returns-then-self-2
 returns-then-self-2 c = λ _.
     let i = c.self.inside in let d = i.reader in let v = c.self.invariant in
@@ -36,6 +38,7 @@ at_state : (p : CodingParameters) (w n count : ℕ) (given : List Bool) (lines :
 at_state p w n count given lines r s t e h =
     subst (λ s. StateIs p w n count given lines r.line.items r.coder.cells r.coder.run_indices r.open_event s) e h
 
+-- the bits begin no code, whatever follows
 pub returns-in-NoCode : goal.returns-in-NoCode
 returns-in-NoCode c = λ _.
     let i = c.self.inside in let d = i.reader in let v = c.self.invariant in let w : ℕ = d.reader.width in let n : ℕ = d.components in
@@ -46,6 +49,7 @@ returns-in-NoCode c = λ _.
     said i.params w n i.rows d.count i.refused i.unstuffer _ c.if-self.false v.count_is c.self.view_is
     (no_code_reads_no_more i.params w n d.count i.unstuffer no_code)
 
+-- all lines are there, and too many bits follow them
 pub returns-in-Complete : goal.returns-in-Complete
 returns-in-Complete c = λ many.
     let i = c.self.inside in let d = i.reader in let v = c.self.invariant in let w : ℕ = d.reader.width in let n : ℕ = d.components in

@@ -4,6 +4,7 @@ use Rattle.jls_interval.specs.IntervalBytes.{IsDecoder, HasLengths}
 use Rattle.jls_interval.proofs.Finishing.{samples_same}
 use Rattle.jls_interval.proofs.interval_decoder.IntervalDecoder.try_clone.Goals as goal
 
+-- the clone is in order as the decoder is
 pub invariant_of-result : goal.invariant_of-result
 invariant_of-result c =
     let i = c.self.inside in let v = c.self.invariant in let d = i.reader in let new = c.in_ok-reader.reader in

@@ -68,6 +68,7 @@ returns-then-not-goes_on-clause-bits c =
     taking_all c.args.self.now _ c.push_event.new.self c.args.chunk.now _ so_far c.new.result c.new.ensures
     (subst (TakesEvent _ c.push_event.new.self _ c.push_event.new.chunk) c.if-not-goes_on.true c.in_ok-goes_on.ensures.bits)
 
+-- each turn of the loop takes a bit, or fewer lines are to come
 pub events-smaller : goal.events-smaller
 events-smaller c =
     let h = c.requires in let place = c.next_place-place.ensures in let s = c.take_samples.ensures in
@@ -80,6 +81,7 @@ events-smaller c =
     h.2 in
     omega arith
 
+-- one event more is taken from the chunk
 pub events-preserved : goal.events-preserved
 events-preserved c =
     let place = c.next_place-place.ensures in let s = c.take_samples.ensures in

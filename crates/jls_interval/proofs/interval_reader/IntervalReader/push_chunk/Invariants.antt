@@ -2,6 +2,7 @@ use Rattle.std.proofs.Common.{length}
 use Rattle.jls_interval.specs.Decoding.{KeepsShape, TakesFirst}
 use Rattle.jls_interval.proofs.interval_reader.IntervalReader.push_chunk.Given as goal
 
+-- the first bits of the chunk are taken
 abbrev pub invariant-events : goal.invariant-events
 invariant-events l = record {
   shape : KeepsShape l.initial.self l.self;

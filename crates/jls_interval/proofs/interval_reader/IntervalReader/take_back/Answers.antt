@@ -5,6 +5,7 @@ use Rattle.jls_bits.specs.declared.code_state.CodeState.{CodeState}
 use Rattle.jls_interval.proofs.GivenBack.{sample_open, sample_back}
 use Rattle.jls_interval.proofs.interval_reader.IntervalReader.take_back.Goals as goal
 
+-- the code in hand is an open one of the next cell
 pub fed-requires-clause-open : goal.fed-requires-clause-open
 fed-requires-clause-open c =
     let h = c.requires in let coder = c.args.self.now.reader.coder in let code : CodeState = c.in-Sample.code in
@@ -16,6 +17,7 @@ fed-requires-clause-open c =
           (subst (λ z. IsOpen o.0 (limit coder.cells.parameters) z code) (sym lengths.qbpp_is) own),
     )
 
+-- the bits given back are those of the sample in hand
 pub returns-in-Some-clause-bits : goal.returns-in-Some-clause-bits
 returns-in-Some-clause-bits c = λ p given h.
     let code : CodeState = c.in-Sample.code in let coder = c.args.self.now.reader.coder in let lengths = coder.lengths_are in

@@ -5,6 +5,7 @@ use Rattle.jls_interval.proofs.run_reader.RunState.push_chunk.Goals as goal
 pub loop-bit-init : goal.loop-bit-init
 loop-bit-init c = record { state = c.requires; taking = taking_none c.args.width c.args.self c.args.chunk.now }
 
+-- one bit more is taken
 pub loop-bit-preserved : goal.loop-bit-preserved
 loop-bit-preserved c = record {
   state = c.in-More.ensures.state;
@@ -13,6 +14,7 @@ loop-bit-preserved c = record {
       c.loop-bit.invariant.taking c.in-Some.ensures.some c.in-More.next c.in-More.ensures.step);
 }
 
+-- the whole count is taken at once
 pub returns-in-Some-take_count-clause-step : goal.returns-in-Some-take_count-clause-step
 returns-in-Some-take_count-clause-step c =
     taking_then c.args.width c.args.self c.args.chunk.now c.in-More.next c.take_bit.new.self c.take_count.new.chunk

@@ -3,6 +3,7 @@ use Rattle.jls_interval.specs.RunState.{IsRunState}
 use Rattle.jls_interval.proofs.RunChunks.{Taking}
 use Rattle.jls_interval.proofs.run_reader.RunState.push_chunk.Given as goal
 
+-- the bits that were taken led to this state
 abbrev pub invariant-loop-bit : goal.invariant-loop-bit
 invariant-loop-bit l = record {
   state : IsRunState l.width l.state;
