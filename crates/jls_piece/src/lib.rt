@@ -1,4 +1,4 @@
-//! One piece of scan data, by line or by sample: one meaning for both, so that what stands above asks no more which it is.
+//! One piece of scan data, by line or by sample. Both have one meaning here, so that the crates above need not ask which it is.
 //!
 //! - `planned_piece`: what is known of a piece before its first byte
 //! - `piece_decoder`: the decoder. It is that of `jls_interval` or that of `jls_pixel`

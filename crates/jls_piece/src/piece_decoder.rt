@@ -24,7 +24,7 @@ use std::marker::Model;
 #[derive(Drop)]
 pub(crate) enum KindOfDecoder {
     ByLine(IntervalDecoder),
-    /// With the number of components.
+    /// By sample, with the number of components.
     BySample(u8, PixelDecoder),
 }
 
@@ -91,7 +91,7 @@ fn read_lines(
     }
 }
 
-/// The same end, over lines of either kind.
+/// The end of a piece by line, over lines of either kind.
 fn line_cut_end(end: jls_interval::CutEnd) -> PieceCutEnd
     ensures { result ≡ cut_of_line end }
 {
@@ -204,9 +204,9 @@ impl PieceDecoder {
         }
     }
 
-    /// The lines that the bytes read as, or why there are none. If a push was refused the answer is out of memory. Otherwise it is so only
-    /// by sample, where the last samples are read and the lines are made now. The whole piece is judged, also after its last line. At most
-    /// seven bits may follow the code, of any value, which is this project's choice. A byte of 0x80 or more after 0xFF makes the piece
+    /// The lines that the bytes read as, or why there are none. If a push was refused the answer is out of memory. Otherwise it can be so
+    /// only by sample, where the last samples are read and the lines are made here. The whole piece is judged, also after its last line. At
+    /// most seven bits may follow the code, of any value, which is this project's choice. A byte of 0x80 or more after 0xFF makes the piece
     /// broken, wherever it is (ITU-T T.87, A.1).
     pub fn finish(self) -> Result<FinishedLines, PieceFault>
         ensures outcome { MatchOption self.bytes (result ≡ Err PieceFault.OutOfMemory)
@@ -226,8 +226,8 @@ impl PieceDecoder {
         }
     }
     /// What the bytes give if the input ends after them: the lines that they read as. If they read as none, it is the fault that `finish`
-    /// would answer, with the lines of their head. The only refusal is out of memory: if a push was refused, and by sample also here, where
-    /// the last samples are read and the lines are made now. By line no memory is taken.
+    /// would answer, with the lines of their head. The only refusal is out of memory, if a push was refused. By sample it can also come
+    /// here, where the last samples are read and the lines are made. By line no memory is taken.
     pub fn finish_cut(self) -> Result<PieceCutEnd, AllocError>
         ensures refused { IfNone self.bytes (IsErr result) }
         ensures cut_end { IfSome self.bytes (λ bytes. MatchResult result
