@@ -29,6 +29,7 @@ use Rattle.jls_piece.proofs.PixelPieces as of_pixel
 abbrev pub CutFinishes : PieceBytes → PieceCutEnd → Type 0
 CutFinishes z end = IfSome z.bytes (λ bytes. CutEndIs (piece_asked z) bytes end)
 
+-- how an interval by line ends, where it is cut off, is how the piece does
 line_cut : (i : IntervalShape) (bytes : List ℕ) (end : LineCutEnd) → line_end.CutEndIs i bytes end
     → CutEndIs (line_piece i) bytes (cut_of_line end)
 line_cut i bytes (line.Whole lines) h = of_line.reads_from i bytes lines h
@@ -36,6 +37,7 @@ line_cut i bytes (line.Head lines fault.Long) h = (of_line.long_from i bytes h.0
 line_cut i bytes (line.Head lines fault.Broken) h = (of_line.broken_from i bytes h.0, of_line.piece_head_from i bytes lines h.1)
 line_cut i bytes (line.Head lines fault.OutOfMemory) h = absurd h
 
+-- what a decoder by line answers at a cut is right for the piece
 pub line_cut_finishes : (d : IntervalBytes) (end : LineCutEnd) → IfSome d.bytes (λ b. line_end.CutEndIs (interval_asked d) b end)
     → CutFinishes (bytes_given (decoder.ByLine d)) (cut_of_line end)
 line_cut_finishes d end h = IfSome_then d.bytes h (λ b r. line_cut (interval_asked d) b end r)
@@ -49,6 +51,7 @@ module _ (i : PixelShape) (some : 0 < i.components) (rows : List (List (List ℕ
   whole_cut : (bytes : List ℕ) → PixelCutEndIs i bytes (pixel.Whole rows) → CutEndIs (pixel_piece i) bytes (Whole lines)
   whole_cut bytes h = rw same (of_pixel.reads_from i some bytes rows h)
 
+  -- the head of an interval by sample is the head of the piece
   head_cut : (bytes : List ℕ) (f : PixelFault) → PixelCutEndIs i bytes (pixel.Head rows f)
       → CutEndIs (pixel_piece i) bytes (Head lines (line_fault f))
   head_cut bytes pixel_fault.Long h = rw same (of_pixel.long_from i some bytes h.0, of_pixel.piece_head_from i some bytes rows h.1)

@@ -23,11 +23,13 @@ use Rattle.jls_piece.specs.Lines.{PieceShape, rows_of, AreOfWholeRows}
 use Rattle.jls_piece.specs.Code.{piece_code}
 use Rattle.jls_piece.proofs.PieceCodes.{line_code, sample_code, are_own_rows, rows_fill}
 
+-- what stands before nothing is nothing
 pub nothing_before : (xs ys : List Bool) → xs ++ ys ≡ [] → xs ≡ []
 nothing_before [] ys e = refl
 nothing_before (x ∷ xs) ys e = cc
 
 module _ (p : CodingParameters) (w c n : ℕ) (some : 0 < w) (any : 0 < n) where
+  -- the code of lines, at least one, is not empty
   lines_have_bits : (lines : List (List ℕ)) → AreLines p w n lines → code p w c lines ≡ [] → ⊥
   lines_have_bits lines are e =
       first (line.events w c lines) (lines_grow p w c n some lines are) (sym (line_code_is p w c n lines) ∙ e)
@@ -38,6 +40,7 @@ module _ (p : CodingParameters) (w c n : ℕ) (some : 0 < w) (any : 0 < n) where
           let h = ap (λ (z : line_growth.Position). length z.lines) l in let count = are.count_is in omega (arith, h, count)
       first (x ∷ es) l e = line_events_some p w c n some [] line_growth.start x refl l.0 (nothing_before _ _ e)
 
+  -- the code of rows, at least one, is not empty
   rows_have_bits : 0 < c → (rows : List (List (List ℕ))) → AreRows p w c n rows → pixel_code p w c rows ≡ [] → ⊥
   rows_have_bits least rows are e =
       first (pixel.events w c rows) (rows_grow p w c n some rows are) (sym (pixel_code_is p w c n rows) ∙ e)
@@ -48,6 +51,7 @@ module _ (p : CodingParameters) (w c n : ℕ) (some : 0 < w) (any : 0 < n) where
           let h = ap (λ (z : pixel_growth.Position). length z.rows) l in let count = are.count_is in omega (arith, h, count)
       first (x ∷ es) l e = pixel_events_some p w c n some least [] pixel_growth.start x refl l.0 (nothing_before _ _ e)
 
+-- the code of whole rows, at least one, is not empty
 pub codes_have_bits : (i : PieceShape) → 0 < i.width → 0 < i.components → 0 < i.line_count → (lines : List (List ℕ))
     → AreLines i.params i.width i.line_count lines → AreOfWholeRows i lines → piece_code i lines ≡ [] → ⊥
 codes_have_bits i some least any lines are whole e =

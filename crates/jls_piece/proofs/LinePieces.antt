@@ -22,6 +22,7 @@ module _ (i : IntervalShape) where
       → line.BeginsWithCode i piece lines unread
   begins_to piece lines unread b = record { are_bytes = b.are_bytes; are_lines = b.are_lines; data_bits = b.data_bits }
 
+  -- a piece that begins with the code of lines as an interval does so by line
   begins_from : (piece : List ℕ) (lines : List (List ℕ)) (unread : List Bool) → line.BeginsWithCode i piece lines unread
       → BeginsWithCode own piece lines unread
   begins_from piece lines unread b =
@@ -35,6 +36,7 @@ module _ (i : IntervalShape) where
   reads_from piece lines r =
       record { unread = r.unread; begins = begins_from piece lines r.unread r.begins; at_most_seven = r.at_most_seven }
 
+  -- a piece by line that is too long is an interval that is
   long_to : (piece : List ℕ) → IsLong own piece → line.IsLong i piece
   long_to piece l = record {
     lines = l.lines;
@@ -43,6 +45,7 @@ module _ (i : IntervalShape) where
     more_than_seven = l.more_than_seven;
   }
 
+  -- an interval that is too long is a piece by line that is
   pub long_from : (piece : List ℕ) → line.IsLong i piece → IsLong own piece
   long_from piece l = record {
     lines = l.lines;
@@ -51,12 +54,14 @@ module _ (i : IntervalShape) where
     more_than_seven = l.more_than_seven;
   }
 
+  -- a piece by line that is broken is an interval that is
   broken_to : (piece : List ℕ) → IsBroken own piece → line.IsBroken i piece
   broken_to piece b = record {
     not_read = λ lines r. b.not_read lines (reads_from piece lines r);
     not_long = λ l. b.not_long (long_from piece l);
   }
 
+  -- an interval that is broken is a piece by line that is
   pub broken_from : (piece : List ℕ) → line.IsBroken i piece → IsBroken own piece
   broken_from piece b = record {
     not_read = λ lines r. b.not_read lines (reads_to piece lines r);
@@ -66,6 +71,7 @@ module _ (i : IntervalShape) where
   no_more_to : (bytes : List ℕ) → ReadsNoMore own bytes → line.ReadsNoMore i bytes
   no_more_to bytes h = λ more lines r. h more lines (reads_from _ lines r)
 
+  -- bytes that read as no lines of the interval, whatever follows, read as none of the piece
   pub no_more_from : (bytes : List ℕ) → line.ReadsNoMore i bytes → ReadsNoMore own bytes
   no_more_from bytes h = λ more lines r. h more lines (reads_to _ lines r)
 
@@ -124,6 +130,7 @@ module _ (i : IntervalShape) where
   piece_head_from piece head (inl (whole, h)) = inl (whole, head_from _ head h)
   piece_head_from piece head (inr (broken, e)) = inr (broken, e)
 
+  -- a piece by line is the interval of the same shape, in each of its words
   pub is_interval : IsInterval i
   is_interval = record {
     code_is = λ lines. refl;

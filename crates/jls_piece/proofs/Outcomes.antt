@@ -30,6 +30,7 @@ pub line_no_more : (d : IntervalBytes) → IfSome d.bytes (λ bytes. line.ReadsN
     → SaysNoMore (bytes_given (decoder.ByLine d))
 line_no_more d h = IfSome_then d.bytes h (λ bytes r. of_line.no_more_from (interval_asked d) bytes r)
 
+-- bytes that read as no rows, whatever follows, read as no lines
 pub pixel_no_more : (components : ℕ) (d : PixelBytes) → 0 < d.components
     → IfSome d.bytes (λ bytes. pixel.ReadsNoMore (pixels_asked d) bytes) → SaysNoMore (bytes_given (decoder.BySample components d))
 pixel_no_more components d some h = IfSome_then d.bytes h (λ bytes r. of_pixel.no_more_from (pixels_asked d) some bytes r)
@@ -42,6 +43,7 @@ Finishes z result =
     → MatchResult result (λ found. found ≡ lines) (λ f. (z.by_sample ≡ true) × (f ≡ fault.OutOfMemory)))
 
 module _ (i : IntervalShape) where
+  -- an outcome of an interval by line is one of the piece
   line_outcome : (bytes : List ℕ) (result : Result (List (List ℕ)) PieceFault) → line_fault.OutcomeIs i bytes result
       → OutcomeIs (line_piece i) bytes result
   line_outcome bytes (Ok lines) h = of_line.reads_from i bytes lines h
@@ -49,12 +51,14 @@ module _ (i : IntervalShape) where
   line_outcome bytes (Err fault.Broken) h = of_line.broken_from i bytes h
   line_outcome bytes (Err fault.OutOfMemory) h = absurd h
 
+  -- what a decoder by line answers of an interval it answers of the piece
   line_match : (bytes : Option (List ℕ)) (result : Result (List (List ℕ)) PieceFault)
       → MatchOption bytes (result ≡ Err fault.OutOfMemory) (λ b. line_fault.OutcomeIs i b result)
       → MatchOption bytes (result ≡ Err fault.OutOfMemory) (λ b. OutcomeIs (line_piece i) b result)
   line_match None result h = h
   line_match (Some b) result h = line_outcome b result h
 
+  -- what a decoder by line answers of an interval it answers of the piece by line
   line_found : (bytes : Option (List ℕ)) (result : Result (List (List ℕ)) PieceFault) (by_sample : Type 0)
       → IfSome bytes (λ b. (lines : List (List ℕ)) → line.Reads i b lines → MatchResult result (λ found. found ≡ lines) (λ f. ⊥))
       → IfSome bytes (λ b. (lines : List (List ℕ)) → Reads (line_piece i) b lines
@@ -79,6 +83,7 @@ module _ (i : PixelShape) (some : 0 < i.components) where
   rows_outcome None rows lines e refused h = absurd cc
   rows_outcome (Some b) rows lines e refused h = rw e (of_pixel.reads_from i some b rows h)
 
+  -- the rows that a decoder found are the lines of the piece
   pub rows_found : (bytes : Option (List ℕ)) (rows : List (List (List ℕ))) (lines : List (List ℕ)) → lines ≡ lines_of i.components rows
       → IfSome bytes (λ b. (wanted : List (List (List ℕ))) → pixel.Reads i b wanted → rows ≡ wanted) → Found i bytes (Ok lines)
   rows_found None rows lines e h = h
@@ -106,6 +111,7 @@ module _ (i : PixelShape) (some : 0 < i.components) where
   fault_outcome (Some b) pixel_fault.Broken refused h = of_pixel.broken_from i some b h
   fault_outcome (Some b) pixel_fault.OutOfMemory refused h = refl
 
+  -- a fault that a decoder by sample found is one of the piece
   pub fault_found : (bytes : Option (List ℕ)) (f : PixelFault)
       → IfSome bytes (λ b. (wanted : List (List (List ℕ))) → pixel.Reads i b wanted → f ≡ pixel_fault.OutOfMemory)
       → Found i bytes (Err (fault_of_rows f))
@@ -113,6 +119,7 @@ module _ (i : PixelShape) (some : 0 < i.components) where
   fault_found (Some b) f h = λ lines r.
       ap (λ z. fault_of_rows z) (h (rows_of i.width i.components lines) (of_pixel.reads_to i some b lines r))
 
+-- what a decoder by line answers at its end is right for the piece
 pub line_finishes : (d : IntervalBytes) (result : Result (List (List ℕ)) PieceFault)
     → MatchOption d.bytes (result ≡ Err fault.OutOfMemory) (λ b. line_fault.OutcomeIs (interval_asked d) b result)
     → IfSome d.bytes (λ b. (lines : List (List ℕ)) → line.Reads (interval_asked d) b lines
@@ -121,6 +128,7 @@ pub line_finishes : (d : IntervalBytes) (result : Result (List (List ℕ)) Piece
 line_finishes d result outcome found =
     (line_match (interval_asked d) d.bytes result outcome, line_found (interval_asked d) d.bytes result _ found)
 
+-- an answer is right by sample too, where only memory can be refused
 found_with : (bytes : Option (List ℕ)) (result : Result (List (List ℕ)) PieceFault) (P : List ℕ → List (List ℕ) → Type 0)
     → IfSome bytes (λ b. (lines : List (List ℕ)) → P b lines → MatchResult result (λ found. found ≡ lines) (λ f. f ≡ fault.OutOfMemory))
     → IfSome bytes (λ b. (lines : List (List ℕ)) → P b lines
@@ -129,6 +137,7 @@ found_with None result P h = h
 found_with (Some b) (Ok found) P h = h
 found_with (Some b) (Err f) P h = λ lines r. (refl, h lines r)
 
+-- what a decoder by sample answers at its end is right for the piece
 pub pixel_finishes : (components : ℕ) (d : PixelBytes) (result : Result (List (List ℕ)) PieceFault)
     → MatchOption d.bytes (result ≡ Err fault.OutOfMemory) (λ b. OutcomeIs (pixel_piece (pixels_asked d)) b result)
     → IfSome d.bytes (λ b. (lines : List (List ℕ)) → Reads (pixel_piece (pixels_asked d)) b lines

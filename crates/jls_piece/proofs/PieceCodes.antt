@@ -26,6 +26,7 @@ pub line_code : (i : PieceShape) (lines : List (List ℕ)) → i.by_sample ≡ f
     ≡ code i.params i.width i.components lines
 line_code i lines h = rw h refl
 
+-- the code by sample is that of the rows
 pub sample_code : (i : PieceShape) (lines : List (List ℕ)) → i.by_sample ≡ true
     → piece_code i lines ≡ pixel_code i.params i.width i.components (rows_of i.width i.components lines)
 sample_code i lines h = rw h refl
@@ -47,6 +48,7 @@ module _ (p : CodingParameters) (w c n : ℕ) (lines : List (List ℕ)) (are : A
   pub own_lines : lines_of c (rows_of w c lines) ≡ lines
   own_lines = ap (lines_of c) own_rows ∙ lines_again p w c (n / c) lines rows_fill are.each
 
+-- two lists of lines of one shape whose codes begin the same bits are one, and the rest of the bits is the same
 pub codes_apart : (i : PieceShape) → AreCodingParameters i.params → 0 < i.width → (xs ys : List (List ℕ)) (s t : List Bool)
     → AreLines i.params i.width i.line_count xs → AreOfWholeRows i xs → AreLines i.params i.width i.line_count ys → AreOfWholeRows i ys
     → piece_code i xs ++ s ≡ piece_code i ys ++ t → (xs ≡ ys) × (s ≡ t)
@@ -79,6 +81,7 @@ events_append w c before (x ∷ xs) ys =
     ∙ ap (λ z. events_after w c on xs ++ events_after w c z ys) (append_assoc before (x ∷ []) xs))
     ∙ sym (append_assoc own (events_after w c on xs) (events_after w c (before ++ x ∷ xs) ys))
 
+-- the bits of some events with more are those of the events, and then those of the others after them
 bits_append : (p : CodingParameters) (earlier xs ys : List Event)
     → bits_of_events p earlier (xs ++ ys) ≡ bits_of_events p earlier xs ++ bits_of_events p (earlier ++ xs) ys
 unfolding bits_of_events
@@ -89,6 +92,7 @@ bits_append p earlier (x ∷ xs) ys =
     ∙ ap (λ z. bits_of_events p (earlier ++ x ∷ []) xs ++ bits_of_events p z ys) (append_assoc earlier (x ∷ []) xs))
     ∙ sym (append_assoc (event_bits p earlier x) (bits_of_events p (earlier ++ x ∷ []) xs) (bits_of_events p (earlier ++ x ∷ xs) ys))
 
+-- the code of rows begins the code of these with more rows
 pixel_code_parts : (p : CodingParameters) (w c : ℕ) (xs ys : List (List (List ℕ)))
     → (tail : List Bool) × (pixel_code p w c (xs ++ ys) ≡ pixel_code p w c xs ++ tail)
 unfolding pixel_code
@@ -109,6 +113,7 @@ chunks_append c (suc n) m xs ys h =
     ap (λ z. first_chunks c z (xs ++ ys)) one ∙ ap (λ z. z ∷ first_chunks c (n + m) (drop c (xs ++ ys))) a
     ∙ ap (λ z. take c xs ∷ first_chunks c (n + m) z) b ∙ ap (λ z. take c xs ∷ z) r
 
+-- the rows of whole rows with more lines begin with the rows of the former
 pub first_rows_begin : (w c : ℕ) (xs ys : List (List ℕ)) → (n : ℕ) × (length xs ≡ n * c)
     → (others : List (List (List ℕ))) × (rows_of w c (xs ++ ys) ≡ rows_of w c xs ++ others)
 first_rows_begin w zero xs ys whole =
@@ -126,6 +131,7 @@ first_rows_begin w (suc k) xs ys whole =
           ∙ ap (λ z. z ++ first_rows w c m ys) (sym (rows_are w c xs)),
     )
 
+-- the code of whole rows begins the code of these with more lines
 pub code_parts : (i : PieceShape) (xs ys : List (List ℕ)) → AreOfWholeRows i xs
     → (tail : List Bool) × (piece_code i (xs ++ ys) ≡ piece_code i xs ++ tail)
 code_parts i xs ys whole =

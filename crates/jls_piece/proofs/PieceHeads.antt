@@ -13,6 +13,7 @@ use Rattle.jls_piece.specs.Laws.{IsCutCode}
 use Rattle.jls_piece.specs.Heads.{BeginsWithFirst, IsHead, IsHeadOfPiece}
 use Rattle.jls_piece.proofs.PieceCodes.{codes_apart, code_parts}
 
+-- a list is its first n items, and the others
 take_drop : (n : ℕ) (xs : List (List ℕ)) → n ≤ length xs
     → (prefix : List (List ℕ)) × (back : List (List ℕ)) × (xs ≡ prefix ++ back) × (length prefix ≡ n)
 take_drop zero xs h = ([], xs, refl, refl)
@@ -28,7 +29,7 @@ same_whole : (i : PieceShape) (xs ys : List (List ℕ)) → length xs ≡ length
 same_whole i xs ys e whole = λ h. (let r = whole h in (r.0, sym e ∙ r.1))
 
 module _ (i : PieceShape) (ok : AreCodingParameters i.params) (some : 0 < i.width) where
-  -- the same shape with so many lines
+  -- the shape of the piece with this number of lines
   abbrev of_lines : ℕ → PieceShape
   of_lines n = record i { line_count = n }
 
@@ -85,6 +86,7 @@ module _ (i : PieceShape) (ok : AreCodingParameters i.params) (some : 0 < i.widt
   pub no_head : (piece : List ℕ) (lines : List (List ℕ)) → Reads i piece lines → IsHeadOfPiece i piece []
   no_head piece lines r = inl (r.begins.data_bits.whole, inr (not_cut piece lines r, refl))
 
+  -- a piece that reads has an empty head
   pub read_has_none : (piece : List ℕ) (xs head : List (List ℕ)) → Reads i piece xs → IsHeadOfPiece i piece head → head ≡ []
   read_has_none piece xs head r (inl (whole, inl (cut, f))) = absurd (not_cut piece xs r cut)
   read_has_none piece xs head r (inl (whole, inr (none, e))) = e

@@ -20,12 +20,14 @@ module _ (i : PieceShape) (ok : AreCodingParameters i.params) (some : 0 < i.widt
   pub reads_once : (xs ys : List (List ℕ)) → Reads i piece xs → Reads i piece ys → xs ≡ ys
   reads_once xs ys a b = (begins_once xs ys a.unread b.unread a.begins b.begins).0
 
+  -- a piece that reads is not too long
   pub read_not_long : (xs : List (List ℕ)) → Reads i piece xs → IsLong i piece → ⊥
   read_not_long xs a b =
       let e = ap length (begins_once xs b.lines a.unread b.unread a.begins b.begins).1 in
       let l = a.at_most_seven in let m = b.more_than_seven in absurd (omega arith)
 
 module _ (i : PieceShape) (piece : List ℕ) where
+  -- a broken piece begins with the code of no lines
   pub broken_begins_with_none : IsBroken i piece → (lines : List (List ℕ)) (unread : List Bool) → BeginsWithCode i piece lines unread → ⊥
   broken_begins_with_none h lines unread b =
       elim (cases_lt 7 (length unread)) [

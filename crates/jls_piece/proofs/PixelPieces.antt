@@ -59,11 +59,13 @@ module _ (i : PixelShape) (some : 0 < i.components) where
 
   -- Reading -----------------------------------------------------------------------------------------
 
+  -- a piece by sample that begins with the code of lines begins with that of their rows
   begins_to : (piece : List ℕ) (lines : List (List ℕ)) (unread : List Bool) → BeginsWithCode own piece lines unread
       → pixel.BeginsWithCode i piece (rows_in lines) unread
   begins_to piece lines unread b =
       record { are_bytes = b.are_bytes; are_rows = are_rows i.row_count lines b.are_lines; data_bits = b.data_bits }
 
+  -- bits that begin with the code of rows begin with that of their lines
   begins_from : (piece : List ℕ) (rows : List (List (List ℕ))) (unread : List Bool) → pixel.BeginsWithCode i piece rows unread
       → BeginsWithCode own piece (lines_in rows) unread
   begins_from piece rows unread b = record {
@@ -85,6 +87,7 @@ module _ (i : PixelShape) (some : 0 < i.components) where
   reads_from piece rows r =
       record { unread = r.unread; begins = begins_from piece rows r.unread r.begins; at_most_seven = r.at_most_seven }
 
+  -- a piece by sample that is too long is an interval that is
   long_to : (piece : List ℕ) → IsLong own piece → pixel.IsLong i piece
   long_to piece l = record {
     rows = rows_in l.lines;
@@ -93,6 +96,7 @@ module _ (i : PixelShape) (some : 0 < i.components) where
     more_than_seven = l.more_than_seven;
   }
 
+  -- an interval that is too long is a piece by sample that is
   pub long_from : (piece : List ℕ) → pixel.IsLong i piece → IsLong own piece
   long_from piece l = record {
     lines = lines_in l.rows;
@@ -101,12 +105,14 @@ module _ (i : PixelShape) (some : 0 < i.components) where
     more_than_seven = l.more_than_seven;
   }
 
+  -- a piece by sample that is broken is an interval that is
   broken_to : (piece : List ℕ) → IsBroken own piece → pixel.IsBroken i piece
   broken_to piece b = record {
     not_read = λ rows r. b.not_read (lines_in rows) (reads_from piece rows r);
     not_long = λ l. b.not_long (long_from piece l);
   }
 
+  -- an interval that is broken is a piece by sample that is
   pub broken_from : (piece : List ℕ) → pixel.IsBroken i piece → IsBroken own piece
   broken_from piece b = record {
     not_read = λ lines r. b.not_read (rows_in lines) (reads_to piece lines r);
@@ -238,6 +244,7 @@ module _ (i : PixelShape) (some : 0 < i.components) where
     head_from rows (inl (cut, a)) = inl (cut_from cut, whole_from i.row_count cut.rows rows cut.are_rows a)
     head_from rows (inr (none, e)) = inr (λ cut. none (cut_to cut), ap (λ z. lines_in z) e)
 
+  -- the head of a piece by sample is the lines of its rows
   piece_head_lines : (piece : List ℕ) (head : List (List ℕ)) → IsHeadOfPiece own piece head → head ≡ lines_in (rows_in head)
   piece_head_lines piece head (inl (whole, h)) = head_lines _ head h
   piece_head_lines piece head (inr (broken, e)) =
@@ -247,11 +254,13 @@ module _ (i : PixelShape) (some : 0 < i.components) where
   piece_head_to piece head (inl (whole, h)) = inl (whole, head_to _ head h)
   piece_head_to piece head (inr (broken, e)) = inr (broken, ap (λ z. rows_in z) e ∙ none_again [])
 
+  -- the head of an interval by sample gives that of the piece
   pub piece_head_from : (piece : List ℕ) (rows : List (List (List ℕ))) → pixel_head.IsHeadOfPiece i piece rows
       → IsHeadOfPiece own piece (lines_in rows)
   piece_head_from piece rows (inl (whole, h)) = inl (whole, head_from _ rows h)
   piece_head_from piece rows (inr (broken, e)) = inr (broken, ap (λ z. lines_in z) e)
 
+  -- a piece by sample is the interval by sample of the same shape, in each of its words
   pub is_pixel_interval : IsPixelInterval i
   is_pixel_interval = record {
     reads = λ piece lines. (

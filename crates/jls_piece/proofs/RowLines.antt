@@ -55,11 +55,13 @@ turned_twice k lists all =
 
 -- Samples -------------------------------------------------------------------------------------------
 
+-- the samples at one place of lines in their range are in it
 samples_fit : (p : CodingParameters) (k place : ℕ) (lists : List (List ℕ)) → AllByRecursion (IsLine p k) lists
     → AllByRecursion (λ sample. sample ≤ p.maxval) (samples_of place lists)
 samples_fit p k place [] all = tt
 samples_fit p k place (list ∷ lists) all = (small_get list place p.maxval all.0.1, samples_fit p k place lists all.1)
 
+-- lines in their range, turned into pixels, are in theirs
 pub turned_fit : (p : CodingParameters) (k count : ℕ) (lists : List (List ℕ)) → AllByRecursion (IsLine p k) lists
     → AllByRecursion (IsLine p (length lists)) (turned count lists)
 unfolding turned
@@ -68,6 +70,7 @@ turned_fit p k count lists all =
     (λ place. (length-map lists (λ list. get_or list place 0), samples_fit p k place lists all))
     (range_with_len 0 count)
 
+-- lines in their range have the width
 lengths_of : (p : CodingParameters) (k : ℕ) (lists : List (List ℕ)) → AllByRecursion (IsLine p k) lists
     → AllByRecursion (λ list. length list ≡ k) lists
 lengths_of p k [] all = tt
@@ -75,12 +78,14 @@ lengths_of p k (list ∷ lists) all = (all.0.0, lengths_of p k lists all.1)
 
 -- Rows to lines -------------------------------------------------------------------------------------
 
+-- rows have as many lines as rows times components
 pub length_lines : (c : ℕ) (rows : List (List (List ℕ))) → length (lines_of c rows) ≡ length rows * c
 length_lines c [] = omega arith
 length_lines c (row ∷ rows) =
     let a = length-append (turned c row) (lines_of c rows) in let b = length_turned c row in let d = length_lines c rows in
     let e = suc-mul (length rows) c in omega (arith, a, b, d, e)
 
+-- the lines of rows in their range are in theirs
 lines_fit : (p : CodingParameters) (w c : ℕ) (rows : List (List (List ℕ))) → AllByRecursion (IsRow p w c) rows
     → AllByRecursion (IsLine p w) (lines_of c rows)
 lines_fit p w c [] all = tt
@@ -110,11 +115,13 @@ long_enough c n lines h = let e = suc-mul n c in omega arith
 others : (c n : ℕ) (lines : List (List ℕ)) → length lines ≡ suc n * c → length (drop c lines) ≡ n * c
 others c n lines h = let e = suc-mul n c in let d = length-drop c lines in omega arith
 
+-- what holds of all items holds of the first n
 all_take : {X : Type 0} (P : X → Type 0) (n : ℕ) (xs : List X) → AllByRecursion P xs → AllByRecursion P (take n xs)
 all_take P zero xs all = tt
 all_take P (suc n) [] all = tt
 all_take P (suc n) (x ∷ xs) all = (all.0, all_take P n xs all.1)
 
+-- what holds of all items holds of those after the first n
 all_drop : {X : Type 0} (P : X → Type 0) (n : ℕ) (xs : List X) → AllByRecursion P xs → AllByRecursion P (drop n xs)
 all_drop P zero xs all = all
 all_drop P (suc n) [] all = tt
@@ -134,6 +141,7 @@ lines_again p w c (suc n) lines h all =
     ∙ ap (λ z. own ++ z) (lines_again p w c n (drop c lines) (others c n lines h) (all_drop (IsLine p w) c lines all))
     ∙ take-append-drop c lines
 
+-- rows that are made of lines in their range are rows in theirs
 each_row : (p : CodingParameters) (w c n : ℕ) (lines : List (List ℕ)) → length lines ≡ n * c → AllByRecursion (IsLine p w) lines
     → AllByRecursion (IsRow p w c) (first_rows w c n lines)
 each_row p w c zero lines h all = tt
@@ -151,6 +159,7 @@ length_chunks : (c n : ℕ) (lines : List (List ℕ)) → length (first_chunks c
 length_chunks c zero lines = refl
 length_chunks c (suc n) lines = ap suc (length_chunks c n (drop c lines))
 
+-- whole rows of lines in their range are rows in theirs
 pub are_first_rows : (p : CodingParameters) (w c n : ℕ) (lines : List (List ℕ)) → length lines ≡ n * c → AllByRecursion (IsLine p w) lines
     → AreRows p w c n (first_rows w c n lines)
 are_first_rows p w c n lines h all = record {
@@ -184,6 +193,7 @@ whole_count (suc c) n x h =
 pub count_of : (c n x : ℕ) → 0 < c → x ≡ n * c → x / c ≡ n
 count_of c n x some h = ap (λ z. z / c) h ∙ mul-div_cancel n some
 
+-- lines of whole rows are the lines of some rows
 pub lines_have_rows : (p : CodingParameters) (w c n : ℕ) (lines : List (List ℕ)) → 0 < c → AreLines p w (n * c) lines
     → AreRows p w c n (rows_of w c lines) × (lines_of c (rows_of w c lines) ≡ lines)
 lines_have_rows p w c n lines some are =
@@ -193,6 +203,7 @@ lines_have_rows p w c n lines some are =
       ap (lines_of c) e ∙ lines_again p w c n lines are.count_is are.each,
     )
 
+-- rows are those of their lines
 pub rows_are_one : (p : CodingParameters) (w c n : ℕ) (rows : List (List (List ℕ))) → 0 < c → AreRows p w c n rows
     → rows_of w c (lines_of c rows) ≡ rows
 rows_are_one p w c n rows some are =
@@ -209,6 +220,7 @@ pub turned_none : (lists : List (List ℕ)) → turned 0 lists ≡ []
 unfolding turned
 turned_none lists = refl
 
+-- the lines of rows and one more are those of the rows, and then its own
 pub lines_more : (c : ℕ) (rows : List (List (List ℕ))) (row : List (List ℕ))
     → lines_of c (rows ++ row ∷ []) ≡ lines_of c rows ++ turned c row
 lines_more c [] row = append-nil (turned c row)

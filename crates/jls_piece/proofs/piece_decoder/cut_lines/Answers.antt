@@ -7,6 +7,7 @@ use Rattle.jls_piece.specs.declared.cut_end.PieceCutEnd.TheVariants.{Head}
 use Rattle.jls_piece.proofs.CutOutcomes.{PixelCutFinishes, whole_cut_finishes, head_cut_finishes}
 use Rattle.jls_piece.proofs.piece_decoder.cut_lines.Goals as goal
 
+-- the rows are all there, and are the lines
 pub returns-in_ok-finished_lines-in-Whole-clause-cut_end : goal.returns-in_ok-finished_lines-in-Whole-clause-cut_end
 returns-in_ok-finished_lines-in-Whole-clause-cut_end c =
     let d = c.args.decoder in let same = c.requires.components in
@@ -16,6 +17,7 @@ returns-in_ok-finished_lines-in-Whole-clause-cut_end c =
     whole_cut_finishes d some c.in-Whole.rows lines
     (subst (λ n. lines ≡ lines_of n c.in-Whole.rows) same c.in_ok-finished_lines-in-Whole.ensures) said
 
+-- the rows of the head are its lines
 pub returns-in_ok-lines-in-Head-clause-cut_end : goal.returns-in_ok-lines-in-Head-clause-cut_end
 returns-in_ok-lines-in-Head-clause-cut_end c =
     let d = c.args.decoder in let same = c.requires.components in

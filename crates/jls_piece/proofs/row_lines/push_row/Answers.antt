@@ -10,6 +10,7 @@ loop-component-init c =
     let before = map (λ v. v.items) c.args.lines.now.items in
     sym (ap (λ z. before ++ z) (turned_none c.args.row.now) ∙ append-nil before)
 
+-- the line of one component more is pushed
 pub loop-component-preserved : goal.loop-component-preserved
 loop-component-preserved c =
     let before = map (λ v. v.items) c.args.lines.now.items in

@@ -9,6 +9,7 @@ returns-in-ByLine c = λ h.
     let view = subst (λ kind. bytes_given kind ≡ c.args.self.now) c.in-ByLine.is c.self.view_is in
     subst SaysNoMore view (line_no_more c.in-ByLine.decoder (c.reads_no_more.ensures h))
 
+-- by sample: the bytes read as no rows, whatever follows
 pub returns-in-BySample : goal.returns-in-BySample
 returns-in-BySample c = λ h.
     let view = subst (λ kind. bytes_given kind ≡ c.args.self.now) c.in-BySample.is c.self.view_is in
