@@ -58,7 +58,7 @@ pub fn never_ended()
     ensures { NeverEnded }
 {}
 
-/// The restart intervals of a scan part its lines: each line is a row of exactly one, and each row of one is a line.
+/// The restart intervals of a scan part its lines. Each line is a row of exactly one interval, and each row of an interval is a line.
 pub fn intervals_part_the_lines()
     ensures { IntervalsPartTheLines }
 {}
