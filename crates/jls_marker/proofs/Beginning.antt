@@ -33,7 +33,7 @@ pub bytes_below : (n : ℕ) (cs : List ℕ) → n ≤ 4 → AllByRecursion (λ c
 bytes_below n [] few h = tt
 bytes_below n (c ∷ cs) few h = (let a = h.0 in omega arith, bytes_below n cs few h.1)
 
--- the same of lists that are the frame's and the scan's
+-- what the test says of lists that are the frame's and the scan's it says of these
 pub known_there : (xs ys frame_ids ids : List ℕ) → xs ≡ frame_ids → ys ≡ ids → true ≡ are_known xs ys → are_known frame_ids ids ≡ true
 known_there xs ys frame_ids ids p q e = ap (λ (x : List ℕ). are_known x ids) (sym p) ∙ ap (are_known xs) (sym q) ∙ sym e
 
@@ -53,11 +53,13 @@ bad_params f p r n s e known bad = let b : is_ok (params_of f.precision p) ≡ f
 abbrev pub samples : PictureShape → PresetParameters → ℕ → ScanSelection → ℕ
 samples f p r s = f.width * length s.ids * row_count (scan_in f p r s) 0
 
+-- where an interval is too large, that is the fault
 pub too_large : (f : PictureShape) (p : PresetParameters) (r n : ℕ) (s : ScanSelection) → are_known f.ids s.ids ≡ true
     → is_ok (params_of f.precision p) ≡ true → 2 ^ 28 < samples f p r s
     → scan_judged f p r n s ≡ Err fault.IntervalTooLarge
 too_large f p r n s known fine large = let e : nat_le (samples f p r s) (2 ^ 28) ≡ false = lt-leb _ _ large in rw (known, fine, e) refl
 
+-- where only the number of scans is too large, that is the fault
 pub too_many : (f : PictureShape) (p : PresetParameters) (r n : ℕ) (s : ScanSelection) → are_known f.ids s.ids ≡ true
     → is_ok (params_of f.precision p) ≡ true → samples f p r s ≤ 2 ^ 28 → 16 ≤ n
     → scan_judged f p r n s ≡ Err fault.TooManyScans
@@ -70,6 +72,7 @@ too_many f p r n s known fine small many =
 abbrev pub ok_scan : Scan → Result Scan MarkerFault
 ok_scan x = Ok x
 
+-- where no test fails, the scan begins that the header selects
 pub begins : (f : PictureShape) (p : PresetParameters) (r n : ℕ) (s : ScanSelection) (cs : List ℕ) (params : CodingParameters)
     → are_known f.ids s.ids ≡ true → cs ≡ map (index_of f.ids) s.ids → params_of f.precision p ≡ Ok params → samples f p r s ≤ 2 ^ 28 → n
     < 16

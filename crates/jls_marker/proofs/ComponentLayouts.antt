@@ -33,6 +33,7 @@ pub frame_components_again : (cs : List FrameComponent) → frame_components (fl
 frame_components_again [] = refl
 frame_components_again (c ∷ cs) = ap (λ (t : List FrameComponent). c ∷ t) (frame_components_again cs)
 
+-- a component of a frame header has three bytes
 length-frame_bytes : (cs : List FrameComponent) → length (flat_map frame_component_bytes cs) ≡ 3 * length cs
 length-frame_bytes [] = refl
 length-frame_bytes (c ∷ cs) = let r = length-frame_bytes cs in omega arith
@@ -40,6 +41,7 @@ length-frame_bytes (c ∷ cs) = let r = length-frame_bytes cs in omega arith
 abbrev frame_made : ℕ → ℕ → ℕ → List FrameComponent → Option FrameHeader
 frame_made p y x cs = Some (record { precision = p; height = y; width = x; components = cs })
 
+-- the bytes of a frame header are read as that header
 pub frame_header_again : (h : FrameHeader) → h.height < 2 ^ 16 → h.width < 2 ^ 16 → frame_header (frame_header_bytes h) ≡ Some h
 frame_header_again h p q =
     let body = flat_map frame_component_bytes h.components in
@@ -49,6 +51,7 @@ frame_header_again h p q =
     ∙ ap (λ (x : ℕ). frame_made h.precision h.height x (frame_components body)) (from_be_bytes-to_be_bytes_2 h.width q)
     ∙ ap (λ (cs : List FrameComponent). frame_made h.precision h.height h.width cs) (frame_components_again h.components)
 
+-- bytes of a frame header's length have its layout, with the fields at their places
 frame_layout : (p y1 y0 x1 x0 n : ℕ) (body : List ℕ) → AreBytes (p ∷ y1 ∷ y0 ∷ x1 ∷ x0 ∷ n ∷ body) → length body ≡ 3 * n
     → HasFrameLayout (p ∷ y1 ∷ y0 ∷ x1 ∷ x0 ∷ n ∷ body)
     (record { precision = p; height = u16_of y1 y0; width = u16_of x1 x0; components = frame_components body })
@@ -69,6 +72,7 @@ frame_layout p y1 y0 x1 x0 n body b e =
       width_below = word_below x1 x0 fx1 fx0;
     }
 
+-- what is read as a frame header has its layout
 pub frame_header_there : (payload : List ℕ) (h : FrameHeader) → AreBytes payload → frame_header payload ≡ Some h → HasFrameLayout payload h
 frame_header_there [] h b e = absurd cc
 frame_header_there (p ∷ []) h b e = absurd cc
@@ -110,6 +114,7 @@ scan_made xs a b c = Some (record { components = scan_components xs; near = a; i
 abbrev scan_test : ℕ → ℕ → Bool
 scan_test n l = nat_le 1 n && (nat_le n 4 && eqb l (2 * n + 3))
 
+-- the bytes of a scan header are read as that header
 pub scan_header_again : (h : ScanHeader) → 1 ≤ length h.components → length h.components ≤ 4 → scan_header (scan_header_bytes h) ≡ Some h
 scan_header_again h p q =
     let n = length h.components in
@@ -136,6 +141,7 @@ scan_header_again h p q =
     scan_with : List ScanComponent → Option ScanHeader
     scan_with cs = Some (record { components = cs; near = h.near; interleave = h.interleave; approximation = h.approximation })
 
+-- three bytes are the first, the second and the third of them
 three_of : (xs : List ℕ) → length xs ≡ 3 → xs ≡ get_or xs 0 0 ∷ get_or xs 1 0 ∷ get_or xs 2 0 ∷ []
 three_of [] e = absurd (omega arith)
 three_of (a ∷ []) e = absurd (omega arith)
@@ -143,6 +149,7 @@ three_of (a ∷ b ∷ []) e = absurd (omega arith)
 three_of (a ∷ b ∷ c ∷ []) e = refl
 three_of (a ∷ b ∷ c ∷ d ∷ xs) e = absurd (omega arith)
 
+-- bytes of a scan header's length have its layout, with the fields at their places
 scan_layout : (n : ℕ) (body : List ℕ) → 1 ≤ n → n ≤ 4 → length body ≡ 2 * n + 3
     → HasScanLayout (n ∷ body) (record {
       components = scan_components (take (2 * n) body);
@@ -177,6 +184,7 @@ scan_layout n body p q e =
       components_at_most = omega (arith, count);
     }
 
+-- what is read as a scan header has its layout
 pub scan_header_there : (payload : List ℕ) (h : ScanHeader) → scan_header payload ≡ Some h → HasScanLayout payload h
 scan_header_there [] h e = absurd cc
 scan_header_there (n ∷ body) h e =

@@ -47,6 +47,7 @@ preset_fault : (o : Option PresetParameters) (f : MarkerFault) → preset_of o �
 preset_fault None f e = ap is_other (sym (refused_is fault.Length f e))
 preset_fault (Some p) f e = absurd cc
 
+-- an LSE is refused neither as unknown nor as ended
 lse_fault : (payload : List ℕ) (f : MarkerFault) → lse_of payload ≡ Err f → is_other f ≡ true
 lse_fault [] f e = ap is_other (sym (refused_is fault.Length f e))
 lse_fault (id ∷ values) f e = by_id (id == 1) e
@@ -62,7 +63,7 @@ restart_fault : (o : Option ℕ) (f : MarkerFault) → restart_of o ≡ Err f �
 restart_fault None f e = ap is_other (sym (refused_is fault.Length f e))
 restart_fault (Some n) f e = absurd cc
 
--- so an unknown code is reported of a code without a segment alone
+-- an unknown code is reported only of a code without a segment
 module _ (profile : Profile) (code : ℕ) (payload : List ℕ) where
   abbrev from_skipped : Result Segment MarkerFault
   from_skipped = cond (is_skipped code) (Ok (segment.Skipped code)) (Err UnknownMarker)
@@ -76,6 +77,7 @@ module _ (profile : Profile) (code : ℕ) (payload : List ℕ) where
   abbrev from_sos : Result Segment MarkerFault
   from_sos = cond (eqb code sos) (scan_of profile (scan_header payload)) from_lse
 
+  -- only a code that has no segment is refused as unknown
   unknown : segment_under profile code payload ≡ Err UnknownMarker → has_segment code ≡ false
   unfolding has_segment
   unknown e = at_frame (eqb code sof55) refl e
@@ -109,6 +111,7 @@ module _ (profile : Profile) (code : ℕ) (payload : List ℕ) where
       at_frame true e h = absurd (other (frame_fault (frame_header payload) UnknownMarker h))
       at_frame false e h = at_sos e (eqb code sos) refl h
 
+  -- a code without a segment is refused as unknown
   known_not : has_segment code ≡ false → segment_under profile code payload ≡ Err UnknownMarker
   unfolding has_segment
   known_not e =
@@ -121,6 +124,7 @@ module _ (profile : Profile) (code : ℕ) (payload : List ℕ) where
 pub unknown_codes_under : (profile : Profile) → UnknownCodesUnder profile
 unknown_codes_under profile code payload = (unknown profile code payload, known_not profile code payload)
 
+-- the law: a code is unknown exactly where it has no segment
 pub unknown_codes : UnknownCodes
 unknown_codes = unknown_codes_under Strict
 
@@ -133,6 +137,7 @@ is_not_end _ = true
 not_end : (f : MarkerFault) → is_other f ≡ true → f ≡ Ended → ⊥
 not_end f e same = let g : false ≡ true = sym (ap is_other same) ∙ e in absurd cc
 
+-- no payload is refused as one that ends too early
 segment_not_ended : (profile : Profile) (code : ℕ) (payload : List ℕ) → segment_under profile code payload ≡ Err Ended → ⊥
 segment_not_ended profile code payload e = at_frame (eqb code sof55) e
   where
@@ -159,6 +164,7 @@ segment_not_ended profile code payload e = at_frame (eqb code sof55) e
     at_frame true h = other (frame_fault (frame_header payload) Ended h)
     at_frame false h = at_sos (eqb code sos) h
 
+-- no scan that begins is refused as one that ends too early
 begun_not_ended : (h : HeaderState) (s : ScanSelection) (o : Option PictureShape) → begun h (scan_under h s o) ≡ Err Ended → ⊥
 begun_not_ended h s None e = absurd cc
 begun_not_ended h s (Some f) e =
@@ -177,6 +183,7 @@ begun_not_ended h s (Some f) e =
         fault_of : (g : MarkerFault) → begun h (Err g) ≡ Err Ended → g ≡ Ended
         fault_of g e = cc
 
+-- no segment is refused by the headers as one that ends too early
 accepted_not_ended : (h : HeaderState) (s : Segment) → accepted h s ≡ Err Ended → ⊥
 accepted_not_ended h (segment.Frame f) e =
     let g : is_not_end Ended ≡ true =
@@ -187,6 +194,7 @@ accepted_not_ended h (segment.Preset a b c d f) e = absurd cc
 accepted_not_ended h (segment.Restart n) e = absurd cc
 accepted_not_ended h (segment.Skipped c) e = absurd cc
 
+-- no segment is refused by the headers as one that ends too early
 taking_not_ended : (h : HeaderState) (code : ℕ) (payload : List ℕ) (r : Result Segment MarkerFault)
     → segment_under h.profile code payload ≡ r
     → taking h r ≡ Err Ended → ⊥

@@ -17,6 +17,7 @@ fine x = Ok x
 pub fine_is : {A : Type 0} (x y : A) → fine x ≡ fine y → x ≡ y
 fine_is x y e = cc
 
+-- where the answer is a value, all tests passed, and it is that value
 pub all_pass : {A : Type 0} (tests : List (Bool × MarkerFault)) (v w : A) → first_failing tests v ≡ Ok w → Pass tests × (v ≡ w)
 all_pass [] v w e = (tt, fine_is v w e)
 all_pass ((true, f) ∷ tests) v w e = let rest = all_pass tests v w e in ((refl, rest.0), rest.1)

@@ -44,6 +44,7 @@ began h after scan (Err f) e = absurd cc
 
 -- ---- a frame stays
 
+-- a frame is taken only where there is none
 first_frame : (h after : HeaderState) (scan : Option Scan) (f g : PictureShape) → accepted h (segment.Frame g) ≡ Ok (after, scan)
     → h.frame ≡ Some f → ⊥
 first_frame h after scan f g e framed =
@@ -51,6 +52,7 @@ first_frame h after scan f g e framed =
     let n : false ≡ true = sym (ap is_none framed) ∙ t.0.0 in
     absurd cc
 
+-- a frame that was taken stays after each segment that is taken
 stays : (h after : HeaderState) (scan : Option Scan) (f : PictureShape) (s : Segment) → accepted h s ≡ Ok (after, scan) → h.frame ≡ Some f
     → after.frame ≡ Some f
 stays h after scan f (segment.Frame g) e framed = absurd (first_frame h after scan f g e framed)
@@ -63,11 +65,13 @@ stays h after scan f (segment.Restart n) e framed =
     ap (λ (x : HeaderState). x.frame) (sym (parts (record h { restart_interval = n }, None) (after, scan) e).0) ∙ framed
 stays h after scan f (segment.Skipped c) e framed = ap (λ (x : HeaderState). x.frame) (sym (parts (h, None) (after, scan) e).0) ∙ framed
 
+-- a frame that was taken stays after what is taken
 taking_stays : (h after : HeaderState) (scan : Option Scan) (f : PictureShape) (r : Result Segment MarkerFault)
     → taking h r ≡ Ok (after, scan) → h.frame ≡ Some f → after.frame ≡ Some f
 taking_stays h after scan f (Ok s) e framed = stays h after scan f s e framed
 taking_stays h after scan f (Err g) e framed = absurd cc
 
+-- the law: a frame that was taken stays
 pub frame_stays : (h after : HeaderState) (code : ℕ) (payload : List ℕ) (scan : Option Scan) (f : PictureShape)
     → headers_after h code payload ≡ Ok (after, scan) → h.frame ≡ Some f → after.frame ≡ Some f
 unfolding headers_after
@@ -82,6 +86,7 @@ pub record From (h after : HeaderState) (scan : Scan) (s : ScanSelection) : Type
   pub counted : after ≡ record h { scans = h.scans + 1 }
   pub judged : scan_judged frame h.preset h.restart_interval h.scans s ≡ Ok scan
 
+-- a scan that begins under a frame comes from this selection
 from_scan : (h after : HeaderState) (scan : Scan) (s : ScanSelection) (o : Option PictureShape) → h.frame ≡ o
     → begun h (scan_under h s o) ≡ Ok (after, Some scan) → From h after scan s
 from_scan h after scan s None framed e = absurd cc
@@ -92,6 +97,7 @@ from_scan h after scan s (Some f) framed e =
     same : (x : Scan) → Some scan ≡ Some x → x ≡ scan
     same x e = cc
 
+-- a scan that begins comes from an SOS, under the headers before it
 from_segment : (h after : HeaderState) (scan : Scan) (s : Segment) → accepted h s ≡ Ok (after, Some scan)
     → (x : ScanSelection) × (s ≡ segment.Scan x) × From h after scan x
 from_segment h after scan (segment.Frame g) e =
@@ -105,11 +111,13 @@ from_segment h after scan (segment.Restart n) e =
     absurd (not_some scan (parts (record h { restart_interval = n }, None) (after, Some scan) e).1)
 from_segment h after scan (segment.Skipped c) e = absurd (not_some scan (parts (h, None) (after, Some scan) e).1)
 
+-- a scan that begins comes from a scan header
 pub from_taken : (h after : HeaderState) (scan : Scan) (r : Result Segment MarkerFault) → taking h r ≡ Ok (after, Some scan)
     → (x : ScanSelection) × (r ≡ Ok (segment.Scan x)) × From h after scan x
 from_taken h after scan (Ok s) e = let f = from_segment h after scan s e in (f.0, ap fine f.1, f.2)
 from_taken h after scan (Err g) e = absurd cc
 
+-- a scan that begins is one of the frame, with the restart interval in force
 scan_of_frame : (f : PictureShape) (h : HeaderState) (s : ScanSelection) (scan : Scan)
     → scan_judged f h.preset h.restart_interval h.scans s ≡ Ok scan
     → IsScanOf f scan × (scan.restart_interval ≡ h.restart_interval)
@@ -119,6 +127,7 @@ scan_of_frame f h s scan e =
     record { precision = refl; width = refl; height = refl; components_below = indices_below f.ids s.ids t.0.0 } in
     (subst (IsScanOf f) t.1 is, ap (λ (x : Scan). x.restart_interval) (sym t.1))
 
+-- the law: a scan begins under a frame alone, and changes only the number of scans
 pub scans_begin : (h after : HeaderState) (code : ℕ) (payload : List ℕ) (scan : Scan) → headers_after h code payload ≡ Ok (after, Some scan)
     → Begins h after scan
 unfolding headers_after
@@ -127,6 +136,7 @@ scans_begin h after code payload scan e =
     let k = scan_of_frame t.2.frame h t.0 scan t.2.judged in
     record { frame = t.2.frame; framed = t.2.framed; counted = t.2.counted; is_of_frame = k.0; restart_interval = k.1 }
 
+-- a scan that begins is in its ranges, if the frame and the selection are in theirs
 in_range : (f : PictureShape) (h : HeaderState) (s : ScanSelection) (scan : Scan) → IsShape f → IsScanSelection s
     → scan_judged f h.preset h.restart_interval h.scans s ≡ Ok scan → IsScan scan
 in_range f h s scan is sel e =
@@ -142,6 +152,7 @@ in_range f h s scan is sel e =
     (subst (λ (n : ℕ). f.width * n * row_count x 0 ≤ 2 ^ 28) (sym count) samples) in
     subst IsScan t.1 whole
 
+-- the law: a scan that begins is in its ranges
 pub scans_are_in_range : (h after : HeaderState) (code : ℕ) (payload : List ℕ) (scan : Scan) → IsHeaderState h → AreBytes payload
     → headers_after h code payload ≡ Ok (after, Some scan) → IsScan scan
 unfolding headers_after
@@ -152,6 +163,7 @@ scans_are_in_range h after code payload scan is bytes e =
 
 -- ---- other segments count no scan
 
+-- a segment that begins no scan leaves the number of scans as it is
 counts_none : (h after : HeaderState) (s : Segment) → accepted h s ≡ Ok (after, None) → after.scans ≡ h.scans
 counts_none h after (segment.Frame g) e =
     let t = all_pass ((is_none h.frame, fault.SecondFrame) ∷ []) (record h { frame = Some g }, None) (after, None) e in
@@ -168,6 +180,7 @@ taking_counts_none : (h after : HeaderState) (r : Result Segment MarkerFault) �
 taking_counts_none h after (Ok s) e = counts_none h after s e
 taking_counts_none h after (Err g) e = absurd cc
 
+-- the law: a segment that begins no scan leaves their number
 pub others_count_none : (h after : HeaderState) (code : ℕ) (payload : List ℕ) → headers_after h code payload ≡ Ok (after, None)
     → after.scans ≡ h.scans
 unfolding headers_after

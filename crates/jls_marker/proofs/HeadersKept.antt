@@ -24,6 +24,7 @@ use Rattle.std.specs.Prelude.{is_none, List, [], ◌∷◌}
 abbrev After : Type 0
 After = HeaderState × Option Scan
 
+-- two outcomes that are alike leave the same headers
 left : (x y : After) → fine x ≡ fine y → x.0 ≡ y.0
 left x y e = ap (λ (z : After). z.0) (fine_is x y e)
 
@@ -35,6 +36,7 @@ InRange (segment.Preset a b c d r) = ArePresetParameters (record { maxval = a; t
 InRange (segment.Restart n) = n < 2 ^ 32
 InRange (segment.Skipped c) = Unit {0}
 
+-- a number of two to four bytes has 32 bits
 four_bytes : (l n : ℕ) → 2 ≤ l → l ≤ 4 → n < 256 ^ l → n < 2 ^ 32
 four_bytes l n least most h = elim (cases_eq l 2) [
   | inl e ↦ (let a : n < 256 ^ 2 = subst (λ z. n < 256 ^ z) e h in omega arith)
@@ -44,6 +46,7 @@ four_bytes l n least most h = elim (cases_eq l 2) [
   ]
 ]
 
+-- what a payload says is in its ranges
 in_range : (profile : Profile) (code : ℕ) (payload : List ℕ) (s : Segment) → IsPayloadUnder profile code payload s → InRange s
 in_range profile code payload (segment.Frame f) h = h.1.2.in_range
 in_range profile code payload (segment.Scan s) h = tt
@@ -51,6 +54,7 @@ in_range profile code payload (segment.Preset a b c d r) h = h.1.2.in_range
 in_range profile code payload (segment.Restart n) h = four_bytes (length payload) n h.1.length_at_least h.1.length_at_most h.1.below
 in_range profile code payload (segment.Skipped c) h = tt
 
+-- headers with a frame in its ranges are in theirs
 framed : (h : HeaderState) (g : PictureShape) → IsHeaderState h → IsShape g → IsHeaderState (record h { frame = Some g })
 framed h g is shape = record {
   frame = λ f e. subst IsShape (same f e) shape;
@@ -76,6 +80,7 @@ scans_few h after scan s (Some f) e = judged (scan_judged f h.preset h.restart_i
         (ltb-true _ _ t.0.1.1.1.0, sym (left (record h { scans = h.scans + 1 }, Some x) (after, scan) e))
     judged (Err g) is e = absurd cc
 
+-- headers in their ranges stay in them after each segment that is taken
 accepted_kept : (h after : HeaderState) (scan : Option Scan) (s : Segment) → IsHeaderState h → InRange s → accepted h s ≡ Ok (after, scan)
     → IsHeaderState after
 accepted_kept h after scan (segment.Frame g) is low e =
@@ -94,6 +99,7 @@ accepted_kept h after scan (segment.Restart n) is low e =
     (record { frame = is.frame; preset = is.preset; restart_below = low; scans_at_most = is.scans_at_most })
 accepted_kept h after scan (segment.Skipped c) is low e = subst IsHeaderState (left (h, None) (after, scan) e) is
 
+-- headers in their ranges stay in them, if the segment is in its own
 taking_kept : (h after : HeaderState) (scan : Option Scan) (r : Result Segment MarkerFault) → ((s : Segment) → r ≡ Ok s → InRange s)
     → IsHeaderState h → taking h r ≡ Ok (after, scan) → IsHeaderState after
 taking_kept h after scan (Ok s) known is e = accepted_kept h after scan s is (known s refl) e

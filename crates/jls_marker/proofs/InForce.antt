@@ -30,6 +30,7 @@ other_sets h new after s none frame interval preset left = subst (λ (z : Header
   no_frame = λ is. frame;
 })
 
+-- a segment that is taken sets its own value, and leaves the others as they are
 sets : (h after : HeaderState) (scan : Option Scan) (s : Segment) → accepted h s ≡ Ok (after, scan) → SetsItsOwn h after s
 sets h after scan (segment.Frame g) e =
     let t = all_pass ((is_none h.frame, fault.SecondFrame) ∷ []) (record h { frame = Some g }, None) (after, scan) e in
@@ -66,6 +67,7 @@ none_broken : (p : CodingParameters) (o : Option ParamFault) → is_ok (params_i
 none_broken p None e = refl
 none_broken p (Some f) e = absurd cc
 
+-- a scan that begins has the parameters and the restart interval that are in force
 has : (h : HeaderState) (f : PictureShape) (s : ScanSelection) (scan : Scan) → scan_judged f h.preset h.restart_interval h.scans s ≡ Ok scan
     → HasWhatIsInForce h f s scan
 has h f s scan e =
@@ -84,6 +86,7 @@ some f = Some f
 some_same : (f g : PictureShape) → some f ≡ some g → f ≡ g
 some_same f g e = cc
 
+-- the law: a scan that an SOS begins has what its header selects and what is in force
 pub scans_have_what_is_in_force : (h after : HeaderState) (code : ℕ) (payload : List ℕ) (scan : Scan) → headers_after h code payload
     ≡ Ok (after, Some scan)
     → (s : ScanSelection) × (segment_under h.profile code payload ≡ Ok (segment.Scan s))

@@ -26,6 +26,7 @@ pub record HasInterleave (profile : Profile) (count k : ℕ) : Type 0 where
   pub several : (k == 2) ≡ true → 1 < count
   pub of_profile : (ids : List ℕ) → IsOfProfile profile (selecting ids (k == 1) (k == 2))
 
+-- a scan of one component can have ILV 0
 none : (profile : Profile) (count : ℕ) → count ≤ 1 → HasInterleave profile count 0
 none profile count one = record {
   again = refl;
@@ -35,6 +36,7 @@ none profile count one = record {
   of_profile = λ ids. of_each profile (selecting ids false false) refl;
 }
 
+-- each scan can have ILV 1
 by_line : (profile : Profile) (count : ℕ) → HasInterleave profile count 1
 by_line profile count = record {
   again = refl;
@@ -44,6 +46,7 @@ by_line profile count = record {
   of_profile = λ ids. of_each profile (selecting ids true false) refl;
 }
 
+-- a scan of several components can have ILV 2 under the wide profile
 by_sample : (count : ℕ) → 1 < count → HasInterleave Wide count 2
 by_sample count more = record {
   again = refl;
@@ -57,6 +60,7 @@ by_sample count more = record {
 line_of_several : (count k : ℕ) → (nat_le count 1 || (k == 1)) ≡ true → 1 < count → (k == 1) ≡ true
 line_of_several count k e more = let m : nat_le count 1 ≡ false = lt-leb count 1 more in rw m at e
 
+-- what the strict profile takes is one component with ILV 0, or ILV 1
 strict_kinds : (count k : ℕ) → takes_interleave Strict count k ≡ true → ((k ≡ 0) × (count ≤ 1)) ⊎ (k ≡ 1)
 strict_kinds count k e =
     let both = and_parts (nat_le k 1) (nat_le count 1 || (k == 1)) e in
@@ -69,6 +73,7 @@ strict_kinds count k e =
           ]
     ]
 
+-- what the strict profile takes is an interleaving of each profile
 strict_has : (profile : Profile) (count k : ℕ) → takes_interleave Strict count k ≡ true → HasInterleave profile count k
 strict_has profile count k e =
     elim (strict_kinds count k e) [
@@ -82,6 +87,7 @@ pub sample_kind : (count k : ℕ) → takes_interleave Strict count k ≡ false 
 sample_kind count k f e =
     let both = and_parts (nat_lt 1 count) (k == 2) (rw f at e) in (ltb-true 1 count both.0, eqb-true k 2 both.1)
 
+-- what a profile takes is an interleaving of it
 pub has_interleave : (profile : Profile) (count k : ℕ) → takes_interleave profile count k ≡ true → HasInterleave profile count k
 has_interleave Strict count k e = strict_has Strict count k e
 has_interleave Wide count k e =
@@ -92,6 +98,7 @@ has_interleave Wide count k e =
 
 -- ---- the value of a selection
 
+-- a scan that is not by sample is taken by the strict profile
 strict_taken : (count : ℕ) (line : Bool) → (1 < count → line ≡ true) → takes_interleave Strict count (if line then 1 else 0) ≡ true
 strict_taken count true h = or-true (nat_le count 1)
 strict_taken count false h =
@@ -116,13 +123,14 @@ is_taken Wide count ids line true interleaved several of_profile =
 is_taken Wide count ids line false interleaved several of_profile =
     wide_takes count (if line then 1 else 0) (strict_taken count line (λ more. interleaved more refl))
 
--- and tells whether it is by line and by sample
+-- the value of ILV tells whether a scan is by line
 pub line_again : (line by_sample : Bool) → (by_sample ≡ true → line ≡ false)
     → ((if by_sample then 2 else if line then 1 else 0) == 1) ≡ line
 line_again line true not_both = sym (not_both refl)
 line_again true false not_both = refl
 line_again false false not_both = refl
 
+-- the value of ILV tells whether a scan is by sample
 pub sample_again : (line by_sample : Bool) → ((if by_sample then 2 else if line then 1 else 0) == 2) ≡ by_sample
 sample_again line true = refl
 sample_again true false = refl

@@ -42,6 +42,7 @@ first_below h (suc r) k one lt =
     let c : suc k * suc r ≤ n * suc r = mul-le-mul_right (suc r) below in
     omega arith
 
+-- each interval has a row
 pub rows_some : (h r k : ℕ) → 1 ≤ h → k < count h r → 1 ≤ rows h r k
 rows_some h zero k one lt = one
 rows_some h (suc r) k one lt =
@@ -54,6 +55,7 @@ pub rows_first : (h r k : ℕ) → rows h r k ≤ rows h r 0
 rows_first h zero k = omega arith
 rows_first h (suc r) k = let e = rows-suc h r k in let f = rows-suc h r 0 in omega arith
 
+-- a scan has an interval
 pub some_interval : (h r : ℕ) → 1 ≤ h → 1 ≤ count h r
 some_interval h zero one = omega arith
 some_interval h (suc r) one =
@@ -61,6 +63,7 @@ some_interval h (suc r) one =
     let a : 1 ≤ (h + suc r - 1) / suc r = le-div 1 (h + suc r - 1) (suc r) (omega arith) (omega arith) in
     omega arith
 
+-- a scan has no more intervals than lines
 pub count_at_most : (h r : ℕ) → 1 ≤ h → count h r ≤ h
 count_at_most h zero one = one
 count_at_most h (suc r) one =
@@ -76,6 +79,7 @@ place j r row a b =
     let d : row / suc r < suc j = div_below row (suc r) (suc j) (omega arith) (omega arith) in
     omega arith
 
+-- each row is in some interval
 pub each_row : (h r row : ℕ) → row < h → (k : ℕ) × (k < count h r) × ((k * r ≤ row) × (row < k * r + rows h r k))
 each_row h zero row lt = (0, omega arith, (omega arith, omega arith))
 each_row h (suc r) row lt =
@@ -87,6 +91,7 @@ each_row h (suc r) row lt =
     let f = rows-suc h r k in
     (k, omega arith, (a, omega arith))
 
+-- a row is in one interval alone
 pub one_interval : (h r row j k : ℕ) → j < count h r → k < count h r → (j * r ≤ row) × (row < j * r + rows h r j)
     → (k * r ≤ row) × (row < k * r + rows h r k) → j ≡ k
 one_interval h zero row j k p q u v = omega arith
@@ -95,6 +100,7 @@ one_interval h (suc r) row j k p q u v =
     let f = rows-suc h r k in
     place j r row u.0 (omega (arith, u.1)) ∙ sym (place k r row v.0 (omega (arith, v.1)))
 
+-- each row of an interval is one of the frame
 pub row_within : (h r row k : ℕ) → 1 ≤ h → k < count h r → row < k * r + rows h r k → row < h
 row_within h zero row k one lt u = omega arith
 row_within h (suc r) row k one lt u =
@@ -102,6 +108,7 @@ row_within h (suc r) row k one lt u =
     let a : k * suc r < h = first_below h (suc r) k one lt in
     omega arith
 
+-- the intervals of a scan part its lines
 pub part_the_lines : (s : Scan) → 1 ≤ s.height → PartTheLines s
 part_the_lines s one = record {
   each = λ row lt. each_row s.height s.restart_interval row lt;
@@ -109,6 +116,7 @@ part_the_lines s one = record {
   within = λ row k p u. row_within s.height s.restart_interval row k one p u.1;
 }
 
+-- values in their ranges make a scan in its ranges
 pub scan_is : (s : Scan) → AreCodingParameters s.params → 1 ≤ s.width → s.width < 2 ^ 16 → 1 ≤ s.height → s.height < 2 ^ 16
     → 1 ≤ length s.components → length s.components ≤ 4 → AllByRecursion (λ c. c < 256) s.components
     → s.width * length s.components * row_count s 0 ≤ 2 ^ 28 → IsScan s

@@ -31,11 +31,13 @@ if_true false x y e = absurd cc
 
 -- ---- numbers of two and four bytes
 
+-- each of two bytes is below 256
 pub two_fit : (a b : ℕ) → a < 256 → b < 256 → (i : ℕ) → get_or (a ∷ b ∷ []) i 0 < 256
 two_fit a b p q zero = p
 two_fit a b p q (suc zero) = q
 two_fit a b p q (suc (suc i)) = omega arith
 
+-- each of four bytes is below 256
 four_fit : (a b c d : ℕ) → a < 256 → b < 256 → c < 256 → d < 256 → (i : ℕ) → get_or (a ∷ b ∷ c ∷ d ∷ []) i 0 < 256
 four_fit a b c d p q r s zero = p
 four_fit a b c d p q r s (suc zero) = q
@@ -49,6 +51,7 @@ u16_of a b = from_be_bytes w16 (a ∷ b ∷ [])
 pub word_again : (a b : ℕ) → a < 256 → b < 256 → to_be_bytes w16 (u16_of a b) ≡ a ∷ b ∷ []
 word_again a b p q = be_bytes_2 (a ∷ b ∷ []) (u16_of a b) refl (two_fit a b p q) refl
 
+-- a number of two bytes has 16 bits
 pub word_below : (a b : ℕ) → a < 256 → b < 256 → u16_of a b < 2 ^ 16
 word_below a b p q = omega arith
 
@@ -57,6 +60,7 @@ word_below a b p q = omega arith
 abbrev preset_made : ℕ → ℕ → ℕ → ℕ → ℕ → Option PresetParameters
 preset_made a b c d e = Some (record { maxval = a; t1 = b; t2 = c; t3 = d; reset = e })
 
+-- the bytes of preset parameters are read as these parameters
 preset_again : (p : PresetParameters) → ArePresetParameters p → preset_parameters (preset_bytes p) ≡ Some p
 preset_again p h =
     let word = λ (n : ℕ). from_be_bytes w16 (to_be_bytes w16 n) in
@@ -69,6 +73,7 @@ preset_again p h =
 pub preset_of_layout : (values : List ℕ) (p : PresetParameters) → HasPresetLayout values p → preset_parameters values ≡ Some p
 preset_of_layout values p l = ap preset_parameters l.bytes ∙ preset_again p l.in_range
 
+-- bytes that are read as the values of an LSE have its layout, with these values
 pub preset_there : (values : List ℕ) (p : PresetParameters) → AreBytes values → preset_parameters values ≡ Some p → HasPresetLayout values p
 preset_there [] p b e = absurd cc
 preset_there (a1 ∷ []) p b e = absurd cc
@@ -120,6 +125,7 @@ u32_of a b c d = from_be_bytes w32 (a ∷ b ∷ c ∷ d ∷ [])
 four_again : (a b c d : ℕ) → a < 256 → b < 256 → c < 256 → d < 256 → to_be_bytes w32 (u32_of a b c d) ≡ a ∷ b ∷ c ∷ d ∷ []
 four_again a b c d p q r s = be_bytes_4 (a ∷ b ∷ c ∷ d ∷ []) (u32_of a b c d) refl (four_fit a b c d p q r s) refl
 
+-- bytes that are read as the interval of a DRI have its layout, with this interval
 pub restart_there : (payload : List ℕ) (n : ℕ) → AreBytes payload → restart_interval payload ≡ Some n → HasRestartLayout payload n
 restart_there [] n h e = absurd cc
 restart_there (a ∷ []) n h e = absurd cc
@@ -182,12 +188,14 @@ restart_of_layout (a ∷ b ∷ c ∷ d ∷ x ∷ more) n l = absurd (let e = l.l
 
 -- ---- what is written of them
 
+-- what is written of preset parameters is read as these
 pub preset_reads_back : (maxval t1 t2 t3 reset : ℕ)
     → ArePresetParameters (record { maxval = maxval; t1 = t1; t2 = t2; t3 = t3; reset = reset })
     → segment_of lse (payload_of (Preset maxval t1 t2 t3 reset)) ≡ Ok (Preset maxval t1 t2 t3 reset)
 preset_reads_back maxval t1 t2 t3 reset is =
     let p : PresetParameters = record { maxval = maxval; t1 = t1; t2 = t2; t3 = t3; reset = reset } in ap preset_of (preset_again p is)
 
+-- what is written of a restart interval has the layout of a DRI
 restart_layout : (n : ℕ) → n < 2 ^ 32 → HasRestartLayout (restart_payload n) n
 restart_layout n lt =
     elim (cases_lt n 65536) [

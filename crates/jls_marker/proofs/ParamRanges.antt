@@ -16,6 +16,7 @@ first_none : (b : Bool) (f : ParamFault) (o : Option ParamFault) → cond b (Som
 first_none true f o e = absurd cc
 first_none false f o e = (refl, e)
 
+-- parameters without a fault are in their ranges
 pub faultless : (p : CodingParameters) → param_fault p ≡ None → AreCodingParameters p
 faultless p e =
     let a = first_none (is_outside 2 16 p.precision) _ _ e in

@@ -32,6 +32,7 @@ use Rattle.jls_marker.proofs.SegmentsRead.{is_payload}
 
 -- ---- the profile stays
 
+-- a segment that is taken leaves the profile as it is
 keeps : (h after : HeaderState) (scan : Option Scan) (s : Segment) → accepted h s ≡ Ok (after, scan) → after.profile ≡ h.profile
 keeps h after scan (segment.Frame g) e =
     let t = all_pass ((is_none h.frame, fault.SecondFrame) ∷ []) (record h { frame = Some g }, None) (after, scan) e in
@@ -44,6 +45,7 @@ keeps h after scan (segment.Restart n) e =
     ap (λ (x : HeaderState). x.profile) (sym (parts (record h { restart_interval = n }, None) (after, scan) e).0)
 keeps h after scan (segment.Skipped c) e = ap (λ (x : HeaderState). x.profile) (sym (parts (h, None) (after, scan) e).0)
 
+-- what is taken leaves the profile
 taking_keeps : (h after : HeaderState) (scan : Option Scan) (r : Result Segment MarkerFault) → taking h r ≡ Ok (after, scan)
     → after.profile ≡ h.profile
 taking_keeps h after scan (Ok s) e = keeps h after scan s e
@@ -62,7 +64,7 @@ judged_by h f s scan e =
     ap (λ (x : Scan). x.by_sample)
     (sym (all_pass (begin_tests f h.preset h.restart_interval h.scans s) (scan_in f h.preset h.restart_interval s) scan e).1)
 
--- and has as many components
+-- the scan of a selection has as many components as the selection
 judged_count : (h : HeaderState) (f : PictureShape) (s : ScanSelection) (scan : Scan)
     → scan_judged f h.preset h.restart_interval h.scans s ≡ Ok scan → length scan.components ≡ length s.ids
 judged_count h f s scan e =
@@ -87,6 +89,7 @@ cond_not : (b : Bool) (x y : Result Segment MarkerFault) → AllNot x → AllNot
 cond_not true x y p q = p
 cond_not false x y p q = q
 
+-- tests before a value that is no scan by sample give none
 first_not : (tests : List (Bool × MarkerFault)) (s : Segment) → IsNotBySample s → AllNot (first_failing tests s)
 first_not [] s not = not
 first_not ((true, f) ∷ tests) s not = first_not tests s not
@@ -96,6 +99,7 @@ frame_not : (o : Option FrameHeader) → AllNot (frame_of o)
 frame_not None = tt
 frame_not (Some h) = first_not (frame_tests h) (segment.Frame (shape_in h)) tt
 
+-- a strict scan header selects no scan by sample
 scan_not : (o : Option ScanHeader) → AllNot (scan_of Strict o)
 scan_not None = tt
 scan_not (Some h) = of_read (scan_of Strict (Some h)) refl
@@ -111,6 +115,7 @@ preset_not : (o : Option PresetParameters) → AllNot (preset_of o)
 preset_not None = tt
 preset_not (Some p) = tt
 
+-- an LSE begins no scan by sample
 lse_not : (payload : List ℕ) → AllNot (lse_of payload)
 lse_not [] = tt
 lse_not (id ∷ values) = cond_not (id == 1) _ _ (preset_not (preset_parameters values))
@@ -120,6 +125,7 @@ restart_not : (o : Option ℕ) → AllNot (restart_of o)
 restart_not None = tt
 restart_not (Some n) = tt
 
+-- a strict segment begins no scan by sample
 strict_not : (code : ℕ) (payload : List ℕ) → AllNot (segment_under Strict code payload)
 strict_not code payload =
     cond_not (eqb code sof55) _ _ (frame_not (frame_header payload))
@@ -142,6 +148,7 @@ pub strict_headers_have_none_by_sample : StrictHeadersHaveNoneBySample
 unfolding headers_after
 strict_headers_have_none_by_sample h after code payload scan is e = strict_begins h.profile h after code payload scan is e
 
+-- the law: a scan by sample has two components or more
 pub scans_by_sample_have_several : ScansBySampleHaveSeveral
 unfolding headers_after
 scans_by_sample_have_several h after code payload scan bytes e by =
@@ -160,6 +167,7 @@ module _ (Related : Result Segment MarkerFault → Result Segment MarkerFault �
   cond_related true x y u v p q = p
   cond_related false x y u v p q = q
 
+  -- what relates scan headers under two profiles relates all segments
   segments_related : (p q : Profile) (code : ℕ) (payload : List ℕ)
       → Related (scan_of p (scan_header payload)) (scan_of q (scan_header payload))
       → Related (segment_under p code payload) (segment_under q code payload)
@@ -171,6 +179,7 @@ module _ (Related : Result Segment MarkerFault → Result Segment MarkerFault �
 abbrev Alike : Result Segment MarkerFault → Result Segment MarkerFault → Type 0
 Alike x y = (s : Segment) → x ≡ read s → y ≡ read s
 
+-- what is a scan header under the strict profile is one under the wide one
 scans_alike : (o : Option ScanHeader) → Alike (scan_of Strict o) (scan_of Wide o)
 scans_alike None s e = absurd cc
 scans_alike (Some h) s e =
@@ -180,6 +189,7 @@ scans_alike (Some h) s e =
     (p.0, (p.1.0, (p.1.1.0, (wide_takes (length h.components) h.interleave p.1.1.1.0, p.1.1.1.1))))
     ∙ ap read t.1
 
+-- what is a segment under the strict profile is one under the wide one
 wide_reads : (code : ℕ) (payload : List ℕ) → Alike (segment_under Strict code payload) (segment_under Wide code payload)
 wide_reads code payload = segments_related Alike (λ x s e. e) Strict Wide code payload (scans_alike (scan_header payload))
 
@@ -192,6 +202,7 @@ IsSampleSegment _ = ⊥
 abbrev AlikeOrBySample : Result Segment MarkerFault → Result Segment MarkerFault → Type 0
 AlikeOrBySample x y = (s : Segment) → x ≡ read s → IsSampleSegment s ⊎ (y ≡ read s)
 
+-- a scan header is read alike under both profiles, or selects a scan by sample under the wide one
 scans_more : (o : Option ScanHeader) → AlikeOrBySample (scan_of Wide o) (scan_of Strict o)
 scans_more None s e = absurd cc
 scans_more (Some h) s e =
@@ -221,12 +232,14 @@ begun_alike : (p q : Profile) (h : HeaderState) (r : Result Scan MarkerFault) �
 begun_alike p q h (Ok x) = refl
 begun_alike p q h (Err f) = refl
 
+-- headers of two profiles take a frame alike
 frame_alike : (p q : Profile) (h : HeaderState) (g : PictureShape) (b : Bool)
     → first_failing ((b, fault.SecondFrame) ∷ []) (record (under p h) { frame = Some g }, None)
     ≡ left_under p (first_failing ((b, fault.SecondFrame) ∷ []) (record (under q h) { frame = Some g }, None))
 frame_alike p q h g true = refl
 frame_alike p q h g false = refl
 
+-- headers of two profiles take a segment alike
 accepted_alike : (p q : Profile) (h : HeaderState) (s : Segment) → accepted (under p h) s ≡ left_under p (accepted (under q h) s)
 accepted_alike p q h (segment.Frame g) = frame_alike p q h g (is_none h.frame)
 accepted_alike p q h (segment.Scan s) = begun_alike p q h (scan_under h s h.frame)
@@ -234,6 +247,7 @@ accepted_alike p q h (segment.Preset a b c d r) = refl
 accepted_alike p q h (segment.Restart n) = refl
 accepted_alike p q h (segment.Skipped c) = refl
 
+-- what headers of one profile take, those of another take
 taken_alike : (p q : Profile) (h after : HeaderState) (s : Segment) (scan : Option Scan) → accepted (under q h) s ≡ Ok (after, scan)
     → accepted (under p h) s ≡ Ok (under p after, scan)
 taken_alike p q h after s scan e = accepted_alike p q h s ∙ ap (left_under p) e
@@ -246,6 +260,7 @@ taken : (h after : HeaderState) (scan : Option Scan) (r : Result Segment MarkerF
 taken h after scan (Ok s) e = (s, refl, e)
 taken h after scan (Err f) e = absurd cc
 
+-- the law: wide headers take what strict ones take, and are left alike
 pub wide_headers_take_alike : WideHeadersTakeAlike
 unfolding headers_after
 wide_headers_take_alike h after code payload scan e =
@@ -259,6 +274,7 @@ begins_by_sample h after s scan None by e = absurd cc
 begins_by_sample h after s scan (Some f) by e =
     let b = began h after scan (scan_under h s (Some f)) e in (b.0, b.3, judged_by h f s b.0 b.1 ∙ by)
 
+-- a segment of a scan by sample begins such a scan
 takes_by_sample : (h after : HeaderState) (s : Segment) (scan : Option Scan) → IsSampleSegment s → accepted h s ≡ Ok (after, scan)
     → IsBySample scan
 takes_by_sample h after (segment.Frame g) scan by e = absurd by
@@ -267,6 +283,7 @@ takes_by_sample h after (segment.Preset a b c d r) scan by e = absurd by
 takes_by_sample h after (segment.Restart n) scan by e = absurd by
 takes_by_sample h after (segment.Skipped c) scan by e = absurd by
 
+-- the law: what wide headers take begins a scan by sample, or strict ones take it
 pub wide_headers_take_more_by_sample : WideHeadersTakeMoreBySample
 unfolding headers_after
 wide_headers_take_more_by_sample h after code payload scan e =

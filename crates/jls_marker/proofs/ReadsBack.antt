@@ -32,7 +32,7 @@ module _ {C : Type 0} (made : ℕ → C) where
   ids_again id_of same [] = refl
   ids_again id_of same (id ∷ ids) = λ i. same id i ∷ ids_again id_of same ids i
 
-  -- and pass a test that each passes
+  -- components that are made of identifiers pass a test that each made one passes
   each_passes : (p : C → Bool) → ((id : ℕ) → p (made id) ≡ true) → (ids : List ℕ) → list_all p (map made ids) ≡ true
   each_passes p each [] = refl
   each_passes p each (id ∷ ids) = (λ i. each id i && each_passes p each ids i)
@@ -54,6 +54,7 @@ frame_bytes s =
 abbrev framed : PictureShape → List ℕ → Result Segment MarkerFault
 framed s ids = Ok (Frame (record { precision = s.precision; width = s.width; height = s.height; ids = ids }))
 
+-- what is written of a frame is read as that frame
 pub frame_reads_back : (profile : Profile) (s : PictureShape) → IsShape s → segment_under profile sof55 (frame_payload s) ≡ Ok (Frame s)
 frame_reads_back profile s is =
     let h = written_frame s in
@@ -83,6 +84,7 @@ scan_bytes s =
 abbrev selected : List ℕ → Bool → Bool → Result Segment MarkerFault
 selected ids line by_sample = Ok (Scan (record { ids = ids; line = line; by_sample = by_sample }))
 
+-- what is written of a scan header of a profile is read as that header
 pub scan_reads_back : (profile : Profile) (s : ScanSelection) → IsScanSelection s → IsOfProfile profile s
     → segment_under profile sos (scan_payload s) ≡ Ok (Scan s)
 scan_reads_back profile s is of_profile =

@@ -10,6 +10,7 @@ use Rattle.jls_marker.proofs.Layouts.{preset_reads_back, restart_reads_back}
 use Rattle.jls_marker.proofs.ReadsBack.{frame_reads_back, scan_reads_back}
 use Rattle.jls_marker.proofs.SegmentsRead.{is_payload, is_read}
 
+-- the law: a payload has one layout at most, and that is the one that is read
 pub layouts_are_read : LayoutsAreRead
 layouts_are_read = record {
   frame = λ payload h b. (λ e. frame_header_there payload h b e, λ l. frame_header_of payload h l);
@@ -25,6 +26,7 @@ payloads_are_read_under profile code payload s b =
 pub payloads_are_read : PayloadsAreRead
 payloads_are_read = payloads_are_read_under Strict
 
+-- the law: what is written of a segment of a profile reads as this segment
 pub written_reads_back_under : (profile : Profile) → WrittenReadsBackUnder profile
 written_reads_back_under profile (Frame s) is can = frame_reads_back profile s is
 written_reads_back_under profile (Scan s) is can = scan_reads_back profile s is.0 is.1

@@ -45,6 +45,7 @@ frame_bytes_of_ids : (cs : List FrameComponent) → AreBytes (flat_map frame_com
 frame_bytes_of_ids [] h = tt
 frame_bytes_of_ids (c ∷ cs) h = (h.0, frame_bytes_of_ids cs h.1.1.1)
 
+-- the identifiers in a scan header's bytes are bytes
 scan_bytes_of_ids : (cs : List ScanComponent) (tail : List ℕ) → AreBytes (flat_map scan_component_bytes cs ++ tail)
     → AreBytes (map (λ c. c.id) cs)
 scan_bytes_of_ids [] tail h = tt
@@ -52,6 +53,7 @@ scan_bytes_of_ids (c ∷ cs) tail h = (h.0, scan_bytes_of_ids cs tail h.1.1)
 
 -- ---- what is read is a payload
 
+-- what is read as a frame is a payload of that frame
 frame_read : (profile : Profile) (code : ℕ) (payload : List ℕ) → AreBytes payload → code ≡ sof55 → (o : Option FrameHeader)
     → frame_header payload ≡ o
     → (s : Segment) → frame_of o ≡ Ok s → IsPayloadUnder profile code payload s
@@ -75,6 +77,7 @@ not_true : (b : Bool) → not b ≡ true → b ≡ false
 not_true true e = absurd cc
 not_true false e = refl
 
+-- what is read as a scan header is a payload of that header
 scan_read : (profile : Profile) (code : ℕ) (payload : List ℕ) → AreBytes payload → code ≡ sos → (o : Option ScanHeader)
     → scan_header payload ≡ o
     → (s : Segment) → scan_of profile o ≡ Ok s → IsPayloadUnder profile code payload s
@@ -104,6 +107,7 @@ scan_read profile code payload b ce (Some h) e s g =
     } in
     subst (IsPayloadUnder profile code payload) t.1 (ce, (h, l, is))
 
+-- what is read of an LSE of ID 1 is a payload of that segment
 preset_read : (profile : Profile) (code : ℕ) (values : List ℕ) → AreBytes values → code ≡ lse → (o : Option PresetParameters)
     → preset_parameters values ≡ o
     → (s : Segment) → preset_of o ≡ Ok s → IsPayloadUnder profile code (1 ∷ values) s
@@ -112,6 +116,7 @@ preset_read profile code values b ce (Some p) e s g =
     subst (IsPayloadUnder profile code (1 ∷ values)) (fine_is (Preset p.maxval p.t1 p.t2 p.t3 p.reset) s g)
     (ce, (values, refl, preset_there values p b e))
 
+-- an ID that passes the test is 2 or 3
 two_or_three : (id : ℕ) (values : List ℕ) → ((id == 2) || (id == 3)) ≡ true → HasLseId (id ∷ values) 2 ⊎ HasLseId (id ∷ values) 3
 two_or_three id values e =
     elim (cases_Bool (id == 2)) [
@@ -119,6 +124,7 @@ two_or_three id values e =
       | inr f ↦ inr (values, ap (λ (k : ℕ). k ∷ values) (eqb-true id 3 (rw f at e)))
     ]
 
+-- what is read of an LSE is a payload of that segment
 lse_read : (profile : Profile) (code : ℕ) (payload : List ℕ) → AreBytes payload → code ≡ lse → (s : Segment) → lse_of payload ≡ Ok s
     → IsPayloadUnder profile code payload s
 lse_read profile code [] b ce s g = absurd cc
@@ -134,6 +140,7 @@ lse_read profile code (id ∷ values) b ce s g = by_id (id == 1) refl g
         let t = all_pass (((id == 2) || (id == 3), fault.LseId) ∷ []) (Skipped lse) s h in
         subst (IsPayloadUnder profile code (id ∷ values)) t.1 (sym ce, inr (ce, two_or_three id values t.0.0))
 
+-- what is read of a DRI is a payload of that segment
 restart_read : (profile : Profile) (code : ℕ) (payload : List ℕ) → AreBytes payload → code ≡ dri → (o : Option ℕ)
     → restart_interval payload ≡ o → (s : Segment)
     → restart_of o ≡ Ok s → IsPayloadUnder profile code payload s
@@ -142,17 +149,20 @@ restart_read profile code payload b ce (Some n) e s g =
     subst (IsPayloadUnder profile code payload) (fine_is (Restart n) s g) (ce, restart_there payload n b e)
 
 module _ (profile : Profile) (code : ℕ) (payload : List ℕ) (b : AreBytes payload) (s : Segment) where
+  -- what is skipped is a payload of such a segment
   at_skipped : (t : Bool) → is_skipped code ≡ t → cond t (Ok (Skipped code)) (Err fault.UnknownMarker) ≡ Ok s
       → IsPayloadUnder profile code payload s
   at_skipped true e h = subst (IsPayloadUnder profile code payload) (fine_is (Skipped code) s h) (refl, inl e)
   at_skipped false e h = absurd cc
 
+  -- what is read from the code of a DRI on is a payload of that segment
   at_dri : (t : Bool) → eqb code dri ≡ t
       → cond t (restart_of (restart_interval payload)) (cond (is_skipped code) (Ok (Skipped code)) (Err fault.UnknownMarker)) ≡ Ok s
       → IsPayloadUnder profile code payload s
   at_dri true e h = restart_read profile code payload b (eqb-true _ _ e) (restart_interval payload) refl s h
   at_dri false e h = at_skipped (is_skipped code) refl h
 
+  -- what is read from the code of an LSE on is a payload of that segment
   at_lse : (t : Bool) → eqb code lse ≡ t
       → cond t (lse_of payload) (cond (eqb code dri) (restart_of (restart_interval payload))
       (cond (is_skipped code) (Ok (Skipped code)) (Err fault.UnknownMarker))) ≡ Ok s
@@ -160,6 +170,7 @@ module _ (profile : Profile) (code : ℕ) (payload : List ℕ) (b : AreBytes pay
   at_lse true e h = lse_read profile code payload b (eqb-true _ _ e) s h
   at_lse false e h = at_dri (eqb code dri) refl h
 
+  -- what is read from the code of an SOS on is a payload of that segment
   at_sos : (t : Bool) → eqb code sos ≡ t
       → cond t (scan_of profile (scan_header payload))
       (cond (eqb code lse) (lse_of payload)
@@ -169,6 +180,7 @@ module _ (profile : Profile) (code : ℕ) (payload : List ℕ) (b : AreBytes pay
   at_sos true e h = scan_read profile code payload b (eqb-true _ _ e) (scan_header payload) refl s h
   at_sos false e h = at_lse (eqb code lse) refl h
 
+  -- what is read from the code of a frame on is a payload of that segment
   at_frame : (t : Bool) → eqb code sof55 ≡ t
       → cond t (frame_of (frame_header payload))
       (cond (eqb code sos) (scan_of profile (scan_header payload))
@@ -179,6 +191,7 @@ module _ (profile : Profile) (code : ℕ) (payload : List ℕ) (b : AreBytes pay
   at_frame true e h = frame_read profile code payload b (eqb-true _ _ e) (frame_header payload) refl s h
   at_frame false e h = at_sos (eqb code sos) refl h
 
+-- what is read as a segment is a payload of it
 pub is_payload : (profile : Profile) (code : ℕ) (payload : List ℕ) (s : Segment) → AreBytes payload
     → segment_under profile code payload ≡ Ok s → IsPayloadUnder profile code payload s
 is_payload profile code payload s b h = at_frame profile code payload b s (eqb code sof55) refl h
@@ -188,6 +201,7 @@ is_payload profile code payload s b h = at_frame profile code payload b s (eqb c
 abbrev four : ℕ → ℕ → ℕ → List ℕ → PictureShape
 four p x y ids = record { precision = p; width = x; height = y; ids = ids }
 
+-- a frame header of a shape says that shape
 shape_is : (s : PictureShape) (h : FrameHeader) → IsFrameHeaderOf s h → shape_in h ≡ s
 shape_is s h is =
     ap (λ (p : ℕ). four p h.width h.height (frame_ids h)) is.precision
@@ -195,6 +209,7 @@ shape_is s h is =
     ∙ ap (λ (y : ℕ). four s.precision s.width y (frame_ids h)) is.height
     ∙ ap (λ (ids : List ℕ). four s.precision s.width s.height ids) is.ids
 
+-- a payload of a frame header is read as that header
 frame_again : (profile : Profile) (payload : List ℕ) (s : PictureShape) (h : FrameHeader) → HasFrameLayout payload h → IsFrameHeaderOf s h
     → segment_under profile sof55 payload ≡ Ok (Frame s)
 frame_again profile payload s h l is =
@@ -209,6 +224,7 @@ frame_again profile payload s h l is =
 abbrev chosen : List ℕ → Bool → Bool → ScanSelection
 chosen ids line by_sample = record { ids = ids; line = line; by_sample = by_sample }
 
+-- a scan header of a selection says that selection
 selection_is : (profile : Profile) (s : ScanSelection) (h : ScanHeader) → IsScanHeaderUnder profile s h → selection_in h ≡ s
 selection_is profile s h is =
     ap (λ (ids : List ℕ). chosen ids (h.interleave == 1) (h.interleave == 2)) is.ids
@@ -216,6 +232,7 @@ selection_is profile s h is =
     ∙ ap (λ (line : Bool). chosen s.ids line (interleave_of s == 2)) (line_again s.line s.by_sample is.in_range.not_both)
     ∙ ap (chosen s.ids s.line) (sample_again s.line s.by_sample)
 
+-- a payload of a scan header is read as that header
 scan_again : (profile : Profile) (payload : List ℕ) (s : ScanSelection) (h : ScanHeader) → HasScanLayout payload h
     → IsScanHeaderUnder profile s h → segment_under profile sos payload ≡ Ok (Scan s)
 scan_again profile payload s h l is =
@@ -239,6 +256,7 @@ scan_again profile payload s h l is =
 not_code : (code k : ℕ) → is_skipped code ≡ true → is_skipped k ≡ false → eqb code k ≡ false
 not_code code k e f = ne_eqb code k (λ same. let g : true ≡ false = sym e ∙ ap is_skipped same ∙ f in absurd cc)
 
+-- a payload of a segment that is skipped is read as such a segment
 skipped_again : (profile : Profile) (code c : ℕ) (payload : List ℕ) → c ≡ code
     → (is_skipped code ≡ true) ⊎ ((code ≡ lse) × (HasLseId payload 2 ⊎ HasLseId payload 3))
     → segment_under profile code payload ≡ Ok (Skipped c)
@@ -254,6 +272,7 @@ skipped_again profile code c payload ce (inr (k, inl (values, pe))) = ap (λ (x 
 skipped_again profile code c payload ce (inr (k, inr (values, pe))) = ap (λ (x : ℕ). segment_under profile x payload) k ∙ ap lse_of pe
     ∙ ap (λ (x : ℕ). fine (Skipped x)) (sym k ∙ sym ce)
 
+-- a payload of a segment is read as that segment
 pub is_read : (profile : Profile) (code : ℕ) (payload : List ℕ) (s : Segment) → IsPayloadUnder profile code payload s
     → segment_under profile code payload ≡ Ok s
 is_read profile code payload (Frame s) p =

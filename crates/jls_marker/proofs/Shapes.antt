@@ -19,7 +19,7 @@ shape_there s is =
 abbrev pub four : ℕ → ℕ → ℕ → List ℕ → PictureShape
 four p x y ids = record { precision = p; width = x; height = y; ids = ids }
 
--- and values that have a shape are in range
+-- values that have a shape are in range
 pub shape_in_range : (p x y : ℕ) (ids : List ℕ) → is_ok (shape_of p x y ids) ≡ true → x < 2 ^ 16 → y < 2 ^ 16
     → AllByRecursion (λ id. id < 256) ids
     → IsShape (four p x y ids)

@@ -19,7 +19,7 @@ known : (c : In-Some) → are_known c.args.frame.now.ids c.args.head.now.ids ≡
 known c = known_there c.ids.result.now c.ids-2.result.now c.args.frame.now.ids c.args.head.now.ids c.ids.ensures.value
     c.ids-2.ensures.value c.in-Some.ensures.known
 
--- and these are their indices
+-- the indices that were found are those of the scan's components in the frame
 indices : (c : In-Some) → c.in-Some.components.items ≡ map (index_of c.args.frame.now.ids) c.args.head.now.ids
 indices c = indices_there c.ids.result.now c.ids-2.result.now c.args.frame.now.ids c.args.head.now.ids c.in-Some.components.items
     c.ids.ensures.value c.ids-2.ensures.value c.in-Some.ensures.indices
@@ -28,6 +28,7 @@ indices c = indices_there c.ids.result.now c.ids-2.result.now c.args.frame.now.i
 judged : (c : In-Ok) → params_of c.args.frame.now.precision (values c.args.preset) ≡ Ok c.in-Ok.params
 judged c = params_known c.args.frame.now (values c.args.preset) c.precision.result _ c.precision.ensures.value c.in-Ok.ensures
 
+-- the parameters are out of range: that fault comes after the unknown component
 pub returns-in-Err-clause-judged : goal.returns-in-Err-clause-judged
 returns-in-Err-clause-judged c =
     let f = c.args.frame.now in
@@ -58,6 +59,7 @@ new-requires-clause-bytes c =
     bytes_below (length ids) c.in-Some.components.items c.ids.ensures.ranges.ids_at_most
     (subst (AllByRecursion (λ (i : ℕ). i < length ids)) (sym (indices here)) (indices_below ids c.args.head.now.ids (known here)))
 
+-- no test fails, and the scan begins
 pub returns-clause-judged : goal.returns-clause-judged
 returns-clause-judged c =
     let here = goal.at.returns-clause-judged c in

@@ -4,6 +4,7 @@ use Rattle.std.proofs.lemmas.Bool.{ne_eqb}
 use Rattle.jls_marker.proofs.Intervals.{ceil_is}
 use Rattle.jls_marker.proofs.scan_plan.ScanPlan.intervals.Goals as goal
 
+-- the lines, divided by the rows of an interval and rounded up
 pub returns-else-self-eq0-clause-value : goal.returns-else-self-eq0-clause-value
 returns-else-self-eq0-clause-value c =
     let h = c.self.inside.height in
