@@ -46,7 +46,7 @@ pub(crate) fn find(
     }
 }
 
-/// The same in a tree.
+/// Where these samples stand among those of the slots of a tree, or where they belong.
 fn find_in_tree(tree: &Tree, packed: &[u16], width: u16, samples: &[u16]) -> Result<usize, usize>
     requires inside { AllByRecursion (λ s. s.start + width ≤ length packed.now) tree.now }
     requires sorted { IsStrictlySortedBy (slice_cmp nat_cmp) (lines_of width packed.now tree.now) }

@@ -31,8 +31,8 @@ pub(crate) enum Slots {
 
 /// Slots in a search tree. Contracts see the list of them.
 ///
-/// Where one side of a fork grows to more than about three times the other, the fork is turned; so the tree stays shallow in whatever
-/// order the slots come. No contract says so: it makes no difference to what is found.
+/// A fork is turned where one of its sides grows to more than about three times the other. So the tree stays shallow in whatever order the
+/// slots come. No contract says so: it makes no difference to what is found.
 #[cycle(tree)]
 #[derive(Drop)]
 pub(crate) struct Tree {

@@ -18,8 +18,8 @@ pub enum TextFault {
     /// The text ends inside a field. The offset is the length of the text.
     #[error("truncated at {0}")]
     Truncated(u64),
-    /// An entry is of a line that the picture does not have, or of one that is not after the line of the entry before.
-    /// The offset is that of the entry.
+    /// An entry is of a line that the picture does not have, or that is not after the line of the entry before. The offset is that of the
+    /// entry.
     #[error("bad place at {0}")]
     Place(u64),
     /// An entry has no reading. The offset is that of the number of readings.

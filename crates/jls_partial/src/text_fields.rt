@@ -21,6 +21,7 @@ pub(crate) fn offset(size: u64, rest: &[u8]) -> u64
     size.saturating_sub(rest.len() as u64)
 }
 
+/// The next byte.
 #[tactic(auto, unfolding(crate::specs::TextReading::byte_field))]
 fn read_byte(size: u64, bytes: &[u8]) -> Result<(u8, &[u8]), TextFault>
     ensures { GivesText (λ x. (x.0, x.1.now)) result (byte_field size bytes.now) }
@@ -31,6 +32,7 @@ fn read_byte(size: u64, bytes: &[u8]) -> Result<(u8, &[u8]), TextFault>
     }
 }
 
+/// A number of two bytes.
 fn read_u16(size: u64, bytes: &[u8]) -> Result<(u16, &[u8]), TextFault>
     ensures { GivesText (λ x. (x.0, x.1.now)) result (number_field size w16 bytes.now) }
 {
@@ -67,6 +69,7 @@ pub(crate) fn read_u64(size: u64, bytes: &[u8]) -> Result<(u64, &[u8]), TextFaul
     Ok((number, rest))
 }
 
+/// The next `count` bytes.
 #[tactic(auto, unfolding(crate::specs::TextReading::bytes_field))]
 fn read_bytes(size: u64, count: usize, bytes: &[u8]) -> Result<(&[u8], &[u8]), TextFault>
     ensures { GivesText (λ x. (x.0.now, x.1.now)) result (bytes_field size count bytes.now) }
@@ -77,7 +80,7 @@ fn read_bytes(size: u64, count: usize, bytes: &[u8]) -> Result<(&[u8], &[u8]), T
     Ok(bytes.split_at(count))
 }
 
-/// The bytes after those that are wanted.
+/// The bytes after the magic, whose bytes are `wanted`.
 pub(crate) fn read_magic<'a>(
     size: u64,
     wanted: &[u8],
@@ -96,7 +99,7 @@ pub(crate) fn read_magic<'a>(
     Ok(rest)
 }
 
-/// The version.
+/// The version of the text.
 #[tactic(auto, unfolding(crate::specs::TextReading::version_field))]
 pub(crate) fn read_version(size: u64, bytes: &[u8]) -> Result<(Version, &[u8]), TextFault>
     ensures { GivesText (λ x. (x.0, x.1.now)) result (version_field size bytes.now) }
@@ -119,6 +122,7 @@ fn without_fault(fault: Option<ShapeFault>, rest: &[u8]) -> Result<&[u8], TextFa
     }
 }
 
+/// The shape, or its fault as one of the text.
 fn shape_or_fault(shape: Result<Shape, ShapeFault>) -> Result<Shape, TextFault>
     ensures { GivesText (λ x. x) result (Rattle.jls_partial.specs.TextReading.shape_or_fault shape) }
 {
