@@ -45,12 +45,14 @@ less_from_test Less h = refl
 less_from_test Equal h = absurd h
 less_from_test Greater h = absurd h
 
+-- a key that the test finds below all is below them
 below_from_test : {K X : Type 0} (R : K → K → Ordering) (k : K) (es : List (K × X)) → T (sorted.below_all R k es)
     → AllByRecursion (λ y. R k y ≡ Less) (map (λ e. e.0) es)
 below_from_test R k [] h = tt
 below_from_test R k (e ∷ es) h = let p = both_hold (is_lt (R k e.0)) (sorted.below_all R k es) h in
     (less_from_test (R k e.0) p.0, below_from_test R k es p.1)
 
+-- keys that the test finds rising rise
 sorted_from_test : {K X : Type 0} (R : K → K → Ordering) (es : List (K × X)) → T (sorted.is_sorted R es)
     → IsStrictlySortedBy R (map (λ e. e.0) es)
 unfolding IsStrictlySortedBy
@@ -81,6 +83,7 @@ some_block : (t : LinePlace → Bool) (p : LinePlace) (xs : List (List ℕ)) →
 some_block t p [] h = absurd (omega arith)
 some_block t p (x ∷ xs) h = block_places t p x xs
 
+-- a test passes a place of some reading exactly where it passes a place of some entry
 same_places : (shape : PictureShape) (t : LinePlace → Bool) (es : List BareEntry) → AllByRecursion (IsEntry shape) es
     → list_any t (map place_of (readings_of_entries es)) ≡ list_any t (map (λ e. e.0) es)
 same_places shape t [] h = refl
@@ -90,6 +93,7 @@ same_places shape t (e ∷ es) h =
     ∙ list_any-append t (map place_of (map (at_place e.0) e.1)) (map place_of (readings_of_entries es))
     ∙ (λ i. some_block t e.0 e.1 h.0.read i || same_places shape t es h.1 i)
 
+-- the places at which a partial picture has readings are those of its entries
 pub places_again : (shape : PictureShape) (es : List BareEntry) (p : PartialPicture) → AreEntries shape es
     → from_list (readings_of_entries es) ≡ p.readings → places_held p ≡ map (λ e. e.0) es
 places_again shape es p kept is =
@@ -111,6 +115,7 @@ found_after e es [] h k = tt
 found_after e es (f ∷ fs) h k =
     (ap (λ b. unwrap_or (cond b (Some e.1) (lookup (is_at (place_cmp f.0)) es)) []) (later e.0 f.0 h.0) ∙ k.0, found_after e es fs h.1 k.1)
 
+-- at the place of each entry, its samples are found
 all_found : (es : List BareEntry) → IsStrictlySortedBy place_cmp (map (λ e. e.0) es) → AllByRecursion (λ e. samples_at es e.0 ≡ e.1) es
 unfolding IsStrictlySortedBy
 all_found [] h = tt
@@ -129,6 +134,7 @@ all_same : (f g : LinePlace → List (List ℕ)) (es : List BareEntry) → ((at 
 all_same f g [] e h = tt
 all_same f g (x ∷ es) e h = (e x.0 ∙ h.0, all_same f g es e h.1)
 
+-- the entries of a partial picture that has the readings of some entries are these entries
 pub bare_again : (shape : PictureShape) (es : List BareEntry) (p : PartialPicture) → AreEntries shape es
     → from_list (readings_of_entries es) ≡ p.readings → bare_entries p ≡ es
 bare_again shape es p kept is =
@@ -165,6 +171,7 @@ same_line : (r x : Reading) → eq_by_cmp reading_cmp r x ≡ (is_there r.compon
 same_line r x = eq_reading r (place_of x) x.samples
     ∙ ap (λ b. b && eq_by_cmp S r.samples x.samples) (sym (eq_there r.component r.line (place_of x)))
 
+-- a reading is one of a list exactly where its samples are among those of the list at its place
 any_there : (r : Reading) (rs : List Reading)
     → list_any (eq_by_cmp S r.samples) (map (λ x. x.samples) (filter (is_there r.component r.line) rs))
     ≡ list_any (eq_by_cmp reading_cmp r) rs
@@ -179,6 +186,7 @@ any_there r (x ∷ rs) =
           (sym (same_line r x ∙ ap (λ b. b && eq_by_cmp S r.samples x.samples) e))
     ] refl
 
+-- where the first parts differ, so do the whole orders
 first_part : (r s t : Ordering) → is_eq (ordering_then r s) ≡ false → is_eq (ordering_then r (ordering_then s t)) ≡ false
 first_part Less s t e = refl
 first_part Equal Less t e = refl
@@ -186,6 +194,7 @@ first_part Equal Equal t e = absurd cc
 first_part Equal Greater t e = refl
 first_part Greater s t e = refl
 
+-- where no reading is at a place, no reading there is among them
 none_there : (r : Reading) (rs : List Reading) → list_any (eq_by_cmp place_cmp (place_of r)) (map place_of rs) ≡ false
     → list_any (eq_by_cmp reading_cmp r) rs ≡ false
 none_there r [] e = refl
@@ -193,6 +202,7 @@ none_there r (x ∷ rs) e =
     let p = or_parts (eq_by_cmp place_cmp (place_of r) (place_of x)) _ e in
     λ i. first_part (nat_cmp r.component x.component) (nat_cmp r.line x.line) (S r.samples x.samples) p.0 i || none_there r rs p.1 i
 
+-- the readings of a partial picture's entries are the readings that it holds
 pub set_again : (p : PartialPicture) → from_list {R = reading_cmp} (readings_of_entries (bare_entries p)) ≡ p.readings
 set_again p = same_set reading_total reading_exact (from_list (readings_of_entries (bare_entries p))) p.readings (λ r.
     contains-from_list reading_total (readings_of_entries (bare_entries p)) r ∙ any-entries (bare_entries p) r (entries_rise p)
@@ -234,6 +244,7 @@ same_line_cmp c l x y p q =
     let s : nat_cmp x.line y.line ≡ Equal = rw two (tied_itself nat_cmp_total y.line) in
     λ i. ordering_then (r i) (ordering_then (s i) (S x.samples y.samples))
 
+-- readings above one of a place, at the same place, have samples above its own
 below_there : (c l : ℕ) (x : Reading) (rs : List Reading) → is_there c l x ≡ true → AllByRecursion (λ y. reading_cmp x y ≡ Less) rs
     → AllByRecursion (λ y. S x.samples y ≡ Less) (map (λ r. r.samples) (filter (is_there c l) rs))
 below_there c l x [] t h = tt
@@ -245,6 +256,7 @@ below_there c l x (y ∷ rs) t h =
       | false ↦ λ e. below_there c l x rs t h.1
     ] refl
 
+-- the readings at one place rise by their samples, if all readings rise
 sorted_there : (c l : ℕ) (rs : List Reading) → IsStrictlySortedBy reading_cmp rs
     → IsStrictlySortedBy S (map (λ r. r.samples) (filter (is_there c l) rs))
 unfolding IsStrictlySortedBy
@@ -256,6 +268,7 @@ sorted_there c l (x ∷ rs) h =
       | false ↦ λ e. sorted_there c l rs h.1
     ] refl
 
+-- where a place is that of some reading, there is one at that place
 some_there : (c l : ℕ) (rs : List Reading) → list_any (eq_by_cmp place_cmp (place c l)) (map place_of rs) ≡ true
     → 1 ≤ length (map (λ r. r.samples) (filter (is_there c l) rs))
 some_there c l [] h = absurd cc
@@ -267,6 +280,7 @@ some_there c l (x ∷ rs) h =
           (ap (λ b. b || list_any (eq_by_cmp place_cmp (place c l)) (map place_of rs)) (sym e ∙ eq_there c l (place_of x)) ∙ h)
     ] refl
 
+-- the samples of readings that fit, at one place, fit that place
 fit_there : (shape : PictureShape) (c l : ℕ) (rs : List Reading)
     → AllByRecursion (λ r. reading_fault shape r.component r.line r.samples ≡ None) rs
     → AllByRecursion (λ x. reading_fault shape c l x ≡ None) (map (λ r. r.samples) (filter (is_there c l) rs))
@@ -288,6 +302,7 @@ each_made : (P : BareEntry → Type 0) (f : LinePlace → List (List ℕ)) (ps :
 each_made P f [] h = tt
 each_made P f (p ∷ ps) h = (h.0, each_made P f ps h.1)
 
+-- the entries of a partial picture, without their sources, are entries of its shape
 pub entries_are : (p : PartialPicture) → IsPartial p → AreEntries p.shape (bare_entries p)
 entries_are p is = record {
   sorted = entries_rise p;
@@ -328,6 +343,7 @@ line_of_fit shape c l x e =
     let b = first_none (nat_le shape.height l) _ _ a.1 in
     (leb-false _ _ a.0, leb-false _ _ b.0)
 
+-- the place of an entry is one of the picture
 pub line_of_entry : (shape : PictureShape) (e : BareEntry) → IsEntry shape e
     → (e.0.component < length shape.ids) × (e.0.line < shape.height)
 line_of_entry shape (at, []) h = absurd (omega (arith, h.read))
@@ -339,6 +355,7 @@ line_of_entry shape (at, x ∷ xs) h = line_of_fit shape at.component at.line x 
 abbrev rank : LinePlace → ℕ
 rank p = p.component * 2 ^ 16 + p.line
 
+-- a place before another has the lower rank
 rank_rises : (p q : LinePlace) → p.line < 2 ^ 16 → place_cmp p q ≡ Less → rank p < rank q
 rank_rises p q lt e =
     elim (nat_cmp p.component q.component) as (λ r. nat_cmp p.component q.component ≡ r → ordering_then r (nat_cmp p.line q.line) ≡ Less
@@ -354,6 +371,7 @@ above_all : (p : LinePlace) (ps : List LinePlace) → p.line < 2 ^ 16 → AllByR
 above_all p [] lt h = tt
 above_all p (q ∷ ps) lt h = (let r = rank_rises p q lt h.0 in omega (arith, r), above_all p ps lt h.1)
 
+-- places that rise, with ranks from one number on and below another, are no more than lie between
 few_between : (n low : ℕ) (ps : List LinePlace) → low ≤ n → IsStrictlySortedBy place_cmp ps → AllByRecursion (λ p. low ≤ rank p) ps
     → AllByRecursion (λ p. (p.line < 2 ^ 16) × (rank p < n)) ps → length ps + low ≤ n
 unfolding IsStrictlySortedBy
@@ -368,6 +386,7 @@ all_low : (ps : List LinePlace) → AllByRecursion (λ p. 0 ≤ rank p) ps
 all_low [] = tt
 all_low (p ∷ ps) = (omega arith, all_low ps)
 
+-- the places of entries that fit a shape have ranks below four times 2^16
 lines_below : (shape : PictureShape) (es : List BareEntry) → IsShape shape → AllByRecursion (IsEntry shape) es
     → AllByRecursion (λ p. (p.line < 2 ^ 16) × (rank p < 4 * 2 ^ 16)) (map (λ (e : BareEntry). e.0) es)
 lines_below shape [] is h = tt
@@ -379,6 +398,7 @@ lines_below shape (e ∷ es) is h =
     let m = is.height_below in
     ((omega (arith, l, m), omega (arith, c, l, m, n)), lines_below shape es is h.1)
 
+-- a picture has fewer than 2^32 entries
 pub few_entries : (shape : PictureShape) (es : List BareEntry) → IsShape shape → AreEntries shape es → length es < 2 ^ 32
 few_entries shape es is kept =
     let few : length (map (λ (e : BareEntry). e.0) es) + 0 ≤ 4 * 2 ^ 16 =

@@ -81,6 +81,7 @@ pub lookup_from_each : {X : Type 0} (P : LinePlace × X → Type 0) (es : List (
     → IfSome (lookup (is_at (place_cmp q)) es) (λ xs. P (q, xs))
 lookup_from_each P es q h = lookup_by place_total same_place P es q h
 
+-- what holds of each item holds of one that is among them by the test
 pub any_all : (P : List ℕ → Type 0) (x : List ℕ) (xs : List (List ℕ)) → AllByRecursion P xs → list_any (eq_by_cmp S x) xs ≡ true → P x
 any_all P x [] h e = absurd cc
 any_all P x (y ∷ xs) h e =
@@ -89,6 +90,7 @@ any_all P x (y ∷ xs) h e =
       | false ↦ λ t f. any_all P x xs h.1 f
     ] refl e
 
+-- a reading is held exactly where it is kept at its place
 pub holds_kept : (shape : PictureShape) (es : List BareEntry) (p : PartialPicture) (c l : ℕ) (x : List ℕ) → AreEntries shape es
     → from_list (readings_of_entries es) ≡ p.readings → holds p c l x ≡ list_any (eq_by_cmp S x) (samples_at es (place c l))
 holds_kept shape es p c l x kept is =
@@ -96,6 +98,7 @@ holds_kept shape es p c l x kept is =
     ∙ contains-from_list reading_total (readings_of_entries es) (at_place (place c l) x)
     ∙ any-entries es (at_place (place c l) x) kept.sorted
 
+-- samples that are kept at a place fit it
 pub fits_kept : (shape : PictureShape) (es : List BareEntry) (c l : ℕ) (x : List ℕ) → AreEntries shape es
     → list_any (eq_by_cmp S x) (samples_at es (place c l)) ≡ true → reading_fault shape c l x ≡ None
 fits_kept shape es c l x kept e =

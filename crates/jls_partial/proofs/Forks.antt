@@ -37,6 +37,7 @@ sources_left [] m r i ss lt = absurd (omega arith)
 sources_left (s ∷ l) m r zero ss lt = refl
 sources_left (s ∷ l) m r (suc i) ss lt = ap (λ t. s ∷ t) (sources_left l m r i ss (omega arith))
 
+-- sources added to the middle slot
 pub sources_middle : (l : List Slot) (m : Slot) (r : List Slot) (i : ℕ) (ss : List ℕ) → i ≡ length l
     → with_sources_at (l ++ m ∷ r) i ss ≡ l ++ (record { start = m.start; sources = sets.insert_all m.sources ss }) ∷ r
 sources_middle [] m r zero ss e = refl
@@ -44,6 +45,7 @@ sources_middle [] m r (suc i) ss e = absurd (omega arith)
 sources_middle (s ∷ l) m r zero ss e = absurd (omega arith)
 sources_middle (s ∷ l) m r (suc i) ss e = ap (λ t. s ∷ t) (sources_middle l m r i ss (omega arith))
 
+-- sources added to a slot after the middle one
 pub sources_right : (l : List Slot) (m : Slot) (r : List Slot) (i k : ℕ) (ss : List ℕ) → i ≡ length l + 1 + k
     → with_sources_at (l ++ m ∷ r) i ss ≡ l ++ m ∷ with_sources_at r k ss
 sources_right [] m r zero k ss e = absurd (omega arith)

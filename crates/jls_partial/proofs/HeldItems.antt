@@ -15,6 +15,7 @@ use Rattle.jls_partial.proofs.Unions.{either}
 
 -- the test of a list tells its members
 module _ {K : Type 0} {R : K → K → Ordering} (total : IsTotalOrder R) (exact : CmpEqualImpliesEq R) where
+  -- two items that compare as equal are one
   one_item : (x y : K) → eq_by_cmp R x y ≡ true → x ≡ y
   one_item x y e = exact x y (equal (R x y) e)
     where
@@ -23,6 +24,7 @@ module _ {K : Type 0} {R : K → K → Ordering} (total : IsTotalOrder R) (exact
       equal Equal e = refl
       equal Greater e = absurd cc
 
+  -- a member of a list is one by the test
   pub any_of_item : (ks : List K) (k : K) → Contains ks k → list_any (eq_by_cmp R k) ks ≡ true
   any_of_item [] k c = absurd (none_in k c)
   any_of_item (q ∷ qs) k c =
@@ -31,6 +33,7 @@ module _ {K : Type 0} {R : K → K → Ordering} (total : IsTotalOrder R) (exact
         | inr later ↦ or_right (eq_by_cmp R k q) _ (any_of_item qs k later)
       ]
 
+  -- an item that passes the test of a list is a member
   pub item_of_any : (ks : List K) (k : K) → list_any (eq_by_cmp R k) ks ≡ true → Contains ks k
   item_of_any [] k e = absurd cc
   item_of_any (q ∷ qs) k e =

@@ -35,6 +35,7 @@ firsts : (at : LinePlace) (ks : List Kept)
 firsts at [] = refl
 firsts at (k ∷ ks) = ap (λ t. at_place at k.0 ∷ t) (firsts at ks)
 
+-- the readings of entries with sources are those of the entries without them
 pub bare_readings : (es : List Entry) → map (λ k. k.0) (kept_readings es) ≡ readings_of_entries (map bare es)
 bare_readings [] = refl
 bare_readings (e ∷ es) =
@@ -56,6 +57,7 @@ readings_are shape es = sym (ap (set.insert_all (set.empty {R = reading_cmp})) (
 
 -- ---- what the partial picture of entries holds
 
+-- the partial picture that entries make has a reading exactly where they have it
 pub holds_reading : (shape : PictureShape) (es : List Entry) (r : Reading)
     → set.contains (partial_of shape es).readings r ≡ has_item reading_cmp r (λ _. true) (kept_readings es)
 holds_reading shape es r =
@@ -63,6 +65,7 @@ holds_reading shape es r =
     ∙ ap (λ b. b || list_any (eq_by_cmp reading_cmp r) (map (λ k. k.0) (kept_readings es))) (contains-empty reading_cmp r)
     ∙ any_items reading_cmp r (kept_readings es)
 
+-- the partial picture that entries make has a mark exactly where they have it
 pub holds_mark : (shape : PictureShape) (es : List Entry) (r : Reading) (s : ℕ)
     → set.contains (partial_of shape es).marks (r, s) ≡ has_mark reading_cmp r s (kept_readings es)
 holds_mark shape es r s =
@@ -75,6 +78,7 @@ holds_mark shape es r s =
 abbrev pub kept_at : List Entry → LinePlace → List Kept
 kept_at es at = unwrap_or (lookup (is_at (place_cmp at)) es) []
 
+-- readings at one place have an item where the place is that of the item, and what is kept there has it
 has-at_place : (r : Reading) (g : List ℕ → Bool) (p : LinePlace) (ks : List Kept)
     → has_item reading_cmp r g (map (kept_at_place p) ks) ≡ (eq_by_cmp place_cmp (place_of r) p && has_item S r.samples g ks)
 has-at_place r g p [] = none (eq_by_cmp place_cmp (place_of r) p)
@@ -124,6 +128,7 @@ module _ (P : Reading × List ℕ → Type 0) where
   all_there at [] h = tt
   all_there at (k ∷ ks) h = (h.0, all_there at ks h.1)
 
+  -- what holds of all readings holds of those of each entry
   by_entry : (es : List Entry) → AllByRecursion P (kept_readings es)
       → AllByRecursion (λ e. AllByRecursion (λ k. P (kept_at_place e.0 k)) e.1) es
   by_entry [] h = tt
@@ -137,12 +142,14 @@ kept_again : (f : List ℕ → List ℕ) (ks : List Kept) → AllByRecursion (λ
 kept_again f [] h = refl
 kept_again f (k ∷ ks) h = λ i. (k.0, h.0 i) ∷ kept_again f ks h.1 i
 
+-- readings at a place whose sources are those of the marks get them again
 own_again : (p : PartialPicture) (at : LinePlace) (ks : List Kept) → AllByRecursion (λ k. IsStrictlySortedBy nat_cmp k.1) ks
     → AllByRecursion (λ k. (s : ℕ) → set.contains p.marks (at_place at k.0, s) ≡ list_any (eq_by_cmp nat_cmp s) k.1) ks
     → AllByRecursion (λ k. sources_at p at.component at.line k.0 ≡ k.1) ks
 own_again p at [] h own = tt
 own_again p at (k ∷ ks) h own = (sources_again reading_cmp p.marks (at_place at k.0) k.1 h.0 own.0, own_again p at ks h.1 own.1)
 
+-- entries whose sources are those of the marks get them again
 each_again : (p : PartialPicture) (es : List Entry) → SourcesRise es
     → AllByRecursion (λ e. AllByRecursion (λ k. (s : ℕ) → set.contains p.marks (at_place e.0 k.0, s) ≡ list_any (eq_by_cmp nat_cmp s) k.1)
     e.1) es
@@ -151,6 +158,7 @@ each_again p [] h own = refl
 each_again p (e ∷ es) h own =
     λ i. (e.0, kept_again (sources_at p e.0.component e.0.line) e.1 (own_again p e.0 e.1 h.0 own.0) i) ∷ each_again p es h.1 own.1 i
 
+-- the entries of the partial picture that entries make are these entries
 pub entries_again : (shape : PictureShape) (es : List Entry) → AreEntries shape (map bare es) → SourcesRise es
     → entries (partial_of shape es) ≡ es
 entries_again shape es kept rise =
@@ -169,6 +177,7 @@ entries_again shape es kept rise =
 
 -- ---- the entries of a partial picture make it again
 
+-- entries that get their sources are the same without them
 bare_of_own : (p : PartialPicture) (es : List BareEntry) → map bare (map (with_own_sources p) es) ≡ es
 bare_of_own p [] = refl
 bare_of_own p (e ∷ es) = λ i. (e.0, names e.1 i) ∷ bare_of_own p es i
@@ -180,6 +189,7 @@ bare_of_own p (e ∷ es) = λ i. (e.0, names e.1 i) ∷ bare_of_own p es i
 pub bare_entries_are : (p : PartialPicture) → map bare (entries p) ≡ bare_entries p
 bare_entries_are p = bare_of_own p (bare_entries p)
 
+-- entries that get the sources of a partial picture have its readings, each with its own sources
 own_readings : (p : PartialPicture) (es : List BareEntry)
     → kept_readings (map (with_own_sources p) es) ≡ map (λ r. (r, sources_of reading_cmp p.marks r)) (readings_of_entries es)
 own_readings p [] = refl
@@ -196,6 +206,7 @@ own_readings p (e ∷ es) =
     there [] = refl
     there (x ∷ xs) = ap (λ t. (at_place e.0 x, sources_of reading_cmp p.marks (at_place e.0 x)) ∷ t) (there xs)
 
+-- the partial picture that the entries of one make is that picture
 pub partial_again : (p : PartialPicture) → AreMarksHeld p → partial_of p.shape (entries p) ≡ p
 partial_again p held =
     let readings = sym (readings_are p.shape (entries p))

@@ -14,6 +14,7 @@ use Rattle.std.proofs.lemmas.Cmp.{tied_itself}
 
 -- a list whose values are seen by f
 module _ {K X Y : Type 0} (f : X → Y) where
+  -- what is looked up in a mapped list is the mapped value
   pub lookup-map : (t : K → Bool) (es : List (K × X)) → lookup t (map (λ e. (e.0, f e.1)) es) ≡ option_map f (lookup t es)
   lookup-map t [] = refl
   lookup-map t (e ∷ es) =
@@ -50,6 +51,7 @@ module _ {K : Type 0} {R : K → K → Ordering} (total : IsTotalOrder R) (same 
         ] refl (f q)),
   )
 
+  -- what holds of each entry holds of the one that is looked up
   pub lookup_by : {X : Type 0} (P : K × X → Type 0) (es : List (K × X)) (q : K) → AllByRecursion P es
       → IfSome (lookup (is_at (R q)) es) (λ xs. P (q, xs))
   lookup_by P [] q h = tt

@@ -63,6 +63,7 @@ has-set (k ∷ ks) (suc i) x old new ss d y s lt is more =
     regroup true b c = refl
     regroup false b c = refl
 
+-- where a line gets more sources, the marks of the lines are those from before and these
 pub marks-set : (ks : List Kept) (i : ℕ) (x : List ℕ) (old : sets.OrderedSet nat_cmp) (ss : List ℕ) (d : Kept) → i < length ks
     → get_or ks i d ≡ (x, sets.items old)
     → sets.from_list {R = mark_cmp S} (marks_of (set ks i (x, sets.items (sets.insert_all old ss))))

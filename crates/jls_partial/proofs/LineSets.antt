@@ -87,7 +87,7 @@ pub no_items : sets.items (sets.empty {R = nat_cmp}) ≡ []
 unfolding IsStrictlySortedBy
 no_items = items-from_list nat_cmp_total [] tt
 
--- and a set without items is that set
+-- a set without items is the set of no numbers
 pub none_where_no_items : (s : sets.OrderedSet nat_cmp) (xs : List ℕ) (b : Bool) → xs ≡ sets.items s → b ≡ eqb (length xs) 0
     → IsTrue b ↔ (s ≡ sets.empty)
 none_where_no_items s [] b e test = (
@@ -108,6 +108,7 @@ module _ (precision width : ℕ) (packed samples : List ℕ) (slots : List Slot)
   in_slots = let many : length (lines_of width packed slots) ≡ length slots =
       length-map slots (λ (t : Slot). take width (drop t.start packed)) in let g = gap.within in omega (arith, many, g)
 
+  -- the place lies among the lines that are kept
   in_kept : i ≤ length (kept_of width packed slots)
   in_kept = let many : length (kept_of width packed slots) ≡ length slots = length-kept width packed slots in let g = in_slots in
       omega (arith, many, g)
@@ -115,6 +116,7 @@ module _ (precision width : ℕ) (packed samples : List ℕ) (slots : List Slot)
   abbrev added : List Slot
   added = insert slots i (record { start = length packed; sources = sources })
 
+  -- a line set with a line put in is a line set
   pub put_kept : IsLineSet precision width (packed ++ samples) added
   put_kept =
       let P : List ℕ → Type 0 = λ y. samples_fault precision width y ≡ None in
@@ -127,6 +129,7 @@ module _ (precision width : ℕ) (packed samples : List ℕ) (slots : List Slot)
             (all-insert P (lines_of width packed slots) i samples gap.within kept.fitting fits);
       }
 
+  -- a line set with a line put in is seen with that line and its sources
   pub put_seen : seen_lines precision width (packed ++ samples) added
       ≡ with_lines (seen_lines precision width packed slots) ((samples, sets.items sources) ∷ [])
   put_seen = λ j. record {
@@ -167,6 +170,7 @@ module _ (precision width : ℕ) (packed samples : List ℕ) (slots : List Slot)
   all_set P (u ∷ ts) zero t h p = (p, h.1)
   all_set P (u ∷ ts) (suc k) t h p = (h.0, all_set P ts k t h.1 p)
 
+  -- slots of a line set stay that where one gets other sources
   pub set_kept : IsLineSet precision width packed (set slots i changed)
   set_kept =
       let P : List ℕ → Type 0 = λ y. samples_fault precision width y ≡ None in
@@ -183,6 +187,7 @@ module _ (precision width : ℕ) (packed samples : List ℕ) (slots : List Slot)
         fitting = subst (AllByRecursion P) (sym lines_same) kept.fitting;
       }
 
+  -- where a slot gets more sources, its line is seen with these sources too
   pub set_seen : (ss : List ℕ) → more ≡ sets.insert_all s.sources ss
       → seen_lines precision width packed (set slots i changed) ≡ with_lines (seen_lines precision width packed slots) ((samples, ss) ∷ [])
   set_seen ss grown =
@@ -210,6 +215,7 @@ own_sources : (ks : List Kept) (i : ℕ) (d : Kept) (t : ℕ) → IsStrictlySort
     → has_mark S (get_or ks i d).0 t ks ≡ list_any (eq_by_cmp nat_cmp t) (get_or ks i d).1
 own_sources ks i d t h lt = All-from_recursion (HasOwn S lines_total ks) ks (each_has_own S lines_total ks h) i d lt t
 
+-- the sources in a slot are those of its line in the line set that is seen
 pub sources_lent : (precision width : ℕ) (packed : List ℕ) (slots : List Slot) (p : PictureLines) (i : ℕ) (s : Slot)
     → IsLineSet precision width packed slots → seen_lines precision width packed slots ≡ p → i < length slots → s ≡ get_or slots i s
     → line_sources p (take width (drop s.start packed)) ≡ sets.items s.sources

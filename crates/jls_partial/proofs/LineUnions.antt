@@ -20,6 +20,7 @@ use Rattle.jls_partial.proofs.Entries.{S}
 use Rattle.jls_partial.proofs.Growth.{kept_more}
 use Rattle.jls_partial.proofs.MarkSets.{any_marks, has_given, prefix_above, marks_of-append, named, implied}
 
+-- taking some lines, and then others, is taking all of them
 pub with_lines-append : (s : PictureLines) (xs ys : List Kept) → with_lines s (xs ++ ys) ≡ with_lines (with_lines s xs) ys
 with_lines-append s xs ys = λ j. record {
   precision = s.precision;

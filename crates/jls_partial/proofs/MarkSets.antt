@@ -40,6 +40,7 @@ module _ {K : Type 0} (R : K → K → Ordering) where
   abbrev pub has_mark : K → ℕ → List (K × List ℕ) → Bool
   has_mark x s ks = has_item x (list_any (eq_by_cmp nat_cmp s)) ks
 
+  -- a mark is one of an item with its sources exactly where it is of that item and of one of these sources
   any_map_mark : (k l : K) (s : ℕ) (ss : List ℕ)
       → list_any (eq_by_cmp (mark_cmp R) (k, s)) (map (λ t. (l, t)) ss) ≡ (eq_by_cmp R k l && list_any (eq_by_cmp nat_cmp s) ss)
   any_map_mark k l s [] = none (eq_by_cmp R k l)
@@ -55,6 +56,7 @@ module _ {K : Type 0} (R : K → K → Ordering) where
       both true c d = refl
       both false c d = refl
 
+  -- a mark is one of a list exactly where its item has that source there
   pub any_marks : (x : K) (s : ℕ) (ks : List (K × List ℕ)) → list_any (eq_by_cmp (mark_cmp R) (x, s)) (marks_of ks) ≡ has_mark x s ks
   any_marks x s [] = refl
   any_marks x s (k ∷ ks) =
@@ -143,6 +145,7 @@ sources_again R marks x ss rises same =
 
 -- what is put into a set is above what was there
 module _ {K : Type 0} {R : K → K → Ordering} (o : IsTotalOrder R) (exact : CmpEqualImpliesEq R) where
+  -- a set into which items were put has the set from before in it
   pub prefix_above : (s : set.OrderedSet R) (xs : List K) → set.union s (set.insert_all s xs) ≡ set.insert_all s xs
   prefix_above s xs = same_set o exact _ _ (λ q.
       contains-union o s (set.insert_all s xs) q

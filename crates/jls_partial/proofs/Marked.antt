@@ -141,6 +141,7 @@ got_held p c l i x e = held_in_line p (reading_of c l x) c l (got (readings_at p
         ∙ ap is_eq (tied_itself reading_total (reading_of c l x)))
     got (y ∷ xs) (suc i) e = or_right (eq_by_cmp reading_cmp (reading_of c l x) (reading_of c l y)) _ (got xs i e)
 
+-- after one reading more of a line has got the source, the first i + 1 readings have it
 pub marked_more : (old now new : PartialPicture) (s c l i : ℕ)
     → now ≡ with_marks old s (map (reading_of c l) (take i (readings_at old c l))) → i < length (readings_at old c l)
     → IfSome (slice_get (readings_at now c l) i) (λ x. new ≡ with_marks now s (reading_of c l x ∷ [])) → new

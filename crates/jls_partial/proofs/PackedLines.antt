@@ -59,18 +59,21 @@ each P [] i d h lt = absurd (omega arith)
 each P (s ∷ slots) zero d h lt = h.0
 each P (s ∷ slots) (suc i) d h lt = each P slots i d h.1 (omega arith)
 
+-- a slot of the list lies inside the samples
 pub inside_at : (width : ℕ) (packed : List ℕ) (slots : List Slot) (i : ℕ) (s : Slot)
     → AllByRecursion (λ t. t.start + width ≤ length packed) slots → i < length slots → s ≡ get_or slots i s
     → s.start + width ≤ length packed
 inside_at width packed slots i s h lt is =
     subst (λ (t : Slot). t.start + width ≤ length packed) (sym is) (each (λ t. t.start + width ≤ length packed) slots i s h lt)
 
+-- the line of a slot is its samples
 pub line_at : (width : ℕ) (packed : List ℕ) (slots : List Slot) (i : ℕ) (s : Slot) (x : List ℕ) → i < length slots → s ≡ get_or slots i s
     → get_or (lines_of width packed slots) i x ≡ take width (drop s.start packed)
 line_at width packed slots i s x lt is = get_or-map (λ (t : Slot). take width (drop t.start packed)) slots i s x lt
     ∙ ap (λ (t : Slot). take width (drop t.start packed)) (sym is)
 
 module _ {K : Type 0} {R : K → K → Ordering} (o : IsTotalOrder R) (exact : CmpEqualImpliesEq R) where
+  -- a gap behind the first item is a gap of the rest
   next : (y : K) (xs : List K) (i : ℕ) (x : K) → IsGap R (y ∷ xs) (suc i) x → IsGap R xs i x
   next y xs i x g = record {
     within = omega (arith, g.within);
@@ -128,12 +131,13 @@ lines_stay width packed more (s ∷ slots) h =
     ∙ take-append-le width (drop s.start packed) more (omega (arith, first, length-drop s.start packed)) in
     λ i. (stays i, set.items s.sources) ∷ lines_stay width packed more slots h.1 i
 
--- and what was appended is read after them
+-- samples that were appended are read after the others
 pub line_appended : (width : ℕ) (packed samples : List ℕ) → length samples ≡ width
     → take width (drop (length packed) (packed ++ samples)) ≡ samples
 line_appended width packed samples len = ap (take width) (drop-append_seam packed samples ∙ sym (append-nil samples))
     ∙ take_at samples [] width len
 
+-- slots inside some samples are inside more of them
 pub inside_more : (width n m : ℕ) (slots : List Slot) → n ≤ m → AllByRecursion (λ s. s.start + width ≤ n) slots
     → AllByRecursion (λ s. s.start + width ≤ m) slots
 inside_more width n m [] le h = tt
@@ -157,12 +161,14 @@ module _ (width : ℕ) (packed samples : List ℕ) (slots : List Slot) (i : ℕ)
   abbrev added : Slot
   added = record { start = length packed; sources = sources }
 
+  -- a line put in is kept at its place
   pub kept_more : kept_of width (packed ++ samples) (insert slots i added)
       ≡ insert (kept_of width packed slots) i (samples, set.items sources)
   kept_more =
       map-insert (λ (s : Slot). (take width (drop s.start (packed ++ samples)), set.items s.sources)) slots i added le
       ∙ (λ j. insert (lines_stay width packed samples slots inside j) i (line_appended width packed samples len j, set.items sources))
 
+  -- a line put in is one of the lines, at its place
   pub lines_more : lines_of width (packed ++ samples) (insert slots i added) ≡ insert (lines_of width packed slots) i samples
   lines_more =
       sym (lines-kept width (packed ++ samples) (insert slots i added)) ∙ ap (map (λ (k : Kept). k.0)) kept_more
@@ -170,6 +176,7 @@ module _ (width : ℕ) (packed samples : List ℕ) (slots : List Slot) (i : ℕ)
       (let many : length (kept_of width packed slots) ≡ length slots = length-kept width packed slots in omega (arith, le, many))
       ∙ ap (λ (ls : List (List ℕ)). insert ls i samples) (lines-kept width packed slots)
 
+  -- a line that is put in at its gap, with its samples after the others, leaves the lines packed
   pub packed_more : 1 ≤ width → IsPacked width packed slots → IsGap S (lines_of width packed slots) i samples
       → IsPacked width (packed ++ samples) (insert slots i added)
   packed_more wide is gap =

@@ -36,6 +36,7 @@ place_at : (rows : List Row) (i : ℕ) (d : Row) (at : LinePlace) → i < length
 place_at rows i d at lt = get_or-map (λ (r : Row). r.0) rows i d at lt
 
 module _ (rows : List Row) (sorted : IsStrictlySortedBy place_cmp (map (λ r. r.0) rows)) (at : LinePlace) where
+  -- compared with a place, the rows of a page are first before it, then at it, then after it
   comparisons_rise : IsNonDecreasingBy (λ r. ordering_index (place_cmp r.0 at)) rows
   comparisons_rise = searchable_from_sorted place_total (λ (r : Row). r.0) rows at (λ k d _ lt.
       let here : k < length rows = omega (arith, lt) in
@@ -46,6 +47,7 @@ module _ (rows : List Row) (sorted : IsStrictlySortedBy place_cmp (map (λ r. r.
       ap is_lt (place_total.antisymm (get_or rows (k + 1) d).0 (get_or rows k d).0
       ∙ ap ordering_reverse ((λ i. place_cmp (sym (place_at rows k d d.0 here) i) (sym (place_at rows (k + 1) d d.0 next) i)) ∙ rise)))
 
+  -- what a binary search of the rows finds is the row of the place, or the gap where it belongs
   pub searched : (r : Result ℕ ℕ) → IsSearchInRange r (length rows) → IsBinarySearchResult (λ r. place_cmp r.0 at) rows r
       → IfOk r (λ i. get_or (map (λ r. r.0) rows) i at ≡ at) × IfErr r (λ i. IsGap place_cmp (map (λ r. r.0) rows) i at)
   searched (Ok i) lt equal = (place_at rows i (at, Empty) at lt ∙ place_exact (get_or rows i (at, Empty)).0 at (equal (at, Empty)), tt)
@@ -109,6 +111,7 @@ later at k rows i above lt is =
     ∙ all_at (λ y. place_cmp k y ≡ Less) (map (λ r. r.0) rows) i at above (omega (arith, lt, many)) in
     ap is_eq (place_total.antisymm at k ∙ ap ordering_reverse below)
 
+-- the row that stands at a place is the one that is looked up
 pub row_found : (rows : List Row) (at : LinePlace) (i : ℕ) (x : Row) → IsStrictlySortedBy place_cmp (map (λ r. r.0) rows) → i < length rows
     → get_or (map (λ r. r.0) rows) i at ≡ at → x ≡ get_or rows i x → lookup (is_at (place_cmp at)) rows ≡ Some x.1
 unfolding IsStrictlySortedBy
@@ -145,6 +148,7 @@ pub record IsWritten (rows : List Row) (at : LinePlace) (x y : Slots) (fs : List
   pub is : fs ≡ set_value (is_at (place_cmp at)) rows y
   pub updated : Updated rows at y fs
 
+-- a row whose slots are set is written, and no other
 pub written : (rows searched : List Row) (at : LinePlace) (i : ℕ) (x : Row) (y : Slots) → searched ≡ rows
     → IsStrictlySortedBy place_cmp (map (λ r. r.0) rows)
     → i < length searched → get_or (map (λ r. r.0) searched) i at ≡ at → x ≡ get_or rows i x → IsWritten rows at x.1 y (set rows i (x.0, y))
@@ -156,6 +160,7 @@ written rows searched at i x y same_rows sorted lt is read =
     let here = row_set rows at i x y sorted below same read in
     record { found = found; is = here; updated = subst (Updated rows at y) (sym here) (set_updates rows at y (ap is_some found)) }
 
+-- rows of a page stay rows of it where the slots of one are set
 own_set : (page : PageNumber) (t : LinePlace → Bool) (rows : List Row) (y : Slots) → AllByRecursion (λ r. page_of r.0 ≡ page) rows
     → AllByRecursion (λ r. page_of r.0 ≡ page) (set_value t rows y)
 own_set page t [] y h = tt
@@ -165,6 +170,7 @@ own_set page t (r ∷ rows) y h =
       | false ↦ (h.0, own_set page t rows y h.1)
     ]
 
+-- a page stays one where the slots of a row are set
 pub set_page : (page : PageNumber) (rows : List Row) (t : LinePlace → Bool) (y : Slots) → IsPage page rows
     → IsPage page (set_value t rows y)
 set_page page rows t y is = record {
@@ -175,6 +181,7 @@ set_page page rows t y is = record {
 
 -- ---- a row that is put in
 
+-- where no row passes a test, none is looked up by it
 none_any : (t : LinePlace → Bool) (rows : List Row) → list_any t (map (λ r. r.0) rows) ≡ false → lookup t rows ≡ None
 none_any t [] h = refl
 none_any t (r ∷ rows) h =
@@ -183,18 +190,21 @@ none_any t (r ∷ rows) h =
       | false ↦ λ e. none_any t rows e
     ] h
 
+-- at a gap no row is looked up
 pub row_missing : (rows : List Row) (at : LinePlace) (i : ℕ) → IsGap place_cmp (map (λ r. r.0) rows) i at
     → lookup (is_at (place_cmp at)) rows ≡ None
 row_missing rows at i gap =
     none_any (is_at (place_cmp at)) rows
     (sym (contains-from_list place_total (map (λ r. r.0) rows) at) ∙ gap-new place_total place_exact (map (λ r. r.0) rows) i at gap)
 
+-- a row put in at its gap is an update
 pub insert_updates : (rows : List Row) (at : LinePlace) (i : ℕ) (y : Slots) → IsGap place_cmp (map (λ r. r.0) rows) i at
     → Updated rows at y (insert rows i (at, y))
 insert_updates rows at i y gap q =
     lookup-insert (eq_by_cmp_equiv place_total) at y q rows i
     (none_passes_from_lookup (is_at (place_cmp at)) rows (row_missing rows at i gap))
 
+-- a row that is put in at its gap leaves the rows a page
 pub insert_page : (rows : List Row) (at : LinePlace) (i : ℕ) (y : Slots) → IsPage (page_of at) rows
     → IsGap place_cmp (map (λ r. r.0) rows) i at
     → IsPage (page_of at) (insert rows i (at, y))
@@ -215,6 +225,7 @@ pub first_page : (at : LinePlace) (y : Slots) → IsPage (page_of at) ((at, y) �
 unfolding IsStrictlySortedBy
 first_page at y = record { some = omega arith; sorted = (tt, tt); own = (refl, tt) }
 
+-- one row is an update of no rows
 pub first_updates : (at : LinePlace) (y : Slots) → Updated [] at y ((at, y) ∷ [])
 first_updates at y q = ap (λ b. cond b (Some y) None) (turned (place_cmp q at) (place_cmp at q) (place_total.antisymm q at))
   where

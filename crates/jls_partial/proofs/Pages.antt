@@ -35,6 +35,7 @@ use Rattle.jls_partial.proofs.StoredLines.{UpdatedBy, all_stay, still_packed, lo
 page_total : IsTotalOrder page_cmp
 page_total = then_total (on_total (λ (p : PageNumber). p.component) nat_cmp_total) (on_total (λ (p : PageNumber). p.number) nat_cmp_total)
 
+-- two page numbers that compare as equal are one
 same_page : (p q : PageNumber) → eq_by_cmp page_cmp p q ≡ true → p ≡ q
 same_page p q e = ap (λ (x : ℕ × ℕ). record { component = x.0; number = x.1 })
     (exact_pairs nat_cmp nat_cmp exact_unsigned exact_unsigned (p.component, p.number) (q.component, q.number) (tied (page_cmp p q) e))
@@ -46,6 +47,7 @@ same_page p q e = ap (λ (x : ℕ × ℕ). record { component = x.0; number = x.
 
 -- ---- lines and their pages
 
+-- lines of an earlier page are before those of a later one
 lines_apart : (m n : ℕ) → nat_cmp (m / 64) (n / 64) ≡ Less → nat_cmp m n ≡ Less
 lines_apart m n h =
     let below : m / 64 < n / 64 = ranked (m / 64) (n / 64) Less (sym h) in
@@ -103,7 +105,7 @@ none_first t (x ∷ xs) ys h =
       | false ↦ λ e. none_first t xs ys e
     ] h
 
--- and where the second has nothing, the first alone
+-- where the second list has nothing, the first alone is looked up
 none_second : (t : LinePlace → Bool) (xs ys : List Row) → lookup t ys ≡ None → lookup t (xs ++ ys) ≡ lookup t xs
 none_second t [] ys h = h
 none_second t (x ∷ xs) ys h = ap (λ o. cond (t x.0) (Some x.1) o) (none_second t xs ys h)
@@ -148,12 +150,14 @@ page_found ps q are = found_in_page ps q are.sorted are.each
 
 -- ---- all rows rise
 
+-- a place of an earlier page is before each row of a later one
 rows_above : (x : LinePlace) (page : PageNumber) (rows : List Row) → page_cmp (page_of x) page ≡ Less
     → AllByRecursion (λ r. page_of r.0 ≡ page) rows
     → AllByRecursion (λ y. place_cmp x y ≡ Less) (map (λ r. r.0) rows)
 rows_above x page [] h own = tt
 rows_above x page (r ∷ rows) h own = (pages_apart x r.0 (ap (page_cmp (page_of x)) own.0 ∙ h), rows_above x page rows h own.1)
 
+-- a place is before all rows of pages that are after its page
 pages_above : (x : LinePlace) (ps : Pages) → AllByRecursion (λ k. page_cmp (page_of x) k ≡ Less) (map (λ p. p.0) ps)
     → AllByRecursion (λ p. IsPage p.0 p.1.items) ps → AllByRecursion (λ y. place_cmp x y ≡ Less) (map (λ r. r.0) (rows_of ps))
 pages_above x [] above each = tt
@@ -162,6 +166,7 @@ pages_above x (p ∷ ps) above each =
     (all_append (λ y. place_cmp x y ≡ Less) (map (λ r. r.0) p.1.items) (map (λ r. r.0) (rows_of ps))
     (rows_above x p.0 p.1.items above.0 each.0.own) (pages_above x ps above.1 each.1))
 
+-- each row of a page is before all rows of the pages after it
 each_above : (page : PageNumber) (rows : List Row) (ps : Pages) → AllByRecursion (λ r. page_of r.0 ≡ page) rows
     → AllByRecursion (λ k. page_cmp page k ≡ Less) (map (λ p. p.0) ps) → AllByRecursion (λ p. IsPage p.0 p.1.items) ps
     → AllByRecursion (λ x. AllByRecursion (λ y. place_cmp x y ≡ Less) (map (λ r. r.0) (rows_of ps))) (map (λ r. r.0) rows)
@@ -171,6 +176,7 @@ each_above page (r ∷ rows) ps own above each = (
   each_above page rows ps own.1 above each,
 )
 
+-- the rows of pages that rise, one page after the other, rise
 rows_rise : (ps : Pages) → IsStrictlySortedBy page_cmp (map (λ p. p.0) ps) → AllByRecursion (λ p. IsPage p.0 p.1.items) ps
     → IsStrictlySortedBy place_cmp (map (λ r. r.0) (rows_of ps))
 unfolding IsStrictlySortedBy
@@ -211,6 +217,7 @@ pub record IsPageWritten (es : Pages) (at : LinePlace) (w v : Vec Row Global) (f
   pub updated : UpdatedBy page_cmp es (page_of at) v fs
   pub are : ArePages fs
 
+-- where one page is put in place of another, and nothing else changes, that page is written
 pub page_written : (es fs : Pages) (at : LinePlace) (page : PageNumber) (w v : Vec Row Global) → page ≡ page_of at → ArePages es
     → Some w ≡ lookup (is_at (page_cmp page)) es → fs ≡ set_value (is_at (page_cmp page)) es v
     → (IsSome (lookup (is_at (page_cmp page)) es) → UpdatedBy page_cmp es page v fs)
@@ -227,6 +234,7 @@ page_written es fs at page w v named are found is u order kept =
 
 -- ---- what is kept
 
+-- what all pages have at a place is what its page has there
 pub seen_page : (packed : PackedLines) (ps : Pages) (q : LinePlace) → ArePages ps
     → lookup (is_at (place_cmp q)) (entries_in packed (rows_of ps)) ≡ lookup (is_at (place_cmp q)) (entries_in packed (rows_at ps q))
 seen_page packed ps q are =
@@ -239,12 +247,14 @@ pub lines_of_page : (packed : PackedLines) (ps : Pages) (at : LinePlace) → Are
 lines_of_page packed ps at are =
     ap (λ (o : Option PictureLines). unwrap_or o (no_lines packed.precision packed.width)) (seen_page packed ps at are)
 
+-- the lines at a place are those of its page
 pub lines_there : (packed : PackedLines) (ps : Pages) (at : LinePlace) (v : Vec Row Global) → ArePages ps
     → lookup (is_at (page_cmp (page_of at))) ps ≡ Some v
     → stored_at (pages_seen packed ps) at ≡ stored_at (rows_seen packed v.items) at
 lines_there packed ps at v are found =
     lines_of_page packed ps at are ∙ ap (λ (rows : List Row). stored_at (rows_seen packed rows) at) (rows_there ps at v found)
 
+-- where there is no page, there are no lines
 pub lines_missed : (packed : PackedLines) (ps : Pages) (at : LinePlace) → ArePages ps → lookup (is_at (page_cmp (page_of at))) ps ≡ None
     → stored_at (pages_seen packed ps) at ≡ no_lines packed.precision packed.width
 lines_missed packed ps at are missing =
@@ -274,6 +284,7 @@ page_packed packed ps page v rows_packed found = record {
       (each_page packed ps rows_packed.each));
 }
 
+-- the page that is looked up has its rows, and is of what is packed
 pub rows_here : (packed : PackedLines) (ps : Pages) (at : LinePlace) (v : Vec Row Global) → ArePagesOf packed ps
     → lookup (is_at (page_cmp (page_of at))) ps ≡ Some v
     → IsPageOf packed (page_of at) v.items
@@ -322,7 +333,7 @@ module _ (old new : PackedLines) (longer : Extends old new) (es fs : Pages) (at 
           ap (λ (page : PageNumber). lookup (is_at (place_cmp q)) (entries_in old (items_or (lookup (is_at (page_cmp page)) es)))) same
           ∙ sym (seen_page old es q pages.pages)
 
-  -- and all is of what is packed
+  -- where a page of what is packed is put in, all pages are of what is packed
   pub pages_packed : IsPageOf new (page_of at) v.items → ArePagesOf new fs
   pages_packed page =
       let still = still_packed old new longer (slots_of_entries (rows_of es)) pages.rows_packed in
@@ -359,6 +370,7 @@ seen-append : (packed : PackedLines) (xs ys : List Row) → entries_in packed (x
 seen-append packed [] ys = refl
 seen-append packed (x ∷ xs) ys = ap (λ t. (x.0, lines_in packed x.1) ∷ t) (seen-append packed xs ys)
 
+-- where a page is put in place of one that is seen alike, all pages are seen as before
 same_seen : (packed : PackedLines) (t : PageNumber → Bool) (ps : Pages) (v : Vec Row Global)
     → IfSome (lookup t ps) (λ w. entries_in packed v.items ≡ entries_in packed w.items) → entries_in packed (rows_of (set_value t ps v))
     ≡ entries_in packed (rows_of ps)

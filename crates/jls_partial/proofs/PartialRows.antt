@@ -49,7 +49,7 @@ nothing = nothing_known one_sample
 abbrev five : PartialPicture
 five = with_reading nothing 0 0 (5 ∷ [])
 
--- and as 3
+-- line 0 was read as 5 and as 3
 abbrev both : PartialPicture
 both = with_reading five 0 0 (3 ∷ [])
 

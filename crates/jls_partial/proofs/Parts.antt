@@ -44,7 +44,7 @@ first_held : (first : PartialPicture) (others : List PartialPicture) (r : Readin
 first_held first [] r h = h
 first_held first (q ∷ qs) r h = first_held (union first q) qs r (left_kept first q r h)
 
--- and so is each member
+-- each member of a join is held
 member_held : (first : PartialPicture) (others : List PartialPicture) (p : PartialPicture) (r : Reading) → Contains (first ∷ others) p
     → contains p.readings r ≡ true → contains (join_all union first others).readings r ≡ true
 member_held first others p r (zero, lt, e) h =
@@ -124,7 +124,7 @@ module _ (picture first : PartialPicture) (others : List PartialPicture) (are : 
   nothing_else : (r : Reading) → contains (join_all union first others).readings r ≡ true → contains picture.readings r ≡ true
   nothing_else r h = let m = held_of_member first others r h in (part_of m.0 m.1).readings r.component r.line r.samples m.2
 
-  -- and all of it
+  -- the join holds all of the picture
   all_of_it : IsFitting picture → IsSettled picture → EachLineIsHeld picture.shape (first ∷ others) → (r : Reading)
       → contains picture.readings r ≡ true → contains (join_all union first others).readings r ≡ true
   all_of_it fitting settled each r h =
@@ -139,6 +139,7 @@ module _ (picture first : PartialPicture) (others : List PartialPicture) (are : 
       subst (λ (q : Reading). contains (join_all union first others).readings q ≡ true) (sym one)
       (member_held first others s.0 same s.1 x.1)
 
+-- the law: parts of a picture, of which each line is held, join to that picture
 pub parts_join : PartsGiveThePicture
 parts_join picture fitting settled first others are each =
     let shape = shape_of_join first others ∙ (part_of picture first others are first (0, omega arith, refl)).shape in

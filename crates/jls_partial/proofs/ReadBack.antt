@@ -38,6 +38,7 @@ unfolding IsStrictlySortedBy
 sorted-at_place p [] h = tt
 sorted-at_place p (x ∷ xs) h = (reading_below_block p x xs h.0, sorted-at_place p xs h.1)
 
+-- where the first parts are less, so are the whole orders
 first_less : (r s t : Ordering) → ordering_then r s ≡ Less → ordering_then r (ordering_then s t) ≡ Less
 first_less Less s t h = refl
 first_less Equal Less t h = refl
@@ -45,6 +46,7 @@ first_less Equal Equal t h = absurd cc
 first_less Equal Greater t h = absurd cc
 first_less Greater s t h = absurd cc
 
+-- a reading at an earlier place is below all readings at a later one
 below-at_place : (r : Reading) (p : LinePlace) (xs : List (List ℕ)) → place_cmp (place_of r) p ≡ Less
     → AllByRecursion (λ s. reading_cmp r s ≡ Less) (map (at_place p) xs)
 below-at_place r p [] h = tt
@@ -55,6 +57,7 @@ all-append : (P : Reading → Type 0) (xs ys : List Reading) → AllByRecursion 
 all-append P [] ys p q = q
 all-append P (x ∷ xs) ys p q = (p.0, all-append P xs ys p.1 q)
 
+-- a reading at a place before those of all entries is below all their readings
 below-entries : (r : Reading) (es : List BareEntry) → AllByRecursion (λ q. place_cmp (place_of r) q ≡ Less) (map (λ e. e.0) es)
     → AllByRecursion (λ s. reading_cmp r s ≡ Less) (readings_of_entries es)
 below-entries r [] h = tt
@@ -63,12 +66,14 @@ below-entries r (e ∷ es) h =
     (all-append (λ s. reading_cmp r s ≡ Less) (map (at_place e.0) e.1) (readings_of_entries es) (below-at_place r e.0 e.1 h.0)
     (below-entries r es h.1))
 
+-- the readings of an earlier entry are below those of all later ones
 at_place_below_entries : (p : LinePlace) (xs : List (List ℕ)) (es : List BareEntry)
     → AllByRecursion (λ q. place_cmp p q ≡ Less) (map (λ e. e.0) es)
     → AllByRecursion (λ r. AllByRecursion (λ s. reading_cmp r s ≡ Less) (readings_of_entries es)) (map (at_place p) xs)
 at_place_below_entries p [] es h = tt
 at_place_below_entries p (x ∷ xs) es h = (below-entries (at_place p x) es h, at_place_below_entries p xs es h)
 
+-- the readings of entries that rise, rise
 pub sorted-entries : (shape : PictureShape) (es : List BareEntry) → IsStrictlySortedBy place_cmp (map (λ e. e.0) es)
     → AllByRecursion (IsEntry shape) es → IsStrictlySortedBy reading_cmp (readings_of_entries es)
 unfolding IsStrictlySortedBy
@@ -84,6 +89,7 @@ sorted-entries shape (e ∷ es) h k =
 abbrev pub is_there : ℕ → ℕ → Reading → Bool
 is_there c l r = r.component == c && r.line == l
 
+-- a place is of this component and line exactly where it compares as equal with theirs
 pub eq_there : (c l : ℕ) (p : LinePlace) → (p.component == c && p.line == l) ≡ is_at (place_cmp (place c l)) p
 eq_there c l p =
     (λ i. (nat_eq_equiv.symm p.component c ∙ sym (unsigned_tied c p.component)) i
@@ -114,6 +120,7 @@ nothing_there c l (e ∷ es) h =
     ∙ filter-append (is_there c l) (map (at_place e.0) e.1) (readings_of_entries es)
     ∙ (λ i. there_false c l e.0 e.1 (eq_there c l e.0 ∙ ap is_eq h.0) i ++ nothing_there c l es h.1 i)
 
+-- the readings at a place, out of those of all entries, are the samples of the entry of that place
 pub kept_there : (c l : ℕ) (es : List BareEntry) → IsStrictlySortedBy place_cmp (map (λ e. e.0) es)
     → map (λ r. r.samples) (filter (is_there c l) (readings_of_entries es)) ≡ samples_at es (place c l)
 unfolding IsStrictlySortedBy

@@ -21,6 +21,7 @@ pub record GoAlong {X : Type 0} (one other it left : List X) : Type 0 where
   pub one_is : one ≡ done ++ it
   pub other_is : other ≡ done ++ left
 
+-- where two lists begin with the same item, going along them goes on with their rests
 pub one_done : {X : Type 0} (one other it left : List X) (x y : X) (xs ys : List X) → GoAlong one other it left → it ≡ x ∷ xs
     → left ≡ y ∷ ys → x ≡ y → GoAlong one other xs ys
 one_done one other it left x y xs ys g p q same = record {
@@ -81,6 +82,7 @@ places_from_test a b test is e =
     let p = and_parts (a.component == b.component) (a.line == b.line) (sym is ∙ e) in
     λ i. record { component = eqb-true a.component b.component p.0 i; line = eqb-true a.line b.line p.1 i }
 
+-- two places that the test finds different are not one
 pub places_apart : (a b : LinePlace) (test : Bool) → test ≡ (a.component == b.component && a.line == b.line) → test ≡ false → a ≡ b → ⊥
 places_apart a b test is e same =
     let itself : (b.component == b.component && b.line == b.line) ≡ true = rw (eqb_itself b.component, eqb_itself b.line) refl in
@@ -108,7 +110,7 @@ shapes_from_test s t differ is same =
     four true false c d e = absurd cc
     four false b c d e = absurd cc
 
--- and those that it finds different
+-- shapes that the code's test finds different
 pub shapes_differ : (s t : PictureShape) (differ : Bool)
     → differ ≡ not (s.precision == t.precision && (s.width == t.width && (s.height == t.height && pointwise nat_eq s.ids t.ids)))
     → differ ≡ true → same_shape s t ≡ false
@@ -132,7 +134,7 @@ samples_same L M i x y v v' same =
     let e : Some x ≡ Some y = sym v ∙ ap (λ (xs : List (List ℕ)). slice_get xs i) lines ∙ v' in
     cc
 
--- and the same sources
+-- lines that are kept alike have the same sources at each place
 pub sources_same : (L M : PictureLines) (i : ℕ) (x y ss tt' : List ℕ) → i < length (items L.lines) → i < length (items M.lines)
     → slice_get (items L.lines) i ≡ Some x → slice_get (items M.lines) i ≡ Some y
     → IfSome (slice_get (items L.lines) i) (λ samples. ss ≡ line_sources L samples)

@@ -127,6 +127,7 @@ module _ (width : ℕ) (packed : List ℕ) (whole rest : List Slot) (before : �
 -- ---- where there is one line alone
 
 module _ (width : ℕ) (packed : List ℕ) (slots : List Slot) (s : Slot) (is : slots ≡ s ∷ []) where
+  -- the one line of the slots lies inside the packed samples
   pub one_inside : AllByRecursion (λ (t : Slot). t.start + width ≤ length packed) slots → s.start + width ≤ length packed
   one_inside inside = (subst (AllByRecursion (λ (t : Slot). t.start + width ≤ length packed)) is inside).0
 

@@ -42,7 +42,7 @@ line_found width packed slots i lt =
     let many : length (lines_of width packed slots) ≡ length slots = length-map slots (λ (t : Slot). take width (drop t.start packed)) in
     get_or_default (lines_of width packed slots) i _ [] (omega (arith, many, lt))
 
--- and so is one that was got
+-- a line that was got by its place is found there
 pub line_got : (lines : List (List ℕ)) (i : ℕ) (x : List ℕ) → slice_get lines i ≡ Some x → get_or lines i x ≡ x
 line_got [] i x e = absurd cc
 line_got (y ∷ lines) zero x e = cc

@@ -52,12 +52,14 @@ each_bare : (shape : PictureShape) (es : List LineEntry) → AllByRecursion (IsL
 each_bare shape [] h = tt
 each_bare shape (e ∷ es) h = (h.0.entry, each_bare shape es h.1)
 
+-- what a store has is entries of its shape
 pub are_entries : (shape : PictureShape) (es : List LineEntry) → IsStore shape es → AreEntries shape (map bare (map kept_entry es))
 are_entries shape es kept = subst (AreEntries shape) (sym (bare_kept es)) (record {
   sorted = subst (IsStrictlySortedBy place_cmp) (sym (same_keys es)) kept.sorted;
   each = each_bare shape es kept.each;
 })
 
+-- the sources of each line of a store rise
 sources_rise : (es : List LineEntry) → SourcesRise (map kept_entry es)
 sources_rise [] = tt
 sources_rise (e ∷ es) = (one (set.items e.1.lines), sources_rise es)
@@ -82,7 +84,7 @@ pub no_items : set.items (set.empty {R = S}) ≡ []
 unfolding IsStrictlySortedBy
 no_items = items-from_list lines_total [] tt
 
--- and so nothing is one of their items
+-- no lines have no item, so that no number is one of theirs
 pub none_below : (p w i : ℕ) (L : PictureLines) → L ≡ no_lines p w → i < length (set.items L.lines) → ⊥
 none_below p w i L none lt =
     let empty : length (set.items L.lines) ≡ 0 = ap (λ (K : PictureLines). length (set.items K.lines)) none ∙ ap length no_items in
@@ -91,6 +93,7 @@ none_below p w i L none lt =
 kept_none : (p w : ℕ) → kept_lines (no_lines p w) ≡ []
 kept_none p w = ap (map (λ x. (x, line_sources (no_lines p w) x))) no_items
 
+-- what entries keep at a place is what the store has there
 pub kept_there : (p w : ℕ) (es : List LineEntry) (at : LinePlace)
     → kept_at (map kept_entry es) at ≡ kept_lines (lines_or (no_lines p w) es at)
 kept_there p w es at =
@@ -101,6 +104,7 @@ kept_there p w es at =
       | Some L ↦ refl
     ]
 
+-- the samples that entries have at a place are the lines that the store has there
 pub samples_there : (p w : ℕ) (es : List LineEntry) (at : LinePlace)
     → samples_at (map bare (map kept_entry es)) at ≡ set.items (lines_or (no_lines p w) es at).lines
 samples_there p w es at =
@@ -123,6 +127,7 @@ pub record IsAt (shape : PictureShape) (at : LinePlace) (L : PictureLines) : Typ
 pub not_in_empty : {K X : Type 0} (R : K → K → Ordering) (k : K) → set.contains {R = R} set.empty k ≡ true → X
 not_in_empty R k e = let bad : true ≡ false = sym e ∙ contains-empty R k in absurd cc
 
+-- what a store has at a place, or no lines, is in order there
 pub is_there : (shape : PictureShape) (p w : ℕ) (es : List LineEntry) (at : LinePlace) → p ≡ shape.precision → w ≡ shape.width
     → IsStore shape es → IsAt shape at (lines_or (no_lines p w) es at)
 is_there shape p w es at p_is w_is kept =
@@ -169,6 +174,7 @@ module _ (p w : ℕ) (shape : PictureShape) (es : List LineEntry) (kept : IsStor
   sorted_kept : IsStrictlySortedBy place_cmp (map (λ (e : Entry). e.0) (map kept_entry es))
   sorted_kept = subst (IsStrictlySortedBy place_cmp) (sym (keys es)) kept.sorted
 
+  -- each mark of the lines at a place is of one of these lines
   held_marks : (at : LinePlace) → AreLineMarksHeld (there at)
   held_marks at =
       elim (lookup (is_at (place_cmp at)) es) as (λ (o : Option PictureLines). IfSome o (λ L. IsLineEntry shape (at, L))
@@ -177,6 +183,7 @@ module _ (p w : ℕ) (shape : PictureShape) (es : List LineEntry) (kept : IsStor
         | Some L ↦ λ k. k.marks_held
       ] (lookup_from_each (IsLineEntry shape) es at kept.each)
 
+  -- each source at a place has 32 bits
   small_marks : (at : LinePlace) (x : List ℕ) (s : ℕ) → set.contains (there at).marks (x, s) ≡ true → s < 2 ^ 32
   small_marks at =
       elim (lookup (is_at (place_cmp at)) es) as (λ (o : Option PictureLines). IfSome o (λ L. IsLineEntry shape (at, L))
@@ -185,6 +192,7 @@ module _ (p w : ℕ) (shape : PictureShape) (es : List LineEntry) (kept : IsStor
         | Some L ↦ λ k. k.small
       ] (lookup_from_each (IsLineEntry shape) es at kept.each)
 
+  -- a partial picture that is seen has a reading exactly where the lines at its place have it
   pub reading_there : (r : Reading) → set.contains seen.readings r ≡ set.contains (there (place_of r)).lines r.samples
   reading_there r =
       holds_reading shape (map kept_entry es) r
@@ -194,6 +202,7 @@ module _ (p w : ℕ) (shape : PictureShape) (es : List LineEntry) (kept : IsStor
       ∙ ap (list_any (eq_by_cmp S r.samples)) (named (line_sources (there (place_of r))) (set.items (there (place_of r)).lines))
       ∙ sym (contains-items (there (place_of r)).lines r.samples)
 
+  -- a partial picture that is seen has a mark exactly where the lines at its place have it
   pub mark_there : (r : Reading) (s : ℕ) → set.contains seen.marks (r, s) ≡ set.contains (there (place_of r)).marks (r.samples, s)
   mark_there r s =
       let L = there (place_of r) in
@@ -249,7 +258,7 @@ module _ (p w : ℕ) (shape : PictureShape) (es : List LineEntry) (kept : IsStor
     pub entries_there : map kept_entry es ≡ entries q
     entries_there = sym (store_entries shape es kept) ∙ ap entries is
 
--- the same of a store
+-- what a partial picture has at a place, by the store that it is seen as
 module _ {shape : PictureShape} {store : StoredLines} (is : IsStoreOf shape store) {q : PartialPicture}
     (seen_is : partial_of shape (map kept_entry store.entries) ≡ q) (at : LinePlace) where
   pub holds_stored : (x : List ℕ) → holds q at.component at.line x ≡ holds_line store at x
@@ -262,7 +271,7 @@ module _ {shape : PictureShape} {store : StoredLines} (is : IsStoreOf shape stor
   pub below_stored : (i : ℕ) → i < length (readings_at q at.component at.line) → i < length (set.items (stored_at store at).lines)
   below_stored i lt = subst (λ (xs : List (List ℕ)). i < length xs) readings_stored lt
 
-  -- and so the store has one
+  -- where a reading is there, the store has one
   pub some_stored : (i : ℕ) → i < length (readings_at q at.component at.line) → 0 < length (set.items (stored_at store at).lines)
   some_stored i lt = let below = below_stored i lt in omega (arith, below)
 

@@ -81,12 +81,14 @@ module _ (shape : PictureShape) (at : LinePlace) (L0 L : PictureLines) (x ss : L
   lines_hold : (y : List ℕ) → set.contains L.lines y ≡ (eq_by_cmp S y x || set.contains L0.lines y)
   lines_hold y = ap (λ (z : PictureLines). set.contains z.lines y) puts.new_is ∙ contains-insert lines_total L0.lines x y
 
+  -- the marks after the line was put are those before, and its own
   marks_hold : (y : List ℕ) (s : ℕ) → set.contains L.marks (y, s) ≡ (set.contains L0.marks (y, s) || has_mark S y s ((x, ss) ∷ []))
   marks_hold y s =
       ap (λ (z : PictureLines). set.contains z.marks (y, s)) puts.new_is
       ∙ contains-insert_all line_marks_total L0.marks (marks_of ((x, ss) ∷ [])) (y, s)
       ∙ ap (λ b. set.contains L0.marks (y, s) || b) (any_marks S y s ((x, ss) ∷ []))
 
+  -- lines into which one more was put are an entry of the store
   line_put : IsLineEntry shape (at, L)
   line_put = record {
     entry = record {

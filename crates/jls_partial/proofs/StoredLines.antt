@@ -40,6 +40,7 @@ module _ (p w : ℕ) (packed more : List ℕ) where
   lines_same slots inside = sym (kept_lines w (packed ++ more) slots) ∙ ap (map (λ (k : Kept). k.0)) (lines_stay w packed more slots inside)
       ∙ kept_lines w packed slots
 
+  -- slots are seen alike where samples are put after the others
   seen_stays : (slots : List Slot) → IsLineSet p w packed slots → seen_lines p w (packed ++ more) slots ≡ seen_lines p w packed slots
   seen_stays slots kept = λ i. record {
     precision = p;
@@ -48,6 +49,7 @@ module _ (p w : ℕ) (packed more : List ℕ) where
     marks = set.from_list (marks_of (lines_stay w packed more slots kept.packed_lines.inside i));
   }
 
+  -- slots of a line set stay that where samples are put after the others
   kept_stays : (slots : List Slot) → IsLineSet p w packed slots → IsLineSet p w (packed ++ more) slots
   kept_stays slots kept =
       let longer = length-append packed more in
@@ -88,6 +90,7 @@ module _ (old new : PackedLines) (longer : Extends old new) where
       (λ i. seen_entries (longer.precision i) (longer.width i) (longer.samples i) es)
       ∙ entries_stay old.precision old.width old.samples.items longer.more es rows_packed.each
 
+  -- all slots stay in order where samples are put after the others
   pub still_packed : (es : List LineSlots) → are_in old es → are_in new es
   still_packed es rows_packed = record {
     precision_at_most = subst (λ (n : ℕ). n ≤ 16) (sym longer.precision) rows_packed.precision_at_most;
@@ -112,6 +115,7 @@ module _ {X Y : Type 0} (f : X → Y) where
   keys-map [] = refl
   keys-map (e ∷ es) = ap (λ t. e.0 ∷ t) (keys-map es)
 
+  -- an update of a list is one of the mapped list
   pub updated-map : (es fs : List (LinePlace × X)) (at : LinePlace) (x : X) → Updated es at x fs
       → Updated (map (λ e. (e.0, f e.1)) es) at (f x) (map (λ e. (e.0, f e.1)) fs)
   updated-map es fs at x u q =
@@ -122,6 +126,7 @@ module _ {X Y : Type 0} (f : X → Y) where
         | false ↦ sym (lookup-map f (is_at (place_cmp q)) es)
       ]
 
+  -- a value that is set in a mapped list is the mapped value, set in the list
   pub set_value-map : (t : LinePlace → Bool) (es : List (LinePlace × X)) (x : X)
       → map (λ e. (e.0, f e.1)) (set_value t es x) ≡ set_value t (map (λ e. (e.0, f e.1)) es) (f x)
   set_value-map t [] x = refl
@@ -136,6 +141,7 @@ module _ {X Y : Type 0} (f : X → Y) where
 -- the slots of a place are others now
 module _ (old new : PackedLines) (longer : Extends old new) (es fs : List LineSlots) (at : LinePlace) (slots : List Slot)
     (rows_packed : are_in old es) (u : Updated es at slots fs) where
+  -- the place has the new slots, and each other what it had
   puts_at : PutsAt (seen_in old es) at (seen_lines new.precision new.width new.samples.items slots) (seen_in new fs)
   puts_at = λ q.
       updated-map (seen_lines new.precision new.width new.samples.items) es fs at slots u q
@@ -143,7 +149,7 @@ module _ (old new : PackedLines) (longer : Extends old new) (es fs : List LineSl
       (lookup (is_at (place_cmp q)) xs))
       (all_stay old new longer es rows_packed)
 
-  -- so its lines have changed, and nothing elsewhere
+  -- where the slots of a place are others now, its lines have changed, and nothing elsewhere
   pub changes_at : (C : PictureLines → PictureLines → Type 0)
       → C (stored_at (stored old (seen_in old es)) at) (seen_lines new.precision new.width new.samples.items slots)
       → ChangesAt (stored old (seen_in old es)) at C (stored new (seen_in new fs))
@@ -155,6 +161,7 @@ module _ (old new : PackedLines) (longer : Extends old new) (es fs : List LineSl
     puts = puts_at;
   }
 
+  -- all slots are in order with those that are changed at one place, if these are
   pub more_packed : IsLineSet new.precision new.width new.samples.items slots → IsStrictlySortedBy place_cmp (map (λ e. e.0) fs)
       → are_in new fs
   more_packed kept order =
@@ -175,6 +182,7 @@ pub ordered_slots : (es : List (LinePlace × Slots)) → IsStrictlySortedBy plac
     → IsStrictlySortedBy place_cmp (map (λ e. e.0) (slots_of_entries es))
 ordered_slots es order = subst (IsStrictlySortedBy place_cmp) (sym (keys-map slots_of es)) order
 
+-- places that rise still do where their slots are seen as lines
 pub ordered_seen : (packed : PackedLines) (es : List (LinePlace × Slots)) → IsStrictlySortedBy place_cmp (map (λ e. e.0) es)
     → IsStrictlySortedBy place_cmp (map (λ e. e.0) (seen_in packed (slots_of_entries es)))
 ordered_seen packed es order =
@@ -224,6 +232,7 @@ entries_same es gs at x y found is same =
 
 -- ---- what is known of the lines of a place
 
+-- slots that are seen with one line more put that line
 pub puts_line : (L0 : PictureLines) (x ss : List ℕ) (packed : PackedLines) (slots : List Slot)
     → IsLineSet packed.precision packed.width packed.samples.items slots → length slots < 2 ^ 64
     → seen_lines packed.precision packed.width packed.samples.items slots ≡ with_lines L0 ((x, ss) ∷ [])
@@ -247,18 +256,20 @@ module _ (p w : ℕ) (packed x ss : List ℕ) (slots : List Slot) (narrow : p �
   first_kept = subst (IsLineSet p w (packed ++ x)) (sym is)
       (put_kept p w packed x [] 0 (none_kept p w packed narrow wide) gap fits (fitting_length p w x fits) (set.insert_all set.empty ss))
 
+  -- one slot, whose samples are put after all others, is seen as one line
   first_seen : seen_lines p w (packed ++ x) slots ≡ with_lines (no_lines p w) ((x, ss) ∷ [])
   first_seen =
       ap (seen_lines p w (packed ++ x)) is
       ∙ put_seen p w packed x [] 0 (none_kept p w packed narrow wide) gap fits (fitting_length p w x fits) (set.insert_all set.empty ss)
       ∙ with_own (no_lines p w) x ss
 
--- so it is there once its samples are put after the others
+-- what is known of the first line of a place, once its samples are put after the others
 pub record IsFirst (old new : PackedLines) (x ss : List ℕ) (slots : List Slot) : Type 0 where
   pub longer : Extends old new
   pub kept : IsLineSet new.precision new.width new.samples.items slots
   pub puts : PutsLine (no_lines old.precision old.width) x ss (seen_lines new.precision new.width new.samples.items slots)
 
+-- one slot, whose samples are put after all others, is the first line of its place
 pub first_line : (old new : PackedLines) (x ss : List ℕ) (slots : List Slot) (es : List LineSlots) → are_in old es
     → samples_fault old.precision old.width x ≡ None
     → slots ≡ record { start = length old.samples.items; sources = set.insert_all set.empty ss } ∷ []

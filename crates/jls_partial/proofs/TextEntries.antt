@@ -39,6 +39,7 @@ abbrev followed : ℕ → PictureShape → Option LinePlace → List ℕ → ℕ
 followed size shape before bytes component line =
     cond (may_follow shape before (place component line.0)) (Ok (place component line.0, line.1)) (Err (fault.Place (offset size bytes)))
 
+-- a place that is read has its bytes as its text, and may follow the place before
 place_takes : (size : ℕ) (shape : PictureShape) (before : Option LinePlace) (bytes : List ℕ) (x : LinePlace × List ℕ) → IsBytes bytes
     → place_fields size shape before bytes ≡ Ok x
     → Takes bytes (place_text x.0) x.1 × (may_follow shape before x.0 ≡ true)
@@ -53,6 +54,7 @@ place_takes size shape before bytes x fits e =
     let both = Takes-then bytes (c.0.0 ∷ []) c.0.1 (to_be_bytes w16 l.0.0) l.0.1 t0.0 t1.0 in
     subst (λ (y : LinePlace × List ℕ). Takes bytes (place_text y.0) y.1 × (may_follow shape before y.0 ≡ true)) g.1 (both, g.0)
 
+-- a place that was written is read again, whatever follows
 place_again : (size : ℕ) (shape : PictureShape) (before : Option LinePlace) (at : LinePlace) (rest : List ℕ) → at.line < 2 ^ 16
     → may_follow shape before at ≡ true → place_fields size shape before (place_text at ++ rest) ≡ Ok (at, rest)
 unfolding place_fields
@@ -61,6 +63,7 @@ place_again size shape before at rest lt follows =
 
 -- ---- the number of readings
 
+-- a count that is read has its bytes as its text, and is 1 or more
 count_takes : (size : ℕ) (bytes : List ℕ) (x : ℕ × List ℕ) → IsBytes bytes → count_field size bytes ≡ Ok x
     → Takes bytes (to_be_bytes w64 x.0) x.1 × (x.0 < 2 ^ 64) × (1 ≤ x.0)
 unfolding count_field
@@ -74,6 +77,7 @@ count_takes size bytes x fits e =
     positive zero e = absurd cc
     positive (suc n) e = omega arith
 
+-- a count that was written is read again, whatever follows
 count_again : (size n : ℕ) (rest : List ℕ) → n < 2 ^ 64 → 1 ≤ n → count_field size (to_be_bytes w64 n ++ rest) ≡ Ok (n, rest)
 unfolding count_field
 count_again size n rest lt some =
@@ -82,6 +86,7 @@ count_again size n rest lt some =
 
 -- ---- an entry
 
+-- a place that may follow is one of the picture
 in_picture : (shape : PictureShape) (before : Option LinePlace) (at : LinePlace) → may_follow shape before at ≡ true
     → (at.component < length shape.ids) × (at.line < shape.height)
 in_picture shape None at e =
@@ -108,12 +113,14 @@ pub fits_there : (shape : PictureShape) (c l : ℕ) (xs : List ℕ) → c < leng
     → samples_fault shape.precision shape.width xs ≡ None → reading_fault shape c l xs ≡ None
 fits_there shape c l xs cs ls fit = rw (lt-leb (length shape.ids) c cs, lt-leb shape.height l ls) fit
 
+-- samples without a fault fit each place of the picture
 all_fit_there : (shape : PictureShape) (c l : ℕ) (xs : List (List ℕ)) → c < length shape.ids → l < shape.height
     → AllByRecursion (λ s. samples_fault shape.precision shape.width s ≡ None) xs
     → AllByRecursion (λ s. reading_fault shape c l s ≡ None) xs
 all_fit_there shape c l [] cs ls h = tt
 all_fit_there shape c l (x ∷ xs) cs ls h = (fits_there shape c l x cs ls h.0, all_fit_there shape c l xs cs ls h.1)
 
+-- samples that fit a place have no fault of their own
 samples_of_fit : (shape : PictureShape) (c l : ℕ) (xs : List (List ℕ)) → AllByRecursion (λ s. reading_fault shape c l s ≡ None) xs
     → AllByRecursion (λ s. samples_fault shape.precision shape.width s ≡ None) xs
 samples_of_fit shape c l [] h = tt
@@ -142,6 +149,7 @@ entry_parts size version shape before bytes x e =
     let made : Entry × List ℕ = ((p.0.0, r.0.0), r.0.1) in
     (p.0, n.0, r.0, p.1, n.1, r.1, ok_is made x r.2)
 
+-- an entry that is read has its bytes as its text, and is one that the text may say there
 entry_takes : (size : ℕ) (version : Version) (shape : PictureShape) (before : Option LinePlace) (bytes : List ℕ) (x : Entry × List ℕ)
     → IsBytes bytes → entry_fields size version shape before bytes ≡ Ok x
     → Takes bytes (entry_text version x.0) x.1 × (may_follow shape before x.0.0 ≡ true) × IsSaidEntry version shape x.0
@@ -174,6 +182,7 @@ entry_takes size version shape before bytes x fits e =
     subst (λ (y : Entry × List ℕ). Takes bytes (entry_text version y.0) y.1 × (may_follow shape before y.0.0 ≡ true)
     × IsSaidEntry version shape y.0) parts.6 (whole, t0.1, (is, t2.4))
 
+-- an entry that was written is read again, whatever follows
 entry_again : (size : ℕ) (version : Version) (shape : PictureShape) (before : Option LinePlace) (e : Entry) (rest : List ℕ) → IsShape shape
     → may_follow shape before e.0 ≡ true → IsSaidEntry version shape e
     → entry_fields size version shape before (entry_text version e ++ rest) ≡ Ok (e, rest)
@@ -207,12 +216,14 @@ abbrev pub Follow : PictureShape → Option LinePlace → List Entry → Type 0
 Follow shape before [] = Unit {0}
 Follow shape before (e ∷ es) = (may_follow shape before e.0 ≡ true) × Follow shape (Some e.0) es
 
+-- a place before one that is before all entries is before all of them
 after_all : (b p : LinePlace) (es : List Entry) → place_cmp b p ≡ Less
     → AllByRecursion (λ q. place_cmp p q ≡ Less) (map (λ (e : Entry). e.0) es)
     → AllByRecursion (λ q. place_cmp b q ≡ Less) (map (λ (e : Entry). e.0) es)
 after_all b p [] lt h = tt
 after_all b p (e ∷ es) lt h = (place_total.trans b p e.0 lt h.0, after_all b p es lt h.1)
 
+-- the places of entries that follow one are after it, and rise
 sorted_after : (shape : PictureShape) (b : LinePlace) (es : List Entry) → Follow shape (Some b) es
     → AllByRecursion (λ q. place_cmp b q ≡ Less) (map (λ (e : Entry). e.0) es) × IsStrictlySortedBy place_cmp (map (λ (e : Entry). e.0) es)
 unfolding IsStrictlySortedBy
@@ -222,6 +233,7 @@ sorted_after shape b (e ∷ es) h =
     let first : place_cmp b e.0 ≡ Less = less_from_lt (place_cmp b e.0) (and_parts (is_lt (place_cmp b e.0)) _ h.0).0 in
     ((first, after_all b e.0 es first others.0), others)
 
+-- the places of entries that follow one another rise
 pub sorted_from_follow : (shape : PictureShape) (es : List Entry) → Follow shape None es
     → IsStrictlySortedBy place_cmp (map (λ (e : Entry). e.0) es)
 unfolding IsStrictlySortedBy
@@ -232,6 +244,7 @@ inside_true : (shape : PictureShape) (e : Entry) → IsEntry shape (bare e)
     → (nat_lt e.0.component (length shape.ids) && nat_lt e.0.line shape.height) ≡ true
 inside_true shape e is = let p = line_of_entry shape (bare e) is in and_from _ _ (lt-ltb _ _ p.0) (lt-ltb _ _ p.1)
 
+-- entries whose places rise from one on follow it
 follow_after : (shape : PictureShape) (b : LinePlace) (es : List Entry)
     → AllByRecursion (λ q. place_cmp b q ≡ Less) (map (λ (e : Entry). e.0) es) → IsStrictlySortedBy place_cmp (map (λ (e : Entry). e.0) es)
     → AllByRecursion (IsEntry shape) (map bare es) → Follow shape (Some b) es
@@ -239,12 +252,14 @@ unfolding IsStrictlySortedBy
 follow_after shape b [] h s is = tt
 follow_after shape b (e ∷ es) h s is = (and_from _ _ (ap is_lt h.0) (inside_true shape e is.0), follow_after shape e.0 es s.0 s.1 is.1)
 
+-- entries whose places rise follow one another
 pub follow_from_sorted : (shape : PictureShape) (es : List Entry) → IsStrictlySortedBy place_cmp (map (λ (e : Entry). e.0) es)
     → AllByRecursion (IsEntry shape) (map bare es) → Follow shape None es
 unfolding IsStrictlySortedBy
 follow_from_sorted shape [] s is = tt
 follow_from_sorted shape (e ∷ es) s is = (inside_true shape e is.0, follow_after shape e.0 es s.0 s.1 is.1)
 
+-- entries that are read have their bytes as their text, and are those that the text may say there
 pub entries_take : (size : ℕ) (version : Version) (shape : PictureShape) (before : Option LinePlace) (n : ℕ) (bytes : List ℕ)
     (x : List Entry × List ℕ)
     → IsBytes bytes → entries_fields size version shape before n bytes ≡ Ok x
@@ -271,6 +286,7 @@ entries_take size version shape before (suc n) bytes x fits e =
       (first.2, second.3),
     )
 
+-- entries that were written are read again, whatever follows
 pub entries_read : (size : ℕ) (version : Version) (shape : PictureShape) (before : Option LinePlace) (es : List Entry) (rest : List ℕ)
     → IsShape shape → Follow shape before es → AllByRecursion (IsSaidEntry version shape) es
     → entries_fields size version shape before (length es) (flat_map (entry_text version) es ++ rest) ≡ Ok (es, rest)

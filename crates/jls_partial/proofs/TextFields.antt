@@ -65,6 +65,7 @@ ok_is x y e = cc
 -- what a reader took from the start
 pub record Takes (bytes text rest : List ℕ) : Type 0 where
   pub parts : bytes ≡ text ++ rest
+  -- what is left of bytes is bytes
   pub rest_fits : IsBytes rest
 
 pub Takes-then : (a x b y c : List ℕ) → Takes a x b → Takes b y c → Takes a (x ++ y) c
@@ -106,6 +107,7 @@ wide64 = record {
   below = λ bytes fits. omega (arith, fits 0, fits 1, fits 2, fits 3, fits 4, fits 5, fits 6, fits 7);
 }
 
+-- a number that is read has its bytes as its text, and is below its limit
 pub number_takes : (size : ℕ) (w : Width) (limit : ℕ) (wide : IsWide w limit) (bytes : List ℕ) (n : ℕ) (rest : List ℕ) → IsBytes bytes
     → number_field size w bytes ≡ Ok (n, rest) → Takes bytes (to_be_bytes w n) rest × (n < limit)
 number_takes size w limit wide bytes n rest fits e =
@@ -125,6 +127,7 @@ number_takes size w limit wide bytes n rest fits e =
       rw (← n-is) (wide.below (take (byte_len w) bytes) (IsBytes-take (byte_len w) bytes fits)),
     )
 
+-- a number that was written is read again, whatever follows
 pub number_again : (size : ℕ) (w : Width) (limit : ℕ) (wide : IsWide w limit) (n : ℕ) (rest : List ℕ) → n < limit
     → number_field size w (to_be_bytes w n ++ rest) ≡ Ok (n, rest)
 number_again size w limit wide n rest lt =
@@ -135,6 +138,7 @@ number_again size w limit wide n rest lt =
 
 -- ---- bytes
 
+-- a byte that is read stands there
 pub byte_takes : (size : ℕ) (bytes : List ℕ) (b : ℕ) (rest : List ℕ) → IsBytes bytes → byte_field size bytes ≡ Ok (b, rest)
     → Takes bytes (b ∷ []) rest × (b < 256)
 unfolding byte_field
@@ -147,6 +151,7 @@ pub byte_again : (size b : ℕ) (rest : List ℕ) → byte_field size (b ∷ res
 unfolding byte_field
 byte_again size b rest = refl
 
+-- bytes that are read are those that stand there, as many as were asked for
 pub bytes_take : (size n : ℕ) (bytes xs rest : List ℕ) → IsBytes bytes → bytes_field size n bytes ≡ Ok (xs, rest)
     → Takes bytes xs rest × (length xs ≡ n) × AllByRecursion (λ b. b < 256) xs
 unfolding bytes_field
@@ -177,6 +182,7 @@ wanted_ok : (b : Bool) (read : Result (List ℕ) TextFault) (d : TextFault) (res
 wanted_ok true read d rest e = (refl, e)
 wanted_ok false read d rest e = absurd cc
 
+-- where the magic is read, these bytes stand there
 pub magic_takes : (size : ℕ) (wanted bytes rest : List ℕ) → IsBytes bytes → magic_field size wanted bytes ≡ Ok rest
     → Takes bytes wanted rest
 unfolding magic_field
@@ -197,6 +203,7 @@ magic_again size (first ∷ others) rest = rw (byte_again size first (others ++ 
 
 -- ---- the version
 
+-- where the version is told by two tests, its byte is the one that was read
 version_takes_one : (n : ℕ) (a b : Bool) (d : TextFault) (rest : List ℕ) (x : Version × List ℕ) → eqb n 1 ≡ a → eqb n 2 ≡ b
     → cond a (Ok (One, rest)) (cond b (Ok (Two, rest)) (Err d)) ≡ Ok x → (version_byte x.0 ≡ n) × (rest ≡ x.1)
 version_takes_one n true b d rest x e f h =
@@ -207,6 +214,7 @@ version_takes_one n false true d rest x e f h =
     (sym (ap (λ (y : Version × List ℕ). version_byte y.0) same) ∙ sym (eqb-true n 2 f), ap (λ (y : Version × List ℕ). y.1) same)
 version_takes_one n false false d rest x e f h = absurd cc
 
+-- a version that is read has its byte there
 pub version_takes : (size : ℕ) (bytes : List ℕ) (x : Version × List ℕ) → IsBytes bytes → version_field size bytes ≡ Ok x
     → Takes bytes (version_byte x.0 ∷ []) x.1
 unfolding version_field
@@ -229,6 +237,7 @@ judged_ok : {A : Type 0} (o : Option ShapeFault) (x y : A) → unless_bad_shape 
 judged_ok None x y e = (refl, cc)
 judged_ok (Some f) x y e = absurd cc
 
+-- a shape that is no fault of the text was made
 made_ok : (r : Result PictureShape ShapeFault) (s : PictureShape) → shape_or_fault r ≡ Ok s → r ≡ Ok s
 made_ok (Ok t) s e = ap (λ (s : PictureShape). Ok s) (ok_is t s e)
 made_ok (Err f) s e = absurd cc
@@ -236,6 +245,7 @@ made_ok (Err f) s e = absurd cc
 abbrev four : ℕ → ℕ → ℕ → List ℕ → PictureShape
 four p x y ids = record { precision = p; width = x; height = y; ids = ids }
 
+-- a shape that is made has no identifier twice, and is of the given values
 shape_made : (p x y : ℕ) (ids : List ℕ) (s : PictureShape) → shape_of p x y ids ≡ Ok s → (has_repeat ids ≡ false) × (four p x y ids ≡ s)
 shape_made p x y ids s e =
     elim (size_fault p x y (length ids)) as (λ (o : Option ShapeFault). unless_fault o
@@ -266,6 +276,7 @@ after_width size p x = number_field size w16 x.1 >>= after_height size p x.0
 abbrev after_precision : ℕ → ℕ × List ℕ → Result (PictureShape × List ℕ) TextFault
 after_precision size p = number_field size w16 p.1 >>= after_width size p.0
 
+-- a shape that is read has its bytes as its text, and is in its ranges
 pub shape_takes : (size : ℕ) (bytes : List ℕ) (shape : PictureShape) (rest : List ℕ) → IsBytes bytes
     → shape_fields size bytes ≡ Ok (shape, rest) → Takes bytes (shape_text shape) rest × IsShape shape
 unfolding shape_fields
@@ -312,6 +323,7 @@ shape_takes size bytes shape rest fits e =
     (subst (λ (z : PictureShape). Takes bytes (shape_text z) i.0.1 × IsShape z) {x = four p.0.0 x.0.0 y.0.0 i.0.0} {y = s.0} made.1
     (whole, is))
 
+-- a shape that was written is read again, whatever follows
 pub shape_again : (size : ℕ) (shape : PictureShape) (rest : List ℕ) → IsShape shape
     → shape_fields size (shape_text shape ++ rest) ≡ Ok (shape, rest)
 unfolding shape_fields

@@ -69,6 +69,7 @@ each_said : (version : Version) (shape : PictureShape) (es : List Entry) → All
 each_said version shape [] h k = tt
 each_said version shape (e ∷ es) h k = ((h.0, k.0), each_said version shape es h.1 k.1)
 
+-- entries that follow one another, each as a text may say it, are what a text may say
 said_from_follow : (version : Version) (shape : PictureShape) (es : List Entry) → Follow shape None es
     → AllByRecursion (IsSaidEntry version shape) es → AreSaid version shape es
 said_from_follow version shape es follow each =
@@ -86,6 +87,7 @@ abbrev after_version : ℕ → Version × List ℕ → Result Parts TextFault
 after_version size version = shape_fields size version.1 >>= λ shape. number_field size w32 shape.1 >>= λ count. entries_fields size
     version.0 shape.0 None count.0 count.1 >>= λ es. Ok (shape.0, es.0, es.1)
 
+-- what is read of a text has its bytes as its text, in one of the versions
 text_takes : (size : ℕ) (bytes : List ℕ) (x : Parts) → IsBytes bytes → text_fields size bytes ≡ Ok x
     → (version : Version) × (bytes ≡ text_of version x.0 x.1 ++ x.2) × IsShape x.0 × AreSaid version x.0 x.1
 unfolding text_fields
@@ -118,6 +120,7 @@ text_takes size bytes x fits e =
     (whole, t1.1, said_from_follow version shape es t3.2 t3.3) in
     (version, said.0, said.1, said.2)
 
+-- a text that was written is read again, with nothing after it
 text_again : (size : ℕ) (version : Version) (shape : PictureShape) (es : List Entry) → IsShape shape → AreSaid version shape es
     → text_fields size (text_of version shape es) ≡ Ok (shape, es, [])
 unfolding text_fields
@@ -143,6 +146,7 @@ text_again size version shape es is said =
 
 -- ---- partial pictures and their entries
 
+-- the sources of entries that a text may say rise
 rise_of : (version : Version) (es : List Entry) → AllByRecursion (λ e. AllByRecursion (IsSaid version) e.1) es → SourcesRise es
 rise_of version [] h = tt
 rise_of version (e ∷ es) h = (one e.1 h.0, rise_of version es h.1)

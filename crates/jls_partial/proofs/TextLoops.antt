@@ -43,6 +43,7 @@ next count i before after total lt step so_far =
     let k : suc (count - (i + 1)) ≡ count - i = omega arith in
     sym (step (count - (i + 1))) ∙ ap before k ∙ so_far
 
+-- where the next of several things can't be read, neither can all of them
 next_fails : {A B C : Type 0} (e : TextFault) (count i : ℕ) (first : Result A TextFault) (rest : ℕ → A → Result B TextFault)
     (g : B → Result C TextFault) (fields : ℕ → Result B TextFault) (total : Result C TextFault)
     → ((n : ℕ) → fields (suc n) ≡ (first >>= rest n)) → i < count → Fails e first → (fields (count - i) >>= g) ≡ total → Fails e total
@@ -57,6 +58,7 @@ none_left count i before total le so_far = let k : count - i ≡ 0 = omega arith
 
 -- ---- the magic
 
+-- after one byte of the magic, reading the rest gives what reading all gives
 pub magic_goes_on : (size : ℕ) (wanted : List ℕ) (want : ℕ) (others bytes : List ℕ) (byte : ℕ) (after : List ℕ)
     (total : Result (List ℕ) TextFault)
     → wanted ≡ want ∷ others → byte_field size bytes ≡ Ok (byte, after) → byte ≡ want
@@ -66,6 +68,7 @@ magic_goes_on size wanted want others bytes byte after total is h same so_far =
     let one : magic_field size (want ∷ others) bytes ≡ magic_field size others after = rw (h, eq-eqb byte want same) refl in
     sym one ∙ ap (λ (w : List ℕ). magic_field size w bytes) (sym is) ∙ so_far
 
+-- at the first byte that differs, reading the magic fails there
 pub magic_differs : (size : ℕ) (wanted : List ℕ) (want : ℕ) (others bytes : List ℕ) (byte : ℕ) (after : List ℕ)
     (total : Result (List ℕ) TextFault)
     → wanted ≡ want ∷ others → byte_field size bytes ≡ Ok (byte, after) → (byte ≡ want → ⊥)
@@ -75,6 +78,7 @@ magic_differs size wanted want others bytes byte after total is h differs so_far
     let one : magic_field size (want ∷ others) bytes ≡ Err (fault.Magic (offset size bytes)) = rw (h, ne_eqb byte want differs) refl in
     sym so_far ∙ ap (λ (w : List ℕ). magic_field size w bytes) is ∙ one
 
+-- where the next byte can't be read, neither can the magic
 pub magic_ends : (e : TextFault) (size : ℕ) (wanted : List ℕ) (want : ℕ) (others bytes : List ℕ) (total : Result (List ℕ) TextFault)
     → wanted ≡ want ∷ others → Fails e (byte_field size bytes)
     → magic_field size wanted bytes ≡ total → Fails e total
@@ -84,6 +88,7 @@ magic_ends e size wanted want others bytes total is h so_far =
     fails_then e (byte_field size bytes) (magic_then size want others bytes) h in
     subst (Fails e) (ap (λ (w : List ℕ). magic_field size w bytes) (sym is) ∙ so_far) here
 
+-- where no byte of the magic is left, what is left of the text is the answer
 pub magic_done : (size : ℕ) (wanted bytes : List ℕ) (total : Result (List ℕ) TextFault) → wanted ≡ []
     → magic_field size wanted bytes ≡ total → total ≡ Ok bytes
 unfolding magic_field
@@ -113,6 +118,7 @@ sample_len size limit bytes x after e =
     let rest : length (drop 2 bytes) ≡ length after = ap (λ (p : ℕ × List ℕ). length p.1) (g.1 ∙ h.1) in
     omega (arith, long, rest, length-drop 2 bytes)
 
+-- after one sample more, reading those that are left gives what reading all gives
 pub samples_go_on : (size limit : ℕ) (prefix : List ℕ) (count i : ℕ) (bytes : List ℕ) (x : ℕ) (after : List ℕ)
     (total : Result (List ℕ × List ℕ) TextFault)
     → i < count → sample_field size limit bytes ≡ Ok (x, after)
@@ -124,6 +130,7 @@ samples_go_on size limit prefix count i bytes x after total lt h so_far =
     (λ n. after_samples (prefix ++ x ∷ []) (samples_fields size limit n after)) total lt
     (λ n. rw h (regroup_samples prefix x (samples_fields size limit n after))) so_far
 
+-- where the next sample can't be read, reading all fails so
 pub samples_end : (e : TextFault) (size limit : ℕ) (prefix : List ℕ) (count i : ℕ) (bytes : List ℕ)
     (total : Result (List ℕ × List ℕ) TextFault)
     → i < count → Fails e (sample_field size limit bytes)
@@ -134,6 +141,7 @@ samples_end e size limit prefix count i bytes total lt h so_far =
     (λ n first. samples_fields size limit n first.1 >>= λ others. Ok (first.0 ∷ others.0, others.1)) (λ x. Ok (prefix ++ x.0, x.1))
     (λ n. samples_fields size limit n bytes) total (λ n. refl) lt h so_far
 
+-- where no sample is left, those that were read are all
 pub samples_done : (size limit : ℕ) (prefix : List ℕ) (count i : ℕ) (bytes : List ℕ) (total : Result (List ℕ × List ℕ) TextFault) → count
     ≤ i
     → after_samples prefix (samples_fields size limit (count - i) bytes) ≡ total → total ≡ Ok (prefix, bytes)
@@ -144,6 +152,7 @@ samples_done size limit prefix count i bytes total le so_far =
 
 -- ---- sources
 
+-- after one source more, reading those that are left gives what reading all gives
 pub sources_go_on : (size : ℕ) (before : Option ℕ) (prefix : List ℕ) (count i : ℕ) (bytes : List ℕ) (x : ℕ) (after : List ℕ)
     (total : Result (List ℕ × List ℕ) TextFault)
     → i < count → source_field size before bytes ≡ Ok (x, after)
@@ -155,6 +164,7 @@ sources_go_on size before prefix count i bytes x after total lt h so_far =
     (λ n. after_samples (prefix ++ x ∷ []) (sources_fields size (Some x) n after)) total lt
     (λ n. rw h (regroup_samples prefix x (sources_fields size (Some x) n after))) so_far
 
+-- where the next source can't be read, reading all fails so
 pub sources_end : (e : TextFault) (size : ℕ) (before : Option ℕ) (prefix : List ℕ) (count i : ℕ) (bytes : List ℕ)
     (total : Result (List ℕ × List ℕ) TextFault)
     → i < count → Fails e (source_field size before bytes)
@@ -165,6 +175,7 @@ sources_end e size before prefix count i bytes total lt h so_far =
     (λ n first. sources_fields size (Some first.0) n first.1 >>= λ others. Ok (first.0 ∷ others.0, others.1))
     (λ x. Ok (prefix ++ x.0, x.1)) (λ n. sources_fields size before n bytes) total (λ n. refl) lt h so_far
 
+-- where no source is left, those that were read are all
 pub sources_done : (size : ℕ) (before : Option ℕ) (prefix : List ℕ) (count i : ℕ) (bytes : List ℕ)
     (total : Result (List ℕ × List ℕ) TextFault)
     → count ≤ i → after_samples prefix (sources_fields size before (count - i) bytes) ≡ total → total ≡ Ok (prefix, bytes)
@@ -191,12 +202,14 @@ kept_fits size version shape before bytes x e =
 abbrev pub with_kept : PartialPicture → LinePlace → Kept → PartialPicture
 with_kept p at k = with_all p (kept_at_place at k ∷ [])
 
+-- taking one reading, and then the others, is taking all of them
 regroup_readings : (p : PartialPicture) (at : LinePlace) (k : Kept) (read : Result (List Kept × List ℕ) TextFault)
     → with_readings p at (read >>= λ y. Ok (k ∷ y.0, y.1)) ≡ with_readings (with_kept p at k) at read
 regroup_readings p at k (Ok y) =
     ap (λ (q : PartialPicture). Ok (q, y.1)) (with_all-append p (kept_at_place at k ∷ []) (map (kept_at_place at) y.0))
 regroup_readings p at k (Err f) = refl
 
+-- after one reading more, reading those that are left gives what reading all gives
 pub readings_go_on : (size : ℕ) (version : Version) (shape : PictureShape) (p : PartialPicture) (at : LinePlace) (before : Option (List ℕ))
     (count i : ℕ) (bytes : List ℕ) (k : Kept) (after : List ℕ) (total : Result (PartialPicture × List ℕ) TextFault)
     → i < count
@@ -209,6 +222,7 @@ readings_go_on size version shape p at before count i bytes k after total lt h s
     (λ n. with_readings (with_kept p at k) at (readings_fields size version shape (Some k.0) n after)) total lt
     (λ n. rw h (regroup_readings p at k (readings_fields size version shape (Some k.0) n after))) so_far
 
+-- where the next reading can't be read, reading all fails so
 pub readings_end : (e : TextFault) (size : ℕ) (version : Version) (shape : PictureShape) (p : PartialPicture) (at : LinePlace)
     (before : Option (List ℕ)) (count i : ℕ) (bytes : List ℕ) (total : Result (PartialPicture × List ℕ) TextFault)
     → i < count
@@ -221,6 +235,7 @@ readings_end e size version shape p at before count i bytes total lt h so_far =
     (λ x. Ok (with_all p (map (kept_at_place at) x.0), x.1)) (λ n. readings_fields size version shape before n bytes) total (λ n. refl) lt
     h so_far
 
+-- where no reading is left, those that were read are all
 pub readings_done : (size : ℕ) (version : Version) (shape : PictureShape) (p : PartialPicture) (at : LinePlace) (before : Option (List ℕ))
     (count i : ℕ) (bytes : List ℕ) (total : Result (PartialPicture × List ℕ) TextFault)
     → count ≤ i
@@ -234,6 +249,7 @@ readings_done size version shape p at before count i bytes total le so_far =
 abbrev step : PartialPicture → Entry → PartialPicture
 step p e = with_all p (map (kept_at_place e.0) e.1)
 
+-- taking one entry, and then the others, is taking all of them
 regroup_entries : (p : PartialPicture) (e : Entry) (read : Result (List Entry × List ℕ) TextFault)
     → with_entries p (read >>= λ y. Ok (e ∷ y.0, y.1)) ≡ with_entries (step p e) read
 regroup_entries p e (Ok y) =
@@ -254,6 +270,7 @@ entry_given p q at after (Ok ((a, xs), bytes)) e =
     )
 entry_given p q at after (Err f) e = absurd cc
 
+-- after one entry more, reading the entries that are left gives what reading all of them gives
 pub entries_go_on : (size : ℕ) (version : Version) (shape : PictureShape) (p q : PartialPicture) (before : Option LinePlace) (count i : ℕ)
     (bytes : List ℕ) (at : LinePlace) (after : List ℕ) (total : Result (PartialPicture × List ℕ) TextFault)
     → i < count
@@ -271,6 +288,7 @@ entries_go_on size version shape p q before count i bytes at after total lt h so
     entries_fields size version shape (Some first.0.0) n first.1 >>= λ others. Ok (first.0 ∷ others.0, others.1))) given.1
     ∙ regroup_entries p (at, given.0) (rest n)) so_far)
 
+-- an entry that is taken leaves the shape
 pub entry_keeps_shape : (size : ℕ) (version : Version) (shape : PictureShape) (p q : PartialPicture) (before : Option LinePlace)
     (bytes : List ℕ) (at : LinePlace) (after : List ℕ)
     → with_entry p (entry_fields size version shape before bytes) ≡ Ok (q, at, after) → q.shape ≡ p.shape
@@ -282,6 +300,7 @@ pub fault_given : {A B : Type 0} (e : TextFault) (read : Result A TextFault) (f 
 fault_given {A} {B} e (Ok x) f h = fails_then {A = B} {B = A} e (Ok (f x)) (λ y. Ok x) h
 fault_given {A} {B} e (Err d) f h = fails_then {A = B} {B = A} e (Err d) (λ y. Err d) h
 
+-- where reading the next entry fails, reading all of them fails so
 pub entries_end : (e : TextFault) (size : ℕ) (version : Version) (shape : PictureShape) (p : PartialPicture) (before : Option LinePlace)
     (count i : ℕ) (bytes : List ℕ) (total : Result (PartialPicture × List ℕ) TextFault)
     → i < count
@@ -295,6 +314,7 @@ entries_end e size version shape p before count i bytes total lt h so_far =
     (fault_given e (entry_fields size version shape before bytes) (λ x. (with_all p (map (kept_at_place x.0.0) x.0.1), x.0.0, x.1)) h)
     so_far
 
+-- where no entry is left, those that were read are all
 pub entries_done : (size : ℕ) (version : Version) (shape : PictureShape) (p : PartialPicture) (before : Option LinePlace) (count i : ℕ)
     (bytes : List ℕ) (total : Result (PartialPicture × List ℕ) TextFault)
     → count ≤ i

@@ -54,12 +54,14 @@ count_stage : (size : ℕ) (version : Version) (shape : PictureShape) (r : Resul
 count_stage size version shape (Ok count) = last_stage size shape (entries_fields size version shape None count.0 count.1)
 count_stage size version shape (Err e) = refl
 
+-- from the shape on, reading a text is reading its head, and then what follows
 shape_stage : (size : ℕ) (version : Version) (r : Result (PictureShape × List ℕ) TextFault)
     → ((r >>= λ shape. number_field size w32 shape.1 >>= entries_then size version shape.0) >>= finish size)
     ≡ ((r >>= λ shape. number_field size w32 shape.1 >>= head_then size version shape.0) >>= following)
 shape_stage size version (Ok shape) = count_stage size version shape.0 (number_field size w32 shape.1)
 shape_stage size version (Err e) = refl
 
+-- from the version on, reading a text is reading its head, and then what follows
 version_stage : (size : ℕ) (r : Result (Version × List ℕ) TextFault)
     → ((r >>= λ version. shape_fields size version.1 >>= λ shape. number_field size w32 shape.1 >>= entries_then size version.0 shape.0) >>=
     finish size)
@@ -68,6 +70,7 @@ version_stage : (size : ℕ) (r : Result (Version × List ℕ) TextFault)
 version_stage size (Ok version) = shape_stage size version.0 (shape_fields size version.1)
 version_stage size (Err e) = refl
 
+-- from the magic on, reading a text is reading its head, and then what follows
 magic_stage : (size : ℕ) (r : Result (List ℕ) TextFault)
     → ((r >>= λ version_bytes. version_field size version_bytes >>= λ version. shape_fields size version.1 >>= λ shape. number_field size
     w32 shape.1 >>= entries_then size version.0 shape.0) >>= finish size)
@@ -126,6 +129,7 @@ module _ (bytes : List ℕ) (h : ℕ × Version × PictureShape × ℕ × List �
       → Fails e (read_text bytes)
   fault_after e f = subst (Fails e) (sym (text_after bytes h head)) f
 
+  -- a text that reads, and whose head has another shape, is the text of a picture of another shape
   pub differs : (old p : PartialPicture) → IsBytes bytes → same_shape old.shape h.2 ≡ false
       → with_rest h.0 (nothing_known h.2) (entries_fields h.0 h.1 h.2 None h.3 h.4) ≡ Ok p → HasOtherShape old bytes
   differs old p fits other read = record {
@@ -208,6 +212,7 @@ head_shape bytes version shape rest h is bytes_are e =
     let made : Head = (size, version, shape, count.0.0, count.0.1) in
     ap (λ (x : Head). x.2) (ok_is made h count.2)
 
+-- a text whose head has the picture's shape is not one of another shape
 pub no_other_head : (old : PartialPicture) (bytes : List ℕ) (h : ℕ × Version × PictureShape × ℕ × List ℕ) → head_fields bytes ≡ Ok h → h.2
     ≡ old.shape
     → HasOtherHead old bytes → ⊥

@@ -34,12 +34,13 @@ so_far_prefix p q r all left h e = record { taken = h.taken; left = left; parts 
 pub nothing_taken : (p q : PartialPicture) (all : List (Reading × List ℕ)) → q ≡ p → TakesPrefix p q all
 nothing_taken p q all e = record { taken = []; left = all; parts = refl; new_is = e }
 
--- and so is all
+-- all readings that are taken are a prefix of them
 pub all_taken : (p q : PartialPicture) (all ks : List (Reading × List ℕ)) → all ≡ ks → q ≡ with_all p ks → TakesPrefix p q all
 all_taken p q all ks is e = record { taken = ks; left = []; parts = is ∙ sym (append-nil ks); new_is = e }
 
 -- ---- readings
 
+-- the readings before the first fault are the next one, and then those of the rest
 pub next_reading : (size : ℕ) (version : Version) (shape : PictureShape) (before : Option (List ℕ)) (count i : ℕ) (bytes : List ℕ)
     (k : Kept) (after : List ℕ)
     → i < count → kept_fields size version shape before bytes ≡ Ok (k, after)
@@ -50,6 +51,7 @@ next_reading size version shape before count i bytes k after lt read =
     let n : count - i ≡ suc (count - (i + 1)) = omega arith in
     rw (n, read) refl
 
+-- where all readings are read, these are the readings before the first fault
 whole_readings : (size : ℕ) (version : Version) (shape : PictureShape) (before : Option (List ℕ)) (n : ℕ) (bytes : List ℕ)
     (x : List Kept × List ℕ)
     → readings_fields size version shape before n bytes ≡ Ok x → readings_prefix size version shape before n bytes ≡ x.0
@@ -66,6 +68,7 @@ whole_readings size version shape before (suc n) bytes x e =
 
 -- ---- entries
 
+-- the readings of an entry before the first fault are those behind its place and count
 pub entry_prefix_is : (size : ℕ) (version : Version) (shape : PictureShape) (before : Option LinePlace) (bytes : List ℕ) (at : LinePlace)
     (count_bytes : List ℕ) (count : ℕ) (rest : List ℕ)
     → place_fields size shape before bytes ≡ Ok (at, count_bytes) → count_field size count_bytes ≡ Ok (count, rest)
@@ -76,6 +79,7 @@ entry_prefix_is size version shape before bytes at count_bytes count rest p c =
     (λ count. map (kept_at_place place.0) (readings_prefix size version shape None count.0 count.1))))
     ∙ (λ j. unless_fault (c j) (λ count. map (kept_at_place at) (readings_prefix size version shape None count.0 count.1)))
 
+-- where an entry is read, its readings before the first fault are all of them
 whole_entry : (size : ℕ) (version : Version) (shape : PictureShape) (before : Option LinePlace) (bytes : List ℕ) (x : Entry × List ℕ)
     → entry_fields size version shape before bytes ≡ Ok x → entry_prefix size version shape before bytes ≡ map (kept_at_place x.0.0) x.0.1
 whole_entry size version shape before bytes x e =
@@ -123,6 +127,7 @@ module _ (size : ℕ) (version : Version) (shape : PictureShape) (before : Optio
         ++ unless_fault (given.1 j) (λ first. entries_prefix size version shape (Some first.0.0) (count - (i + 1)) first.1)) in
         more_so_far old p q all ks left (subst (IsSoFar old p all) next h) (sym given.2)
 
+-- where all entries are read, the readings before the first fault are all of theirs
 pub whole_entries : (size : ℕ) (version : Version) (shape : PictureShape) (before : Option LinePlace) (n : ℕ) (bytes : List ℕ)
     (x : List Entry × List ℕ)
     → entries_fields size version shape before n bytes ≡ Ok x → entries_prefix size version shape before n bytes ≡ kept_readings x.0

@@ -28,6 +28,7 @@ use Rattle.jls_partial.proofs.TextSources.{SaysSources, own_take, own_again}
 
 -- ---- samples
 
+-- a sample that is read has its bytes as its text, and is below the limit
 pub sample_takes : (size limit : ℕ) (bytes : List ℕ) (x : ℕ × List ℕ) → IsBytes bytes → sample_field size limit bytes ≡ Ok x
     → Takes bytes (to_be_bytes w16 x.0) x.1 × (leb limit x.0 ≡ false)
 unfolding sample_field
@@ -37,6 +38,7 @@ sample_takes size limit bytes x fits e =
     let t = number_takes size w16 (2 ^ 16) wide16 bytes a.0.0 a.0.1 fits a.1 in
     subst (λ (y : ℕ × List ℕ). Takes bytes (to_be_bytes w16 y.0) y.1 × (leb limit y.0 ≡ false)) g.1 (t.0, g.0)
 
+-- a sample that was written is read again, whatever follows
 pub sample_again : (size limit x : ℕ) (rest : List ℕ) → limit ≤ 2 ^ 16 → leb limit x ≡ false
     → sample_field size limit (to_be_bytes w16 x ++ rest) ≡ Ok (x, rest)
 unfolding sample_field
@@ -44,6 +46,7 @@ sample_again size limit x rest le h =
     let lt : x < limit = leb-false limit x h in
     rw (number_again size w16 (2 ^ 16) wide16 x rest (omega (arith, lt, le)), h) refl
 
+-- samples that are read have their bytes as their text; they are as many as were asked for, and below the limit
 pub samples_take : (size limit n : ℕ) (bytes : List ℕ) (x : List ℕ × List ℕ) → IsBytes bytes → samples_fields size limit n bytes ≡ Ok x
     → Takes bytes (samples_text x.0) x.1 × (length x.0 ≡ n) × (list_any (λ s. nat_le limit s) x.0 ≡ false)
 unfolding samples_fields
@@ -66,6 +69,7 @@ samples_take size limit (suc n) bytes x fits e =
           (leb limit a.0.0) _ first.1 second.2,
     )
 
+-- samples that were written are read again, whatever follows
 pub samples_again : (size limit : ℕ) (xs rest : List ℕ) → limit ≤ 2 ^ 16 → list_any (λ s. nat_le limit s) xs ≡ false
     → samples_fields size limit (length xs) (samples_text xs ++ rest) ≡ Ok (xs, rest)
 unfolding samples_fields
@@ -83,6 +87,7 @@ fits_from : (precision width : ℕ) (xs : List ℕ) → length xs ≡ width → 
     → samples_fault precision width xs ≡ None
 fits_from precision width xs len small = rw (eq-eqb (length xs) width len, small) refl
 
+-- samples without a fault are as many as the width, and none has too many bits
 fits_parts : (precision width : ℕ) (xs : List ℕ) → samples_fault precision width xs ≡ None
     → (length xs ≡ width) × (list_any (λ x. nat_le (2 ^ precision) x) xs ≡ false)
 fits_parts precision width xs e =
@@ -98,6 +103,7 @@ fits_parts precision width xs e =
     small true f e = absurd cc
     small false f e = refl
 
+-- a reading that is read has its bytes as its text, is above the one before, and fits the shape
 pub reading_takes : (size : ℕ) (shape : PictureShape) (before : Option (List ℕ)) (bytes : List ℕ) (x : List ℕ × List ℕ) → IsBytes bytes
     → reading_fields size shape before bytes ≡ Ok x
     → Takes bytes (samples_text x.0) x.1 × (is_above before x.0 ≡ true) × (samples_fault shape.precision shape.width x.0 ≡ None)
@@ -111,6 +117,7 @@ reading_takes size shape before bytes x fits e =
     × (samples_fault shape.precision shape.width y.0 ≡ None)) g.1
     (t.0, g.0, fits_from shape.precision shape.width a.0.0 t.1 t.2)
 
+-- samples that are read are as many as were asked for, and below the limit
 samples_fit : (size limit n : ℕ) (bytes : List ℕ) (x : List ℕ × List ℕ) → samples_fields size limit n bytes ≡ Ok x
     → (length x.0 ≡ n) × (list_any (λ s. nat_le limit s) x.0 ≡ false)
 unfolding samples_fields sample_field
@@ -140,6 +147,7 @@ reading_fits size shape before bytes x e =
     subst (λ (y : List ℕ × List ℕ). samples_fault shape.precision shape.width y.0 ≡ None) g.1
     (fits_from shape.precision shape.width a.0.0 t.0 t.1)
 
+-- a reading that was written is read again, whatever follows
 pub reading_again : (size : ℕ) (shape : PictureShape) (before : Option (List ℕ)) (xs rest : List ℕ) → 2 ^ shape.precision ≤ 2 ^ 16
     → is_above before xs ≡ true → samples_fault shape.precision shape.width xs ≡ None
     → reading_fields size shape before (samples_text xs ++ rest) ≡ Ok (xs, rest)
@@ -167,6 +175,7 @@ further : (b x : List ℕ) (xs : List (List ℕ)) → S b x ≡ Less → AllByRe
 further b x [] e h = tt
 further b x (y ∷ xs) e h = (nat_list_cmp_total.trans b x y e h.0, further b x xs e h.1)
 
+-- samples of readings that rise above one are above it, and rise
 sorted_above : (b : List ℕ) (xs : List (List ℕ)) → Rise (Some b) xs → AllByRecursion (λ y. S b y ≡ Less) xs × IsStrictlySortedBy S xs
 unfolding IsStrictlySortedBy
 sorted_above b [] h = (tt, tt)
@@ -185,6 +194,7 @@ unfolding IsStrictlySortedBy
 rise_above b [] h s = tt
 rise_above b (x ∷ xs) h s = (ap is_lt h.0, rise_above x xs s.0 s.1)
 
+-- readings whose samples rise, rise as a text says them
 pub rise_from_sorted : (xs : List (List ℕ)) → IsStrictlySortedBy S xs → Rise None xs
 unfolding IsStrictlySortedBy
 rise_from_sorted [] s = tt
@@ -196,6 +206,7 @@ rise_from_sorted (x ∷ xs) s = (refl, rise_above x xs s.0 s.1)
 abbrev pub IsSaid : Version → Kept → Type 0
 IsSaid version k = IsSourceList k.1 × SaysSources version k.1
 
+-- a reading with its sources that is read has its bytes as its text, is above the one before, and fits the shape
 kept_takes : (size : ℕ) (version : Version) (shape : PictureShape) (before : Option (List ℕ)) (bytes : List ℕ) (x : Kept × List ℕ)
     → IsBytes bytes → kept_fields size version shape before bytes ≡ Ok x
     → Takes bytes (reading_text version x.0) x.1 × (is_above before x.0.0 ≡ true) × (samples_fault shape.precision shape.width x.0.0 ≡ None)
@@ -213,6 +224,7 @@ kept_takes size version shape before bytes x fits e =
     × (samples_fault shape.precision shape.width y.0.0 ≡ None) × IsSaid version y.0) (ok_is made x b.2)
     (both, first.1, first.2, (second.1, second.2))
 
+-- a reading with its sources that was written is read again, whatever follows
 kept_again : (size : ℕ) (version : Version) (shape : PictureShape) (before : Option (List ℕ)) (k : Kept) (rest : List ℕ)
     → 2 ^ shape.precision ≤ 2 ^ 16 → is_above before k.0 ≡ true → samples_fault shape.precision shape.width k.0 ≡ None → IsSaid version k
     → kept_fields size version shape before (reading_text version k ++ rest) ≡ Ok (k, rest)
@@ -230,6 +242,7 @@ kept_again size version shape before k rest le above fit said =
 abbrev Samples : List Kept → List (List ℕ)
 Samples ks = map (λ k. k.0) ks
 
+-- readings that are read have their bytes as their text, rise, and fit the shape
 pub readings_take : (size : ℕ) (version : Version) (shape : PictureShape) (before : Option (List ℕ)) (n : ℕ) (bytes : List ℕ)
     (x : List Kept × List ℕ)
     → IsBytes bytes → readings_fields size version shape before n bytes ≡ Ok x
@@ -259,6 +272,7 @@ readings_take size version shape before (suc n) bytes x fits e =
       (first.3, second.4),
     )
 
+-- readings that were written are read again, whatever follows
 pub readings_again : (size : ℕ) (version : Version) (shape : PictureShape) (before : Option (List ℕ)) (ks : List Kept) (rest : List ℕ)
     → 2 ^ shape.precision ≤ 2 ^ 16 → Rise before (Samples ks)
     → AllByRecursion (λ s. samples_fault shape.precision shape.width s ≡ None) (Samples ks) → AllByRecursion (IsSaid version) ks

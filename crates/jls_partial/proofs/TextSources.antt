@@ -38,6 +38,7 @@ sources_further : (b n : ℕ) (ns : List ℕ) → nat_cmp b n ≡ Less → AllBy
 sources_further b n [] e h = tt
 sources_further b n (m ∷ ns) e h = (nat_cmp_total.trans b n m e h.0, sources_further b n ns e h.1)
 
+-- sources that rise above one are above it, and rise
 sources_above : (b : ℕ) (ns : List ℕ) → SourcesRise (Some b) ns
     → AllByRecursion (λ n. nat_cmp b n ≡ Less) ns × IsStrictlySortedBy nat_cmp ns
 unfolding IsStrictlySortedBy
@@ -52,6 +53,7 @@ unfolding IsStrictlySortedBy
 sources_sorted [] h = tt
 sources_sorted (n ∷ ns) h = sources_above n ns h.1
 
+-- sources that rise from one on rise as a text says them
 sources_rise_above : (b : ℕ) (ns : List ℕ) → AllByRecursion (λ n. nat_cmp b n ≡ Less) ns → IsStrictlySortedBy nat_cmp ns
     → SourcesRise (Some b) ns
 unfolding IsStrictlySortedBy
@@ -87,6 +89,7 @@ few_sources ns is =
     let few : length ns + 0 ≤ 2 ^ 32 = few_above 0 (2 ^ 32) ns (omega arith) is.sorted (all_from_zero ns) is.small in
     omega (arith, few)
 
+-- a source that is read has its bytes as its text, and is above the one before
 source_takes : (size : ℕ) (before : Option ℕ) (bytes : List ℕ) (x : ℕ × List ℕ) → IsBytes bytes → source_field size before bytes ≡ Ok x
     → Takes bytes (to_be_bytes w32 x.0) x.1 × (is_source_above before x.0 ≡ true) × (x.0 < 2 ^ 32)
 unfolding source_field
@@ -103,6 +106,7 @@ source_again : (size : ℕ) (before : Option ℕ) (n : ℕ) (rest : List ℕ) �
 unfolding source_field
 source_again size before n rest above lt = rw (number_again size w32 (2 ^ 32) wide32 n rest lt, above) refl
 
+-- sources that are read have their bytes as their text, and rise
 sources_take : (size : ℕ) (before : Option ℕ) (n : ℕ) (bytes : List ℕ) (x : List ℕ × List ℕ) → IsBytes bytes
     → sources_fields size before n bytes ≡ Ok x
     → Takes bytes (flat_map (to_be_bytes w32) x.0) x.1 × (length x.0 ≡ n) × SourcesRise before x.0 × AllByRecursion (λ s. s < 2 ^ 32) x.0
@@ -127,6 +131,7 @@ sources_take size before (suc n) bytes x fits e =
       (first.2, second.3),
     )
 
+-- sources that were written are read again, whatever follows
 sources_again : (size : ℕ) (before : Option ℕ) (ns rest : List ℕ) → SourcesRise before ns → AllByRecursion (λ s. s < 2 ^ 32) ns
     → sources_fields size before (length ns) (flat_map (to_be_bytes w32) ns ++ rest) ≡ Ok (ns, rest)
 unfolding sources_fields
@@ -147,6 +152,7 @@ abbrev pub SaysSources : Version → List ℕ → Type 0
 SaysSources One sources = sources ≡ []
 SaysSources Two sources = Unit {0}
 
+-- the sources of a reading that are read have their bytes as their text in this version
 pub own_take : (size : ℕ) (version : Version) (bytes : List ℕ) (x : List ℕ × List ℕ) → IsBytes bytes
     → own_sources_fields size version bytes ≡ Ok x → Takes bytes (sources_text version x.0) x.1 × IsSourceList x.0 × SaysSources version x.0
 unfolding own_sources_fields
@@ -164,6 +170,7 @@ own_take size Two bytes x fits e =
       tt,
     )
 
+-- the sources of a reading that were written are read again, whatever follows
 pub own_again : (size : ℕ) (version : Version) (ns rest : List ℕ) → IsSourceList ns → SaysSources version ns
     → own_sources_fields size version (sources_text version ns ++ rest) ≡ Ok (ns, rest)
 unfolding own_sources_fields

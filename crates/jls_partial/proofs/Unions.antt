@@ -81,6 +81,7 @@ held_from_lines p r c (suc n) e =
     either _ _ _ (held_from_lines p r c n) (held_in_line p r c n)
     (sym (list_any-append (eq_by_cmp reading_cmp r) (readings_of_lines p c n) (line_readings p c n)) ∙ e)
 
+-- a reading of the first components is held
 pub held_from_components : (p : PartialPicture) (r : Reading) (n : ℕ)
     → list_any (eq_by_cmp reading_cmp r) (readings_of_components p n) ≡ true → contains p.readings r ≡ true
 held_from_components p r zero e = absurd cc
@@ -93,7 +94,7 @@ pub in_its_line : (p : PartialPicture) (r : Reading) → contains p.readings r �
     → list_any (eq_by_cmp reading_cmp r) (line_readings p r.component r.line) ≡ true
 in_its_line p r h = in_line p r r.component r.line ∙ rw (ap is_eq (tied_itself place_total (place_of r)), h) refl
 
--- and so in the first lines and the first components, as far as they go
+-- what is held stands in the first n lines of its component, if its line is one of these
 lines_hold : (p : PartialPicture) (r : Reading) (n : ℕ) → contains p.readings r ≡ true → r.line < n
     → list_any (eq_by_cmp reading_cmp r) (readings_of_lines p r.component n) ≡ true
 lines_hold p r zero h lt = absurd (omega arith)
@@ -106,6 +107,7 @@ lines_hold p r (suc n) h lt =
           (subst (λ (l : ℕ). list_any test (line_readings p r.component l) ≡ true) (omega arith) (in_its_line p r h))
     ]
 
+-- a reading that is held is one of those of the first n components, if its component is one of these
 pub components_hold : (p : PartialPicture) (r : Reading) (n : ℕ) → contains p.readings r ≡ true → r.component < n → r.line < p.shape.height
     → list_any (eq_by_cmp reading_cmp r) (readings_of_components p n) ≡ true
 components_hold p r zero h lt line = absurd (omega arith)

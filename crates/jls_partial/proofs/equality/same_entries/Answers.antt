@@ -16,6 +16,7 @@ pair_is_one c =
     (map kept_entry c.next.new.self) (map kept_entry c.next-in-loop-at.new.self) c.loop-at.invariant
     (ap (map kept_entry) c.in-Some.ensures.steps) (ap (map kept_entry) c.in-Some-next.ensures.steps)
 
+-- an entry is at another place
 pub returns-then-not-same_place : goal.returns-then-not-same_place
 returns-then-not-same_place c = (
   λ e. absurd cc,
@@ -23,6 +24,7 @@ returns-then-not-same_place c = (
       (ap (λ (e : Entry). e.0) (pair_is_one (goal.at.returns-then-not-same_place c).In-Some-next same))),
 )
 
+-- an entry has other readings
 pub returns-then-not-same_lines : goal.returns-then-not-same_lines
 returns-then-not-same_lines c = (
   λ e. absurd cc,
@@ -33,6 +35,7 @@ returns-then-not-same_lines c = (
       absurd cc,
 )
 
+-- one entry more is the same in both
 pub loop-at-preserved : goal.loop-at-preserved
 loop-at-preserved c =
     let at = places_from_test c.in-Some.at c.in-Some-next.other_at c.eq-same_place.result c.eq-same_place.ensures

@@ -16,6 +16,7 @@ within c =
     let end = c.len-i-end.ensures.value in
     (omega (arith, end, c.loop-i-test.true), omega (arith, lens, l1, l2, end, c.loop-i-test.true))
 
+-- a reading has other samples
 pub returns-then-not-same_samples : goal.returns-then-not-same_samples
 returns-then-not-same_samples c = (
   λ e. absurd cc,
@@ -24,6 +25,7 @@ returns-then-not-same_samples c = (
       c.get-in-loop-i.ensures.value same)),
 )
 
+-- a reading has other sources in the second, so the lines differ
 pub returns-then-not-same_sources : goal.returns-then-not-same_sources
 returns-then-not-same_sources c =
     let L = c.args.one.now in
@@ -38,6 +40,7 @@ returns-then-not-same_sources c =
           c.get.ensures.value c.get-in-loop-i.ensures.value c.sources.ensures c.sources-in-loop-i.ensures same)),
     )
 
+-- one reading more is the same in both
 pub loop-i-preserved : goal.loop-i-preserved
 loop-i-preserved c =
     let L = c.args.one.now in

@@ -40,6 +40,7 @@ mark_row-requires-clause-within c =
     subst (λ (L : PictureLines). c.args.i < length (set.items L.lines))
     (lines_there c.args.packed.now c.args.pages.now.entries c.args.at c.in-Some.rows.now c.requires.pages.pages there) c.requires.within
 
+-- the page of a held line is found
 pub unreachable-requires : goal.unreachable-requires
 unreachable-requires c =
     let packed = c.args.packed.now in
@@ -50,6 +51,7 @@ unreachable-requires c =
     none_below packed.precision packed.width c.args.i (stored_at (pages_seen packed es) at)
     (lines_missed packed es at c.requires.pages.pages missing) c.requires.within
 
+-- the pages are in order still
 pub returns-clause-pages : goal.returns-clause-pages
 returns-clause-pages c =
     let packed = c.args.packed.now in
@@ -58,6 +60,7 @@ returns-clause-pages c =
     pages_packed packed packed (itself packed) c.args.pages.now.entries (c.get_mut.follows.lender v).entries c.args.at v c.requires.pages
     w.are w.updated c.mark_row.ensures.page
 
+-- the line of the place in its page has the source, and nothing else has changed
 pub returns-clause-ok : goal.returns-clause-ok
 returns-clause-ok c =
     let packed = c.args.packed.now in
@@ -72,6 +75,7 @@ returns-clause-ok c =
     (sym (rows_there es at c.in-Some.rows.now w.found)) adds))
     c.mark_row.ensures.ok
 
+-- where memory is refused, nothing has changed
 pub returns-clause-err : goal.returns-clause-err
 returns-clause-err c =
     let packed = c.args.packed.now in

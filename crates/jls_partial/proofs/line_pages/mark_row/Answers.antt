@@ -38,6 +38,7 @@ mark-requires-clause-slots c =
     slots_found c.args.packed.now c.args.rows.now.items c.args.at x c.requires.page.rows_packed
     (with_slots (goal.at.mark-requires-clause-slots c).After-index_mut x).found
 
+-- the line to be marked is one of the row
 pub mark-requires-clause-within : goal.mark-requires-clause-within
 mark-requires-clause-within c =
     let packed = c.args.packed.now in
@@ -50,6 +51,7 @@ mark-requires-clause-within c =
     (λ _. here) in
     omega (arith, below, many)
 
+-- the row of a held line is found
 pub unreachable-requires : goal.unreachable-requires
 unreachable-requires c =
     let packed = c.args.packed.now in
@@ -61,6 +63,7 @@ unreachable-requires c =
     (lines_missing packed rows c.args.at (no_lines packed.precision packed.width) (row_missing rows c.args.at c.in-Err.field-0 gap))
     c.requires.within
 
+-- the page is one still
 pub returns-clause-page : goal.returns-clause-page
 returns-clause-page c =
     let packed = c.args.packed.now in
@@ -77,6 +80,7 @@ returns-clause-page c =
           (ordered_slots fs page.sorted);
     }
 
+-- the line has the source, and nothing else has changed
 pub returns-clause-ok : goal.returns-clause-ok
 returns-clause-ok c =
     let packed = c.args.packed.now in
@@ -91,6 +95,7 @@ returns-clause-ok c =
     (subst (λ (L : PictureLines). MarksLine L c.args.i c.args.source (lines_in packed y)) (sym (was here)) marks))
     c.mark.ensures.ok
 
+-- where memory is refused, the page is as it was
 pub returns-clause-err : goal.returns-clause-err
 returns-clause-err c =
     let packed = c.args.packed.now in

@@ -29,6 +29,7 @@ find_row-requires c =
     subst (λ (rows : List Row). IsStrictlySortedBy place_cmp (map (λ r. r.0) rows)) (sym c.deref.ensures.value)
     (page (goal.at.find_row-requires c).In-Some).sorted
 
+-- the row of the place is found
 pub returns-in-Ok : goal.returns-in-Ok
 returns-in-Ok c =
     let here = (goal.at.returns-in-Ok c).In-Some in
@@ -39,6 +40,7 @@ returns-in-Ok c =
     c.in-Ok.ensures.same in
     sym (among here ∙ row_found rows c.args.at c.in-Ok.i c.index.result.now (page here).sorted lt same c.index.ensures)
 
+-- the page has no row of the place
 pub returns-in-Err : goal.returns-in-Err
 returns-in-Err c =
     let rows = c.in-Some.rows.now.items in
@@ -47,6 +49,7 @@ returns-in-Err c =
     c.in-Err.ensures.gap in
     sym (among (goal.at.returns-in-Err c).In-Some ∙ row_missing rows c.args.at c.in-Err.field-0 gap)
 
+-- the place has no page
 pub returns-in-None : goal.returns-in-None
 returns-in-None c =
     let es = c.args.pages.now.entries in

@@ -26,6 +26,7 @@ updated : (c : After-append) → UpdatedBy page_cmp c.args.pages.now.entries (pa
 updated c = subst (λ (z : PageNumber). UpdatedBy page_cmp c.args.pages.now.entries z c.push.new.self c.insert.new.self.entries)
     c.page.ensures c.in_ok-insert.ensures.updates.0
 
+-- the pages with the new one are in order
 pub returns-clause-pages : goal.returns-clause-pages
 returns-clause-pages c =
     let here = (goal.at.returns-clause-pages c).After-append in
@@ -42,6 +43,7 @@ returns-clause-pages c =
     pages_packed c.args.packed.now new (first here).longer es fs at v c.requires.pages
     (pages_more es fs (page_of at) v c.requires.pages.pages (updated here) c.in_ok-insert.ensures.ordered page.page) (updated here) page
 
+-- the line is the first at its place, in a page of its own
 pub returns-clause-ok : goal.returns-clause-ok
 returns-clause-ok c =
     let here = (goal.at.returns-clause-ok c).After-append in

@@ -43,6 +43,7 @@ take_row-requires-clause-page c =
     rows_here c.args.packed.now c.args.pages.now.entries c.args.at c.in-Some.rows.now c.requires.pages
     (found (goal.at.take_row-requires-clause-page c).In-Some)
 
+-- the pages are in order, with the one that took the line
 pub returns-in-Some-clause-pages : goal.returns-in-Some-clause-pages
 returns-in-Some-clause-pages c =
     let v = c.take_row.new.rows in
@@ -50,6 +51,7 @@ returns-in-Some-clause-pages c =
     pages_packed c.args.packed.now c.take_row.new.packed c.take_row.ensures.extends c.args.pages.now.entries
     (c.get_mut.follows.lender v).entries c.args.at v c.requires.pages w.are w.updated c.take_row.ensures.page
 
+-- the line is taken into the page of its place
 pub returns-in-Some-clause-ok : goal.returns-in-Some-clause-ok
 returns-in-Some-clause-ok c =
     let old = c.args.packed.now in
@@ -65,6 +67,7 @@ returns-in-Some-clause-ok c =
     (sym (rows_there es at c.in-Some.rows.now w.found)) takes))
     c.take_row.ensures.ok
 
+-- where memory is refused, nothing has changed
 pub returns-in-Some-clause-err : goal.returns-in-Some-clause-err
 returns-in-Some-clause-err c =
     let v = c.take_row.new.rows in
@@ -86,6 +89,7 @@ returns-in-Some-clause-no_memory c = λ h e.
 
 -- ---- a page that is missing
 
+-- where there is no page, the line is not held
 none_held : (c : In-None) → holds_line (pages_seen c.args.packed.now c.args.pages.now.entries) c.args.at c.args.samples.now ≡ false
 none_held c =
     let es = c.args.pages.now.entries in

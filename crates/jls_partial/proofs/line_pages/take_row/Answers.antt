@@ -56,6 +56,7 @@ take-requires-clause-slots c =
     slots_found c.args.packed.now c.args.rows.now.items c.args.at x c.requires.page.rows_packed
     (rows_written (goal.at.take-requires-clause-slots c).After-index_mut x).found
 
+-- the place has a row, and memory is refused: the page is one still
 pub returns-in_err-added-in-Ok-clause-page : goal.returns-in_err-added-in-Ok-clause-page
 returns-in_err-added-in-Ok-clause-page c =
     let here = (goal.at.returns-in_err-added-in-Ok-clause-page c).After-index_mut in
@@ -68,6 +69,7 @@ returns-in_err-added-in-Ok-clause-page c =
           (still_packed c.args.packed.now new c.take.ensures.extends (slots_of_entries c.args.rows.now.items) c.requires.page.rows_packed);
     }
 
+-- the place has a row, and memory is refused: nothing has changed
 pub returns-in_err-added-in-Ok-clause-err : goal.returns-in_err-added-in-Ok-clause-err
 returns-in_err-added-in-Ok-clause-err c =
     let p = err_from_is_err_and c.from_residual.result c.from_residual.ensures.1 in
@@ -79,6 +81,7 @@ returns-in_err-added-in-Ok-clause-err c =
     ∙ all_stay c.args.packed.now new longer (slots_of_entries c.args.rows.now.items) c.requires.page.rows_packed in
     rw p.1 (λ i. record { precision = longer.precision i; width = longer.width i; entries = entries i })
 
+-- a held line without new sources needs no memory
 pub returns-in_err-added-in-Ok-clause-no_memory : goal.returns-in_err-added-in-Ok-clause-no_memory
 returns-in_err-added-in-Ok-clause-no_memory c = λ h e.
     let found = was (goal.at.returns-in_err-added-in-Ok-clause-no_memory c).After-index_mut in
@@ -86,6 +89,7 @@ returns-in_err-added-in-Ok-clause-no_memory c = λ h e.
     (sym (ap (λ (L : PictureLines). sets.contains L.lines c.args.samples.now) found) ∙ h) e in
     absurd cc
 
+-- the place has a row, which takes the line: the page is one still
 pub returns-in_ok-added-in-Ok-clause-page : goal.returns-in_ok-added-in-Ok-clause-page
 returns-in_ok-added-in-Ok-clause-page c =
     let here = (goal.at.returns-in_ok-added-in-Ok-clause-page c).After-index_mut in
@@ -100,6 +104,7 @@ returns-in_ok-added-in-Ok-clause-page c =
           (ordered_slots fs (page_with here y).sorted);
     }
 
+-- the place has a row, which takes the line
 pub returns-in_ok-added-in-Ok-clause-ok : goal.returns-in_ok-added-in-Ok-clause-ok
 returns-in_ok-added-in-Ok-clause-ok c =
     let here = (goal.at.returns-in_ok-added-in-Ok-clause-ok c).After-index_mut in
@@ -140,6 +145,7 @@ none_held : (c : In-Err) → holds_line (rows_seen c.args.packed.now c.args.rows
 none_held c = ap (λ (L : PictureLines). sets.contains L.lines c.args.samples.now) (missing c)
     ∙ contains-empty (slice_cmp nat_cmp) c.args.samples.now
 
+-- a line at a place that had none is the first there
 first : (c : After-append) → IsFirst c.args.packed.now c.append.new.self c.args.samples.now c.args.sources.now
     (slots_of c.in_ok-new-in-Err.new)
 first c =
@@ -167,6 +173,7 @@ returns-in_err-insert-in-Err-clause-no_memory c = λ h e.
 pub returns-in_ok-insert-in-Err-clause-added : goal.returns-in_ok-insert-in-Err-clause-added
 returns-in_ok-insert-in-Err-clause-added c = sym (ap not (none_held (goal.at.returns-in_ok-insert-in-Err-clause-added c).In-Err))
 
+-- the place gets a row: the page is one still
 pub returns-in_ok-insert-in-Err-clause-page : goal.returns-in_ok-insert-in-Err-clause-page
 returns-in_ok-insert-in-Err-clause-page c =
     let here = goal.at.returns-in_ok-insert-in-Err-clause-page c in
@@ -185,6 +192,7 @@ returns-in_ok-insert-in-Err-clause-page c =
           (ordered_slots fs page.sorted);
     }
 
+-- the place gets a row, with the line as its first
 pub returns-in_ok-insert-in-Err-clause-ok : goal.returns-in_ok-insert-in-Err-clause-ok
 returns-in_ok-insert-in-Err-clause-ok c =
     let here = goal.at.returns-in_ok-insert-in-Err-clause-ok c in

@@ -9,6 +9,7 @@ use Rattle.jls_partial.proofs.Growth.{kept_whole}
 use Rattle.jls_partial.proofs.LineUnions.{one_more, all_is_union, prefix_between}
 use Rattle.jls_partial.proofs.line_set.merge_lines.Goals as goal
 
+-- memory was refused at a line: all that was held is held
 pub returns-in_err-take-clause-err : goal.returns-in_err-take-clause-err
 returns-in_err-take-clause-err c =
     let s = c.args.into.now in
@@ -25,6 +26,7 @@ returns-in_err-take-clause-err c =
       | Err _ ↦ stands
     ]
 
+-- memory was refused at a line: the lines before it are taken
 pub returns-in_err-take-clause-prefix : goal.returns-in_err-take-clause-prefix
 returns-in_err-take-clause-prefix c =
     let kl = kept_lines c.args.other.now in
@@ -40,6 +42,7 @@ returns-in_err-take-clause-prefix c =
       | Err _ ↦ stands
     ]
 
+-- one line more is taken
 pub loop-i-preserved : goal.loop-i-preserved
 loop-i-preserved c =
     let end = c.len-i-end.ensures.value in
@@ -47,6 +50,7 @@ loop-i-preserved c =
     c.in_ok-take.ensures.ok ∙ one_more c.args.into.now c.loop-i.into c.args.other.now c.loop-i.i c.get.result.now c.sources.result.now lt
     c.get.ensures.value c.sources.ensures c.loop-i.invariant
 
+-- all lines are taken
 pub returns-clause-ok : goal.returns-clause-ok
 returns-clause-ok c =
     let s = c.args.into.now in

@@ -16,6 +16,7 @@ mark_line-requires-clause-line_in c =
     let lt : c.loop-line.line < c.args.partial.now.shape.height = omega (arith, end, shape, c.loop-line-test.true) in
     subst (λ (p : PartialPicture). c.loop-line.line < p.shape.height) (sym c.loop-line.invariant) lt
 
+-- memory was refused: some readings have the source
 pub returns-in_err-mark_line-clause-err : goal.returns-in_err-mark_line-clause-err
 returns-in_err-mark_line-clause-err c =
     let p = err_from_is_err_and c.from_residual.result c.from_residual.ensures.1 in
@@ -24,6 +25,7 @@ returns-in_err-mark_line-clause-err c =
     (readings_of_lines old c.args.component c.loop-line.line) c.loop-line.invariant (lines_held old c.args.component c.loop-line.line)
     c.in_err-mark_line.ensures.err)
 
+-- the readings of one line more have the source
 pub loop-line-preserved : goal.loop-line-preserved
 loop-line-preserved c =
     let old = c.args.partial.now in

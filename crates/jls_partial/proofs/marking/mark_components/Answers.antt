@@ -12,6 +12,7 @@ mark_component-requires c =
     let lt : c.loop-component.component < length c.args.partial.now.shape.ids = omega (arith, ids, shape, c.loop-component-test.true) in
     subst (λ (p : PartialPicture). c.loop-component.component < length p.shape.ids) (sym c.loop-component.invariant) lt
 
+-- memory was refused: some readings have the source
 pub returns-in_err-mark_component-clause-err : goal.returns-in_err-mark_component-clause-err
 returns-in_err-mark_component-clause-err c =
     let p = err_from_is_err_and c.from_residual.result c.from_residual.ensures.1 in
@@ -20,6 +21,7 @@ returns-in_err-mark_component-clause-err c =
     (readings_of_components old c.loop-component.component) c.loop-component.invariant (components_held old c.loop-component.component)
     c.in_err-mark_component.ensures.err)
 
+-- the readings of one component more have the source
 pub loop-component-preserved : goal.loop-component-preserved
 loop-component-preserved c =
     let old = c.args.partial.now in

@@ -21,6 +21,7 @@ mark_reading-requires-clause-i_in c =
     let lt : c.loop-i.i < length (readings_at c.args.partial.now c.args.component c.args.line) = omega (arith, end, c.loop-i-test.true) in
     subst (λ (p : PartialPicture). c.loop-i.i < length (readings_at p c.args.component c.args.line)) (sym c.loop-i.invariant) lt
 
+-- memory was refused: some readings have the source
 pub returns-in_err-mark_reading-clause-err : goal.returns-in_err-mark_reading-clause-err
 returns-in_err-mark_reading-clause-err c =
     let p = err_from_is_err_and c.from_residual.result c.from_residual.ensures.1 in
@@ -30,6 +31,7 @@ returns-in_err-mark_reading-clause-err c =
     (prefix_held old c.args.component c.args.line c.loop-i.i)
     (subst (MarksSome c.loop-i.partial c.args.source) (sym c.in_err-mark_reading.ensures.err) (marks_none c.loop-i.partial c.args.source)))
 
+-- one reading more has the source
 pub loop-i-preserved : goal.loop-i-preserved
 loop-i-preserved c =
     let end = c.count-i-end.ensures in
@@ -37,6 +39,7 @@ loop-i-preserved c =
     marked_more c.args.partial.now c.loop-i.partial c.mark_reading.new.self c.args.source c.args.component c.args.line c.loop-i.i
     c.loop-i.invariant lt c.in_ok-mark_reading.ensures.ok
 
+-- all readings of the line have the source
 pub returns-clause-ok : goal.returns-clause-ok
 returns-clause-ok c =
     let xs = readings_at c.args.partial.now c.args.component c.args.line in

@@ -17,6 +17,7 @@ next : (old now : PartialPicture) (all : List (Reading × List ℕ)) (e : LineEn
     → IsSoFar old now all (map (kept_at_place e.0) (kept_lines e.1) ++ kept_readings (map kept_entry es))
 next old now all e it es is h = subst (IsSoFar old now all) (ap (λ ls. kept_readings (map kept_entry ls)) is ∙ next_entry e es) h
 
+-- the readings of one line more are taken
 pub loop-at-preserved : goal.loop-at-preserved
 loop-at-preserved c =
     let e : LineEntry = (c.in-Some.at, c.in-Some.lines) in
@@ -29,6 +30,7 @@ loop-at-preserved c =
       each = (subst (AllByRecursion (IsLineEntry c.args.other.now.shape)) c.in-Some.ensures.steps c.loop-at.invariant.each).1;
     }
 
+-- memory was refused: all that was held is held
 pub returns-in_err-merge_line-clause-err : goal.returns-in_err-merge_line-clause-err
 returns-in_err-merge_line-clause-err c =
     let p = err_from_is_err_and c.from_residual.result c.from_residual.ensures.1 in

@@ -12,6 +12,7 @@ use Rattle.jls_partial.proofs.Growth.{kept_more, kept_whole, with_all-append}
 use Rattle.jls_partial.proofs.Views.{all-slice_get}
 use Rattle.jls_partial.proofs.merging.merge_line.Goals as goal
 
+-- the reading fits, as all of the other picture do
 pub take-requires : goal.take-requires
 take-requires c =
     subst (λ (s : PictureShape). reading_fault s c.args.at.component c.args.at.line c.get.result.now ≡ None)
@@ -19,6 +20,7 @@ take-requires c =
     (all-slice_get (λ x. reading_fault c.args.into.now.shape c.args.at.component c.args.at.line x ≡ None) (items c.args.lines.now.lines)
     c.loop-i.i c.get.result.now c.requires.entry.fitting c.get.ensures.value)
 
+-- memory was refused at a reading: all that was held is held
 pub returns-in_err-take-clause-err : goal.returns-in_err-take-clause-err
 returns-in_err-take-clause-err c =
     let p = err_from_is_err_and c.from_residual.result c.from_residual.ensures.1 in
@@ -32,6 +34,7 @@ returns-in_err-take-clause-err c =
       new_is = c.in_err-take.ensures.err ∙ c.loop-i.invariant;
     })
 
+-- one reading more of the line is taken
 pub loop-i-preserved : goal.loop-i-preserved
 loop-i-preserved c =
     let f = kept_at_place c.args.at in
@@ -47,6 +50,7 @@ loop-i-preserved c =
     ∙ ap (with_all c.args.into.now)
     (sym (ap (map f) (kept_more L i k.0 k.1 lt c.get.ensures.value c.sources.ensures) ∙ map-append f (take i ks) (k ∷ [])))
 
+-- all readings of the line are taken
 pub returns-clause-ok : goal.returns-clause-ok
 returns-clause-ok c =
     let L = c.args.lines.now in

@@ -10,6 +10,7 @@ pub samples_at-requires : goal.samples_at-requires
 samples_at-requires c = middle_inside c.args.width c.args.packed.now c.args.tree.now c.loop-left.rest.now c.loop-left.before
     c.args.samples.now c.loop-left.invariant c.in-Some.left.now c.in-Some.slot.now c.in-Some.right.now c.in-Some.ensures c.requires.inside
 
+-- the slot found has the samples
 pub returns-in-Equal-clause-same : goal.returns-in-Equal-clause-same
 returns-in-Equal-clause-same c =
     subst (λ (n : ℕ). get_or (lines_of c.args.width c.args.packed.now c.args.tree.now) (c.loop-left.before + n) c.args.samples.now
@@ -18,6 +19,7 @@ returns-in-Equal-clause-same c =
     c.in-Some.left.now c.in-Some.slot.now c.in-Some.right.now c.in-Some.ensures c.requires.sorted c.samples_at.result.now
     c.samples_at.ensures (sym c.cmp.ensures ∙ c.in-Equal.is))
 
+-- the slot is below the samples: they are to its right
 pub loop-left-preserved-in-Less : goal.loop-left-preserved-in-Less
 loop-left-preserved-in-Less c =
     subst (λ (n : ℕ). IsLeft c.args.width c.args.packed.now c.args.tree.now c.in-Some.right.now (c.loop-left.before + n + 1)

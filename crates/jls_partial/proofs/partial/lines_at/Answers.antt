@@ -6,6 +6,7 @@ use Rattle.jls_partial.specs.Stored.{stored_at}
 use Rattle.jls_partial.proofs.Store.{no_items}
 use Rattle.jls_partial.proofs.partial.lines_at.Goals as goal
 
+-- a place with a reading has lines in the store
 pub unreachable-requires : goal.unreachable-requires
 unreachable-requires c =
     let some = c.requires in

@@ -9,6 +9,7 @@ use Rattle.jls_partial.proofs.TextPrefixes.{on_error, entry_cut, entry_taken}
 use Rattle.jls_partial.proofs.TextLoops.{entry_keeps_shape, entries_go_on, entries_end, entries_done}
 use Rattle.jls_partial.proofs.text_reading.read_entries.Goals as goal
 
+-- the next entry can't be read, so neither can all
 pub returns-in_err-at-clause-read : goal.returns-in_err-at-clause-read
 returns-in_err-at-clause-read c =
     let p = err_from_is_err_and c.from_residual.result c.from_residual.ensures.1 in
@@ -24,6 +25,7 @@ returns-in_err-at-clause-read c =
     (entries_fields c.args.form.size c.args.form.version shape None c.args.count c.args.bytes.now)) c.loop-test.true failed
     c.loop.invariant.same)
 
+-- the next entry can't be read: the readings before the fault are taken
 pub returns-in_err-at-clause-prefix : goal.returns-in_err-at-clause-prefix
 returns-in_err-at-clause-prefix c =
     let size = c.args.form.size in
@@ -39,6 +41,7 @@ returns-in_err-at-clause-prefix c =
     (entry_cut size version shape c.loop.before c.args.count c.loop.counter c.loop.rest.now c.loop-test.true c.args.partial.now p q all
     c.loop.invariant.so_far cut)
 
+-- one entry more is read, and its readings are taken
 pub loop-preserved : goal.loop-preserved
 loop-preserved c =
     let shape = c.args.partial.now.shape in
@@ -62,6 +65,7 @@ loop-preserved c =
           (entries_prefix c.args.form.size c.args.form.version shape None c.args.count c.args.bytes.now) c.loop.invariant.so_far read;
     }
 
+-- all entries are read
 pub returns-clause-read : goal.returns-clause-read
 returns-clause-read c =
     entries_done c.args.form.size c.args.form.version c.args.partial.now.shape c.loop.partial c.loop.before c.args.count c.loop.counter

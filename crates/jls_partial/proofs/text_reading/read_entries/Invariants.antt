@@ -5,6 +5,7 @@ use Rattle.jls_partial.specs.TextReading.{entries_fields}
 use Rattle.jls_partial.proofs.Growth.{IsSoFar}
 use Rattle.jls_partial.proofs.text_reading.read_entries.Given as goal
 
+-- the entries so far are taken, and reading the rest gives what reading all gives
 abbrev pub invariant-loop : goal.invariant-loop
 invariant-loop l = record {
   shape : l.partial.shape ≡ l.fn.partial.shape;

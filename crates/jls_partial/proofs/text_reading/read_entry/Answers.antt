@@ -31,6 +31,7 @@ returns-in_err-count-clause-prefix c =
     on_error c.from_residual-in_err-count.result (TakesPrefix c.args.partial.now c.args.partial.now all)
     (nothing_taken c.args.partial.now c.args.partial.now all refl)
 
+-- a reading of the entry can't be read: those before it are taken
 pub returns-in_err-rest-clause-prefix : goal.returns-in_err-rest-clause-prefix
 returns-in_err-rest-clause-prefix c =
     let size = c.args.form.size in

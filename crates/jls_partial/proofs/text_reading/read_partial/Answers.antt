@@ -11,6 +11,7 @@ returns-in_err-read_head c =
     let p = err_from_is_err_and c.from_residual.result c.from_residual.ensures.1 in
     rw (p.1, p.2) (head_fault c.in_err-read_head.field-0.0 c.args.bytes.now c.in_err-read_head.ensures)
 
+-- the picture read is that of the text
 pub returns : goal.returns
 returns c =
     let head = c.in_ok-read_head.field-0 in

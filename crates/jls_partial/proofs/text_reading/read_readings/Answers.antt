@@ -42,6 +42,7 @@ read c =
     c.loop.rest.now
     ≡ Ok (next c, c.in_ok-samples.after.now)) (c.shape.ensures.value ∙ c.loop.invariant.shape) c.in_ok-samples.ensures
 
+-- the next reading can't be read, so neither can all
 pub returns-in_err-samples-clause-read : goal.returns-in_err-samples-clause-read
 returns-in_err-samples-clause-read c =
     let p = err_from_is_err_and c.from_residual.result c.from_residual.ensures.1 in
@@ -68,6 +69,7 @@ returns-in_err-take-clause-prefix c =
     on_error c.from_residual-in_err-take.result (TakesPrefix c.args.partial.now c.take.new.self (all here))
     (prefix here c.take.new.self c.in_err-take.ensures.err)
 
+-- the reading fits its place
 pub take-requires : goal.take-requires
 take-requires c =
     let here = (goal.at.take-requires c).In_ok-samples in
@@ -78,6 +80,7 @@ take-requires c =
     subst (λ (s : PictureShape). reading_fault s c.args.at.component c.args.at.line c.deref.result.now ≡ None) (sym c.loop.invariant.shape)
     (subst (λ (ys : List ℕ). reading_fault shape c.args.at.component c.args.at.line ys ≡ None) (sym c.deref.ensures.value) fits)
 
+-- one reading more is read, and taken
 pub loop-preserved : goal.loop-preserved
 loop-preserved c =
     let shape = c.args.partial.now.shape in
@@ -108,6 +111,7 @@ loop-preserved c =
           c.loop.invariant.so_far) taken;
     }
 
+-- all readings of the line are read
 pub returns-clause-read : goal.returns-clause-read
 returns-clause-read c =
     readings_done c.args.form.size c.args.form.version c.args.partial.now.shape c.loop.partial c.args.at

@@ -7,6 +7,7 @@ use Rattle.jls_partial.specs.TextReading.{readings_fields}
 use Rattle.jls_partial.proofs.Growth.{IsSoFar}
 use Rattle.jls_partial.proofs.text_reading.read_readings.Given as goal
 
+-- before each reading: those before it are taken, and reading the rest gives what reading all gives
 abbrev pub invariant-loop : goal.invariant-loop
 invariant-loop l = record {
   shape : l.partial.shape ≡ l.fn.partial.shape;

@@ -4,6 +4,7 @@ use Rattle.jls_partial.specs.TextReading.{sources_fields}
 use Rattle.jls_partial.proofs.TextLoops.{sources_go_on, sources_end, sources_done}
 use Rattle.jls_partial.proofs.text_reading.read_sources.Goals as goal
 
+-- a source can't be read
 pub returns-in_err-source : goal.returns-in_err-source
 returns-in_err-source c =
     let p = err_from_is_err_and c.from_residual.result c.from_residual.ensures.1 in

@@ -4,6 +4,7 @@ use Rattle.std.proofs.lemmas.List.{take_all}
 use Rattle.std.proofs.lemmas.List.Elements.{All-more, All-weaker}
 use Rattle.jls_partial.proofs.text_samples.largest.Goals as goal
 
+-- one sample more is not above the largest
 pub loop-sample-preserved : goal.loop-sample-preserved
 loop-sample-preserved c =
     let xs = c.args.samples.now in

@@ -4,6 +4,7 @@ use Rattle.jls_partial.specs.TextReading.{samples_fields}
 use Rattle.jls_partial.proofs.TextLoops.{sample_len, samples_go_on, samples_end, samples_done}
 use Rattle.jls_partial.proofs.text_samples.read_each_sample.Goals as goal
 
+-- a sample can't be read
 pub returns-in_err-sample : goal.returns-in_err-sample
 returns-in_err-sample c =
     let p = err_from_is_err_and c.from_residual-in_err-sample.result c.from_residual-in_err-sample.ensures.1 in
@@ -16,6 +17,7 @@ push_reserved-requires c =
     let len = sample_len c.args.size c.args.limit c.loop.rest.now c.in_ok-sample.sample c.in_ok-sample.after.now c.in_ok-sample.ensures in
     omega (arith, len, c.loop.invariant.room, c.loop-test.true)
 
+-- one sample more is read
 pub loop-preserved : goal.loop-preserved
 loop-preserved c =
     let len = sample_len c.args.size c.args.limit c.loop.rest.now c.in_ok-sample.sample c.in_ok-sample.after.now c.in_ok-sample.ensures in

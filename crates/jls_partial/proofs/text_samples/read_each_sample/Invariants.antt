@@ -4,6 +4,7 @@ use Rattle.jls_partial.specs.TextReading.{samples_fields}
 use Rattle.jls_partial.proofs.TextLoops.{after_samples}
 use Rattle.jls_partial.proofs.text_samples.read_each_sample.Given as goal
 
+-- the samples so far, with what reading the rest gives, are what reading all gives
 abbrev pub invariant-loop : goal.invariant-loop
 invariant-loop l = record {
   room : vec_len l.samples + min (length l.rest / 2) (l.count - l.counter) ≤ vec_capacity l.samples;

@@ -14,6 +14,7 @@ small_again : (size limit x : ℕ) (rest : List ℕ) → x < 2 ^ 16 → x < limi
 unfolding sample_field
 small_again size limit x rest lt below = rw (number_again size w16 (2 ^ 16) wide16 x rest lt, lt-leb limit x below) refl
 
+-- samples that are below the limit are read again, whatever follows
 all_again : (size limit most : ℕ) (xs rest : List ℕ) → most < 2 ^ 16 → most < limit → All (λ x. x ≤ most) xs
     → samples_fields size limit (length xs) (samples_text xs ++ rest) ≡ Ok (xs, rest)
 unfolding samples_fields
@@ -27,6 +28,7 @@ all_again size limit most (x ∷ xs) rest lt below all =
     ap (λ (t : List ℕ). t ++ rest) (flat_map-cons (to_be_bytes w16) x xs) ∙ append_assoc (to_be_bytes w16 x) (samples_text xs) rest in
     ap (samples_fields size limit (length (x ∷ xs))) regrouped ∙ rw (first, others) refl
 
+-- all samples are there and below the limit, so that they are those of the text
 pub returns : goal.returns
 returns c size =
     let xs = c.in_ok-samples.samples.items in

@@ -31,6 +31,7 @@ one_more xs (a ∷ b ∷ rest) total prefix after x so_far long bytes prefix_is 
     ap (λ (t : List ℕ). samples_text (xs ++ x ∷ []) ++ t) after_is ∙ ap (λ (t : List ℕ). t ++ rest) text
     ∙ append_assoc (samples_text xs) (a ∷ b ∷ []) rest ∙ so_far
 
+-- two bytes more make one sample more
 pub loop-preserved : goal.loop-preserved
 loop-preserved c =
     let xs = c.loop.samples.items in

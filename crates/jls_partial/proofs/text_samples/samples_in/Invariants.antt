@@ -4,6 +4,7 @@ use Rattle.jls_partial.specs.Text.{samples_text}
 use Rattle.jls_partial.proofs.TextFields.{IsBytes}
 use Rattle.jls_partial.proofs.text_samples.samples_in.Given as goal
 
+-- the text of the samples so far, and the rest, are the bytes
 abbrev pub invariant-loop : goal.invariant-loop
 invariant-loop l = record {
   room : vec_len l.samples + (l.count - l.counter) ≤ vec_capacity l.samples;

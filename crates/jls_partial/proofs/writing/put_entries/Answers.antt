@@ -8,6 +8,7 @@ use Rattle.jls_partial.specs.Text.{entry_text}
 use Rattle.jls_partial.specs.declared.version.Version.TheVariants.{Two}
 use Rattle.jls_partial.proofs.writing.put_entries.Goals as goal
 
+-- the text of one entry more is put
 pub loop-at-preserved : goal.loop-at-preserved
 loop-at-preserved c =
     let g = entry_text Two in

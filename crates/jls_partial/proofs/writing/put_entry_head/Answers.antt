@@ -2,6 +2,7 @@ use Rattle.std.proofs.Common.{ℕ, List, ◌∷◌, [], ◌++◌, get_or, ap, ap
 use Rattle.std.specs.Int.{w16, w64, to_be_bytes}
 use Rattle.jls_partial.proofs.writing.put_entry_head.Goals as goal
 
+-- the place and the number of readings are put
 pub returns : goal.returns
 returns c =
     let out = c.args.out.now.items in

@@ -10,6 +10,7 @@ use Rattle.jls_partial.specs.declared.version.Version.TheVariants.{Two}
 use Rattle.jls_partial.proofs.Growth.{kept_next}
 use Rattle.jls_partial.proofs.writing.put_readings.Goals as goal
 
+-- the text of one reading more is put
 pub loop-i-preserved : goal.loop-i-preserved
 loop-i-preserved c =
     let L = c.args.lines.now in
@@ -25,6 +26,7 @@ loop-i-preserved c =
     (sym (ap (flat_map g) (kept_next L i k.0 k.1 lt c.get.ensures.value c.sources.ensures) ∙ flat_map-cons g k left))
     ∙ c.loop-i.invariant
 
+-- the text of all readings is put
 pub returns : goal.returns
 returns c =
     let L = c.args.lines.now in

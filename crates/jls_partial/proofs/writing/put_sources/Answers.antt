@@ -3,6 +3,7 @@ use Rattle.std.specs.Int.{w32, w64, to_be_bytes}
 use Rattle.std.specs.List.{flat_map}
 use Rattle.jls_partial.proofs.writing.put_sources.Goals as goal
 
+-- the number of sources and the sources are put
 pub returns : goal.returns
 returns c =
     let out = c.args.out.now.items in

@@ -8,6 +8,7 @@ use Rattle.jls_partial.proofs.KeptEntries.{partial_again}
 use Rattle.jls_partial.proofs.SameEntries.{shapes_from_test}
 use Rattle.jls_partial.proofs.equality.PartialPartialEq.eq.Goals as goal
 
+-- the two are one exactly if their shapes and their entries are
 pub returns-clause-exactly : goal.returns-clause-exactly
 returns-clause-exactly c =
     let p = c.args.self.now in
@@ -19,6 +20,7 @@ returns-clause-exactly c =
       λ same. c.same_entries.ensures.1 (ap entries same),
     )
 
+-- the test of the two is that of equality
 pub returns-clause-test : goal.returns-clause-test
 returns-clause-test c =
     let p = c.args.self.now in

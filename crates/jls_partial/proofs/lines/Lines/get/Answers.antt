@@ -12,6 +12,7 @@ use Rattle.jls_partial.proofs.PackedLines.{inside_at, line_at}
 use Rattle.jls_partial.proofs.Views.{all-slice_get}
 use Rattle.jls_partial.proofs.lines.Lines.get.Goals as goal
 
+-- the line is one of the slots
 pub start-requires : goal.start-requires
 start-requires c =
     let packed = c.self.inside.packed.now in
@@ -31,6 +32,7 @@ read precision width packed slots i s x lt is e =
 itself : (slots : List Slot) (i : ℕ) → i < length slots → slot_at slots i ≡ get_or slots i (slot_at slots i)
 itself slots i lt = get_or_default slots i no_slot (slot_at slots i) lt
 
+-- the samples of a slot lie in the store
 pub samples_at-requires : goal.samples_at-requires
 samples_at-requires c =
     let packed = c.self.inside.packed.now in
@@ -43,6 +45,7 @@ samples_at-requires c =
     (inside_at packed.width packed.samples.items slots c.args.i (slot_at slots c.args.i) c.self.invariant.packed_lines.inside lt
     (itself slots c.args.i lt)))
 
+-- the samples of the slot are the line that has so many below it
 pub returns-clause-value : goal.returns-clause-value
 returns-clause-value c =
     let packed = c.self.inside.packed.now in
@@ -56,6 +59,7 @@ returns-clause-value c =
     (itself slots c.args.i lt)
     (c.samples_at.ensures ∙ (λ i. take packed.width (drop (c.start.ensures i) (c.deref.ensures.value i))))
 
+-- the line fits
 pub returns-clause-fitting : goal.returns-clause-fitting
 returns-clause-fitting c =
     let packed = c.self.inside.packed.now in

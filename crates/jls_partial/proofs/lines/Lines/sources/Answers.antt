@@ -11,6 +11,7 @@ use Rattle.jls_partial.proofs.LineSets.{lines_kept, length_kept, sources_lent}
 use Rattle.jls_partial.proofs.PackedLines.{line_at}
 use Rattle.jls_partial.proofs.lines.Lines.sources.Goals as goal
 
+-- the line is one of the slots
 pub sources-requires : goal.sources-requires
 sources-requires c =
     let many = length_kept c.self.inside.packed.now.precision c.self.inside.packed.now.width c.self.inside.packed.now.samples.items
@@ -18,6 +19,7 @@ sources-requires c =
     let below = c.requires in
     omega (arith, many, below)
 
+-- the sources of the slot are those of the line that has so many below it
 pub returns : goal.returns
 returns c =
     let w = c.self.inside.packed.now.width in

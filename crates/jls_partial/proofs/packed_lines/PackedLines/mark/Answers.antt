@@ -8,6 +8,7 @@ use Rattle.jls_partial.proofs.LineSets.{lines_kept, length_kept, marks_held}
 use Rattle.jls_partial.proofs.SourcedLines.{sourced_kept, sourced_seen, line_found, line_got}
 use Rattle.jls_partial.proofs.packed_lines.PackedLines.mark.Goals as goal
 
+-- the slots are a line set still
 pub returns-clause-slots : goal.returns-clause-slots
 returns-clause-slots c =
     let packed = c.args.self.now in
@@ -17,6 +18,7 @@ returns-clause-slots c =
     slots c.args.i (c.args.source ∷ []) c.requires.slots c.requires.within
     (line_found packed.width packed.samples.items slots c.args.i c.requires.within))
 
+-- the line has the source, and nothing else has changed
 pub returns-clause-ok : goal.returns-clause-ok
 returns-clause-ok c =
     let packed = c.args.self.now in

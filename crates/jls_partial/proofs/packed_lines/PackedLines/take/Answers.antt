@@ -30,6 +30,7 @@ found c =
     subst (λ (ps : List ℕ). get_or (lines_of c.args.self.now.width ps (slots_of c.args.slots.now)) c.in-Ok.at c.args.samples.now
     ≡ c.args.samples.now) c.deref.ensures.value c.in-Ok.ensures.same
 
+-- the line is held: the slots are a line set still
 pub returns-in_ok-add_sources-in-Ok-clause-slots : goal.returns-in_ok-add_sources-in-Ok-clause-slots
 returns-in_ok-add_sources-in-Ok-clause-slots c =
     let packed = c.args.self.now in
@@ -38,6 +39,7 @@ returns-in_ok-add_sources-in-Ok-clause-slots c =
     (sourced_kept packed.precision packed.width packed.samples.items c.args.samples.now (slots_of c.args.slots.now) c.in-Ok.at
     c.args.sources.now c.requires.slots c.in-Ok.ensures.found (found here))
 
+-- the line is held, and has the sources
 pub returns-in_ok-add_sources-in-Ok-clause-ok : goal.returns-in_ok-add_sources-in-Ok-clause-ok
 returns-in_ok-add_sources-in-Ok-clause-ok c =
     let packed = c.args.self.now in
@@ -46,6 +48,7 @@ returns-in_ok-add_sources-in-Ok-clause-ok c =
     ∙ sourced_seen packed.precision packed.width packed.samples.items c.args.samples.now (slots_of c.args.slots.now) c.in-Ok.at
     c.args.sources.now c.requires.slots c.in-Ok.ensures.found (found here)
 
+-- the line is held, so it is not new
 pub returns-in_ok-add_sources-in-Ok-clause-added : goal.returns-in_ok-add_sources-in-Ok-clause-added
 returns-in_ok-add_sources-in-Ok-clause-added c =
     let packed = c.args.self.now in
@@ -98,6 +101,7 @@ slots_are c =
     ∙ (λ i. record { start = c.in_ok-slot-in-Err.ensures.start i; sources = c.in_ok-slot-in-Err.slot.sources }) in
     c.in_ok-put-in-Err.ensures.slots_ok ∙ (λ i. insert (c.in_ok-new-in-Err.ensures.same i) c.in-Err.at (slot_is i))
 
+-- the line is new, and its slot is put in
 pub returns-in_ok-put-in-Err-clause-slots : goal.returns-in_ok-put-in-Err-clause-slots
 returns-in_ok-put-in-Err-clause-slots c =
     let here = goal.at.returns-in_ok-put-in-Err-clause-slots c in
@@ -110,6 +114,7 @@ returns-in_ok-put-in-Err-clause-slots c =
     (put_kept packed.precision packed.width packed.samples.items x (slots_of c.args.slots.now) c.in-Err.at c.requires.slots
     (gap here.In-Err) c.requires.fits (fitting_length packed.precision packed.width x c.requires.fits) c.in_ok-slot-in-Err.slot.sources))
 
+-- the line is new, and is taken with its sources
 pub returns-in_ok-put-in-Err-clause-ok : goal.returns-in_ok-put-in-Err-clause-ok
 returns-in_ok-put-in-Err-clause-ok c =
     let here = goal.at.returns-in_ok-put-in-Err-clause-ok c in

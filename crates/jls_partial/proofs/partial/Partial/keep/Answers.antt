@@ -19,6 +19,7 @@ fits_lines shape component line x e =
     let b = first_none (nat_le shape.height line) _ _ a.1 in
     b.1
 
+-- the reading fits, so its samples have no fault
 pub take-requires : goal.take-requires
 take-requires c =
     let shape = c.self.inside.shape in

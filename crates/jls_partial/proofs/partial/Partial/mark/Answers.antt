@@ -4,6 +4,7 @@ use Rattle.jls_partial.proofs.Marked.{marked_by_lines, completed}
 use Rattle.jls_partial.proofs.Unions.{place_exists}
 use Rattle.jls_partial.proofs.partial.Partial.mark.Goals as goal
 
+-- all readings have the source
 pub returns-clause-marked : goal.returns-clause-marked
 returns-clause-marked c =
     let p = c.args.self.now in

@@ -47,6 +47,7 @@ put c =
 pub invariant_of-self-2 : goal.invariant_of-self-2
 invariant_of-self-2 c = (put (goal.at.invariant_of-self-2 c).In_ok-mark).0
 
+-- the reading has the source, and nothing else has changed
 pub returns-clause-ok : goal.returns-clause-ok
 returns-clause-ok c =
     let here = (goal.at.returns-clause-ok c).In_ok-mark in

@@ -23,6 +23,7 @@ returns-in_err-head-clause-between c = λ p is.
     (text_between c.args.self.now c.args.self.now c.args.bytes.now
     (nothing_taken c.args.self.now c.args.self.now (text_prefix c.args.bytes.now) refl) p is)
 
+-- the text has another shape and a fault
 pub returns-in_err-read_after-clause-refused : goal.returns-in_err-read_after-clause-refused
 returns-in_err-read_after-clause-refused c =
     let p = err_from_is_err_and c.from_residual-in_err-read_after.result c.from_residual-in_err-read_after.ensures.1 in
@@ -36,6 +37,7 @@ returns-in_err-read_after-clause-between c = λ p is.
     (text_between c.args.self.now c.args.self.now c.args.bytes.now
     (nothing_taken c.args.self.now c.args.self.now (text_prefix c.args.bytes.now) refl) p is)
 
+-- the text has another shape
 pub returns-then-ne-clause-refused : goal.returns-then-ne-clause-refused
 returns-then-ne-clause-refused c =
     let head = c.in_ok-head.head in
@@ -49,6 +51,7 @@ returns-then-ne-clause-between c = λ p is.
     text_between c.args.self.now c.args.self.now c.args.bytes.now
     (nothing_taken c.args.self.now c.args.self.now (text_prefix c.args.bytes.now) refl) p is
 
+-- the text has a fault behind its head
 pub returns-in_err-read_rest-clause-refused : goal.returns-in_err-read_rest-clause-refused
 returns-in_err-read_rest-clause-refused c =
     let p = err_from_is_err_and c.from_residual-in_err-read_rest.result c.from_residual-in_err-read_rest.ensures.1 in
@@ -58,6 +61,7 @@ returns-in_err-read_rest-clause-refused c =
     rw (p.1, p.2) (fault_merged c.args.bytes.now (head.form.size, head.form.version, head.shape, head.count, head.rest.now)
     c.in_ok-head.ensures c.args.self.now one c.in_err-read_rest.field-0.0 c.in_err-read_rest.ensures.read)
 
+-- the text has a fault: the readings before it are taken
 pub returns-in_err-read_rest-clause-prefix : goal.returns-in_err-read_rest-clause-prefix
 returns-in_err-read_rest-clause-prefix c =
     let head = c.in_ok-head.head in
@@ -67,6 +71,7 @@ returns-in_err-read_rest-clause-prefix c =
     (prefix_merged c.args.bytes.now (head.form.size, head.form.version, head.shape, head.count, head.rest.now) c.in_ok-head.ensures
     c.args.self.now one c.read_rest.new.partial c.in_err-read_rest.ensures.prefix)
 
+-- memory ran out: what is held is between before and the union
 pub returns-in_err-read_rest-clause-between : goal.returns-in_err-read_rest-clause-between
 returns-in_err-read_rest-clause-between c = λ p is.
     let head = c.in_ok-head.head in
@@ -77,6 +82,7 @@ returns-in_err-read_rest-clause-between c = λ p is.
     (prefix_merged c.args.bytes.now (head.form.size, head.form.version, head.shape, head.count, head.rest.now) c.in_ok-head.ensures
     c.args.self.now one c.read_rest.new.partial c.in_err-read_rest.ensures.prefix) p is)
 
+-- all readings of the text are taken
 pub returns-clause-ok : goal.returns-clause-ok
 returns-clause-ok c =
     let head = c.in_ok-head.head in
@@ -85,6 +91,7 @@ returns-clause-ok c =
     merged c.args.bytes.now (head.form.size, head.form.version, head.shape, head.count, head.rest.now) c.in_ok-head.ensures c.args.self.now
     one c.read_rest.new.partial (λ i. omega (arith, c.type_inv.bytes i)) c.in_ok-read_rest.ensures.read
 
+-- the text has this shape, not another
 pub returns-in_err-read_rest-clause-other_head : goal.returns-in_err-read_rest-clause-other_head
 returns-in_err-read_rest-clause-other_head c = λ other.
     let head = c.in_ok-head.head in
@@ -93,6 +100,7 @@ returns-in_err-read_rest-clause-other_head c = λ other.
     absurd (no_other_head c.args.self.now c.args.bytes.now (head.form.size, head.form.version, head.shape, head.count, head.rest.now)
     c.in_ok-head.ensures one other)
 
+-- the text has this shape, not another
 pub returns-clause-other_head : goal.returns-clause-other_head
 returns-clause-other_head c = λ other.
     let head = c.in_ok-head.head in

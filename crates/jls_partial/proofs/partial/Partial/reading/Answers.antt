@@ -21,6 +21,7 @@ returns-clause-value c =
     (readings_stored c.self.invariant c.self.view_is (place c.args.component c.args.line))
     ∙ ap (λ (L : PictureLines). slice_get (set.items L.lines) c.args.i) (sym c.lines_at.ensures) ∙ c.get.ensures.value
 
+-- the reading fits the shape
 pub returns-clause-fitting : goal.returns-clause-fitting
 returns-clause-fitting c =
     let store = c.self.inside.store in

@@ -15,6 +15,7 @@ pub sources-requires : goal.sources-requires
 sources-requires c =
     rw c.lines_at.ensures (below_stored c.self.invariant c.self.view_is (place c.args.component c.args.line) c.args.i c.requires.i_in)
 
+-- the sources of the line in the store are those of the reading
 pub returns : goal.returns
 returns c =
     let at = place c.args.component c.args.line in

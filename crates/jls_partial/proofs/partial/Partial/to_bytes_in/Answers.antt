@@ -5,6 +5,7 @@ use Rattle.jls_partial.specs.Text.{head_text, entry_text, entries}
 use Rattle.jls_partial.specs.declared.version.Version.TheVariants.{Two}
 use Rattle.jls_partial.proofs.partial.Partial.to_bytes_in.Goals as goal
 
+-- the bytes are the text of the picture
 pub returns : goal.returns
 returns c =
     let p = c.args.self.now in
