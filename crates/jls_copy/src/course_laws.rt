@@ -19,8 +19,8 @@ pub fn pieces_stand_at_their_offsets()
 {}
 
 /// A law: where a copy ends at EOI, its end's offset is that of the byte 0xFF before the code. Where it ends with the input, it is the
-/// input's length. At a fault it is that of the last byte 0xFF before the marker's code, or of the byte that stands where a marker must.
-/// Where the input ends too early, it is the input's length.
+/// input's length. At a fault of a marker it is that of the last byte 0xFF before its code. Where no marker stands, it is that of the byte
+/// there. Where the input ends too early, it is the input's length.
 pub fn ends_stand_at_their_offsets()
     ensures { EndsStandAtTheirOffsets }
 {}

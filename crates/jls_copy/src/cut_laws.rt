@@ -2,13 +2,13 @@
 
 ghost use Rattle.jls_copy.specs.CutLaws.{OneCut, UnitsAreCut, NumbersAreLeast, LostMarksAreBridged, MarksBeyondChangeNothing};
 
-/// A law: every list of bytes that begins where scan data does is cut into pieces and marks in exactly one way (T.81 B.1.1.2, B.2.1).
+/// A law: bytes that begin where scan data does are cut into pieces and marks in exactly one way (T.81 B.1.1.2, B.2.1).
 pub fn scan_data_has_one_cut()
     ensures { OneCut }
 {}
 
-/// A law: the pieces and marks of a unit of a course are those of this cut of its scan data and what follows it. So the pieces of a
-/// course, of which `CopyReads` speaks, are the pieces that scan data is cut into.
+/// A law of a unit of a course. Its pieces and marks are those of this cut of its scan data and what follows. So the pieces of a course, of
+/// which `CopyReads` speaks, are the pieces that scan data is cut into.
 pub fn units_are_cut()
     ensures { UnitsAreCut }
 {}

@@ -40,8 +40,8 @@ fn uncut_len(bytes: &[u8]) -> usize
     }
 }
 
-/// How many bytes at the start can be fed to a piece at once: those before the first place of `next_cut`, but for a byte 0xFF that
-/// ends them, as the byte after it is not known yet. If there are none, the first byte is 0xFF.
+/// How many bytes at the start can be fed to a piece at once. They are those before the first place of `next_cut`. A byte 0xFF that ends
+/// them is left out, as the byte after it is not known yet. If there are none, the first byte is 0xFF.
 pub(crate) fn stretch_len(bytes: &[u8]) -> usize
     ensures within { result ≤ length bytes.now }
     ensures stretch { IsStretch (take result bytes.now) }

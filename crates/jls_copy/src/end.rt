@@ -9,7 +9,7 @@ pub enum End {
     Eoi(u64),
     /// With the input, in scan data or where a marker may begin: the input's length.
     Input(u64),
-    /// At a fault of the headers, with the fault's offset. It is that of the last byte 0xFF before the marker's code, or of the byte that
-    /// stands where a marker must. Where the input ends too early, it is the input's length.
+    /// At a fault of the headers, with the fault's offset. It is that of the last byte 0xFF before the marker's code. Where no marker
+    /// stands, it is that of the byte there. Where the input ends too early, it is the input's length.
     Header(MarkerFault, u64),
 }

@@ -6,6 +6,7 @@ ghost use Rattle.std.specs.List.{prefix_len};
 
 use std::simd::prelude::*;
 
+/// How many bytes are looked at at once.
 const LANES: usize = 16;
 
 /// How many of the sixteen bytes from `at` on come before the first 0xFF among them; sixteen where there is none.
@@ -23,7 +24,7 @@ fn count_before_ff(bytes: &[u8], at: usize) -> usize
     }
 }
 
-/// The same one by one, for the bytes after the last sixteen.
+/// The first place of a byte 0xFF, not before `from`, byte by byte: for the bytes after the last sixteen. The length where there is none.
 fn next_ff_one_by_one(bytes: &[u8], from: usize) -> usize
     requires { from ≤ length bytes.now }
     ensures within { (from ≤ result) × (result ≤ length bytes.now) }

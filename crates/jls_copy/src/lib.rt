@@ -1,5 +1,5 @@
-//! One copy of a picture as a JPEG-LS file, which may be damaged. The crate reads its segments, the pieces of its scan data between
-//! restart markers, and the lines that each piece gives (ITU-T T.87 with the marker syntax of ITU-T T.81).
+//! One copy of a picture as a JPEG-LS file, which may be damaged. The crate reads its segments, and the pieces of its scan data between
+//! restart markers. It reads the lines that each piece gives (ITU-T T.87 with the marker syntax of ITU-T T.81).
 //!
 //! - `machine`, `place`: take bytes at the current place in the copy. A segment that stands whole in the slice is taken at once
 //! - `cut_search`, `ff_search`: find the next place that can end a piece

@@ -32,7 +32,7 @@ pub(crate) struct Machine {
     pub(crate) findings: Findings,
 }
 
-/// Takes what the piece of a scan gives that is closed so. What stays of it was fed nothing.
+/// Takes what the piece in hand of a scan gives, which is closed so. The piece that stays was fed nothing.
 fn close(
     alloc: Global,
     headers: &Headers,
@@ -57,7 +57,7 @@ fn close(
     }
 }
 
-/// The same, of the piece that a marker closes.
+/// Takes what the piece in hand of a scan gives, which a marker closes.
 fn close_at_marker(
     alloc: Global,
     headers: &Headers,
@@ -111,7 +111,7 @@ impl Machine {
         })
     }
 
-    /// A byte before SOI.
+    /// Takes a byte before SOI.
     fn step_at_start(&mut self, fill: bool, byte: u8)
         requires { fill ≡ true → 1 ≤ self.old.count }
         ensures { self.new ≡ record self.old { place = state.from_start fill self.old.count byte } }
@@ -127,7 +127,7 @@ impl Machine {
         }
     }
 
-    /// A byte where a marker may begin.
+    /// Takes a byte where a marker may begin.
     fn step_at_marker(&mut self, fill: bool, has_frame: bool, byte: u8)
         requires { fill ≡ true → 1 ≤ self.old.count }
         ensures { self.new ≡ record self.old { place = state.from_marker fill has_frame self.old.count byte } }
@@ -154,7 +154,7 @@ impl Machine {
         }
     }
 
-    /// Takes the segment whose payload is whole. Its marker stands at this offset, and so many bytes stand before its last.
+    /// Takes the segment whose payload is whole. `marker` is the offset of its marker, and `before_last` that of its last byte.
     fn take_segment(&mut self, marker: u64, code: u8, before_last: u64)
         requires { before_last < 2 ^ 63 }
         ensures place { self.new.place ≡ (state.with_segment before_last self.old.headers self.old.payload.items marker code).place }
@@ -180,7 +180,7 @@ impl Machine {
         }
     }
 
-    /// Before SOI.
+    /// Takes the first of these bytes before SOI, or all fill among them, and says how many.
     fn take_at_start(&mut self, fill: bool, bytes: &[u8]) -> usize
         requires some { 0 < length bytes.now }
         requires following { fill ≡ true → 1 ≤ self.old.count }
@@ -198,7 +198,7 @@ impl Machine {
         1
     }
 
-    /// Where a marker may begin.
+    /// Takes the first of these bytes where a marker may begin, or all fill among them, or a whole segment, and says how many.
     fn take_at_marker(&mut self, fill: bool, bytes: &[u8]) -> Result<usize, AllocError>
         requires some { 0 < length bytes.now }
         requires few { self.old.count + length bytes.now < 2 ^ 63 }
@@ -225,7 +225,7 @@ impl Machine {
         Ok(1)
     }
 
-    /// The length of a segment is known.
+    /// Begins the payload of a segment whose length was read. One without a payload is taken.
     #[tactic(auto, using(crate::proofs::Kept::length_keeps))]
     fn length_known(&mut self, marker: u64, code: u8, size: u16)
         requires { self.old.count < 2 ^ 63 }
@@ -247,7 +247,7 @@ impl Machine {
         }
     }
 
-    /// In a payload.
+    /// Takes bytes of a payload, up to its end at most, and says how many. A segment that is whole then is taken.
     fn take_in_payload(
         &mut self,
         marker: u64,

@@ -13,7 +13,7 @@ pub fn bytes_decide_under()
     ensures { (profile : Profile) → BytesDecideUnder profile }
 {}
 
-/// A law, under each profile: bytes after a copy leave its course as it is, if that ends at EOI or at a fault other than `Ended`.
+/// A law, under each profile, of a course that ends at EOI or at a fault other than `Ended`. Bytes after the copy leave it as it is.
 pub fn final_ends_stay_under()
     ensures { (profile : Profile) → FinalEndsStayUnder profile }
 {}
@@ -28,8 +28,8 @@ pub fn records_are_of_faulty_pieces_under()
     ensures { (profile : Profile) → RecordsAreOfFaultyPiecesUnder profile }
 {}
 
-/// A law: under each profile, where the piece in hand is broken whatever follows, each list of bytes that begins so has a faulty
-/// piece there.
+/// A law, under each profile, of a piece in hand that is broken whatever follows. Each list of bytes that begins so has a faulty piece
+/// there.
 pub fn prefixes_stay_broken_under()
     ensures { (profile : Profile) → PrefixesStayBrokenUnder profile }
 {}
@@ -60,7 +60,7 @@ pub fn every_copy_has_a_course_under()
     ensures { (profile : Profile) → SomeCourseUnder profile }
 {}
 
-/// A law: under each profile, the bytes of each piece of a course stand in the copy, and as many bytes before them as its offset says.
+/// A law: under each profile, the bytes of each piece of a course stand in the copy, at the offset of the piece.
 pub fn pieces_stand_at_their_offsets_under()
     ensures { (profile : Profile) → PiecesStandAtTheirOffsetsUnder profile }
 {}

@@ -108,7 +108,7 @@ impl CopyRead {
     }
 }
 
-/// Reads one copy as its bytes come, in slices of any size, under the strict profile: a scan that is interleaved by sample ends the copy. A
+/// Reads one copy as its bytes come, in slices of any size, under the strict profile. A scan that is interleaved by sample ends the copy. A
 /// contract sees the bytes fed, or `None` after a refused `feed`.
 #[derive(Drop)]
 pub struct CopyReader {

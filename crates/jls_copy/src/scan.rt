@@ -24,7 +24,7 @@ pub(crate) enum Held {
     More,
 }
 
-/// What a byte of scan data does.
+/// What a byte of scan data does that stands after FF bytes.
 #[derive(Clone, Copy)]
 pub(crate) enum ByteClass {
     /// It may be fill.
@@ -61,12 +61,14 @@ pub(crate) struct OpenScan {
     pub(crate) piece: OpenPiece,
 }
 
+/// Whether the code is that of RST0 to RST7.
 fn is_restart_code(code: u8) -> bool
     ensures { result ≡ restart_code code }
 {
     code >= RST0 && code <= RST7
 }
 
+/// Whether a marker with this code ends scan data.
 fn ends_scan_data(code: u8) -> bool
     ensures { result ≡ end_code code }
 {
