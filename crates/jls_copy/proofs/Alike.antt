@@ -21,6 +21,7 @@ and_prefix : (b c d : Bool) → (c ≡ false → d ≡ false) → (b && c) ≡ f
 and_prefix true c d f e = f e
 and_prefix false c d f e = refl
 
+-- bytes that are not whole are not whole with more bytes
 unwhole_append : (before : ℕ) (xs ys : List ℕ) → is_whole_after before xs ≡ false → is_whole_after before (xs ++ ys) ≡ false
 unfolding is_whole_after
 unwhole_append before [] ys e = cc
@@ -32,6 +33,7 @@ unfolding is_whole_after ends_data
 two_break before [] ys = and_false (not (ends_data before 255))
 two_break before (x ∷ xs) ys = ap (λ t. not (ends_data before x) && t) (two_break x xs ys) ∙ and_false (not (ends_data before x))
 
+-- equal pieces stay the same with equal bytes after them
 same_equal : (fed piece : List ℕ) (n b : ℕ) → fed ≡ piece → (held : Held) → HeldIs held n
     → SameBytes (fed ++ (held_bytes held ++ b ∷ [])) (piece ++ (fill_bytes n ++ b ∷ []))
 same_equal fed piece n b e Nothing h = inl (rw (h, e) refl)
@@ -45,7 +47,7 @@ same_more fed piece held n b h (inl e) = same_equal fed piece n b e held h
 same_more fed piece held n b h (inr e) =
     inr (unwhole_append 0 fed (held_bytes held ++ b ∷ []) e.0, unwhole_append 0 piece (fill_bytes n ++ b ∷ []) e.1)
 
--- and so has the same outcome
+-- what was fed of a piece has the outcome of the piece
 pub same_outcome : (s : Scan) (k : ℕ) (fed piece : List ℕ) (o : PieceOutcome) → SameBytes fed piece → IsOutcomeAt s (Interval k) fed o
     → IsOutcomeAt s (Interval k) piece o
 same_outcome s k fed piece o (inl e) h = subst (λ bytes. IsOutcomeAt s (Interval k) bytes o) e h
@@ -57,7 +59,7 @@ same_outcome s k fed piece (Fault kind.Broken) (inr e) h = record {
 }
 same_outcome s k fed piece (Fault kind.Beyond) (inr e) h = h
 
--- and the same head
+-- what was fed of a piece has the head of the piece
 pub same_head : (s : Scan) (k : ℕ) (fed piece : List ℕ) (head : List (List ℕ)) → SameBytes fed piece → IsHeadAt s (Interval k) fed head
     → IsHeadAt s (Interval k) piece head
 same_head s k fed piece head (inl e) h = subst (λ bytes. IsHeadAt s (Interval k) bytes head) e h

@@ -20,6 +20,7 @@ both_are : (ps qs : List FoundPiece) → AllByRecursion IsByLine ps → AllByRec
 both_are [] qs h k = k
 both_are (p ∷ ps) qs h k = (h.0, both_are ps qs h.1 k)
 
+-- the pieces of a scan by line are by line
 pieces_are : (index : ℕ) (s : Scan) (last : ℕ) (number : PieceNumber) (at : ℕ) (closed : List ClosedPiece) (bytes : List ℕ)
     → s.by_sample ≡ false → AllByRecursion IsByLine (pieces_from (piece_begun index s number at) last closed bytes)
 pieces_are index s last number at [] bytes line = (line, tt)
@@ -27,6 +28,7 @@ pieces_are index s last number at (c ∷ closed) bytes line =
     let next = number_after (intervals s) last c.mark in
     (line, pieces_are index s (given_last last next) next (at + length (closed_bytes c)) closed bytes line)
 
+-- the pieces of units under strict headers are by line
 units_are : (h : HeaderState) (at : ℕ) (bytes : List ℕ) (us : List CopyUnit) (final : HeaderState) (e : End) (index begin : ℕ)
     → h.profile ≡ Strict → AreUnits h at bytes us final e → AllByRecursion IsByLine (pieces_in index begin us)
 units_are h at bytes [] final e index begin strict u = tt
@@ -40,6 +42,7 @@ units_are h at bytes (scan fill code payload plan closed last closing ∷ us) fi
     (index + 1) (begin + length (segment_unit_bytes fill code payload ++ scan_data_bytes closed last closing))
     (profiles_stay h after code payload (Some plan) unit.1 ∙ strict) more)
 
+-- the law: no piece of a strict course is of a scan by sample
 pub strict_pieces_are_by_line : StrictPiecesAreByLine
 strict_pieces_are_by_line _ _ (with_soi n bytes units final e h) = units_are no_headers (n + 2) bytes units final e 0 (n + 2) refl h
 strict_pieces_are_by_line _ _ (with_another_marker n code bytes p q) = tt

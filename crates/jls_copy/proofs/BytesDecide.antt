@@ -37,6 +37,7 @@ module _ (s : Scan) (ok : IsScan s) (k : ℕ) (bytes : List ℕ) where
   not_long : (a : List (List ℕ)) → Reads (interval_of s k) bytes a → IsLong (interval_of s k) bytes → ⊥
   not_long a h l = read_not_long (interval_of s k) ok.params (let w = ok.width_at_least in omega arith) bytes a h l
 
+  -- two outcomes of the same bytes, as a piece of one interval, are one
   within : (o p : PieceOutcome) → IsOutcomeAt s (Interval k) bytes o → IsOutcomeAt s (Interval k) bytes p → o ≡ p
   within (Lines a) (Lines b) h r = ap Lines (one_list a b h r)
   within (Lines a) (Fault kind.Long) h r = absurd (not_long a h r)
@@ -52,6 +53,7 @@ module _ (s : Scan) (ok : IsScan s) (k : ℕ) (bytes : List ℕ) where
   within (Fault kind.Broken) (Fault kind.Beyond) h r = absurd r
   within (Fault kind.Beyond) p h r = absurd h
 
+  -- two outcomes of a piece beyond the last interval are one
   beyond : (o p : PieceOutcome) → IsOutcomeAt s (BeyondLast k) bytes o → IsOutcomeAt s (BeyondLast k) bytes p → o ≡ p
   beyond (Lines a) p h r = absurd h
   beyond (Fault kind.Long) p h r = absurd h
@@ -66,6 +68,7 @@ pub one_outcome : (s : Scan) (n : PieceNumber) (bytes : List ℕ) (o p : PieceOu
 one_outcome s (Interval k) bytes o p ok h r = within s ok k bytes o p h r
 one_outcome s (BeyondLast k) bytes o p ok h r = beyond s ok k bytes o p h r
 
+-- two lists of outcomes of the same pieces are one
 pub one_outcomes : (ps : List FoundPiece) (os qs : List PieceOutcome) → AllByRecursion HasScan ps → AreOutcomes ps os → AreOutcomes ps qs
     → os ≡ qs
 one_outcomes [] [] [] ok h r = refl
@@ -116,6 +119,7 @@ abbrev given : Course → PictureShape → List PieceOutcome → List (List ℕ)
 given c shape os head =
     without_sources shape (set.insert_all set.empty (readings (pieces c) os ++ head_readings (cut_pieces c) head))
 
+-- what is read of the same bytes is the same
 one_reading : (profile : Profile) (bytes : List ℕ) → AllByRecursion (λ b. b < 256) bytes → (r s : ReadCopy)
     → CopyReadsUnder profile bytes r → CopyReadsUnder profile bytes s → r ≡ s
 one_reading profile bytes low r s k l =
@@ -139,6 +143,7 @@ fault_is f g m n e = (cc, cc)
 none_is_some : (o : Option PictureShape) (shape : PictureShape) → o ≡ None → o ≡ Some shape → ⊥
 none_is_some o shape e f = cc
 
+-- the law: what is read of the same bytes is the same, or they give no picture for the same reason
 pub bytes_decide_under : (profile : Profile) → BytesDecideUnder profile
 bytes_decide_under profile bytes low = record {
   one_reading = one_reading profile bytes low;

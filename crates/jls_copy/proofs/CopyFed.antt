@@ -34,6 +34,7 @@ use Rattle.jls_copy.proofs.CourseFed.{course_fed}
 use Rattle.jls_partial.specs.Partial.{without_sources}
 use Rattle.jls_marker.specs.declared.profile.Profile.{Profile}
 
+-- what was fed of a piece has the outcome of the piece
 outcome_at : (s : Scan) (n : PieceNumber) (x w : List ℕ) (o : PieceOutcome) → FedAs n x w → IsOutcomeAt s n x o → IsOutcomeAt s n w o
 outcome_at s (Interval k) x w o t h = same_outcome s k x w o t h
 outcome_at s (BeyondLast k) x w (Lines lines) t h = h
@@ -53,6 +54,7 @@ records_alike : (p q : FoundPiece) (o : PieceOutcome) → AlikePiece p q → rec
 records_alike p q (Lines lines) a = refl
 records_alike p q (Fault f) a = rw (a.scan_is, a.number_is, a.offset_is) refl
 
+-- pieces that are alike have the same outcomes, readings and records
 all_alike : (ps qs : List FoundPiece) (os : List PieceOutcome) → AlikePieces ps qs → AreOutcomes ps os
     → AreOutcomes qs os × (readings ps os ≡ readings qs os) × (records ps os ≡ records qs os)
 all_alike [] [] os a h = (h, refl, refl)
@@ -71,6 +73,7 @@ head_at : (s : Scan) (n : PieceNumber) (x w : List ℕ) (head : List (List ℕ))
 head_at s (Interval k) x w head t h = same_head s k x w head t h
 head_at s (BeyondLast k) x w head t h = h
 
+-- pieces that are alike have the same head
 head_alike : (ps qs : List FoundPiece) (head : List (List ℕ)) → AlikePieces ps qs → IsHeadOfCut ps head → IsHeadOfCut qs head
 head_alike [] [] head a h = h
 head_alike [] (q ∷ qs) head a h = absurd a
@@ -79,12 +82,14 @@ head_alike (p ∷ ps) (q ∷ qs) head a h =
     let now : IsHeadAt q.plan q.number p.bytes head = rw (a.0.plan_is, a.0.number_is) at h in
     head_at q.plan q.number p.bytes q.bytes head a.0.fed_as now
 
+-- pieces that are alike give the same readings of a head
 head_readings_alike : (ps qs : List FoundPiece) (head : List (List ℕ)) → AlikePieces ps qs → head_readings ps head ≡ head_readings qs head
 head_readings_alike [] [] head a = refl
 head_readings_alike [] (q ∷ qs) head a = absurd a
 head_readings_alike (p ∷ ps) [] head a = absurd a
 head_readings_alike (p ∷ ps) (q ∷ qs) head a = readings_alike p q (Lines head) a.0
 
+-- what a machine at its end holds is what the course of all bytes fed gives
 pub conclusion_fed : (profile : Profile) → ConclusionFed profile
 conclusion_fed profile bytes low read k =
     let fed = course_fed profile bytes low in
@@ -108,6 +113,7 @@ conclusion_fed profile bytes low read k =
       ended_is = k.ended_is ∙ sym fed.3;
     }
 
+-- a reader that says that the bytes give no picture says what their course does
 pub none_fed : (profile : Profile) (bytes : List ℕ) → AllByRecursion (λ b. b < 256) bytes → (f : CopyFault)
     → SaysNone (reading profile bytes) f
     → CopyGivesNoneUnder profile bytes f
@@ -115,6 +121,7 @@ none_fed profile bytes low OutOfMemory k = tt
 none_fed profile bytes low (NoPicture f offset) k = let fed = course_fed profile bytes low in
     (fed.0, fed.1, ap (λ h. h.frame) fed.2 ∙ k.0, k.1 ∙ ap no_picture (sym fed.3))
 
+-- what ends the units at a marker is a final end
 stops_final : (h : HeaderState) (at : ℕ) (x : List ℕ) (e : End) → EndsHere h at x e → is_final_end e ≡ true
 stops_final _ _ _ _ (at_eoi h at n more p) = refl
 stops_final _ _ _ _ (at_eoi_before_a_frame h at n more p) = refl
@@ -123,12 +130,14 @@ stops_final _ _ _ _ (at_unknown_code h at n code more p q r) = refl
 stops_final _ _ _ _ (at_short_length h at n code a b more p q) = refl
 stops_final _ _ _ _ (at_refused_segment h at n code payload more f p r) = fault_is_final h code payload f _ r
 
+-- an end that a place tells is final
 ended_final : (profile : Profile) (e : End) (h : HeaderState) (ps : List FoundPiece) (x : List ℕ) → EndedAt profile e h ps x
     → is_final_end e ≡ true
 ended_final profile _ _ _ _ (ended before h us ps following tail x e p w f s) = stops_final h (length before) tail e s
 ended_final profile _ _ _ _ (without_soi n code more x p q w) = refl
 ended_final profile _ _ _ _ (without_ff b more x p w) = refl
 
+-- a place is final exactly where the end that it tells is
 place_final : (profile : Profile) (p : CopyPosition) (h : HeaderState) (payload : List ℕ) (ps : List FoundPiece) (x : List ℕ) (count : ℕ)
     → Tells profile p h payload ps x
     → is_final p ≡ is_final_end (end_at p count)
@@ -141,6 +150,7 @@ place_final profile (InPayload marker code size) h payload ps x count t = refl
 place_final profile (InScan scan) h payload ps x count t = refl
 place_final profile (Done e) h payload ps x count t = sym (ended_final profile e h ps x t)
 
+-- whether a reader is done is what the course of the bytes so far says
 pub done_fed : (profile : Profile) (bytes : List ℕ) → AllByRecursion (λ b. b < 256) bytes → (p : CopyPosition)
     → p ≡ (reading profile bytes).state.place → (done : Bool)
     → done ≡ is_final p → IsDoneUnder profile bytes done

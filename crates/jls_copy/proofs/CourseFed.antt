@@ -59,6 +59,7 @@ pub some_pieces : (index : ℕ) (s : Scan) (last : ℕ) (number : PieceNumber) (
 some_pieces index s last number at [] bytes = (_, [], refl)
 some_pieces index s last number at (c ∷ closed) bytes = (_, _, refl)
 
+-- units whose last scan data the input closes have a piece
 cut_has_pieces : (index at : ℕ) (us : List CopyUnit) → closed_by_input us ≡ true
     → (q : FoundPiece) × (qs : List FoundPiece) × (pieces_in index at us ≡ q ∷ qs)
 cut_has_pieces index at [] e = absurd cc
@@ -136,6 +137,7 @@ passed_course profile _ _ _ _ _ (passed_scan x h us ps following p n code payloa
     (subst (AlikePieces cut) (sym (cut_after h.scans (length x) unit vs refl)) (rw (size, scans) at alike_cut))
     (is ∙ rw w (append_assoc x (unit_bytes unit) rest)))
 
+-- what a place tells of the bytes so far gives their course as a whole copy
 fed : (profile : Profile) (p : CopyPosition) (h : HeaderState) (payload : List ℕ) (ps : List FoundPiece) (x : List ℕ)
     → Tells profile p h payload ps x
     → CourseIs profile x (end_at p (length x)) h (ps ++ closed_at_end p) (closed_at_end p)
@@ -203,6 +205,7 @@ fed profile (Done e) h payload ps x d = rw append-nil (by e h ps x d)
     by _ _ _ _ (without_soi n code more x p q w) = rw w (_, with_another_marker n code more p q, refl, refl, tt, tt)
     by _ _ _ _ (without_ff b more x p w) = rw w (_, with_no_marker b more p, refl, refl, tt, tt)
 
+-- where a reader stands after some bytes tells their course
 pub course_fed : (profile : Profile) → CourseFed profile
 course_fed profile bytes low =
     rw (reading_counts profile bytes) (fed profile (reading profile bytes).state.place (reading profile bytes).state.headers

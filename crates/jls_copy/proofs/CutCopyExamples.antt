@@ -45,6 +45,7 @@ units = segment 0 0xF7 (0x08 ∷ 0x00 ∷ 0x02 ∷ 0x00 ∷ 0x01 ∷ 0x01 ∷ 0x
 abbrev pub course : Course
 course = record { begin = 3; units = units; headers = final; end = Input 28 }
 
+-- the course of the cut copy
 pub is_course : IsCourse copy course
 unfolding headers_after index_of has_segment
 is_course =

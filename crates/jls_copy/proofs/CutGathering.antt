@@ -33,6 +33,7 @@ record CutGathers (frame : Option PictureShape) (ps qs : List FoundPiece) (f : F
   records_are : f.records.items ≡ take 4096 (records (ps ++ qs) outcomes)
   count_is : f.record_count ≡ length (records (ps ++ qs) outcomes)
 
+-- what was gathered of the pieces before, with what the last one adds at the input's end, is gathered of all
 cut_gathers : (frame : Option PictureShape) (ps qs : List FoundPiece) (old new : Findings) → Gathers frame ps old → AddsCut frame qs old new
     → CutGathers frame ps qs new
 cut_gathers frame ps [] old new g e =

@@ -51,6 +51,7 @@ head_lines i bytes head (inr (none, e)) =
     (0, omega arith, subst (AreLines i.params i.width 0) (sym e) (record { count_is = refl; each = tt }))
 
 module _ (shape : PictureShape) (index : ℕ) (s : Scan) (offset k : ℕ) (old new : Findings) where
+  -- a piece beyond the last interval, which the input's end closes, adds its record alone
   pub beyond_adds : (piece : OpenPiece) → piece ≡ Beyond k → new.partial ≡ old.partial
       → new.records.items ≡ kept_with old.records.items (record { scan = index; interval = k; offset = offset; kind = kind.Beyond } ∷ [])
       → new.record_count ≡ old.record_count + 1
@@ -97,18 +98,21 @@ module _ (s : Scan) (k : ℕ) (d : PieceBytes) (piece : OpenPiece) (is : piece �
       → fault ≡ piece_fault.OutOfMemory → ⊥
   not_memory head fault h e = said (Head head piece_fault.OutOfMemory) (subst (λ f. CutFinishes d (Head head f)) e h)
 
+  -- the head that a decoder answers is the head of the piece
   its_head : (head : List (List ℕ)) (fault : PieceFault) → CutFinishes d (Head head fault)
       → IsHeadOfPiece (interval_of s k) fed_bytes head
   its_head head piece_fault.Long h = (said (Head head piece_fault.Long) h).1
   its_head head piece_fault.Broken h = (said (Head head piece_fault.Broken) h).1
   its_head head piece_fault.OutOfMemory h = absurd (said (Head head piece_fault.OutOfMemory) h)
 
+  -- the fault that a decoder answers is the outcome of the piece
   its_fault : (head : List (List ℕ)) (fault : PieceFault) (f : PieceKind) → CutFinishes d (Head head fault) → IsKindOf fault f
       → IsOutcomeAt s (Interval k) fed_bytes (Fault f)
   its_fault head piece_fault.Long f h e = rw e ((said (Head head piece_fault.Long) h).0)
   its_fault head piece_fault.Broken f h e = rw e ((said (Head head piece_fault.Broken) h).0)
   its_fault head piece_fault.OutOfMemory f h e = absurd e
 
+  -- the head that a decoder answers is lines of the interval, no more than that has
   pub cut_lines : (head : List (List ℕ)) (fault : PieceFault) → CutFinishes d (Head head fault)
       → (n : ℕ) × (n ≤ count) × AreLines s.params s.width n head
   cut_lines head fault h = head_lines (interval_of s k) fed_bytes head (its_head head fault h)

@@ -15,6 +15,7 @@ last_short [] = omega arith
 last_short (p ∷ []) = omega arith
 last_short (p ∷ q ∷ ps) = last_short (q ∷ ps)
 
+-- the input's end cuts off one piece at most
 pub cut_short : (c : Course) → length (cut_pieces c) ≤ 1
 cut_short c = by (closed_by_input c.units)
   where

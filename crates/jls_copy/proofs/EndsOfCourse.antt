@@ -31,6 +31,7 @@ either X (x ∷ xs) ys q m f g =
       | inr later ↦ either X xs ys q later (λ n. f (in_rest q x xs n)) g
     ]
 
+-- what holds of all pieces holds of one of them
 of_all : (P : FoundPiece → Type 0) (xs : List FoundPiece) (q : FoundPiece) → AllByRecursion P xs → Contains xs q → P q
 of_all P [] q h m = absurd (none_in q m)
 of_all P (x ∷ xs) q h m =
@@ -41,6 +42,7 @@ of_all P (x ∷ xs) q h m =
 
 -- Ends -------------------------------------------------------------------------------------------------------------
 
+-- what ends the units stands where they end, or after it
 stops_after : (h : HeaderState) (at : ℕ) (bytes : List ℕ) (e : End) → EndsHere h at bytes e → at ≤ offset_of_end e
 stops_after _ _ _ _ (at_eoi h at n more p) = omega arith
 stops_after _ _ _ _ (at_eoi_before_a_frame h at n more p) = omega arith
@@ -54,6 +56,7 @@ ends_here _ _ _ _ (for_good h at bytes e s) = stops_after h at bytes e s
 ends_here _ _ _ _ (with_the_input h at) = omega arith
 ends_here _ _ _ _ (in_a_unit h at bytes p) = omega arith
 
+-- some units end before the end of the copy, or there
 units_end : (h : HeaderState) (at : ℕ) (bytes : List ℕ) (us : List CopyUnit) (final : HeaderState) (e : End)
     → AreUnits h at bytes us final e
     → at ≤ offset_of_end e
@@ -61,6 +64,7 @@ units_end h at bytes [] final e u = ends_here h at bytes e u.1
 units_end h at bytes (u ∷ us) final e (after, rest, whole, unit, more) =
     let l = units_end after (at + length (unit_bytes u)) rest us final e more in omega (arith, l)
 
+-- no piece of scan data begins after the last one, which is behind all closed ones
 pieces_within : (index : ℕ) (s : Scan) (last : ℕ) (number : PieceNumber) (at : ℕ) (closed : List ClosedPiece) (bytes : List ℕ)
     (q : FoundPiece)
     → Contains (pieces_from (piece_begun index s number at) last closed bytes) q → q.offset ≤ at + length (flat_map closed_bytes closed)
@@ -78,6 +82,7 @@ pieces_within index s last number at (c ∷ closed) bytes q m =
           (closed_bytes c)) closed bytes q later in omega (arith, l, size))
     ]
 
+-- each piece of some units begins before the end of the copy, or there
 units_before_end : (h : HeaderState) (at : ℕ) (bytes : List ℕ) (us : List CopyUnit) (final : HeaderState) (e : End) (index : ℕ)
     (q : FoundPiece)
     → AreUnits h at bytes us final e → Contains (pieces_in index at us) q → q.offset ≤ offset_of_end e
@@ -96,6 +101,7 @@ units_before_end h at bytes (scan fill code payload plan closed last closing ∷
     (λ later. units_before_end after (at + length (unit_bytes (scan fill code payload plan closed last closing))) rest us final e
     (index + 1) q more later)
 
+-- each piece of a course begins before its end, or there
 before_end : (profile : Profile) (copy : List ℕ) (c : Course) → IsCourseUnder profile copy c → (q : FoundPiece) → Contains (pieces c) q
     → q.offset ≤ offset_of_end c.end
 before_end profile _ _ (with_soi n bytes units final e h) q m =
@@ -115,6 +121,7 @@ ends_after profile copy c is q m =
 
 -- Frames -----------------------------------------------------------------------------------------------------------
 
+-- a frame stays through the units after it
 units_keep : (h : HeaderState) (at : ℕ) (bytes : List ℕ) (us : List CopyUnit) (final : HeaderState) (e : End) (shape : PictureShape)
     → AreUnits h at bytes us final e → h.frame ≡ Some shape → final.frame ≡ Some shape
 units_keep h at bytes [] final e shape u f = ap (λ (x : HeaderState). x.frame) u.0 ∙ f
@@ -125,6 +132,7 @@ units_keep h at bytes (scan fill code payload plan closed last closing ∷ us) f
     units_keep after (at + length (unit_bytes (scan fill code payload plan closed last closing))) rest us final e shape more
     (frame_stays h after code payload (Some plan) shape unit.1 f)
 
+-- units with a piece leave a frame
 framed_units : (h : HeaderState) (at : ℕ) (bytes : List ℕ) (us : List CopyUnit) (final : HeaderState) (e : End) (index : ℕ) (q : FoundPiece)
     → AreUnits h at bytes us final e → Contains (pieces_in index at us) q → (shape : PictureShape) × (final.frame ≡ Some shape)
 framed_units h at bytes [] final e index q u m = absurd (none_in q m)
@@ -134,6 +142,7 @@ framed_units h at bytes (scan fill code payload plan closed last closing ∷ us)
     let f = scan_is_of_frame h after code payload plan unit.1 in
     (f.0, units_keep after (at + length (unit_bytes (scan fill code payload plan closed last closing))) rest us final e f.0 more f.1)
 
+-- a course with a piece has a frame
 pub framed_by_piece : (profile : Profile) (copy : List ℕ) (c : Course) → IsCourseUnder profile copy c → (q : FoundPiece)
     → Contains (pieces c) q
     → (shape : PictureShape) × (c.headers.frame ≡ Some shape)

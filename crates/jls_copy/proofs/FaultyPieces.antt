@@ -32,6 +32,7 @@ pub closed_stay : (r : StateWithPieces) (bytes : List ℕ) (p : FoundPiece) → 
 closed_stay r [] p h = h
 closed_stay r (b ∷ bytes) p h = closed_stay (reading_with r b) bytes p (Contains-append_left r.pieces (closed_at r.state.place b) p h)
 
+-- a copy that begins with bytes of which a closed piece is faulty has a faulty piece
 pub stays_faulty : (profile : Profile) (prefix : List ℕ) → SomeFault (reading profile prefix).pieces → StaysFaultyUnder profile prefix
 stays_faulty profile prefix (p, among, kind, fault) more low c is =
     let later : Contains (reading profile (prefix ++ more)).pieces p =

@@ -23,6 +23,7 @@ some_segment n code payload more =
     let e = length-append (segment_unit_bytes n code payload) more in
     let s = some_after (fill_bytes n) 255 (code ∷ (length payload + 2) / 256 ∷ (length payload + 2) % 256 ∷ payload) in omega arith
 
+-- what ends the units at a marker is not empty
 stops_some : (h : HeaderState) (at : ℕ) (x : List ℕ) (e : End) → EndsHere h at x e → 0 < length x
 stops_some _ _ _ _ (at_eoi h at n after p) = some_after (fill_bytes n) 255 (217 ∷ after)
 stops_some _ _ _ _ (at_eoi_before_a_frame h at n after p) = some_after (fill_bytes n) 255 (217 ∷ after)
@@ -55,6 +56,7 @@ record Stays (P : List ℕ → Type 0) (x more : List ℕ) : Type 0 where
   some : 0 < length x
   there : P (x ++ more)
 
+-- a final end stays with more bytes after it
 ends_stay : (h : HeaderState) (at : ℕ) (x more : List ℕ) (e : End) → is_final_end e ≡ true → Ends h at x e
     → Stays (λ y. Ends h at y e) x more
 ends_stay _ _ _ more _ final (for_good h at x e s) =
@@ -62,6 +64,7 @@ ends_stay _ _ _ more _ final (for_good h at x e s) =
 ends_stay _ _ _ more _ final (with_the_input h at) = absurd cc
 ends_stay _ _ _ more _ final (in_a_unit h at x p) = absurd cc
 
+-- what closes the last piece does so with more bytes after it
 closing_stays : (closing : LastClosed) (rest more : List ℕ) → 0 < length rest → IsClosing closing rest → IsClosing closing (rest ++ more)
 closing_stays (by_input n) rest more some e = absurd (let l = ap length e in omega arith)
 closing_stays by_marker rest more some b = record {
@@ -72,12 +75,14 @@ closing_stays by_marker rest more some b = record {
   ends = b.ends;
 }
 
+-- a unit stays one with more bytes after what follows it
 unit_stays : (before : HeaderState) (u : CopyUnit) (after : HeaderState) (rest more : List ℕ) → 0 < length rest → IsUnit before u after rest
     → IsUnit before u after (rest ++ more)
 unit_stays before (segment fill code payload) after rest more some u = u
 unit_stays before (scan fill code payload plan closed last closing) after rest more some (known, taken, each, piece, following) =
     (known, taken, each, piece, closing_stays closing rest more some following)
 
+-- the units before a final end are those of the copy with more bytes after it too
 units_stay : (h : HeaderState) (at : ℕ) (x : List ℕ) (us : List CopyUnit) (final : HeaderState) (e : End) (more : List ℕ)
     → is_final_end e ≡ true
     → AreUnits h at x us final e → Stays (λ y. AreUnits h at y us final e) x more
@@ -95,6 +100,7 @@ units_stay h at x (u ∷ us) final e more is (after, rest, whole, unit, next) =
       );
     }
 
+-- the course of a copy with a final end is that of the copy with more bytes after it too
 pub final_ends_stay : {profile : Profile} (prefix more : List ℕ) (c : Course) → IsCourseUnder profile prefix c
     → is_final_end c.end ≡ true → IsCourseUnder profile (prefix ++ more) c
 final_ends_stay {profile} _ more _ (with_soi n bytes units l e h) final =

@@ -26,6 +26,7 @@ none_large bound [] each = refl
 none_large bound (x ∷ line) each =
     let here : nat_le bound x ≡ false = grind (arith, nat_tests, each.0) in rw here (none_large bound line each.1)
 
+-- a line of the shape, at a place of it, fits the picture
 pub fault_none : (shape : PictureShape) (component line : ℕ) (samples : List ℕ) → component < length shape.ids → line < shape.height
     → IsLineOfShape shape samples
     → reading_fault shape component line samples ≡ None
@@ -35,12 +36,14 @@ fault_none shape component line samples c l s =
     let wide : (length samples == shape.width) ≡ true = grind (arith, nat_tests, s.0) in
     rw (known, there, wide, none_large (2 ^ shape.precision) samples s.1) refl
 
+-- a component of a scan is one of the picture
 component_in : (bound place : ℕ) (components : List ℕ) → AllByRecursion (λ c. c < bound) components → place < length components
     → get_or components place 0 < bound
 component_in bound place [] each h = absurd (omega arith)
 component_in bound zero (c ∷ components) each h = each.0
 component_in bound (suc place) (c ∷ components) each h = component_in bound place components each.1 (omega (arith, h))
 
+-- a line that is counted among all lines of the components is in a row of the picture
 row_in : (row height c place : ℕ) → row * c + place + 1 ≤ height * c → row < height
 row_in row height c place h = elim (cases_lt row height) [
   | inl below ↦ below
@@ -57,6 +60,7 @@ module _ (shape : PictureShape) (components : List ℕ) (row place : ℕ) (line 
   takes_here = fault_none shape (get_or components place 0) row line
       (component_in (length shape.ids) place components fit.components_in fit.place_in) row_here fit.each.0
 
+  -- lines after the next component's fit from there on
   pub fit_beside : place + 1 < length components → FitFrom shape components row (place + 1) lines
   fit_beside h = record {
     height_below = fit.height_below;
@@ -67,6 +71,7 @@ module _ (shape : PictureShape) (components : List ℕ) (row place : ℕ) (line 
     each = fit.each.1;
   }
 
+  -- lines after the last component's fit from the next row on
   pub fit_below : place + 1 ≡ length components → FitFrom shape components (row + 1) 0 lines
   fit_below h = record {
     height_below = fit.height_below;
@@ -78,6 +83,7 @@ module _ (shape : PictureShape) (components : List ℕ) (row place : ℕ) (line 
     each = fit.each.1;
   }
 
+-- lines of a scan fit the picture whose width and precision the scan has
 line_fits : (shape : PictureShape) (p : CodingParameters) (width : ℕ) (lines : List (List ℕ)) → AreCodingParameters p
     → p.precision ≡ shape.precision → width ≡ shape.width
     → AllByRecursion (IsLine p width) lines → AllByRecursion (IsLineOfShape shape) lines
@@ -93,6 +99,7 @@ line_fits shape p width (line ∷ lines) ok same wide each =
     samples [] all = tt
     samples (x ∷ line) all = (omega (arith, all.0, top), samples line all.1)
 
+-- the rows of an interval are rows of the picture
 rows_in : (s : Scan) (k : ℕ) → first_row s k < s.height → first_row s k + row_count s k ≤ s.height
 rows_in s k first = elim (cases_eq s.restart_interval 0) [
   | inl none ↦ (let test : (s.restart_interval == 0) ≡ true = grind (arith, nat_tests, none) in rw (test, none) (omega arith))

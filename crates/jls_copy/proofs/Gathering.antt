@@ -37,6 +37,7 @@ use Rattle.jls_copy.specs.declared.place.CopyPosition.TheVariants.{Start, AtMark
 use Rattle.jls_copy.proofs.Kept.{after_some}
 use Rattle.jls_marker.specs.declared.profile.Profile.{Profile}
 
+-- the outcomes of pieces and one more
 pub are_more : (ps : List FoundPiece) (os : List PieceOutcome) (p : FoundPiece) (o : PieceOutcome) → AreOutcomes ps os → IsOutcome p o
     → AreOutcomes (ps ++ p ∷ []) (os ++ o ∷ [])
 are_more [] [] p o h i = (i, tt)
@@ -149,6 +150,7 @@ gathers_frame before now ps f stays g = record {
     none None st h e = h.unframed refl
     none (Some t) st h e = absurd (none_some t (sym e ∙ st t refl))
 
+-- a segment that is taken leaves the frame
 taken_frame : (count : ℕ) (h : HeaderState) (payload : List ℕ) (marker code : ℕ) (s : PictureShape) → h.frame ≡ Some s
     → (r : Result (HeaderState × Option Scan) MarkerFault) → headers_after h code payload ≡ r
     → (segment_taken count h payload marker r).headers.frame ≡ Some s
@@ -160,6 +162,7 @@ cond_frame : (b : Bool) (x y : Step) (s : PictureShape) → x.headers.frame ≡ 
 cond_frame true x y s p q = p
 cond_frame false x y s p q = q
 
+-- a byte leaves the frame as it is, once there is one
 frame_stays : (p : CopyPosition) (count : ℕ) (h : HeaderState) (payload : List ℕ) (b : ℕ) (s : PictureShape) → h.frame ≡ Some s
     → (step_from p count h payload b).headers.frame ≡ Some s
 frame_stays (Start fill) count h payload b s f = f
@@ -179,6 +182,7 @@ one_at_most : (p : FoundPiece) (o : PieceOutcome) → length (records_of p o) �
 one_at_most p (Lines lines) = omega arith
 one_at_most p (Fault f) = omega arith
 
+-- a piece adds one record at most
 adds_one : (frame : Option PictureShape) (qs : List FoundPiece) (old new : Findings) → Adds frame qs old new
     → new.record_count ≤ old.record_count + 1
 adds_one frame [] old new e = rw e (omega arith)
@@ -204,6 +208,7 @@ pub if_err : {A B : Type 0} {P Q : B → Type 0} (r : Result A B) → ((x : B) �
 if_err (Ok x) f p = tt
 if_err (Err e) f p = f e p
 
+-- a machine without a frame says that the bytes give no picture, and why
 pub saying_none : (profile : Profile) (m n : Machine) (bytes : List ℕ) (e : End) (f : CopyFault) → IsReadingCopy profile m bytes
     → e ≡ end_at m.place m.count
     → n.headers ≡ m.headers
@@ -230,6 +235,7 @@ from_append : (r : StateWithPieces) (xs ys : List ℕ) → reading_from r (xs ++
 from_append r [] ys = refl
 from_append r (x ∷ xs) ys = from_append (reading_with r x) xs ys
 
+-- bytes and more bytes are bytes
 low_all : (xs ys : List ℕ) → AllByRecursion (λ x. x < 256) xs → AllByRecursion (λ x. x < 256) ys → AllByRecursion (λ x. x < 256) (xs ++ ys)
 low_all [] ys h l = l
 low_all (x ∷ xs) ys h l = (h.0, low_all xs ys h.1 l)
@@ -238,6 +244,7 @@ low_all (x ∷ xs) ys h l = (h.0, low_all xs ys h.1 l)
 abbrev counted : ReaderState → List FoundPiece → ℕ → StateWithPieces
 counted s ps k = record { state = record s { count = k }; pieces = ps }
 
+-- more bytes leave the frame as it is, once there is one
 frame_stays_on : (more : List ℕ) (r : StateWithPieces) (s : PictureShape) → r.state.headers.frame ≡ Some s
     → (reading_from r more).state.headers.frame ≡ Some s
 frame_stays_on [] r s f = f

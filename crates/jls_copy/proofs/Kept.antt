@@ -24,6 +24,7 @@ length_keeps count h marker code size =
     cond_payload (nat_lt size 2) _ _ [] refl
     (cond_payload (size == 2) _ _ [] (taken_payload count h [] marker (headers_after h code [])) refl)
 
+-- each place after some bytes is one after the start
 pub after_some : (p : CopyPosition) (n : ℕ) → 1 ≤ n → IsAfterStart p n
 after_some (Start fill) n h = λ e. h
 after_some (AtMarker fill) n h = h

@@ -14,6 +14,7 @@ number_mark last m below = omega arith
 number_least : (last m other : ℕ) → m < 8 → last < other → (other - 1) % 8 ≡ m → next_number last m ≤ other
 number_least last m other below above mark = omega arith
 
+-- the law: the number that a mark gives is the least one above the last that fits it
 pub numbers_are_least : NumbersAreLeast
 numbers_are_least last m below = record {
   above = number_above last m;
@@ -25,6 +26,7 @@ numbers_are_least last m below = record {
 pub number_given_back : (last number : ℕ) → last < number → number ≤ last + 8 → next_number last (mark_before number) ≡ number
 number_given_back last number above near = omega arith
 
+-- the law: marks of which few in a row are lost give the true numbers
 pub lost_marks_are_bridged : LostMarksAreBridged
 lost_marks_are_bridged intervals last [] rise = refl
 lost_marks_are_bridged intervals last (number ∷ more) rise =

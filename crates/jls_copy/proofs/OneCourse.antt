@@ -100,18 +100,21 @@ eoi_no_segment : has_segment 217 ≡ true → ⊥
 unfolding has_segment
 eoi_no_segment f = cc
 
+-- EOI has no segment
 segment_not_eoi : (c : ℕ) → has_segment c ≡ true → (c == 217) ≡ false
 segment_not_eoi c s = elim (cases_eq c 217) [
   | inl e ↦ absurd (eoi_no_segment (subst (λ x. has_segment x ≡ true) e s))
   | inr e ↦ grind (arith, nat_tests, e)
 ]
 
+-- the step at the marker of a segment is that of its length and payload
 at_segment : (h : HeaderState) (at whole n code : ℕ) (more : List ℕ) → has_segment code ≡ true
     → after_marker h at whole (marker_at (fill_bytes n ++ (255 ∷ code ∷ more))) ≡ after_payload h n code at whole (payload_at more)
 at_segment h at whole n code more s =
     let f = found n code more (segment_not_fill code s) in let g = segment_not_eoi code s in
     ap (after_marker h at whole) f ∙ rw (g, s) refl
 
+-- the length and the payload of a segment are found by its bytes
 taken_payload : (n : ℕ) (payload rest : List ℕ) → n ≡ length payload + 2
     → payload_at (n / 256 ∷ n % 256 ∷ payload ++ rest) ≡ payload_is payload rest
 taken_payload n payload rest e =
@@ -123,6 +126,7 @@ taken_payload n payload rest e =
     let tail : drop (n - 2) (payload ++ rest) ≡ rest = rw size (drop-append_seam payload rest) in
     rw (back, two, room, prefix, tail) refl
 
+-- a segment unit is read as the step of its segment
 read_segment : (h : HeaderState) (at total n code : ℕ) (payload rest : List ℕ) → has_segment code ≡ true
     → after_marker h at total (marker_at (segment_unit_bytes n code payload ++ rest))
     ≡ after_taken n code payload rest at (headers_after h code payload)
@@ -140,6 +144,7 @@ unit_step (segment n code payload) after rest = takes n code payload after rest
 unit_step (scan n code payload s closed last closing) after rest =
     starts n code payload after s (scan_data_bytes closed last closing ++ rest)
 
+-- the step at bytes that begin with a unit is that of the unit
 step_is : (h : HeaderState) (at : ℕ) (u : CopyUnit) (after : HeaderState) (rest x : List ℕ) → x ≡ unit_bytes u ++ rest
     → IsUnit h u after rest → step h at x ≡ unit_step u after rest
 step_is h at (segment n code payload) after rest x e (known, t) =
@@ -151,6 +156,7 @@ step_is h at (scan n code payload s closed last closing) after rest x e (known, 
     (e ∙ append_assoc (segment_unit_bytes n code payload) (scan_data_bytes closed last closing) rest)
     ∙ read_segment h at (at + length x) n code payload left known.0 ∙ ap (after_taken n code payload left at) t
 
+-- the step at what ends the units is that end
 stops_step : (h : HeaderState) (at total : ℕ) (x : List ℕ) (e : End) → EndsHere h at x e → after_marker h at total (marker_at x) ≡ ends e
 stops_step _ _ total _ _ (at_eoi h at n more p) = ap (after_marker h at total) (found n 217 more (λ z. omega (arith, z))) ∙ rw p refl
 stops_step _ _ total _ _ (at_eoi_before_a_frame h at n more p) = ap (after_marker h at total) (found n 217 more (λ z. omega (arith, z)))
@@ -163,6 +169,7 @@ stops_step _ _ total _ _ (at_short_length h at n code a b more p q) =
 stops_step _ _ total _ _ (at_refused_segment h at n code payload more f p r) = read_segment h at total n code payload more p.0
     ∙ ap (after_taken n code payload more at) r
 
+-- the step at a part of a unit is the end of the input
 part_step : (h : HeaderState) (at total : ℕ) (x : List ℕ) → IsPartOfUnit x
     → after_marker h at total (marker_at x) ≡ ends (Header fault.Ended total)
 part_step h at total _ (fill_alone n) = ap (after_marker h at total) (code_ends 0 n)
@@ -185,6 +192,7 @@ end_of : (closing : LastClosed) (rest : List ℕ) → IsClosing closing rest →
 end_of (by_input count) rest e = at_input count
 end_of by_marker rest b = at_marker b.fill b.code b.following
 
+-- the pieces and marks of a unit, with what closes them, are the cut of its bytes
 cut_is : (closed : List ClosedPiece) (last : List ℕ) (closing : LastClosed) (rest : List ℕ) → AllByRecursion IsClosedPiece closed
     → IsPiece last → (b : IsClosing closing rest)
     → IsCut (scan_data_bytes closed last closing ++ rest) (record { closed = closed; last = last; end = end_of closing rest b })
@@ -193,6 +201,7 @@ cut_is closed last (by_input count) rest each piece e = record { whole = rw e (a
 cut_is closed last by_marker rest each piece b =
     record { whole = rw b.bytes_are (simp (append_assoc, append-nil) refl); each = each; last = piece; end = b.ends }
 
+-- two closings that end alike are one, with the same rest
 closing_is : (d f : LastClosed) (r s : List ℕ) (b : IsClosing d r) (c : IsClosing f s) → end_of d r b ≡ end_of f s c → (d ≡ f) × (r ≡ s)
 unfolding end_of
 closing_is (by_input m) (by_input n) r s e g h = (cc, e ∙ sym g)
@@ -207,6 +216,7 @@ pub record Same (u v : CopyUnit) (a b : HeaderState) (r s : List ℕ) : Type 0 w
   pub headers : a ≡ b
   pub rests : r ≡ s
 
+-- two units under the same headers that begin the same bytes are one, with the same headers after them and the same rest
 same_unit : (h : HeaderState) (u v : CopyUnit) (a b : HeaderState) (r s : List ℕ) → IsUnit h u a r → IsUnit h v b s
     → unit_step u a r ≡ unit_step v b s → Same u v a b r s
 same_unit h (segment n code payload) (segment m c q) a b r s p t e =
@@ -237,7 +247,7 @@ pub one_unit : (h : HeaderState) (x : List ℕ) (u v : CopyUnit) (a b : HeaderSt
     → x ≡ unit_bytes v ++ s → IsUnit h v b s → Same u v a b r s
 one_unit h x u v a b r s e is f is' = same_unit h u v a b r s is is' (sym (step_is h 0 u a r x e is) ∙ step_is h 0 v b s x f is')
 
--- and with none where a copy ends
+-- where a copy ends, its bytes begin with no unit
 pub no_unit_at_end : (h : HeaderState) (at : ℕ) (x : List ℕ) (d : End) (u : CopyUnit) (a : HeaderState) (r : List ℕ) → Ends h at x d
     → x ≡ unit_bytes u ++ r → IsUnit h u a r → ⊥
 no_unit_at_end h at x d u a r ends_here e is = end_no_unit d u a r (sym (ends_step h at x d ends_here) ∙ step_is h at u a r x e is)
@@ -250,6 +260,7 @@ record SameFrom (us vs : List CopyUnit) (l m : HeaderState) (d e : End) : Type 0
   headers : l ≡ m
   end : d ≡ e
 
+-- two lists of units with their ends that are the same bytes are one
 one_from : (h : HeaderState) (at : ℕ) (x : List ℕ) (us vs : List CopyUnit) (l m : HeaderState) (d e : End) → AreUnits h at x us l d
     → AreUnits h at x vs m e → SameFrom us vs l m d e
 one_from h at x [] [] l m d e p q =
@@ -273,6 +284,7 @@ After profile (marker n code more) total c =
     ((code ≡ 216) × (c.begin ≡ n + 2) × AreUnits (no_headers_under profile) (n + 2) more c.units c.headers c.end)
     ⊎ ((code ≢ 216) × (c ≡ without_units_under profile n (Header fault.NoSoi n)))
 
+-- the first marker of some bytes, or that there is none, tells their course
 following : (profile : Profile) (bytes : List ℕ) (c : Course) → IsCourseUnder profile bytes c
     → After profile (marker_at bytes) (length bytes) c
 following profile _ _ (with_soi n bytes units l e h) = let f = found n 216 bytes (λ z. omega (arith, z)) in rw f (inl (refl, refl, h))
@@ -287,6 +299,7 @@ course_eq : (c d : Course) → c.begin ≡ d.begin → c.units ≡ d.units → c
 course_eq c d e f g h =
     let x : c ≡ record { begin = d.begin; units = d.units; headers = d.headers; end = d.end } = rw (sym e, sym f, sym g, sym h) refl in x
 
+-- two courses after the same start are one
 same : (profile : Profile) (m : Found) (total : ℕ) (c d : Course) → After profile m total c → After profile m total d → c ≡ d
 same profile nothing total c d p q = p ∙ sym q
 same profile no_ff total c d p q = p ∙ sym q

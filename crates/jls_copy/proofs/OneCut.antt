@@ -29,6 +29,7 @@ piece_tail : (b : ℕ) (w : List ℕ) → IsPiece (b ∷ w) → IsPiece w
 piece_tail b [] p = tt
 piece_tail b (c ∷ w) p = p.1
 
+-- two pieces that begin the same bytes, each before a break, are one
 pub same_piece : (w v x y : List ℕ) → IsPiece w → IsPiece v → IsBreak x → IsBreak y → w ++ x ≡ v ++ y → (w ≡ v) × (x ≡ y)
 same_piece [] [] x y p q j k e = (refl, e)
 same_piece [] (b ∷ v) x y p q j k e = absurd (not_piece b v y q (subst IsBreak e j))
@@ -38,6 +39,7 @@ same_piece (a ∷ w) (b ∷ v) x y p q j k e =
     let r = same_piece w v x y (piece_tail a w p) (piece_tail b v q) j k t in
     let r0 : w ≡ v = r.0 in (cc, r.1)
 
+-- two marks that begin the same bytes are one, with the same fill
 same_mark : (k l c d : ℕ) (x y : List ℕ) → c ≢ 255 → d ≢ 255 → fill_bytes k ++ (255 ∷ c ∷ x) ≡ fill_bytes l ++ (255 ∷ d ∷ y)
     → (k ≡ l) × (c ≡ d) × (x ≡ y)
 same_mark zero zero c d x y p q e = (refl, cc, cc)
@@ -49,6 +51,7 @@ same_mark (suc k) (suc l) c d x y p q e =
     let t : fill_bytes k ++ (255 ∷ c ∷ x) ≡ fill_bytes l ++ (255 ∷ d ∷ y) = cc in
     let r = same_mark k l c d x y p q t in (ap suc r.0, r.1, r.2)
 
+-- fill bytes alone hold no mark
 pub no_mark : (n k c : ℕ) (x : List ℕ) → c ≢ 255 → fill_bytes n ≡ fill_bytes k ++ (255 ∷ c ∷ x) → ⊥
 no_mark zero zero c x p e = cc
 no_mark zero (suc k) c x p e = cc
@@ -56,6 +59,7 @@ no_mark (suc zero) zero c x p e = cc
 no_mark (suc (suc n)) zero c x p e = let f : 255 ≡ c = cc in p (sym f)
 no_mark (suc n) (suc k) c x p e = no_mark n k c x p (let t : fill_bytes n ≡ fill_bytes k ++ (255 ∷ c ∷ x) = cc in t)
 
+-- equal fill bytes are as many
 same_fills : (n k : ℕ) → fill_bytes n ≡ fill_bytes k → n ≡ k
 same_fills zero zero e = refl
 same_fills zero (suc k) e = cc
@@ -100,6 +104,7 @@ break_stop : (s : ScanEnd) → IsScanEnd s → IsBreak (end_bytes s)
 break_stop (at_input n) h = break_fills n
 break_stop (at_marker n c more) h = break_mark n c more (end_closes c h)
 
+-- two ends of scan data with the same bytes are one
 same_stop : (s t : ScanEnd) → IsScanEnd s → IsScanEnd t → end_bytes s ≡ end_bytes t → s ≡ t
 same_stop (at_input n) (at_input k) p q e = ap at_input (same_fills n k e)
 same_stop (at_input n) (at_marker k c x) p q e = absurd (no_mark n k c x (end_not_fill c q) e)
@@ -108,6 +113,7 @@ same_stop (at_marker k c x) (at_marker l d y) p q e =
     let r = same_mark k l c d x y (end_not_fill c p) (end_not_fill d q) e in
     let r0 : k ≡ l = r.0 in let r1 : c ≡ d = r.1 in let r2 : x ≡ y = r.2 in cc
 
+-- what ends scan data does not begin with a restart marker
 no_more_marks : (s : ScanEnd) (k m : ℕ) (x : List ℕ) → IsScanEnd s → m < 8 → end_bytes s ≡ fill_bytes k ++ (255 ∷ (208 + m) ∷ x) → ⊥
 no_more_marks (at_input n) k m x p low e = no_mark n k (208 + m) x (λ f. omega arith) e
 no_more_marks (at_marker n c y) k m x p low e =
@@ -127,6 +133,7 @@ closed_eq : (c d : ClosedPiece) → c.piece ≡ d.piece → c.fill ≡ d.fill �
 closed_eq c d e f g =
     ap (λ w. closed_of w c.fill c.mark) e ∙ ap (λ k. closed_of d.piece k c.mark) f ∙ ap (λ m. closed_of d.piece d.fill m) g
 
+-- two cuts of the same bytes are one, mark by mark
 same : (cs ds : List ClosedPiece) (u v : List ℕ) (s t : ScanEnd)
     → AllByRecursion IsClosedPiece cs → AllByRecursion IsClosedPiece ds → IsPiece u → IsPiece v → IsScanEnd s → IsScanEnd t
     → flat_map closed_bytes cs ++ (u ++ end_bytes s) ≡ flat_map closed_bytes ds ++ (v ++ end_bytes t)
@@ -193,6 +200,7 @@ cut_open bytes closed last (suc n) b h = after (cases_eq b 255) (cases_Bool (is_
     after (inr e) (inr r) (inr s) =
         (open_cut closed (last ++ (fill_bytes (suc n) ++ (b ∷ []))) 0, cut_more bytes closed last (suc n) b h e (λ k. rw (r, s) refl))
 
+-- bytes that are cut are cut with one byte more
 cut_step : (bytes : List ℕ) (c : ScanCut) (b : ℕ) → IsCut bytes c → (d : ScanCut) × IsCut (bytes ++ b ∷ []) d
 cut_step bytes c b h = at c.closed c.last c.end h
   where
@@ -201,6 +209,7 @@ cut_step bytes c b h = at c.closed c.last c.end h
     at closed last (at_input n) k = cut_open bytes closed last n b k
     at closed last (at_marker n code more) k = (ended_cut closed last n code (more ++ b ∷ []), cut_after bytes closed last n code b more k)
 
+-- bytes that are cut are cut with more bytes
 cut_onward : (before bytes : List ℕ) (c : ScanCut) → IsCut before c → (d : ScanCut) × IsCut (before ++ bytes) d
 cut_onward before [] c h = (c, rw append-nil h)
 cut_onward before (b ∷ bytes) c h =

@@ -38,6 +38,7 @@ pub cut_none : IsCut [] (open_cut [] [] 0)
 cut_none = record { whole = refl; each = tt; last = tt; end = tt }
 
 module _ (bytes : List ℕ) (closed : List ClosedPiece) (last : List ℕ) where
+  -- a byte FF more can be fill
   pub cut_fill : (n : ℕ) → IsCut bytes (open_cut closed last n) → IsCut (bytes ++ 255 ∷ []) (open_cut closed last (suc n))
   cut_fill n h = record {
     whole = let e : bytes ≡ flat_map closed_bytes closed ++ (last ++ fill_bytes n) = h.whole in
@@ -48,6 +49,7 @@ module _ (bytes : List ℕ) (closed : List ClosedPiece) (last : List ℕ) where
     end = tt;
   }
 
+  -- a byte that closes nothing belongs to the piece, with the bytes FF before it
   pub cut_more : (n b : ℕ) → IsCut bytes (open_cut closed last n) → b ≢ 255 → (0 < n → closes_piece b ≡ false)
       → IsCut (bytes ++ b ∷ []) (open_cut closed (last ++ (fill_bytes n ++ (b ∷ []))) 0)
   cut_more n b h ne free = record {
@@ -58,6 +60,7 @@ module _ (bytes : List ℕ) (closed : List ClosedPiece) (last : List ℕ) where
     end = tt;
   }
 
+  -- the code of a restart marker closes the piece
   pub cut_mark : (n m : ℕ) → IsCut bytes (open_cut closed last (suc n)) → m < 8
       → IsCut (bytes ++ (208 + m) ∷ []) (open_cut (closed ++ (record { piece = last; fill = n; mark = m }) ∷ []) [] 0)
   cut_mark n m h low = record {
@@ -68,6 +71,7 @@ module _ (bytes : List ℕ) (closed : List ClosedPiece) (last : List ℕ) where
     end = tt;
   }
 
+  -- the code of a marker that ends scan data ends the cut
   pub cut_end : (n code : ℕ) → IsCut bytes (open_cut closed last (suc n)) → ends_scan_data code ≡ true
       → IsCut (bytes ++ code ∷ []) (ended_cut closed last n code [])
   cut_end n code h ends = record {
@@ -78,6 +82,7 @@ module _ (bytes : List ℕ) (closed : List ClosedPiece) (last : List ℕ) where
     end = ends;
   }
 
+  -- a byte after the end of scan data stands after it
   pub cut_after : (n code b : ℕ) (more : List ℕ) → IsCut bytes (ended_cut closed last n code more)
       → IsCut (bytes ++ b ∷ []) (ended_cut closed last n code (more ++ b ∷ []))
   cut_after n code b more h = record {

@@ -23,6 +23,7 @@ module _ (frame sos : List ℕ) (plan : Scan) (piece : List ℕ) where
   course_of_one_piece final =
       record { begin = 2; units = segment 0 0xF7 frame ∷ begin_scan ∷ []; headers = final; end = Eoi (end_at + 0) }
 
+  -- the course of such a file, where its two segments are taken
   pub one_piece_course : (framed final : HeaderState) → length frame + 2 < 2 ^ 16 → headers_after no_headers 0xF7 frame ≡ Ok (framed, None)
       → length sos + 2 < 2 ^ 16 → headers_after framed 0xDA sos ≡ Ok (final, Some plan) → IsPiece piece → is_some final.frame ≡ true
       → IsCourse file_of_one_piece (course_of_one_piece final)

@@ -20,6 +20,7 @@ segment_faults_are_final : (f : MarkerFault) (offset : ℕ) → is_of_segment f 
 segment_faults_are_final fault.Ended offset of_segment = absurd cc
 segment_faults_are_final f offset of_segment = refl
 
+-- an end that is not final stands at the length of the copy
 stands_at_length : (copy : List ℕ) (e : End) → EndStands copy e → is_final_end e ≡ false → offset_of e ≡ length copy
 stands_at_length copy _ (eoi offset s) other = absurd cc
 stands_at_length copy _ (input offset l) other = l
@@ -32,6 +33,7 @@ stands_at_length copy _ (another_marker offset code p q s) other = absurd cc
 stands_at_length copy _ (no_marker_first byte p s) other = absurd cc
 stands_at_length copy _ (too_early offset l) other = l
 
+-- the law: each other end is the input's, and bytes after the copy change it
 pub other_ends_change : (profile : Profile) → OtherEndsChangeUnder profile
 other_ends_change profile prefix more c d is other some longer same =
     let a = stands_at_length prefix c.end (ends_stand_at_their_offsets profile prefix c is) other in

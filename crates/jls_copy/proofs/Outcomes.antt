@@ -43,6 +43,7 @@ same_decoding : (d : PieceBytes) (p : CodingParameters) (w c r : ℕ) (by_sample
     → d ≡ record { parameters = p; width = w; components = c; rows = r; by_sample = by_sample; bytes = b }
 same_decoding d p w c r by_sample b e f g h i j = rw (sym e, sym f, sym g, sym h, sym i, sym j) refl
 
+-- a decoder of an interval is the one with the bytes that it was fed
 pub decoding_is : (s : Scan) (k : ℕ) (d : PieceBytes) (i : IsDecodingOf s k d) → d ≡ decoding_with s k i.bytes
 decoding_is s k d i = same_decoding d s.params s.width (length s.components) (row_count s k) s.by_sample (Some i.bytes)
     i.parameters_are i.width_is i.components_are i.rows_are i.by_sample_is i.bytes_are
@@ -52,6 +53,7 @@ abbrev pub Finishes : PieceBytes → Result (List (List ℕ)) PieceFault → Typ
 Finishes d r = MatchOption d.bytes (r ≡ Err piece_fault.OutOfMemory) (λ bytes. OutcomeIs (piece_asked d) bytes r)
 
 module _ (shape : PictureShape) (index : ℕ) (s : Scan) (offset k : ℕ) (old new : Findings) where
+  -- a piece beyond the last interval, which a marker closes, adds its record alone
   pub beyond_adds : (piece : OpenPiece) → piece ≡ Beyond k → new.partial ≡ old.partial
       → new.records.items ≡ kept_with old.records.items (record { scan = index; interval = k; offset = offset; kind = kind.Beyond } ∷ [])
       → new.record_count ≡ old.record_count + 1

@@ -18,12 +18,14 @@ module _ (h : HeaderState) (marker code size : ℕ) (ps : List FoundPiece) where
   at count payload =
       record { state = record { count = count; place = InPayload marker code size; headers = h; payload = payload }; pieces = ps }
 
+  -- a byte that does not complete a payload is added to it
   payload_step : (count : ℕ) (payload : List ℕ) (b : ℕ) → length payload + 1 + 2 < size
       → reading_with (at count payload) b ≡ at (count + 1) (payload ++ b ∷ [])
   payload_step count payload b open_ =
       let not_whole : (length (payload ++ b ∷ []) + 2 == size) ≡ false = grind (arith, nat_tests, length-append payload (b ∷ []), open_) in
       rw (not_whole, append-nil ps) refl
 
+  -- bytes that do not complete a payload are added to it, one after another
   pub payload_from : (xs : List ℕ) (count : ℕ) (payload : List ℕ) → length payload + length xs + 2 < size
       → reading_from (at count payload) xs ≡ at (count + length xs) (payload ++ xs)
   payload_from [] count payload open_ = rw (add-zero count, append-nil payload) refl
@@ -41,6 +43,7 @@ module _ (h : HeaderState) (marker code size : ℕ) (ps : List FoundPiece) where
       let is_whole : (length (payload ++ b ∷ []) + 2 == size) ≡ true = grind (arith, nat_tests, length-append payload (b ∷ []), whole_) in
       rw (is_whole, append-nil ps) refl
 
+  -- bytes that complete a payload lead, one after another, to where the segment is taken
   pub whole_from : (xs : List ℕ) (count before_last : ℕ) (payload : List ℕ) → 0 < length xs → length payload + length xs + 2 ≡ size
       → before_last + 1 ≡ count + length xs
       → reading_from (at count payload) xs

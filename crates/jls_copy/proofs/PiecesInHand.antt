@@ -66,6 +66,7 @@ last_among [] q m = m
 last_among (p ∷ []) q m = m
 last_among (p ∷ r ∷ ps) q m = in_rest q p (r ∷ ps) (last_among (r ∷ ps) q m)
 
+-- the piece that the input's end closes is one of all pieces
 cut_among : (c : Course) (q : FoundPiece) → Contains (cut_pieces c) q → Contains (pieces c) q
 cut_among c q m = by (closed_by_input c.units) m
   where
@@ -79,6 +80,7 @@ none_is_not_some : (lines : List (List ℕ)) → lines ≡ [] → 0 < length lin
 none_is_not_some lines e l = let n : length lines ≡ 0 = ap length e in omega (arith, n, l)
 
 module _ (i : PieceShape) (bytes : List ℕ) (low : AreBytes bytes) (lines : List (List ℕ)) (some : 0 < length lines) where
+  -- a piece of which these are the first lines begins with their code
   begins : AreFirst i bytes lines → BeginsWithLines i bytes lines
   begins (inl reads) =
       let count : length lines ≡ i.line_count = reads.begins.are_lines.count_is in
@@ -120,6 +122,7 @@ first_ok : {X Y : Type 0} (r : Result X Y) (f : X → List (List ℕ)) (i : Piec
 first_ok (Ok x) f i bytes head a e = subst (AreFirst i bytes) (sym e) a
 first_ok (Err y) f i bytes head a e = tt
 
+-- the head that a decoder answers is the first lines of its piece
 pub head_first : {X Y : Type 0} (d : PieceBytes) (head : List (List ℕ)) (fault : PieceFault) (r : Result X Y)
     (f : X → List (List ℕ)) → CutFinishes d (Head head fault) → IfOk r (λ x. f x ≡ head)
     → IfSome d.bytes (λ bytes. IfOk r (λ x. AreFirst (piece_asked d) bytes (f x)))
@@ -130,7 +133,7 @@ head_first d head fault r f said e = by d.bytes said
     by None s = tt
     by (Some bytes) s = first_ok r f (piece_asked d) bytes head (of_cut (piece_asked d) bytes head fault s) e
 
--- the same lines, where more bytes follow and all are whole
+-- bytes that begin with the code of some lines begin so with more bytes, if all are whole
 begins_longer : (i : PieceShape) (bytes more : List ℕ) (lines : List (List ℕ)) → AreBytes (bytes ++ more)
     → is_whole (bytes ++ more) ≡ true → BeginsWithLines i bytes lines → BeginsWithLines i (bytes ++ more) lines
 begins_longer i bytes more lines low whole b =
@@ -196,6 +199,7 @@ of_found (Ok None) P Q f h = tt
 of_found (Ok (Some x)) P Q f h = f x h
 of_found (Err e) P Q f h = tt
 
+-- the piece that a reader's place holds is in hand after the bytes so far, with these first lines
 pub in_hand_fed : (profile : Profile) (bytes : List ℕ) → AllByRecursion (λ b. b < 256) bytes
     → (frame : Option PictureShape) (payload : List ℕ)
     (p : CopyPosition) → p ≡ (reading profile bytes).state.place → IsPlace frame p payload
@@ -233,6 +237,7 @@ in_hand_fed profile bytes low frame payload (InScan scan) e is plan interval off
 
 -- Longer -----------------------------------------------------------------------------------------------------------
 
+-- the law: each longer list of bytes has a piece in this place, which begins with the same lines if its bytes are whole
 pub prefixes_go_on : (profile : Profile) → PrefixesGoOnUnder profile
 prefixes_go_on profile prefix more low plan interval offset lines h d is =
     let t = course_fed profile prefix (byte_parts prefix more low).0 in

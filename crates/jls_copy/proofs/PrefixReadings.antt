@@ -71,7 +71,7 @@ module _ (i : PieceShape) (ok : AreCodingParameters i.params) (some : 0 < i.widt
       first_lines xs a.unread (subst (λ k. AreLines i.params i.width k xs) (sym count) a.begins.are_lines) a.begins.whole_rows
       (omega (arith, count)) a.begins.data_bits.read
 
-  -- and their head
+  -- the head of bytes is the first lines of what more bytes read as
   of_head : (head : List (List ℕ)) → IsHeadOfPiece i prefix head → (others : List (List ℕ)) × (lines ≡ head ++ others)
   of_head head (inl (whole, inl (cut, f))) =
       let b = f.begins in
@@ -102,6 +102,7 @@ first_placed components row place (x ∷ xs) others r m =
 
 -- a piece and the same piece with more bytes
 module _ (s : Scan) (ok : IsScan s) (prefix tail : List ℕ) (lines : List (List ℕ)) (r : Reading) where
+  -- a reading of a piece is one of the longer piece, if that reads as lines
   piece_keeps : (n : PieceNumber) → IsOutcomeAt s n (prefix ++ tail) (Lines lines) → (xs : List (List ℕ))
       → IsOutcomeAt s n prefix (Lines xs)
       → Contains (outcome_readings s n (Lines xs)) r → Contains (outcome_readings s n (Lines lines)) r
@@ -110,6 +111,7 @@ module _ (s : Scan) (ok : IsScan s) (prefix tail : List ℕ) (lines : List (List
       subst (λ ls. Contains (placed s.components (first_row s k) 0 ls) r) (sym f.1) (first_placed s.components (first_row s k) 0 xs f.0 r m)
   piece_keeps (BeyondLast k) reads xs is m = absurd reads
 
+  -- a reading of a piece's head is one of the longer piece, if that reads as lines
   head_keeps : (n : PieceNumber) → IsOutcomeAt s n (prefix ++ tail) (Lines lines) → (head : List (List ℕ)) → IsHeadAt s n prefix head
       → Contains (outcome_readings s n (Lines head)) r → Contains (outcome_readings s n (Lines lines)) r
   head_keeps (Interval k) reads head is m =
@@ -141,6 +143,7 @@ record GoesOn (d : Course) (p : FoundPiece) : Type 0 where
   tail : List ℕ
   bytes : (lines : List (List ℕ)) → IsOutcomeAt p.plan p.number piece.bytes (Lines lines) → piece.bytes ≡ p.bytes ++ tail
 
+-- what holds of all pieces holds of one of them
 pub all_in : (P : FoundPiece → Type 0) (ps : List FoundPiece) (p : FoundPiece) → AllByRecursion P ps → Contains ps p → P p
 all_in P [] p h m = absurd (none_in p m)
 all_in P (q ∷ ps) p h m =

@@ -48,6 +48,7 @@ alike_of (x ∷ ps) (y ∷ qs) p h m =
       | inr later ↦ (let r = alike_of ps qs p h.1 later in (r.0, in_rest r.0 y qs r.1, r.2))
     ]
 
+-- to each of the second pieces one of the first is alike
 pub of_alike : (ps qs : List FoundPiece) (q : FoundPiece) → AlikePieces ps qs → Contains qs q → (p : FoundPiece) × Contains ps p
     × AlikePiece p q
 of_alike ps [] q h m = absurd (none_in q m)
@@ -77,6 +78,7 @@ never_longer : (s : Scan) (n : PieceNumber) (bytes more : List ℕ) → NeverRea
 never_longer s n bytes more h others lines reads =
     h (more ++ others) lines (subst (λ b. IsOutcomeAt s n b (Lines lines)) (append_assoc bytes more others) reads)
 
+-- what reads as no lines whatever follows reads as none now
 never_now : (s : Scan) (n : PieceNumber) (bytes : List ℕ) → NeverReads s n bytes → (lines : List (List ℕ))
     → IsOutcomeAt s n bytes (Lines lines) → ⊥
 never_now s n bytes h lines reads = h [] lines (subst (λ b. IsOutcomeAt s n b (Lines lines)) (sym (append-nil bytes)) reads)
@@ -96,6 +98,7 @@ never_alike p q a h =
 
 -- What a reader tells ----------------------------------------------------------------------------------------------
 
+-- an open piece that reads no more reads as no lines, whatever follows
 never_open : (s : Scan) (piece : OpenPiece) → IsOpenPiece s piece → OpenReadsNoMore piece → NeverReads s (number_of piece) (bytes_of piece)
 never_open s (Within k d) is h =
     let own : ReadsNoMore (interval_of s k) is.bytes =
@@ -103,6 +106,7 @@ never_open s (Within k d) is h =
     subst (λ b. ReadsNoMore (interval_of s k) b) (sym (ap fed is.bytes_are)) own
 never_open s (Beyond k) is h = λ more lines reads. reads
 
+-- if the piece in hand reads as no lines whatever follows, the bytes so far have a piece that stays broken
 pub broken_fed : (profile : Profile) (bytes : List ℕ) → AllByRecursion (λ b. b < 256) bytes → (frame : Option PictureShape)
     (payload : List ℕ) (p : CopyPosition)
     → p ≡ (reading profile bytes).state.place → IsPlace frame p payload → PlaceReadsNoMore p → IsPieceBrokenUnder profile bytes
@@ -126,7 +130,7 @@ broken_fed profile bytes low frame payload (InScan scan) e is h =
 
 -- Longer -----------------------------------------------------------------------------------------------------------
 
--- the same piece with more bytes
+-- a piece goes on in another: both are of the same place, and the second has more bytes
 pub record Continues (p q : FoundPiece) : Type 0 where
   pub plan : q.plan ≡ p.plan
   pub number : q.number ≡ p.number
@@ -137,6 +141,7 @@ pub record Continues (p q : FoundPiece) : Type 0 where
 pub at_once : (p : FoundPiece) → Continues p p
 at_once p = record { plan = refl; number = refl; offset = refl; tail = []; bytes = sym (append-nil p.bytes) }
 
+-- a piece that goes on in one that goes on goes on in the last
 on_and_on : (p q r : FoundPiece) → Continues p q → Continues q r → Continues p r
 on_and_on p q r a b = record {
   plan = b.plan ∙ a.plan;
@@ -150,6 +155,7 @@ fed_more : (o : Option (List ℕ)) (more : List ℕ) → (t : List ℕ) × (fed 
 fed_more None more = ([], refl)
 fed_more (Some bytes) more = (more, refl)
 
+-- an open piece goes on in the one that was fed more bytes
 grown : (index : ℕ) (plan : Scan) (at : ℕ) (piece : OpenPiece) (more : List ℕ)
     → Continues (record { scan = index; plan = plan; number = number_of piece; offset = at; bytes = bytes_of piece })
     (record {
@@ -168,6 +174,7 @@ grown index plan at (Beyond k) more = record { plan = refl; number = refl; offse
 abbrev pub NextIs : List FoundPiece → List FoundPiece → FoundPiece → Type 0
 NextIs closed open_ p = (q : FoundPiece) × (Contains closed q ⊎ Contains open_ q) × Continues p q
 
+-- the piece in hand is, after one byte more, closed or still in hand
 next_in_scan : (class : ByteClass) (scan : OpenScan) (count b : ℕ)
     → NextIs (closed_by class scan) (closed_at_end (from_scan class scan count b)) (found scan)
 next_in_scan Fill scan count b = (found scan, inr (is_first (found scan) []), at_once (found scan))
@@ -176,6 +183,7 @@ next_in_scan Stop scan count b = (found scan, inl (is_first (found scan) []), at
 next_in_scan Data scan count b =
     (_, inr (is_first _ []), grown scan.index scan.plan scan.offset scan.piece (held_bytes scan.held ++ b ∷ []))
 
+-- the piece that would close at the input's end is, after one byte more, a closed piece or still the open one
 next_is : (p : CopyPosition) (count : ℕ) (h : HeaderState) (payload : List ℕ) (b : ℕ) (q : FoundPiece) → Contains (closed_at_end p) q
     → NextIs (closed_at p b) (closed_at_end (step_from p count h payload b).place) q
 next_is (Start fill) count h payload b q m = absurd (none_in q m)
@@ -194,6 +202,7 @@ next_is (InScan scan) count h payload b q m =
 abbrev pub Stands : StateWithPieces → FoundPiece → Type 0
 Stands r p = NextIs r.pieces (closed_at_end r.state.place) p
 
+-- a piece that stands among those read still does after one byte more
 stands_with : (r : StateWithPieces) (b : ℕ) (p : FoundPiece) → Stands r p → Stands (reading_with r b) p
 stands_with r b p (q, inl m, on) = (q, inl (Contains-append_left r.pieces (closed_at r.state.place b) q m), on)
 stands_with r b p (q, inr m, on) = by (next_is r.state.place r.state.count r.state.headers r.state.payload b q m)
@@ -217,6 +226,7 @@ pub among_all : (r : StateWithPieces) (q : FoundPiece) → Contains r.pieces q �
 among_all r q (inl m) = Contains-append_left r.pieces (closed_at_end r.state.place) q m
 among_all r q (inr m) = Contains-append_right r.pieces (closed_at_end r.state.place) q m
 
+-- where the piece in hand is broken whatever follows, each longer list of bytes has a faulty piece there
 pub prefixes_stay_broken : (profile : Profile) → PrefixesStayBrokenUnder profile
 prefixes_stay_broken profile prefix more low broken c is =
     let t = course_fed profile prefix (byte_parts prefix more low).0 in

@@ -22,6 +22,7 @@ use Rattle.jls_copy.specs.Prefixes.{CourseHasReading}
 use Rattle.jls_copy.proofs.CutPieces.{cut_short, lines_give}
 use Rattle.jls_marker.specs.declared.profile.Profile.{Profile}
 
+-- a set that is made of readings has exactly these
 made_tells : (rs : List Reading) (r : Reading) → set.contains (set.insert_all {R = reading_cmp} set.empty rs) r
     ≡ list_any (eq_by_cmp reading_cmp r) rs
 made_tells rs r = contains-insert_all reading_total set.empty rs r
@@ -33,6 +34,7 @@ made_tells rs r = contains-insert_all reading_total set.empty rs r
 abbrev pub PieceGives : FoundPiece → Reading → Type 0
 PieceGives p r = (lines : List (List ℕ)) × IsOutcome p (Lines lines) × Contains (readings_of p (Lines lines)) r
 
+-- a reading of all outcomes is one that a piece gives
 pub piece_listed : (ps : List FoundPiece) (os : List PieceOutcome) (r : Reading) → AreOutcomes ps os → Contains (readings ps os) r
     → (p : FoundPiece) × Contains ps p × PieceGives p r
 piece_listed [] os r are m = absurd (none_in r m)
@@ -45,6 +47,7 @@ piece_listed (p ∷ ps) (o ∷ os) r are m =
       | inr later ↦ (let f = piece_listed ps os r are.1 later in (f.0, in_rest f.0 p ps f.1, f.2))
     ]
 
+-- a reading that a piece of the course gives is among those of all its outcomes
 given : (ps : List FoundPiece) (os : List PieceOutcome) (p : FoundPiece) (r : Reading) → AllByRecursion HasScan ps → AreOutcomes ps os
     → Contains ps p → PieceGives p r → Contains (readings ps os) r
 given [] os p r scans are m g = absurd (none_in p m)
@@ -70,6 +73,7 @@ head_listed : (ps : List FoundPiece) (head : List (List ℕ)) (r : Reading) → 
 head_listed [] head r is m = absurd (none_in r m)
 head_listed (p ∷ ps) head r is m = (p, is_first p ps, (head, is, m))
 
+-- a reading that the head of the cut piece gives is among those of the heads
 head_given : (ps : List FoundPiece) (head : List (List ℕ)) (p : FoundPiece) (r : Reading) → length ps ≤ 1 → AllByRecursion HasScan ps
     → IsHeadOfCut ps head → Contains ps p → HeadGives p r → Contains (head_readings ps head) r
 head_given [] head p r short scans is m g = absurd (none_in p m)
@@ -91,6 +95,7 @@ module _ {profile : Profile} (file : List ℕ) (read : ReadCopy) (h : CopyReadsU
   tells : (r : Reading) → set.contains read.partial.readings r ≡ list_any (eq_by_cmp reading_cmp r) all
   tells r = ap (λ (p : PartialPicture). set.contains p.readings r) h.partial_is ∙ made_tells all r
 
+  -- a reading that the partial picture holds is one that the course gives
   pub held_is_given : (r : Reading) → set.contains read.partial.readings r ≡ true → CourseHasReading h.course r
   held_is_given r held =
       elim (Contains-append_cases (readings (pieces h.course) h.outcomes) (head_readings (cut_pieces h.course) h.head) r
@@ -99,6 +104,7 @@ module _ {profile : Profile} (file : List ℕ) (read : ReadCopy) (h : CopyReadsU
         | inr m ↦ (let g = head_listed (cut_pieces h.course) h.head r h.head_is m in inr (g.0, g.1, g.2.0, g.2.1, g.2.2))
       ]
 
+  -- a reading of the course is held by the partial picture that was read
   pub given_is_held : AllByRecursion (λ b. b < 256) file → (r : Reading) → CourseHasReading h.course r
       → set.contains read.partial.readings r ≡ true
   given_is_held low r g =

@@ -57,6 +57,7 @@ tells_more profile (InPayload marker code size) h payload ps x b count low c (wi
 tells_more profile (InScan o) h payload ps x b count low c d = scan_more profile o h ps x d b payload count c
 tells_more profile (Done e) h payload ps x b count low c d = rw append-nil (ended_more profile e h ps x b d)
 
+-- a reader whose place tells the course of the bytes before tells, after more bytes, that of all
 from_tells : (profile : Profile) (before bytes : List ℕ) (r : StateWithPieces) → AllByRecursion (λ b. b < 256) bytes
     → r.state.count ≡ length before
     → Tells profile r.state.place r.state.headers r.state.payload r.pieces before

@@ -28,6 +28,7 @@ free_closes_none Nothing scan b free = fill_or_data scan (b == 0xFF)
 free_closes_none One scan b free = absurd cc
 free_closes_none More scan b free = absurd cc
 
+-- a stretch that is fed to the piece is taken as data
 pub takes_fed : (old new : OpenScan) (bytes : List ℕ) (count : ℕ) → old.held ≡ Nothing → 0 < count → count ≤ length bytes
     → IsStretch (take count bytes) → new ≡ record old { piece = piece_with old.piece (take count bytes) } → TakesData old bytes new count
 takes_fed old new bytes count free some within ok fed = record {
@@ -43,6 +44,7 @@ data_leads : (old new : OpenScan) (bytes : List ℕ) → 0 < length bytes → cl
 data_leads old new [] some is fed = absurd (omega (arith, some))
 data_leads old new (b ∷ bytes) some is fed = λ payload count h ps. rw (is, fed, append-nil ps) refl
 
+-- a byte that belongs to the piece is taken as data
 pub takes_data : (old new : OpenScan) (bytes : List ℕ) → 0 < length bytes → class_of old.held (get_or bytes 0 0) ≡ Data
     → new ≡ scan_with old (get_or bytes 0 0) → TakesData old bytes new 1
 takes_data old new bytes some is fed = record {

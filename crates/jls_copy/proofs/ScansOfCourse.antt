@@ -27,6 +27,7 @@ both_have : (ps qs : List FoundPiece) → AllByRecursion HasScan ps → AllByRec
 both_have [] qs h k = k
 both_have (p ∷ ps) qs h k = (h.0, both_have ps qs h.1 k)
 
+-- the pieces of a scan in its ranges are of such a scan
 pieces_have : (index : ℕ) (s : Scan) (last : ℕ) (number : PieceNumber) (at : ℕ) (closed : List ClosedPiece) (bytes : List ℕ) → IsScan s
     → AllByRecursion HasScan (pieces_from (piece_begun index s number at) last closed bytes)
 pieces_have index s last number at [] bytes ok = (ok, tt)
@@ -37,6 +38,7 @@ pieces_have index s last number at (c ∷ closed) bytes ok =
 pub payload_bytes : (fill code : ℕ) (payload : List ℕ) → AreBytes (segment_unit_bytes fill code payload) → AreBytes payload
 payload_bytes fill code payload h = (byte_parts (fill_bytes fill) _ h).1.1.1.1.1
 
+-- each piece of some units is of a scan in its ranges, if the headers before them are in theirs
 units_have : (h : HeaderState) (at : ℕ) (bytes : List ℕ) (us : List CopyUnit) (final : HeaderState) (e : End) (index begin : ℕ)
     → IsHeaderState h → AreBytes bytes
     → AreUnits h at bytes us final e → AllByRecursion HasScan (pieces_in index begin us)

@@ -26,6 +26,7 @@ abbrev IsFine : {A : Type 0} → Result A MarkerFault → Type 0
 IsFine (Ok x) = Unit {0}
 IsFine (Err f) = is_of_segment f ≡ true
 
+-- tests with faults of a segment alone fail for such a fault
 first_fine : {A : Type 0} (tests : List (Bool × MarkerFault)) (v : A) → list_all (λ t. is_of_segment t.1) tests ≡ true
     → IsFine (first_failing tests v)
 first_fine [] v all = tt
@@ -59,6 +60,7 @@ restart_fine : (o : Option ℕ) → IsFine (restart_of o)
 restart_fine None = refl
 restart_fine (Some n) = tt
 
+-- a segment with a known code is taken, or is refused for a fault of a segment
 segment_fine : (profile : Profile) (code : ℕ) (payload : List ℕ) → has_segment code ≡ true → IsFine (segment_under profile code payload)
 unfolding has_segment
 segment_fine profile code payload known =
@@ -80,6 +82,7 @@ begun_fine : (h : HeaderState) (r : Result Scan MarkerFault) → IsFine r → Is
 begun_fine h (Ok scan) fine = tt
 begun_fine h (Err f) fine = fine
 
+-- headers refuse a segment for a fault of a segment alone
 accepted_fine : (h : HeaderState) (s : Segment) → IsFine (accepted h s)
 accepted_fine h (segment.Frame f) = first_fine ((is_none h.frame, fault.SecondFrame) ∷ []) (record h { frame = Some f }, None) refl
 accepted_fine h (segment.Scan s) = begun_fine h (scan_under h s h.frame) (under_fine h s h.frame)
@@ -91,6 +94,7 @@ taking_fine : (h : HeaderState) (r : Result Segment MarkerFault) → IsFine r �
 taking_fine h (Ok s) fine = accepted_fine h s
 taking_fine h (Err f) fine = fine
 
+-- the fault of a whole segment is one of a segment
 pub segment_fault : (h : HeaderState) (code : ℕ) (payload : List ℕ) (f : MarkerFault) → has_segment code ≡ true
     → headers_after h code payload ≡ Err f → is_of_segment f ≡ true
 unfolding headers_after

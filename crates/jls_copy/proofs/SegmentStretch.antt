@@ -18,6 +18,7 @@ no_fill : (code : ℕ) → has_segment code ≡ true → code ≢ 0xFF
 unfolding has_segment
 no_fill code known e = let now : has_segment 0xFF ≡ true = subst (λ c. has_segment c ≡ true) e known in absurd cc
 
+-- a code with a segment is not that of EOI
 no_eoi : (code : ℕ) → has_segment code ≡ true → code ≢ 0xD9
 unfolding has_segment
 no_eoi code known e = let now : has_segment 0xD9 ≡ true = subst (λ c. has_segment c ≡ true) e known in absurd cc
@@ -30,6 +31,7 @@ module _ (h : HeaderState) (ps : List FoundPiece) where
       ≡ at (count + 1) (AtMarker true) old
   fill_step fill count old = rw (append-nil ps) refl
 
+  -- the code of a segment leads to its length
   code_step : (count code : ℕ) (old : List ℕ) → has_segment code ≡ true
       → reading_with (at (count + 1) (AtMarker true) old) code ≡ at (count + 1 + 1) (AtLength count code) old
   code_step count code old known =
@@ -55,6 +57,7 @@ module _ (h : HeaderState) (ps : List FoundPiece) where
       ≡ record { state = segment_state (count + 1) (with_segment count h [] marker code); pieces = ps }
   empty_step count marker code high low old two = rw (two, append-nil ps) refl
 
+  -- FF, the code and the first byte of the length lead to its second
   header_steps : (fill : Bool) (count code high : ℕ) (old more : List ℕ) → has_segment code ≡ true
       → reading_from (at count (AtMarker fill) old) (0xFF ∷ code ∷ high ∷ more)
       ≡ reading_from (at (count + 1 + 1 + 1) (InLength count code high) old) more
@@ -63,6 +66,7 @@ module _ (h : HeaderState) (ps : List FoundPiece) where
       ∙ ap (λ r. reading_from r (high ∷ more)) (code_step count code old known)
       ∙ ap (λ r. reading_from r more) (high_step (count + 1 + 1) count code high old)
 
+  -- the bytes of a whole segment lead, one after another, to where it is taken
   segment_steps : (fill : Bool) (count code high low : ℕ) (old payload : List ℕ) → has_segment code ≡ true
       → length payload + 2 ≡ 256 * high + low
       → reading_from (at count (AtMarker fill) old) (0xFF ∷ code ∷ high ∷ low ∷ payload)
@@ -88,6 +92,7 @@ module _ (h : HeaderState) (ps : List FoundPiece) where
 abbrev made : ReaderState → List FoundPiece → StateWithPieces
 made s ps = record { state = s; pieces = ps }
 
+-- taking a whole segment at once leads where its bytes lead one after another
 pub segment_leads : (fill : Bool) (bytes : List ℕ) (size : ℕ) → IsWholeSegment bytes size
     → (count : ℕ) (h : HeaderState) (old payload : List ℕ)
     → payload ≡ take (size - 2) (drop 4 bytes)

@@ -51,6 +51,7 @@ from_start_opens_none fill count b = no_open_start fill (b == 0xFF) (b == 0xD8) 
 
 module _ (a d e : CopyPosition) (ea : closed_at_end a ≡ []) (ed : closed_at_end d ≡ []) (ee : closed_at_end e ≡ []) (marker : CopyPosition)
     (em : closed_at_end marker ≡ []) where
+  -- no place that a marker can lead to has a piece in hand
   no_open_marker : (fill ff eoi known : Bool)
       → closed_at_end (if ff then AtMarker true else if not fill then a else if eoi then d else if known then marker else e) ≡ []
   no_open_marker fill true eoi known = refl
@@ -69,6 +70,7 @@ OpensFrom at p = (q : FoundPiece) → Contains (closed_at_end p) q → at ≤ q.
 none_open : (at : ℕ) (p : CopyPosition) → closed_at_end p ≡ [] → OpensFrom at p
 none_open at p e q m = absurd (none_in q (subst (λ xs. Contains xs q) e m))
 
+-- the piece of a scan is open from its offset on
 one_open : (at : ℕ) (scan : OpenScan) → at ≤ scan.offset → OpensFrom at (InScan scan)
 one_open at scan l q m =
     elim (first_or_rest q (found scan) [] m) [
@@ -89,6 +91,7 @@ module _ (at count : ℕ) (low : at ≤ count) where
   opens_with : (h : HeaderState) (payload : List ℕ) (marker code : ℕ) → OpensFrom at (with_segment count h payload marker code).place
   opens_with h payload marker code = opens_taken h payload marker (headers_after h code payload)
 
+  -- a known length opens no piece before its offset
   opens_known : (h : HeaderState) (marker code size : ℕ) → OpensFrom at (length_known count h marker code size).place
   opens_known h marker code size = by (nat_lt size 2) refl (size == 2) refl
     where
@@ -98,6 +101,7 @@ module _ (at count : ℕ) (low : at ≤ count) where
       by false e true f = rw (e, f) (opens_with h [] marker code)
       by false e false f = rw (e, f) (λ q m. absurd (none_in q m))
 
+  -- a byte of a payload opens no piece before its offset
   opens_grown : (h : HeaderState) (payload : List ℕ) (marker code size : ℕ)
       → OpensFrom at (payload_grown count h payload marker code size).place
   opens_grown h payload marker code size = by (length payload + 2 == size) refl
@@ -106,6 +110,7 @@ module _ (at count : ℕ) (low : at ≤ count) where
       by true e = rw e (opens_with h payload marker code)
       by false e = rw e (λ q m. absurd (none_in q m))
 
+  -- a byte of scan data opens no piece before the offset
   opens_in_scan : (class : ByteClass) (scan : OpenScan) (b : ℕ) → at ≤ scan.offset → OpensFrom at (from_scan class scan count b)
   opens_in_scan Fill scan b l = one_open at (record scan { held = one_more scan.held }) l
   opens_in_scan Mark scan b l =
@@ -113,6 +118,7 @@ module _ (at count : ℕ) (low : at ≤ count) where
   opens_in_scan Stop scan b l = none_open at (from_marker true true count b) (from_marker_opens_none true true count b)
   opens_in_scan Data scan b l = one_open at (scan_with scan b) l
 
+  -- a byte more opens no piece before the offset
   opens_next : (p : CopyPosition) (h : HeaderState) (payload : List ℕ) (b : ℕ) → OpensFrom at p
       → OpensFrom at (step_from p count h payload b).place
   opens_next (Start fill) h payload b o = none_open at (from_start fill count b) (from_start_opens_none fill count b)
@@ -131,6 +137,7 @@ closes_open Mark scan q m = m
 closes_open Stop scan q m = m
 closes_open Data scan q m = absurd (none_in q m)
 
+-- the piece that a byte closes is the one in hand
 closes_in_hand : (p : CopyPosition) (b : ℕ) (q : FoundPiece) → Contains (closed_at p b) q → Contains (closed_at_end p) q
 closes_in_hand (Start fill) b q m = m
 closes_in_hand (AtMarker fill) b q m = m
@@ -146,6 +153,7 @@ record From (at : ℕ) (old : List FoundPiece) (r : StateWithPieces) : Type 0 wh
   opens : OpensFrom at r.state.place
   counted : at ≤ r.state.count
 
+-- after one byte more, the pieces are the old ones and others from the offset on
 from_with : (at : ℕ) (old : List FoundPiece) (r : StateWithPieces) (b : ℕ) → From at old r → From at old (reading_with r b)
 from_with at old r b f = record {
   closed = λ q m. either (Contains old q ⊎ (at ≤ q.offset)) r.pieces (closed_at r.state.place b) q m (f.closed q)
@@ -160,6 +168,7 @@ from_on at old r (b ∷ bytes) f = from_on at old (reading_with r b) bytes (from
 
 -- Where it begins --------------------------------------------------------------------------------------------------
 
+-- if the piece in hand begins at an offset or after it, the pieces before that offset are settled
 pub past_fed : (profile : Profile) (offset : ℕ) (bytes : List ℕ) → AllByRecursion (λ b. b < 256) bytes → (p : CopyPosition)
     → p ≡ (reading profile bytes).state.place
     → PlaceIsPast offset p → IsPastUnder profile offset bytes
@@ -196,6 +205,7 @@ fed_sym (Interval k) xs ys (inl e) = inl (sym e)
 fed_sym (Interval k) xs ys (inr e) = inr (e.1, e.0)
 fed_sym (BeyondLast k) xs ys h = tt
 
+-- a piece is alike to each that is alike to it
 alike_back : (p q : FoundPiece) → AlikePiece p q → AlikePiece q p
 alike_back p q a = record {
   scan_is = sym a.scan_is;
@@ -255,7 +265,7 @@ module _ (profile : Profile) (at : ℕ) (prefix more : List ℕ) (low : AllByRec
       let p = alike_of (all_pieces first) (pieces c) hand.0 alike_first (among_all first hand.0 (inr hand.1)) in
       (p.0, p.1, subst (λ n. at ≤ n) p.2.offset_is hand.2)
 
-  -- and goes on in the second
+  -- the piece in hand goes on in the second course
   hand_second : (q : FoundPiece) × Contains (pieces d) q × (at ≤ q.offset)
   hand_second =
       let stood : Stands (reading_from first more) hand.0 = stands_from first more hand.0 (hand.0, inr hand.1, at_once hand.0) in

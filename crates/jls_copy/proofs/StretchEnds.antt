@@ -4,10 +4,11 @@ use Rattle.std.proofs.lemmas.Bool.{cases_lt}
 use Rattle.jls_copy.specs.ScanData.{IsCutPlace}
 use Rattle.jls_copy.specs.Stretch.{IsStretch}
 
--- so many bytes at the start hold no place of a cut
+-- the first n bytes hold no place of a cut
 abbrev NoCut : List ℕ → ℕ → Type 0
 NoCut bytes n = (i : ℕ) → i < n → IsCutPlace bytes i → ⊥
 
+-- a cut place stays one behind a byte more
 shifted : (b : ℕ) (bytes : List ℕ) (i : ℕ) → IsCutPlace bytes i → IsCutPlace (b ∷ bytes) (suc i)
 shifted b bytes i h = record {
   within = omega (arith, h.within);
@@ -18,12 +19,14 @@ shifted b bytes i h = record {
 following : (b : ℕ) (bytes : List ℕ) (n : ℕ) → NoCut (b ∷ bytes) (suc n) → NoCut bytes n
 following b bytes n none i low h = none (suc i) (omega (arith, low)) (shifted b bytes i h)
 
+-- without a cut, a byte after FF is below 0x80
 low_after : (b c : ℕ) (more : List ℕ) (n : ℕ) → NoCut (b ∷ c ∷ more) (suc n) → b ≡ 0xFF → c < 0x80
 low_after b c more n none e = elim (cases_lt c 0x80) [
   | inl low ↦ low
   | inr high ↦ absurd (none 0 (omega arith) (record { within = omega arith; is_ff = e; is_code = high }))
 ]
 
+-- the first n bytes are a stretch, if no cut begins in them and the last is not FF
 pub stretch_of : (bytes : List ℕ) (n : ℕ) → NoCut bytes n → n ≤ length bytes → (0 < n → get_or bytes (n - 1) 0 ≢ 0xFF)
     → IsStretch (take n bytes)
 stretch_of bytes zero none within last = tt
@@ -38,7 +41,7 @@ stretch_of (b ∷ c ∷ more) (suc (suc n)) none within last = (
     moved : get_or (b ∷ c ∷ more) (suc (suc n) - 1) 0 ≢ 0xFF → get_or (c ∷ more) (suc n - 1) 0 ≢ 0xFF
     moved = subst (λ j. get_or (b ∷ c ∷ more) j 0 ≢ 0xFF) (let e : suc (suc n) - 1 ≡ suc (suc n - 1) = omega arith in e)
 
--- the same without a last byte 0xFF
+-- the first n bytes without their last, which is FF, are a stretch, if no cut begins in them
 pub stretch_before : (bytes : List ℕ) (n : ℕ) → NoCut bytes n → n ≤ length bytes → 0 < n → get_or bytes (n - 1) 0 ≡ 0xFF
     → IsStretch (take (n - 1) bytes)
 stretch_before bytes n none within some is_ff =

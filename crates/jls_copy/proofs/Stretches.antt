@@ -60,6 +60,7 @@ module _ (scan : OpenScan) (h : HeaderState) (payload : List ℕ) where
   at count held piece ps =
       record { state = record { count = count; place = InScan (holding scan held piece); headers = h; payload = payload }; pieces = ps }
 
+  -- a byte that is data is fed to the piece
   data_step : (count : ℕ) (held : Held) (piece : OpenPiece) (ps : List FoundPiece) (b : ℕ) → class_of held b ≡ Data
       → reading_with (at count held piece ps) b ≡ record {
         state = record { count = count + 1; place = InScan (scan_with (holding scan held piece) b); headers = h; payload = payload };
@@ -71,6 +72,7 @@ module _ (scan : OpenScan) (h : HeaderState) (payload : List ℕ) where
       → reading_with (at count Nothing piece ps) 0xFF ≡ at (count + 1) One piece ps
   fill_step count piece ps = rw (append-nil ps) refl
 
+  -- FF and a byte below 0x80 are fed to the piece
   pair_steps : (count : ℕ) (piece : OpenPiece) (ps : List FoundPiece) (c : ℕ) (more : List ℕ) → c < 0x80
       → reading_from (at count Nothing piece ps) (0xFF ∷ c ∷ more)
       ≡ reading_from (at (count + 1 + 1) Nothing (piece_with piece (0xFF ∷ c ∷ [])) ps) more
@@ -86,6 +88,7 @@ module _ (scan : OpenScan) (h : HeaderState) (payload : List ℕ) where
   tail c [] ok = tt
   tail c (d ∷ more) ok = ok.1
 
+  -- the bytes of a stretch, one after another, leave a scan with its piece fed these bytes
   stretched : (xs : List ℕ) → IsStretch xs → (count : ℕ) (piece : OpenPiece) (ps : List FoundPiece)
       → reading_from (at count Nothing piece ps) xs ≡ at (count + length xs) Nothing (piece_with piece xs) ps
   stretched [] ok count piece ps = rw (add-zero count, with_none piece) refl
@@ -123,7 +126,7 @@ stretch_leads scan next xs free ok fed payload count h ps =
     ≡ at scan h payload (count + length xs) Nothing (piece_with scan.piece xs) ps) (sym before)
     (stretched scan h payload xs ok count scan.piece ps))
 
--- and is still a scan of the frame
+-- a scan that took a stretch at once is still one of the frame
 pub stretch_sound : (scan next : OpenScan) (xs : List ℕ) → next ≡ record scan { piece = piece_with scan.piece xs }
     → (frame : Option PictureShape) (payload : List ℕ)
     → IsPlace frame (InScan scan) payload → IsPlace frame (InScan next) payload

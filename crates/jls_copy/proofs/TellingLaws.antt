@@ -24,6 +24,7 @@ use Rattle.jls_marker.specs.declared.profile.Profile.{Profile}
 abbrev Stands : List ℕ → FoundPiece → Type 0
 Stands copy p = StandsAt copy p.offset p.bytes
 
+-- pieces in two lists stand in the copy if those of each do
 both_stand : (copy : List ℕ) (ps qs : List FoundPiece) → AllByRecursion (Stands copy) ps → AllByRecursion (Stands copy) qs
     → AllByRecursion (Stands copy) (ps ++ qs)
 both_stand copy [] qs h k = k
@@ -34,6 +35,7 @@ record After (copy prefix bytes : List ℕ) (at : ℕ) : Type 0 where
   copy_is : copy ≡ prefix ++ bytes
   at_is : at ≡ length prefix
 
+-- after some bytes more, what follows stands that much further
 following : (copy prefix xs ys : List ℕ) (at : ℕ) → After copy prefix (xs ++ ys) at → After copy (prefix ++ xs) ys (at + length xs)
 following copy prefix xs ys at b = record {
   copy_is = b.copy_is ∙ sym (append_assoc prefix xs ys);
@@ -48,6 +50,7 @@ stands copy prefix bytes back at b = record { prefix = prefix; back = back; copy
 
 -- Pieces -----------------------------------------------------------------------------------------------------------
 
+-- each piece of scan data stands in the copy at its offset
 pieces_stand : (copy prefix : List ℕ) (index : ℕ) (s : Scan) (last : ℕ) (number : PieceNumber) (at : ℕ) (closed : List ClosedPiece)
     → (bytes rest : List ℕ)
     → After copy prefix (flat_map closed_bytes closed ++ (bytes ++ rest)) at
@@ -69,6 +72,7 @@ regrouped : (head closed last dropped rest : List ℕ) → (head ++ (closed ++ (
     ++ (closed ++ (last ++ (dropped ++ rest)))
 regrouped head closed last dropped rest = simp append_assoc refl
 
+-- each piece of some units stands in the copy at its offset
 units_stand : (copy prefix : List ℕ) (h : HeaderState) (at : ℕ) (bytes : List ℕ) (us : List CopyUnit) (final : HeaderState) (e : End)
     (index : ℕ)
     → After copy prefix bytes at
@@ -98,6 +102,7 @@ soi n bytes = record {
   at_is = let e = length-append (fill_bytes n) (0xFF ∷ 0xD8 ∷ []) in let l = length-replicate {A = ℕ} n 0xFF in omega (arith, e, l);
 }
 
+-- the law: each piece of a course stands in the copy at its offset
 pub pieces_stand_at_their_offsets : (profile : Profile) → PiecesStandAtTheirOffsetsUnder profile
 pieces_stand_at_their_offsets profile _ _ (with_soi n bytes units final e h) =
     units_stand _ (fill_bytes n ++ (0xFF ∷ 0xD8 ∷ [])) (no_headers_under profile) (n + 2) bytes units final e 0 (soi n bytes) h
@@ -125,6 +130,7 @@ marker_stands : (copy prefix : List ℕ) (n code : ℕ) (more : List ℕ) (at : 
 marker_stands copy prefix n code more at b =
     stands copy (prefix ++ fill_bytes n) (0xFF ∷ code ∷ []) more (at + n) (filled copy prefix n (0xFF ∷ code ∷ more) at b)
 
+-- what ends the units stands at the offset that the end has
 stop_stands : (copy prefix : List ℕ) (h : HeaderState) (at : ℕ) (bytes : List ℕ) (e : End) → After copy prefix bytes at
     → EndsHere h at bytes e
     → EndStands copy e
@@ -143,12 +149,14 @@ stop_stands copy prefix _ _ _ _ b (at_refused_segment h at n code payload more f
     refused_segment f (at + n) code (segment_fault h code payload f p.0 r) p.0
     (marker_stands copy prefix n code ((size / 256 ∷ size % 256 ∷ payload) ++ more) at whole)
 
+-- what an end says stands at its offset, at a marker or at the input's end
 ends_stand : (copy prefix : List ℕ) (h : HeaderState) (at : ℕ) (bytes : List ℕ) (e : End) → After copy prefix bytes at → Ends h at bytes e
     → EndStands copy e
 ends_stand copy prefix _ _ _ _ b (for_good h at bytes e s) = stop_stands copy prefix h at bytes e b s
 ends_stand copy prefix _ _ _ _ b (with_the_input h at) = input at (let e = whole_after copy prefix [] at b in omega (arith, e))
 ends_stand copy prefix _ _ _ _ b (in_a_unit h at bytes p) = too_early (at + length bytes) (whole_after copy prefix bytes at b)
 
+-- what the end of a copy says stands at its offset
 last_stands : (copy prefix : List ℕ) (h : HeaderState) (at : ℕ) (bytes : List ℕ) (us : List CopyUnit) (final : HeaderState) (e : End)
     → After copy prefix bytes at
     → AreUnits h at bytes us final e → EndStands copy e
@@ -161,6 +169,7 @@ last_stands copy prefix h at bytes (u ∷ us) final e b (after, rest, whole, uni
 all_of : (copy : List ℕ) → After copy [] copy 0
 all_of copy = record { copy_is = refl; at_is = refl }
 
+-- the law: what an end and its fault say stands at the end's offset
 pub ends_stand_at_their_offsets : (profile : Profile) → EndsStandAtTheirOffsetsUnder profile
 ends_stand_at_their_offsets profile _ _ (with_soi n bytes units final e h) =
     last_stands _ (fill_bytes n ++ (0xFF ∷ 0xD8 ∷ [])) (no_headers_under profile) (n + 2) bytes units final e (soi n bytes) h
@@ -173,6 +182,7 @@ ends_stand_at_their_offsets profile _ _ (with_fill_alone n) = too_early n (let l
 
 -- Records ----------------------------------------------------------------------------------------------------------
 
+-- the records of outcomes are those of the faulty pieces
 records_so : (ps : List FoundPiece) (os : List PieceOutcome) → AreOutcomes ps os → AreRecordsOf ps (records ps os)
 records_so [] [] h = of_none
 records_so [] (o ∷ os) h = absurd h

@@ -34,6 +34,7 @@ pub start_more : (profile : Profile) (payload : List ℕ) (b : ℕ) → (b ≡ 2
 start_more profile payload b (inl e) = rw e (0, refl, refl, refl)
 start_more profile payload b (inr ne) = rw (not_fill b ne) (without_ff b [] (b ∷ []) ne refl)
 
+-- a byte more after the fill bytes at the start
 pub start_fill_more : (profile : Profile) (payload : List ℕ) (n b count : ℕ) → count ≡ suc n → (b ≡ 255) ⊎ (b ≢ 255) → (b ≡ 216) ⊎ (b ≢ 216)
     → Tells profile (from_start true count b) (no_headers_under profile) payload [] (fill_bytes (suc n) ++ b ∷ [])
 start_fill_more profile payload n b count c (inl e) q = rw e (suc n, fill_snoc (suc n), refl, refl)
@@ -48,6 +49,7 @@ module _ (profile : Profile) (before : List ℕ) (h : HeaderState) (us : List Co
   none_follows : (tail : List ℕ) → Follows false tail
   none_follows tail = λ e. cc
 
+  -- a byte more where a marker may begin
   pub marker_more : (payload : List ℕ) (b count : ℕ) → Passed profile before h us ps false → count ≡ length before → (b ≡ 255) ⊎ (b ≢ 255)
       → Tells profile (from_marker false (is_some h.frame) count b) h payload ps (before ++ b ∷ [])
   marker_more payload b count p c (inl e) = rw e (0, before, us, p, refl)

@@ -43,6 +43,7 @@ data ClassIs : Held → ℕ → ℕ → Type 0 where
   is_stop : (held : Held) (n b : ℕ) → class_of held b ≡ Stop → 0 < n → b ≢ 255 → ends_scan_data b ≡ true → ClassIs held n b
   is_data : (held : Held) (n b : ℕ) → class_of held b ≡ Data → b ≢ 255 → (0 < n → closes_piece b ≡ false) → ClassIs held n b
 
+-- what a byte of scan data does, by whether it is FF, the code of a restart marker, or one that ends scan data
 class_is : (held : Held) (n b : ℕ) → HeldIs held n → (b ≡ 255) ⊎ (b ≢ 255) → (is_restart_code b ≡ true) ⊎ (is_restart_code b ≡ false)
     → (ends_scan_data b ≡ true) ⊎ (ends_scan_data b ≡ false) → ClassIs held n b
 class_is Nothing n b h (inl e) r s = is_fill Nothing n b (rw e refl) e
@@ -68,6 +69,7 @@ more_held Nothing n h = ap suc h
 more_held One n h = (0, ap suc h)
 more_held More n h = (suc h.0, ap suc h.1)
 
+-- pieces that are alike, and one more
 pub alike_more : (ps qs : List FoundPiece) (p q : FoundPiece) → AlikePieces ps qs → AlikePiece p q
     → AlikePieces (ps ++ p ∷ []) (qs ++ q ∷ [])
 alike_more [] [] p q h a = (a, tt)
@@ -109,6 +111,7 @@ fed_with : (p : OpenPiece) (more : List ℕ) → IsFed p → IsFed (piece_with p
 fed_with (open_piece.Within k d) more (bytes, e) = (bytes ++ more, rw e refl)
 fed_with (open_piece.Beyond k) more t = tt
 
+-- what is fed of a piece goes on as the piece does
 fed_more : (p : OpenPiece) (w : List ℕ) (held : Held) (n b : ℕ) → HeldIs held n → IsFed p → FedAs (number_of p) (bytes_of p) w
     → FedAs (number_of (piece_with p (held_bytes held ++ b ∷ []))) (bytes_of (piece_with p (held_bytes held ++ b ∷ [])))
     (w ++ (fill_bytes n ++ b ∷ []))
@@ -180,6 +183,7 @@ module _ (profile : Profile) (o : OpenScan) (h : HeaderState) (ps : List FoundPi
       d.given_is d.offset_is d.here d.here_alike d.fed_as d.fed_is (suc d.held) (more_held o.held d.held d.held_is)
       (append-nil ps ∙ d.found_are) (ap (λ y. y ++ b ∷ []) d.whole ∙ rw e (simp append_assoc (rw fill_snoc refl)))
 
+  -- a byte of the piece leads on in the scan data
   data_tells : b ≢ 255 → (0 < d.held → closes_piece b ≡ false) → InScanData profile (scan_with o b) h (ps ++ []) (x ++ b ∷ [])
   data_tells ne free =
       goes_on o.last Nothing o.offset (piece_with o.piece (held_bytes o.held ++ b ∷ [])) (ps ++ []) d.closed d.each
@@ -192,6 +196,7 @@ module _ (profile : Profile) (o : OpenScan) (h : HeaderState) (ps : List FoundPi
       (record { scan = d.old.scans; plan = o.plan; number = number_of o.piece; offset = o.offset; bytes = d.piece })
   alike_now = record { scan_is = d.index_is; plan_is = refl; number_is = refl; offset_is = refl; fed_as = d.fed_as }
 
+  -- after a restart marker the scan is at its next piece, with the one before found
   mark_tells : (m count : ℕ) → d.held ≡ suc m → is_restart_code b ≡ true → count ≡ length x
       → InScanData profile (scan_after o (number_after (intervals o.plan) o.last (b - 208)) (count + 1)) h (ps ++ found o ∷ [])
       (x ++ b ∷ [])
@@ -228,6 +233,7 @@ module _ (profile : Profile) (o : OpenScan) (h : HeaderState) (ps : List FoundPi
       shut before closing = rw (flat_map-append, append-nil)
           (omega (arith, length-append (flat_map closed_bytes d.closed) (closed_bytes closing)))
 
+  -- after the code of a marker that ends scan data, the place tells of that marker, with the last piece found
   stop_tells : (payload : List ℕ) (m count : ℕ) → d.held ≡ suc m → b ≢ 255 → ends_scan_data b ≡ true → count ≡ length x
       → Tells profile (state.from_marker true true count b) h payload (ps ++ found o ∷ []) (x ++ b ∷ [])
   stop_tells payload m count hm ne s c =
@@ -257,6 +263,7 @@ module _ (profile : Profile) (o : OpenScan) (h : HeaderState) (ps : List FoundPi
       (subst (λ q. Tells profile (state.from_marker true (is_some h.frame) count b) h payload (d.earlier ++
       (d.here ++ found o ∷ [])) q) bytes fed))
 
+-- a byte more of scan data: its place tells the course of the bytes with this one
 pub scan_more : (profile : Profile) (o : OpenScan) (h : HeaderState) (ps : List FoundPiece) (x : List ℕ)
     (d : InScanData profile o h ps x) (b : ℕ) (payload : List ℕ)
     (count : ℕ)

@@ -23,6 +23,7 @@ use Rattle.jls_marker.specs.declared.profile.Profile.{Profile}
 abbrev TellsStep : (profile : Profile) → Step → List FoundPiece → List ℕ → Type 0
 TellsStep profile s ps x = Tells profile s.place s.headers s.payload ps x
 
+-- a step by a test tells what each of its two steps tells
 cond_tells : (profile : Profile) (b : Bool) (s t : Step) (ps : List FoundPiece) (x : List ℕ) → (b ≡ true → TellsStep profile s ps x)
     → (b ≡ false → TellsStep profile t ps x)
     → TellsStep profile (cond b s t) ps x
@@ -32,7 +33,7 @@ cond_tells profile false s t ps x p q = q refl
 module _ (profile : Profile) (before : List ℕ) (h : HeaderState) (us : List CopyUnit) (ps : List FoundPiece) (following : Bool)
     (passed : Passed profile before h us ps following)
     (fill code : ℕ) (known : has_segment code ≡ true) (follows : following ≡ true → ends_scan_data code ≡ true) where
-  -- so much of a segment
+  -- the place tells of a segment up to these bytes after its marker
   pub at_segment : (x tail : List ℕ) (marker : ℕ) → x ≡ before ++ (fill_bytes fill ++ (255 ∷ code ∷ tail)) → marker ≡ length before + fill
       → AtSegment profile marker code h ps x tail
   at_segment x tail marker w m = record {
@@ -125,12 +126,14 @@ module _ (profile : Profile) (before : List ℕ) (h : HeaderState) (us : List Co
       taken payload x count marker (rw e w) (omega arith) c m (headers_after h code payload) refl)
       (λ t. let e : length payload + 2 ≢ size = grind (arith, nat_tests) in (omega arith, small, at_segment x _ marker w m))
 
+  -- the second byte of the length
   pub length_more : (x : List ℕ) (count marker high b : ℕ) → high < 256 → b < 256
       → x ≡ before ++ (fill_bytes fill ++ (255 ∷ code ∷ high ∷ [])) → count ≡ length x → marker ≡ length before + fill
       → TellsStep profile (length_known count h marker code (256 * high + b)) ps (x ++ b ∷ [])
   length_more x count marker high b lh lb w c m =
       length_tells (x ++ b ∷ []) count marker high b lh lb (rw w (simp append_assoc refl)) (omega (arith, length-append x (b ∷ []))) m
 
+  -- a byte more of a payload
   pub payload_more : (x payload : List ℕ) (count marker size b : ℕ)
       → x ≡ before ++ (fill_bytes fill ++ (255 ∷ code ∷ size / 256 ∷ size % 256 ∷ payload)) → length payload + 2 < size → size < 2 ^ 16
       → count ≡ length x → marker ≡ length before + fill
@@ -159,6 +162,7 @@ stops_on _ _ b _ _ (at_refused_segment h at n code payload more f p r) =
 follows_on : (following : Bool) (tail : List ℕ) (b : ℕ) → Follows following tail → Follows following (tail ++ b ∷ [])
 follows_on following tail b f = λ k. let g = f k in (g.0, g.1, g.2 ++ b ∷ [], rw g.3 (simp append_assoc refl), g.4)
 
+-- a byte more after the end
 pub ended_more : (profile : Profile) (e : End) (h : HeaderState) (ps : List FoundPiece) (x : List ℕ) (b : ℕ) → EndedAt profile e h ps x
     → EndedAt profile e h ps (x ++ b ∷ [])
 ended_more profile _ _ _ _ b (ended before h us ps following tail x e p w f s) =

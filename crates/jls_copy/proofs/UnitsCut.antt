@@ -11,6 +11,7 @@ use Rattle.jls_copy.proofs.OneCut.{same_cut}
 abbrev cut_of : List ClosedPiece → List ℕ → ScanEnd → ScanCut
 cut_of closed last end = record { closed = closed; last = last; end = end }
 
+-- closed pieces and a last one, with what closes it, are a cut of their bytes
 cut_so : (closed : List ClosedPiece) (last : List ℕ) (closing : LastClosed) (rest : List ℕ) → AllByRecursion IsClosedPiece closed
     → IsPiece last
     → IsClosing closing rest → (end : ScanEnd) × IsCut (scan_data_bytes closed last closing ++ rest) (cut_of closed last end)

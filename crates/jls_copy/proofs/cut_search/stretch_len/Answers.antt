@@ -8,6 +8,7 @@ returns-then-bytes-end-clause-stretch c =
     stretch_before c.args.bytes.now c.uncut_len-end.result c.uncut_len-end.ensures.uncut c.uncut_len-end.ensures.within c.if-end-gt0.true
     c.if-bytes-end.true
 
+-- the bytes before the cut are a stretch
 pub returns-else-end-gt0-clause-stretch : goal.returns-else-end-gt0-clause-stretch
 returns-else-end-gt0-clause-stretch c =
     stretch_of c.args.bytes.now c.uncut_len-end.result c.uncut_len-end.ensures.uncut c.uncut_len-end.ensures.within

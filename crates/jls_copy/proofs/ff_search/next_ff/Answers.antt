@@ -3,6 +3,7 @@ use Rattle.std.proofs.lemmas.Bool.{cases_lt, eqb-true, eqb-false}
 use Rattle.std.proofs.lemmas.Simd.{run_in_chunk_fails, run_in_chunk_stops}
 use Rattle.jls_copy.proofs.ff_search.next_ff.Goals as goal
 
+-- no byte before the first FF among the sixteen is FF
 pub returns-then-before-lt-LANES-clause-passed : goal.returns-then-before-lt-LANES-clause-passed
 returns-then-before-lt-LANES-clause-passed c = λ k from below is_ff. elim (cases_lt k c.loop-at.at) [
   | inl earlier ↦ c.loop-at.invariant.2 k from earlier is_ff
@@ -17,6 +18,7 @@ returns-then-before-lt-LANES-clause-found c = λ within.
     (run_in_chunk_stops (λ b. eqb b 255) c.args.bytes.now c.loop-at.at 16 c.count_before_ff-before.result 0 (omega arith)
     c.count_before_ff-before.ensures c.if-before-lt-LANES.true)
 
+-- sixteen bytes more have no FF
 pub loop-at-preserved : goal.loop-at-preserved
 loop-at-preserved c =
     let room : c.loop-at.at + 16 ≤ length c.args.bytes.now = omega arith in

@@ -3,6 +3,7 @@ use Rattle.jls_partial.specs.Partial.{nothing_known, union}
 use Rattle.jls_copy.proofs.Clones.{union_of_nothing}
 use Rattle.jls_copy.proofs.findings.cloned_picture.Goals as goal
 
+-- the union with an empty picture is the picture
 pub returns-in-Ok : goal.returns-in-Ok
 returns-in-Ok c =
     let picture = c.args.partial.now in

@@ -5,6 +5,7 @@ use Rattle.jls_copy.proofs.Fitting.{takes_here, fit_beside, fit_below}
 use Rattle.jls_copy.proofs.findings.take_lines.Goals as goal
 use Rattle.jls_copy.proofs.findings.take_lines.Goals.{then-place-components, else-place-components}
 
+-- the line fits the picture
 pub take_line-requires : goal.take_line-requires
 take_line-requires c =
     let here = ap (map (λ line. line.items)) c.in-Some.ensures.steps.0 in
@@ -12,6 +13,7 @@ take_line-requires c =
     c.loop-line.invariant.fit in
     rw c.deref.ensures.value (takes_here _ _ _ _ _ _ fit)
 
+-- one line more is taken, and the next is in this row or the one below
 pub loop-line-preserved : goal.loop-line-preserved
 loop-line-preserved c =
     let here = ap (map (λ line. line.items)) c.in-Some.ensures.steps.0 in

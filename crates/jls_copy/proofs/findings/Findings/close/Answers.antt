@@ -13,6 +13,7 @@ returns-in-Ok c =
     c.take.new.self c.in-Within.decoder c.args.fed.piece c.in-Within.is c.requires.sound c.in-Ok.lines c.in-Ok.ensures.outcome)
     c.take.ensures.picture c.take.ensures.records c.take.ensures.count
 
+-- the piece reads as no lines, and has a record
 pub returns-in-Err : goal.returns-in-Err
 returns-in-Err c =
     on_ok3 c.note-in-Err.result

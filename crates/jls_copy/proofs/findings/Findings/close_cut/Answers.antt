@@ -15,6 +15,7 @@ returns-in-Beyond c =
     c.args.self.now c.note.new.self c.args.fed.piece c.in-Beyond.is)
     c.note.ensures.partial c.note.ensures.records c.note.ensures.count
 
+-- the cut piece reads as lines
 pub returns-in-Whole : goal.returns-in-Whole
 returns-in-Whole c =
     let said = subst (CutFinishes c.in-Within.decoder) c.in-Whole.is c.in_ok-lines-in-Within.ensures.cut_end in
@@ -22,6 +23,7 @@ returns-in-Whole c =
     c.args.fed.scan c.args.fed.offset c.args.self.now c.take.new.self c.in-Whole.lines said) c.take.ensures.picture c.take.ensures.records
     c.take.ensures.count
 
+-- the cut piece gives its head, and has a record
 pub returns-in-Head : goal.returns-in-Head
 returns-in-Head c =
     let said = subst (CutFinishes c.in-Within.decoder) c.in-Head.is c.in_ok-lines-in-Within.ensures.cut_end in

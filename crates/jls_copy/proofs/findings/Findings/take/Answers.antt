@@ -3,6 +3,7 @@ use Rattle.jls_copy.proofs.Fitting.{lines_fit}
 use Rattle.jls_copy.proofs.findings.Findings.take.Goals as goal
 use Rattle.jls_copy.proofs.findings.Findings.take.Goals.{in-None, in-Some}
 
+-- the lines fit the picture from the interval's first row on
 pub take_lines-requires : goal.take_lines-requires
 take_lines-requires c =
     let fit = lines_fit c.args.shape.now c.args.plan.now c.args.interval c.requires.lines.0 _ c.components.ensures.ranges c.requires.scan

@@ -5,6 +5,7 @@ use Rattle.jls_copy.proofs.Idle.{all_at_end}
 use Rattle.jls_copy.proofs.MachineTakes.{takes_stretch, takes_of_scan}
 use Rattle.jls_copy.proofs.machine.Machine.take.Goals as goal
 
+-- bytes of the piece are taken
 pub returns-in-Data : goal.returns-in-Data
 returns-in-Data c =
     let fed : TakesData c.in-InScan.scan c.args.bytes.now c.take.new.self c.in-Data.count =
@@ -13,6 +14,7 @@ returns-in-Data c =
     refl
     c.requires.machine.place_is c.requires.machine.header_bytes
 
+-- bytes after the end are taken
 pub returns-in-Done : goal.returns-in-Done
 returns-in-Done c =
     let all : length c.args.bytes.now ≤ length c.args.bytes.now = omega arith in

@@ -3,6 +3,7 @@ use Rattle.jls_copy.specs.ReaderState.{with_segment}
 use Rattle.jls_copy.proofs.MachineTakes.{takes_part, takes_rest}
 use Rattle.jls_copy.proofs.machine.Machine.take_in_payload.Goals as goal
 
+-- the bytes do not complete the payload
 pub returns-then-count-lacking : goal.returns-then-count-lacking
 returns-then-count-lacking c =
     let small : c.args.size < 2 ^ 16 = omega (arith, c.ranges.size.fits) in
@@ -13,6 +14,7 @@ returns-then-count-lacking c =
     (omega arith) (omega arith)
     c.in_ok-extend_from_slice.ensures.items (omega (arith, c.if-count-lacking.true)) small refl refl refl
 
+-- the bytes complete the payload, and the segment is taken
 pub returns : goal.returns
 returns c =
     let small : c.args.size < 2 ^ 16 = omega (arith, c.ranges.size.fits) in

@@ -3,6 +3,7 @@ use Rattle.jls_copy.specs.Sound.{IsOfFrame}
 use Rattle.jls_copy.proofs.HeaderFacts.{scan_is_of_frame}
 use Rattle.jls_copy.proofs.machine.Machine.take_segment.Goals as goal
 
+-- the segment begins a scan, which is one of the frame
 pub returns-in-Ok-Some-clause-sound : goal.returns-in-Ok-Some-clause-sound
 returns-in-Ok-Some-clause-sound c = λ _.
     let plan = ap (λ scan. scan.plan) c.open-scan.ensures.opened in

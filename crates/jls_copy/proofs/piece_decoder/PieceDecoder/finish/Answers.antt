@@ -7,6 +7,7 @@ use Rattle.jls_copy.specs.PieceDecoder.{made_or_unfed}
 use Rattle.jls_copy.proofs.Outcomes.{Finishes}
 use Rattle.jls_copy.proofs.piece_decoder.PieceDecoder.finish.Goals as goal
 
+-- no byte was fed: the piece is empty
 pub returns-in-None : goal.returns-in-None
 returns-in-None c =
     let s = c.self.inside.planned in

@@ -3,6 +3,7 @@ use Rattle.std.specs.Prelude.{◌==◌}
 use Rattle.jls_copy.proofs.PiecesInHand.{place_holds, some_mapped}
 use Rattle.jls_copy.proofs.place.CopyPosition.piece_in_hand.Goals as goal
 
+-- the piece in hand, with the first lines that its decoder answers
 pub returns : goal.returns
 returns c =
     let found = c.in_ok-lines.lines in

@@ -7,6 +7,7 @@ use Rattle.jls_copy.specs.ReadCopy.{ReaderBytes}
 use Rattle.jls_copy.proofs.Gathering.{is_machine, reading_on, of_fed, bytes_between}
 use Rattle.jls_copy.proofs.profile_reader.ProfileReader.feed.Goals as goal
 
+-- before the first byte nothing more is fed
 pub loop-at-init : goal.loop-at-init
 loop-at-init c = record {
   within = omega arith;
@@ -17,6 +18,7 @@ loop-at-init c = record {
       c.self.invariant c.if-self.false;
 }
 
+-- the bytes fed so far and these are few enough
 pub take-requires-clause-few : goal.take-requires-clause-few
 take-requires-clause-few c =
     let r = c.self.inside in let xs : List ℕ = c.args.slice.now in let at : ℕ = c.loop-at.at in let v = c.loop-at.invariant in
@@ -35,6 +37,7 @@ take-requires-clause-few c =
 pub take-requires-clause-machine : goal.take-requires-clause-machine
 take-requires-clause-machine c = is_machine _ _ _ c.loop-at.invariant.reading
 
+-- the machine took some bytes more, and stands where they lead
 pub loop-at-preserved : goal.loop-at-preserved
 loop-at-preserved c =
     let r = c.self.inside in let xs : List ℕ = c.args.slice.now in let at : ℕ = c.loop-at.at in let n : ℕ = c.in-Ok.count in

@@ -10,6 +10,7 @@ use Rattle.jls_copy.proofs.profile_reader.ProfileReader.finish.Goals as goal
 pub finish-requires : goal.finish-requires
 finish-requires c = is_machine _ _ _ (c.self.invariant c.if-failed.false)
 
+-- what the machine holds at the end is what the copy gives
 pub returns-in-Ok-clause-read : goal.returns-in-Ok-clause-read
 returns-in-Ok-clause-read c =
     let h = c.self.invariant c.if-failed.false in
@@ -21,6 +22,7 @@ returns-in-Ok-clause-read c =
     (concluding _ _ c.finish.new.self _ _ read h c.in-Ok.ensures.end c.in-Ok.ensures.found c.in-Ok.ensures.headers fed))))
     c.conclude.ensures.read
 
+-- no frame was taken, and the copy gives no picture
 pub returns-in-Ok-clause-none : goal.returns-in-Ok-clause-none
 returns-in-Ok-clause-none c =
     let h = c.self.invariant c.if-failed.false in

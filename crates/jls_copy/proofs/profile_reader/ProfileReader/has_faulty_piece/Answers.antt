@@ -7,6 +7,7 @@ use Rattle.jls_copy.proofs.FaultyPieces.{some_fault, stays_faulty}
 use Rattle.jls_copy.proofs.Gathering.{fed_or_failed}
 use Rattle.jls_copy.proofs.profile_reader.ProfileReader.has_faulty_piece.Goals as goal
 
+-- a record is of a closed piece that is faulty
 pub returns : goal.returns
 returns c = λ yes.
     let reader = c.self.inside in

@@ -6,6 +6,7 @@ use Rattle.jls_copy.proofs.Gathering.{fed_or_failed}
 use Rattle.jls_copy.proofs.CopyFed.{done_fed}
 use Rattle.jls_copy.proofs.profile_reader.ProfileReader.is_done.Goals as goal
 
+-- the place is final exactly where the course is
 pub returns : goal.returns
 returns c =
     let reader = c.self.inside in

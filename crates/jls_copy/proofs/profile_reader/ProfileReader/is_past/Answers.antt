@@ -6,6 +6,7 @@ use Rattle.jls_copy.proofs.Gathering.{fed_or_failed}
 use Rattle.jls_copy.proofs.SettledPieces.{past_fed}
 use Rattle.jls_copy.proofs.profile_reader.ProfileReader.is_past.Goals as goal
 
+-- the piece in hand begins at the offset or after it
 pub returns : goal.returns
 returns c = λ past.
     let reader = c.self.inside in

@@ -6,6 +6,7 @@ use Rattle.jls_copy.proofs.Gathering.{fed_or_failed}
 use Rattle.jls_copy.proofs.Prefixes.{broken_fed}
 use Rattle.jls_copy.proofs.profile_reader.ProfileReader.is_piece_broken.Goals as goal
 
+-- the piece in hand reads no more, so it stays broken
 pub returns : goal.returns
 returns c = λ broken.
     let reader = c.self.inside in

@@ -6,6 +6,7 @@ use Rattle.jls_copy.proofs.Gathering.{fed_or_failed}
 use Rattle.jls_copy.proofs.PiecesInHand.{in_hand_fed, of_found}
 use Rattle.jls_copy.proofs.profile_reader.ProfileReader.piece_in_hand.Goals as goal
 
+-- what the place holds is in hand after the bytes fed
 pub returns : goal.returns
 returns c =
     let reader = c.self.inside in

@@ -7,6 +7,7 @@ use Rattle.jls_copy.specs.declared.scan.OpenScan.{OpenScan}
 use Rattle.jls_copy.proofs.ScanTakes.{takes_data, class_one, within_fed}
 use Rattle.jls_copy.proofs.scan.OpenScan.take_after.Goals as goal
 
+-- the FF bytes and the byte are fed to the piece
 pub returns-in_ok-push_all-in-Within : goal.returns-in_ok-push_all-in-Within
 returns-in_ok-push_all-in-Within c =
     let scan : OpenScan = c.args.self.now in let b : ℕ = get_or c.args.bytes.now 0 0 in let p = c.in-Within in
