@@ -13,7 +13,7 @@ use jls_marker::{Segment, write_segment};
 use jls_values::Params;
 use std::alloc::{AllocError, Global};
 
-/// SOI, SOF55 without its components, LSE and DRI have so many bytes at most.
+/// The most bytes of SOI, SOF55 without its components, LSE and DRI together.
 const BYTES_BESIDE_COMPONENTS: usize = 35;
 
 /// Whether MAXVAL, the thresholds and RESET are those of the other parameters.

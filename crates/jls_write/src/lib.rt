@@ -2,8 +2,8 @@
 //!
 //! - `picture`, `lender`: a picture lent from a settled partial picture or from samples
 //! - `options`: how it is to be written as JPEG-LS, and which pictures can be
-//! - `pnm`, `pnm_header`, `pixels`, `waiting`: the PNM file. The lines of a row are lent once, and their columns go into a buffer on the
-//!   stack, handed out at 4,096 bytes or more
+//! - `pnm`, `pnm_header`, `pixels`, `waiting`: the PNM file. The lines of a row are lent once. Their columns go into a buffer on the stack,
+//!   which is handed out at 4,096 bytes or more
 //! - `output`: hands bytes to a sink, and counts all that have gone out
 //! - `write`: `write_jls`: the header segments, then each scan, interval by interval
 //! - `file`: `jls_file`: the same bytes in memory

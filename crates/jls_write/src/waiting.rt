@@ -8,10 +8,10 @@ use crate::output::{OutputFault, write_part};
 use arrayvec::ArrayVec;
 use jls_io::Sink;
 
-/// Room for bytes that wait: for fewer than `FULL`, and as many after them.
+/// The room for bytes that wait. It has place for fewer than `FULL`, and for as many after them.
 pub(crate) const ROOM: usize = 8192;
 
-/// So many bytes are handed out at once, or more, but for the last ones of a file.
+/// The fewest bytes that are handed out at once, but for the last ones of a file.
 const FULL: usize = 4096;
 
 /// Bytes that wait, and how many have gone out before them.
