@@ -37,6 +37,7 @@ columns_are_pixels pic row lines columns lines_are =
     ∙ (λ i. flat_map (λ column. flat_map-map (λ (line : List ℕ). sample_bytes (is_wide pic.shape) (get_or line column 0))
     (λ component. line_of pic component row) (range_with_len 0 (length pic.shape.ids)) i) columns)
 
+-- what holds of all items holds of the one at a place
 all_at : {X : Type 0} (P : X → Type 0) (xs : List X) (k : ℕ) (d : X) → AllByRecursion P xs → k < length xs → P (get_or xs k d)
 all_at P [] k d all inside = absurd (omega arith)
 all_at P (x ∷ xs) zero d all inside = all.0
@@ -88,12 +89,14 @@ inside_lent : (lines : List (Bor (List ℕ))) (k : ℕ) → k < length lines →
 inside_lent lines k inside = let same : length (lent lines) ≡ length lines = length-map lines (λ (line : Bor (List ℕ)). line.now) in
     omega (arith, same, inside)
 
+-- at most four lines are lent
 pub few_lent : (wide : Bool) (end : ℕ) (lines : List (Bor (List ℕ))) → AreLinesTo wide end (lent lines) → length lines ≤ 4
 few_lent wide end lines to =
     let few = to.few in
     let same : length (lent lines) ≡ length lines = length-map lines (λ (line : Bor (List ℕ)). line.now) in
     omega (arith, same, few)
 
+-- each lent line has the column
 pub reaches : (wide : Bool) (lines : List (Bor (List ℕ))) (column k : ℕ) (d : Bor (List ℕ)) → AreLinesTo wide (column + 1) (lent lines) → k
     < length lines
     → column < length (get_or lines k d).now
@@ -102,6 +105,7 @@ reaches wide lines column k d to inside =
     let same = ap (λ (t : List ℕ). length t) (lent_is lines k d inside) in
     omega (arith, far, same)
 
+-- where samples are not wide, each has one byte
 pub fits : (wide : Bool) (lines : List (Bor (List ℕ))) (column k : ℕ) (d : Bor (List ℕ)) → AreLinesTo wide (column + 1) (lent lines) → k
     < length lines
     → wide ≡ false → get_or (get_or lines k d).now column 0 < 256
@@ -110,6 +114,7 @@ fits wide lines column k d to inside narrow =
     let same = ap (λ (t : List ℕ). get_or t column 0) (lent_is lines k d inside) in
     omega (arith, low, same)
 
+-- the sample of one line more of a column, put after those before
 pub put_more : (wide : Bool) (lines : List (Bor (List ℕ))) (column k : ℕ) (d : Bor (List ℕ)) (out now new : List ℕ) → k < length lines
     → now ≡ out ++ column_bytes wide (take k (lent lines)) column → new ≡ now ++ sample_bytes wide (get_or (get_or lines k d).now column 0)
     → new ≡ out ++ column_bytes wide (take (k + 1) (lent lines)) column

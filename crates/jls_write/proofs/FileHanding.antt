@@ -70,6 +70,7 @@ pub part_out : {old mid new : History} {held keeps holds : Option (List ℕ)} (f
     → HandedOut old new held holds (flat_map f (range_with_len 0 (k + 1)))
 part_out f k out part = handed_as _ _ (sym (flat_map_more f k)) (handed_on _ _ _ _ _ _ _ (f k) out part)
 
+-- how many bytes have gone out after one part more
 pub part_counted : (f : ℕ → List ℕ) (k before now after : ℕ) → now ≡ before + length (flat_map f (range_with_len 0 k))
     → after ≡ now + length (f k) → after ≡ before + length (flat_map f (range_with_len 0 (k + 1)))
 part_counted f k before now after counted more =

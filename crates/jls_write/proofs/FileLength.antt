@@ -23,6 +23,7 @@ use Rattle.jls_write.proofs.IntervalLines.{length_range, samples_most}
 use Rattle.jls_write.proofs.Scans.{scans_are}
 use Rattle.jls_write.proofs.PackedLength.{packed_at_most}
 
+-- lists of one length, one after the other, have as many items as lists times that length
 each_length : (f : ℕ → List ℕ) (n : ℕ) (xs : List ℕ) → ((x : ℕ) → length (f x) ≡ n) → length (flat_map f xs) ≡ length xs * n
 each_length f n [] each = omega arith
 each_length f n (x ∷ xs) each =
@@ -36,6 +37,7 @@ map_length : (f : ℕ → ℕ) (xs : List ℕ) → length (map f xs) ≡ length 
 map_length f [] = refl
 map_length f (x ∷ xs) = let e = map_length f xs in omega (arith, e)
 
+-- a scan has at most four components
 few_components : (pic : WholePicture) (o : WriteOptions) (count : ℕ) → IsShape pic.shape → count ≡ components_of_scan pic.shape o
     → count ≤ 4
 few_components pic o count shape of_scan = subst (λ n. n ≤ 4) (sym of_scan) (by_line o.line)
@@ -58,6 +60,7 @@ before_at_most pic o first count zero few =
     omega (arith, size, listed, all, few)
 before_at_most pic o first count (suc k) few = rw (ne_eqb (suc k) 0 (λ e. absurd (omega (arith, e)))) (omega arith)
 
+-- an interval, with what stands before it, has at most 2^39 bytes
 pub marked_at_most : (pic : WholePicture) (o : WriteOptions) (first count k : ℕ) → OptionsFit pic o → IsShape pic.shape
     → AreCodingParameters o.params → count ≡ components_of_scan pic.shape o
     → length (marked_interval pic (scan_from pic o first count) k) ≤ 2 ^ 39
@@ -80,6 +83,7 @@ scan_at_most pic o first fit shape params =
     let few : intervals s ≤ pic.shape.height = count_at_most pic.shape.height o.restart_interval shape.height_at_least in
     omega (arith, each, few, low)
 
+-- a picture has at most four scans
 pub scan_count_at_most : (pic : WholePicture) (o : WriteOptions) → IsShape pic.shape → scan_count pic o ≤ 4
 scan_count_at_most pic o shape = by_line o.line
   where
@@ -87,13 +91,14 @@ scan_count_at_most pic o shape = by_line o.line
     by_line true = omega arith
     by_line false = shape.ids_at_most
 
--- so many scans
+-- the first n scans have at most 2^55 bytes each
 pub scans_at_most : (pic : WholePicture) (o : WriteOptions) (n : ℕ) → OptionsFit pic o → IsShape pic.shape → AreCodingParameters o.params
     → length (flat_map (λ first. scan_bytes pic (scan_from pic o first (components_of_scan pic.shape o))) (range_with_len 0 n)) ≤ n * 2 ^ 55
 scans_at_most pic o n fit shape params =
     length-flat_map-le (λ first. scan_bytes pic (scan_from pic o first (components_of_scan pic.shape o))) (2 ^ 55)
     (λ first. scan_at_most pic o first fit shape params) 0 n
 
+-- all scans together have at most 2^57 bytes
 pub all_scans_at_most : (pic : WholePicture) (o : WriteOptions) → OptionsFit pic o → IsShape pic.shape → AreCodingParameters o.params
     → length (scans_bytes pic o) ≤ 2 ^ 57
 all_scans_at_most pic o fit shape params =
@@ -108,6 +113,7 @@ preset_at_most : (p : CodingParameters) (same : Bool)
 preset_at_most p true = omega arith
 preset_at_most p false = omega arith
 
+-- DRI has at most 8 bytes, or is not there
 restart_at_most : (n : ℕ) → length (flat_map bytes_of (restart_segments n)) ≤ 8
 restart_at_most zero = omega arith
 restart_at_most (suc n) =
@@ -125,6 +131,7 @@ three_at_most a b c first second third = let outer = length-append a (b ++ c) in
 two_more : (xs : List ℕ) (x y n : ℕ) → length xs ≤ n → length (x ∷ y ∷ xs) ≤ n + 2
 two_more xs x y n h = omega (arith, h)
 
+-- SOI and the segments before the scans have at most 64 bytes
 pub header_at_most : (pic : WholePicture) (o : WriteOptions) → IsShape pic.shape → length (header_bytes pic o) ≤ 64
 header_at_most pic o shape =
     let frame : List ℕ = bytes_of (segment.Frame pic.shape) in

@@ -14,6 +14,7 @@ use Rattle.jls_write.specs.declared.output.OutputFault.TheVariants.{Write, OutOf
 use Rattle.jls_write.specs.Outcomes.{HandedOut, HandedPrefix, StoppedBy}
 use Rattle.jls_write.specs.Waiting.{PutAfter}
 
+-- a prefix of some bytes that went out is one of these with more after them
 prefix_of : (old new : History) (held holds : Option (List ℕ)) (a b : List ℕ) (count : ℕ) → HandedPrefix old new held holds a count
     → HandedPrefix old new held holds (a ++ b) count
 prefix_of old new held holds a b count h =
@@ -23,11 +24,13 @@ prefix_of old new held holds a b count h =
       holds_them = subst (λ (t : List ℕ). Appends held holds t) (sym (take-append-le count a b (omega (arith, less)))) h.holds_them;
     }
 
+-- bytes that went out, as equal ones
 pub handed_as : {old new : History} {held holds : Option (List ℕ)} (a b : List ℕ) → a ≡ b → HandedOut old new held holds a
     → HandedOut old new held holds b
 handed_as a b e h = rw e at h
 
 module _ (old mid new : History) (held keeps holds : Option (List ℕ)) where
+  -- some bytes that went out, and then others, are all of them
   pub handed_on : (a b : List ℕ) → HandedOut old mid held keeps a → HandedOut mid new keeps holds b → HandedOut old new held holds (a ++ b)
   handed_on a b h k = record {
     wrote = written_on old mid new a b h.wrote k.wrote;
@@ -35,6 +38,7 @@ module _ (old mid new : History) (held keeps holds : Option (List ℕ)) where
         appends_on held keeps holds a b h.holds_them k.holds_them;
   }
 
+  -- some bytes that went out, and then a prefix of others, are a prefix of all of them
   prefix_on : (a b : List ℕ) (count : ℕ) → HandedOut old mid held keeps a → HandedPrefix mid new keeps holds b count
       → HandedPrefix old new held holds (a ++ b) (length a + count)
   prefix_on a b count h k = record {

@@ -38,7 +38,7 @@ pub length_range : (a n : ℕ) → length (range_with_len a n) ≡ n
 length_range a zero = refl
 length_range a (suc n) = let e = length_range (a + 1) n in omega (arith, e)
 
--- so many rows of so many lines
+-- n rows have n times as many lines as components
 pub rows_length : (pic : WholePicture) (components : List ℕ) (a n : ℕ)
     → length (flat_map (row_lines pic components) (range_with_len a n)) ≡ n * length components
 rows_length pic components a zero = omega arith
@@ -81,6 +81,7 @@ samples_most pic o first count k fit of_scan =
     turn : (a b c : ℕ) → a * b * c ≡ c * b * a
     turn a b c = ap (λ n. n * c) (mul_comm a b) ∙ mul_comm (b * a) c ∙ omega arith
 
+-- the lines of an interval of a scan fit an interval, if each is a line
 pub lines_fit : (pic : WholePicture) (o : WriteOptions) (first count k : ℕ) (lines : List (List ℕ)) → IsScanFrom pic o first count
     → k < intervals (scan_from pic o first count)
     → lines ≡ interval_lines pic (scan_from pic o first count) k → AllByRecursion (IsLine o.params pic.shape.width) lines

@@ -14,6 +14,7 @@ use Rattle.jls_write.specs.Picture.{line_of, settled_line, picture_of}
 
 -- ---- settled lines
 
+-- a line of the picture is the settled line of its partial picture
 pub line_is : (p : PartialPicture) (component line : ℕ) → component < length p.shape.ids → line < p.shape.height
     → line_of (picture_of p) component line ≡ settled_line p component line
 line_is p component line component_in line_in =
@@ -39,6 +40,7 @@ pub all_below : (n : ℕ) (xs : List ℕ) → list_any (λ x. nat_le n x) xs ≡
 all_below n [] e = tt
 all_below n (x ∷ xs) e = let both = or_false (nat_le n x) (list_any (λ y. nat_le n y) xs) e in (above n x both.0, all_below n xs both.1)
 
+-- a reading that fits is as long as the width, with samples of the precision
 pub fits_shape : (shape : PictureShape) (component line : ℕ) (samples : List ℕ) → reading_fault shape component line samples ≡ None
     → (length samples ≡ shape.width) × AllByRecursion (λ sample. sample < 2 ^ shape.precision) samples
 fits_shape shape component line samples e =

@@ -5,6 +5,7 @@ use Rattle.std.proofs.lemmas.Grind.{flat_map-append}
 use Rattle.std.proofs.lemmas.List.{append-nil, length-append}
 use Rattle.jls_values.proofs.Lists.{appended}
 
+-- a range of numbers is its first ones, and then the others
 pub range-append : (a m n : ℕ) → range_with_len a (m + n) ≡ range_with_len a m ++ range_with_len (a + m) n
 range-append a zero n = ap (range_with_len a) (zero-add n) ∙ ap (λ k. range_with_len k n) (sym (add-zero a))
 range-append a (suc m) n =
@@ -23,6 +24,7 @@ flat_map_on f a m n low high =
     ∙ flat_map-append f (range_with_len a (m - a)) (range_with_len (a + (m - a)) (n - m))
     ∙ ap (λ k. flat_map f (range_with_len a (m - a)) ++ flat_map f (range_with_len k (n - m))) from
 
+-- a list that is made number by number is what the first numbers make, and then what the others do
 pub two_parts : {X : Type 0} (f : ℕ → List X) (m n : ℕ) → m ≤ n
     → flat_map f (range_with_len 0 n) ≡ flat_map f (range_with_len 0 m) ++ flat_map f (range_with_len m (n - m))
 two_parts f m n high =

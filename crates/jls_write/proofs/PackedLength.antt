@@ -34,6 +34,7 @@ use Rattle.jls_interval.proofs.LeastPassing.{least_low}
 
 -- ---- bytes
 
+-- the pad of some bits has at most one byte more than bits
 pad_at_most : (before : ℕ) (pending given : List Bool) → length (pad_after before pending given) ≤ length given + 1
 unfolding pad_after
 pad_at_most before [] [] = elim (cases_Bool (eqb before 0xFF)) [ inl e ↦ rw e (omega arith) | inr e ↦ rw e (omega arith) ]
@@ -46,6 +47,7 @@ pad_at_most before pending (b ∷ bs) =
 
 -- ---- codes of numbers
 
+-- a Golomb code has at most g + k + qbpp + 1 bits
 golomb_at_most : (k g q m : ℕ) → length (golomb k g q m) ≤ g + k + q + 1
 unfolding golomb
 golomb_at_most k g q m =
@@ -57,6 +59,7 @@ golomb_at_most k g q m =
           let zeros = length-replicate (g - q - 1) false in let low = length-bits q (m - 1) in omega (arith, both, zeros, low))
     ]
 
+-- the least number that passes is at most each number that passes
 least_at_most : (passes : ℕ → Bool) (count from j : ℕ) → from ≤ j → passes j ≡ true → least_from passes count from ≤ j
 unfolding least_from
 least_at_most passes zero from j low here = low
@@ -98,6 +101,7 @@ updated_grows reset cell e small =
       | inr other ↦ (let stay = sums_stay (counted (with_error cell e)) in rw (other, stay.0, stay.1) (omega arith, omega (arith, small)))
     ]
 
+-- an update of a run cell adds at most 2^17 to A, and at most 1 to N
 run_updated_grows : (reset : ℕ) (same : Bool) (cell : RunCell) (e : ℤ) → interruption_mapped same cell e ≤ 2 ^ 16
     → (1 ≤ (run_updated reset same cell e).occurrences) × ((run_updated reset same cell e).magnitudes ≤ cell.magnitudes + 2 ^ 17)
     × ((run_updated reset same cell e).occurrences ≤ cell.occurrences + 1)
@@ -109,12 +113,14 @@ run_updated_grows reset same cell e small =
           rw other (omega arith, omega (arith, small), omega arith)
     ]
 
+-- TEMP is at most A and N together
 temp_at_most : (same : Bool) (cell : RunCell) (a b : ℕ) → cell.magnitudes ≤ a → cell.occurrences ≤ b
     → interruption_magnitudes same cell ≤ a + b
 temp_at_most true cell a b h k = omega arith
 temp_at_most false cell a b h k = omega arith
 
 module _ (p : CodingParameters) (small : p.maxval < 2 ^ 16) where
+  -- an event adds at most 2^17 to A of a cell of regular mode
   regular_grows : (cell : Cell) (e : Event) → 1 ≤ cell.occurrences
       → (1 ≤ (cell_after p cell e).occurrences) × ((cell_after p cell e).magnitudes ≤ cell.magnitudes + 2 ^ 17)
   regular_grows cell (regular near sample) some =
@@ -124,6 +130,7 @@ module _ (p : CodingParameters) (small : p.maxval < 2 ^ 16) where
   regular_grows cell (run_to_end component count) some = (some, omega arith)
   regular_grows cell (interrupted_run component count near sample) some = (some, omega arith)
 
+  -- some events add at most 2^17 each to A of a cell of regular mode
   cells_grow : (cell : Cell) (events : List Event) → 1 ≤ cell.occurrences
       → (1 ≤ (fold (cell_after p) cell events).occurrences)
       × ((fold (cell_after p) cell events).magnitudes ≤ cell.magnitudes + length events * 2 ^ 17)
@@ -133,6 +140,7 @@ module _ (p : CodingParameters) (small : p.maxval < 2 ^ 16) where
       let rest = cells_grow (cell_after p cell e) events one.0 in
       (rest.0, omega (arith, one.1, rest.1))
 
+  -- an event adds at most 2^17 to A of a run cell, and at most 1 to N
   run_grows : (same : Bool) (cell : RunCell) (e : Event) → 1 ≤ cell.occurrences
       → (1 ≤ (run_cell_after p same cell e).occurrences) × ((run_cell_after p same cell e).magnitudes ≤ cell.magnitudes + 2 ^ 17)
       × ((run_cell_after p same cell e).occurrences ≤ cell.occurrences + 1)
@@ -143,6 +151,7 @@ module _ (p : CodingParameters) (small : p.maxval < 2 ^ 16) where
       (error_range p (ltb near.rb near.ra) sample near.rb) in
       run_updated_grows p.reset same cell (interruption_error p near sample) (omega (arith, most, small))
 
+  -- some events add at most 2^17 each to A of a run cell, and at most 1 each to N
   run_cells_grow : (same : Bool) (cell : RunCell) (events : List Event) → 1 ≤ cell.occurrences
       → (1 ≤ (fold (run_cell_after p same) cell events).occurrences)
       × ((fold (run_cell_after p same) cell events).magnitudes ≤ cell.magnitudes + length events * 2 ^ 17)
@@ -153,6 +162,7 @@ module _ (p : CodingParameters) (small : p.maxval < 2 ^ 16) where
       let rest = run_cells_grow same (run_cell_after p same cell e) events one.0 in
       (rest.0, omega (arith, one.1, rest.1), omega (arith, one.2, rest.2))
 
+  -- a filtered list is no longer
   filtered : (q : Event → Bool) (events : List Event) → length (filter q events) ≤ length events
   filtered q [] = omega arith
   filtered q (x ∷ events) =
@@ -169,6 +179,7 @@ module _ (p : CodingParameters) (small : p.maxval < 2 ^ 16) where
       (fold (cell_after p) (initial_cell p) (filter (uses_cell p q) earlier)).magnitudes 46 grown.0
       (omega (arith, grown.1, fewer, few, small))
 
+  -- after at most 2^28 events, k of a run interruption is at most 46
   run_k_at_most : (earlier : List Event) (same : Bool) → length earlier ≤ 2 ^ 28 → run_k same (run_cell_before p earlier same) ≤ 46
   unfolding run_cell_before
   run_k_at_most earlier same few =
@@ -190,12 +201,14 @@ IsWithin width (interrupted_run component count near sample) = count ≤ width
 limit_at_most : (p : CodingParameters) → (limit p ≤ 64) × (qbpp p ≤ 16)
 limit_at_most p = let few : qbpp p ≤ 0 + 16 = least_low (λ bits. leb (range p) (2 ^ bits)) 16 0 in (omega (arith, few), omega (arith, few))
 
+-- a run of fewer than 2^16 columns has at most 32 full blocks
 blocks_at_most : (r count : ℕ) → count < 2 ^ 16 → (blocks r count).full_blocks ≤ 32
 unfolding blocks full_blocks
 blocks_at_most r count few =
     let most = least_low (λ blocks. ltb count (block_columns r (suc blocks))) (31 + count / 2 ^ 15) 0 in
     omega (arith, most, few)
 
+-- after at most 2^28 events, the bits of an event are at most 200
 event_at_most : (p : CodingParameters) → p.maxval < 2 ^ 16 → (width : ℕ) → width < 2 ^ 16 → (earlier : List Event) (e : Event)
     → length earlier ≤ 2 ^ 28 → IsWithin width e → length (event_bits p earlier e) ≤ 200
 unfolding event_bits
@@ -233,6 +246,7 @@ event_at_most p small width narrow earlier (interrupted_run component count near
     let b = length-append (replicate run.full_blocks true ++ false ∷ bits j run.remaining) code in
     omega (arith, a, b, rest, k, limits, order, ones, low, full)
 
+-- at most 2^28 events have at most 200 bits each
 bits_at_most : (p : CodingParameters) → p.maxval < 2 ^ 16 → (width : ℕ) → width < 2 ^ 16 → (earlier events : List Event)
     → length earlier + length events ≤ 2 ^ 28 → AllByRecursion (IsWithin width) events
     → length (bits_of_events p earlier events) ≤ length events * 200
@@ -259,6 +273,7 @@ stretch_within width component up line x =
       | inr other ↦ rw other tt
     ]
 
+-- a line has no more events than columns that are gone through, and each fits the width
 line_at_most : (width component : ℕ) (up : Above) (line : List ℕ) (fuel x : ℕ)
     → (length (events_from (stretch width component up line) width fuel x) ≤ fuel)
     × AllByRecursion (IsWithin width) (events_from (stretch width component up line) width fuel x)
@@ -276,6 +291,7 @@ all_on : (P : Event → Type 0) (xs ys : List Event) → AllByRecursion P xs →
 all_on P [] ys h k = k
 all_on P (x ∷ xs) ys h k = (h.0, all_on P xs ys h.1 k)
 
+-- some lines have no more events than samples, and each fits the width
 lines_at_most : (width components : ℕ) (before lines : List (List ℕ))
     → (length (events_after width components before lines) ≤ length lines * width)
     × AllByRecursion (IsWithin width) (events_after width components before lines)
@@ -292,6 +308,7 @@ lines_at_most width components before (line ∷ lines) =
           (events_after width components (before ++ line ∷ []) lines) here.1 rest.1,
     )
 
+-- the code of an interval has at most 2^38 bytes
 pub packed_at_most : (p : CodingParameters) (width components : ℕ) (lines : List (List ℕ)) → AreCodingParameters p → width < 2 ^ 16
     → length lines * width ≤ 2 ^ 28
     → length (packed p width components lines) ≤ 2 ^ 38

@@ -22,7 +22,7 @@ record PnmExamples : Type 0 where
   -- PAM of two components, one row of two columns
   two_components : pnm (picture 16 2 1 (1 ∷ 2 ∷ []) (((5000 ∷ 2 ∷ []) ∷ []) ∷ ((65535 ∷ 0 ∷ []) ∷ []) ∷ []))
       ≡ codes "P7\nWIDTH 2\nHEIGHT 1\nDEPTH 2\nMAXVAL 65535\nENDHDR\n" ++ (0x13 ∷ 0x88 ∷ 0xFF ∷ 0xFF ∷ 0 ∷ 2 ∷ 0 ∷ 0 ∷ [])
-  -- and of four
+  -- PAM of four components, one row of one column
   four_components : pnm (picture 16 1 1 (1 ∷ 2 ∷ 3 ∷ 4 ∷ []) (((1 ∷ []) ∷ []) ∷ ((2 ∷ []) ∷ []) ∷ ((3 ∷ []) ∷ []) ∷ ((4 ∷ []) ∷ []) ∷ []))
       ≡ codes "P7\nWIDTH 1\nHEIGHT 1\nDEPTH 4\nMAXVAL 65535\nENDHDR\n" ++ (0 ∷ 1 ∷ 0 ∷ 2 ∷ 0 ∷ 3 ∷ 0 ∷ 4 ∷ [])
   -- the last precision of one byte a sample, and the first of two

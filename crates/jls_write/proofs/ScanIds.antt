@@ -13,6 +13,7 @@ use Rattle.jls_write.specs.Picture.{WholePicture}
 use Rattle.jls_write.specs.WrittenFile.{bytes_of, scan_segment}
 use Rattle.jls_write.proofs.IntervalLines.{length_range}
 
+-- the identifiers by index from one place on are those of the frame from there on
 ids_are : (ids : List ℕ) (first count : ℕ) → first + count ≤ length ids
     → map (λ c. get_or ids c 0) (range_with_len first count) ≡ take count (drop first ids)
 ids_are ids first zero h = refl
@@ -22,6 +23,7 @@ ids_are ids first (suc count) h =
     ap (λ t. get_or ids first 0 ∷ t) (ids_are ids (first + 1) count (omega arith) ∙ ap (λ k. take count (drop k ids)) next)
     ∙ sym (ap (take (suc count)) here)
 
+-- the slice of identifiers that the code takes is that of the scan's components
 sliced : (ids given : List ℕ) (first count from size : ℕ) → given ≡ ids → from ≡ first → size ≡ count → first + count ≤ length ids
     → take (from + size - from) (drop from given) ≡ map (λ c. get_or ids c 0) (range_with_len first count)
 sliced ids given first count from size given_is from_is size_is within =

@@ -10,6 +10,7 @@ use Rattle.jls_write.specs.Options.{WriteOptions, OptionsFit, components_of_scan
 use Rattle.jls_write.specs.WrittenFile.{components_of_scans, scan_of, scan_bytes, scans_bytes, marked_interval}
 use Rattle.jls_write.specs.Parts.{scan_from, scan_count, IsScanFrom}
 
+-- lists of one item each, made number by number
 singles : (f : List ℕ → List ℕ) (a n : ℕ)
     → flat_map f (map (λ c. c ∷ []) (range_with_len a n)) ≡ flat_map (λ c. f (range_with_len c 1)) (range_with_len a n)
 singles f a zero = refl
@@ -51,7 +52,7 @@ pub marked_some : (pic : WholePicture) (o : WriteOptions) (first count k : ℕ)
 marked_some pic o first count zero = omega arith
 marked_some pic o first count (suc k) = rw (ne_eqb (suc k) 0 (λ e. absurd (omega (arith, e)))) (omega arith)
 
--- so can one of them, of so many components
+-- each scan of a picture that can be written can be written too
 pub part_fits : (pic : WholePicture) (o : WriteOptions) (first end count : ℕ) → OptionsFit pic o → IsShape pic.shape
     → AreCodingParameters o.params → end ≡ scan_count pic o → first < end → count ≡ components_of_scan pic.shape o
     → IsScanFrom pic o first count

@@ -10,12 +10,14 @@ sample_at_most : (wide : Bool) (sample : ℕ) → length (sample_bytes wide samp
 sample_at_most true sample = let two : length (to_be_bytes w16 sample) ≡ 2 = refl in omega (arith, two)
 sample_at_most false sample = omega arith
 
+-- a pixel has at most 8 bytes
 pub pixel_at_most : (pic : WholePicture) (line column : ℕ) → length pic.shape.ids ≤ 4 → length (pixel_bytes pic line column) ≤ 8
 pixel_at_most pic line column few =
     let all = length-flat_map-le (λ component. sample_bytes (is_wide pic.shape) (get_or (line_of pic component line) column 0)) 2
     (λ component. sample_at_most (is_wide pic.shape) (get_or (line_of pic component line) column 0)) 0 (length pic.shape.ids) in
     omega (arith, all)
 
+-- a row has at most 524,280 bytes
 pub row_at_most : (pic : WholePicture) (line : ℕ) → length pic.shape.ids ≤ 4 → pic.shape.width < 2 ^ 16
     → length (row_bytes pic line) ≤ 524280
 row_at_most pic line few narrow =

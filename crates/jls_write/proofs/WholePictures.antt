@@ -30,6 +30,7 @@ picture_by shape f = record {
 
 module _ (shape : PictureShape) (ranges : IsShape shape) (f : ℕ → ℕ → List ℕ)
     (fits : (component line : ℕ) → component < length shape.ids → line < shape.height → IsLineIn shape (f component line)) where
+  -- a line of a picture that is made line by line is the line that was made
   line_by : (component line : ℕ) → component < length shape.ids → line < shape.height → line_of (picture_by shape f) component line
       ≡ f component line
   line_by component line inside below =
@@ -38,12 +39,14 @@ module _ (shape : PictureShape) (ranges : IsShape shape) (f : ℕ → ℕ → Li
       (zero-add component))
       ∙ get_or-map-range_with_len (f component) 0 shape.height line line [] below (zero-add line)
 
+  -- a component that is made line by line is one of the shape
   component_by : (component : ℕ) → component < length shape.ids → IsComponentIn shape (map (f component) (range_with_len 0 shape.height))
   component_by component inside = (
     length-map-range_with_len (f component) 0 shape.height,
     all_of_range (IsLineIn shape) (f component) 0 shape.height (λ line l. fits component line inside (omega (arith, l))),
   )
 
+  -- a picture that is made of lines in their range is in its ranges
   picture_by_is : IsPicture (picture_by shape f)
   picture_by_is = record {
     shape = ranges;
@@ -52,6 +55,7 @@ module _ (shape : PictureShape) (ranges : IsShape shape) (f : ℕ → ℕ → Li
         (λ c l. component_by c (omega (arith, l)));
   }
 
+  -- a picture that is made line by line has each line
   whole_by : IsWholePicture (picture_by shape f)
   whole_by = record {
     shape = ranges;
@@ -61,11 +65,13 @@ module _ (shape : PictureShape) (ranges : IsShape shape) (f : ℕ → ℕ → Li
 
 -- ---- a settled partial picture
 
+-- the first of a list of one is that one
 only_got : (xs : List (List ℕ)) → length xs ≡ 1 → slice_get xs 0 ≡ Some (get_or xs 0 [])
 only_got [] e = absurd (omega (arith, e))
 only_got (x ∷ xs) e = refl
 
 module _ (p : PartialPicture) (shape : IsShape p.shape) (fits : IsFitting p) (settled : IsSettled p) where
+  -- a line of a settled partial picture is a line of its shape
   settled_fits : (component line : ℕ) → component < length p.shape.ids → line < p.shape.height
       → IsLineIn p.shape (settled_line p component line)
   settled_fits component line inside below =

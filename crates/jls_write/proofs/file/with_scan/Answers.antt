@@ -4,6 +4,7 @@ use Rattle.jls_write.specs.WrittenFile.{marked_interval}
 use Rattle.jls_write.proofs.Joining.{joined_more}
 use Rattle.jls_write.proofs.file.with_scan.Goals as goal
 
+-- one interval more is in the file
 pub loop-interval-preserved : goal.loop-interval-preserved
 loop-interval-preserved c =
     let part = c.args.part.now in

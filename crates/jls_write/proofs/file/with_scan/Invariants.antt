@@ -4,6 +4,7 @@ use Rattle.jls_write.specs.Parts.{scan_from}
 use Rattle.jls_write.specs.WrittenFile.{marked_interval}
 use Rattle.jls_write.proofs.file.with_scan.Given as goal
 
+-- the intervals before this one are in the file
 abbrev pub invariant-loop-interval : goal.invariant-loop-interval
 invariant-loop-interval l =
     let pic = l.part.picture.now in

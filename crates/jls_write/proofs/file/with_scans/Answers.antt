@@ -11,6 +11,7 @@ pub with_scan-requires : goal.with_scan-requires
 with_scan-requires c = part_fits _ _ _ _ _ c.requires.fit c.scan_count-first-end.ensures.ranges c.requires.params
     c.scan_count-first-end.ensures.value c.loop-first-test.true c.components_of_scan-count.ensures
 
+-- one scan more is in the file
 pub loop-first-preserved : goal.loop-first-preserved
 loop-first-preserved c =
     let pic = c.args.picture.now in
@@ -22,6 +23,7 @@ loop-first-preserved c =
     joined_more (λ first. scan_bytes pic (scan_from pic o first (components_of_scan pic.shape o))) c.loop-first.first
     (c.args.begun.front.items ++ c.args.begun.back.items) before after c.loop-first.invariant more
 
+-- all scans are in the file
 pub returns : goal.returns
 returns c =
     let pic = c.args.picture.now in

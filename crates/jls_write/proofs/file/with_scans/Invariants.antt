@@ -5,6 +5,7 @@ use Rattle.jls_write.specs.Parts.{scan_from}
 use Rattle.jls_write.specs.WrittenFile.{scan_bytes}
 use Rattle.jls_write.proofs.file.with_scans.Given as goal
 
+-- the scans before this one are in the file
 abbrev pub invariant-loop-first : goal.invariant-loop-first
 invariant-loop-first l =
     let pic = l.picture in

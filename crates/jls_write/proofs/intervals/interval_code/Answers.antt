@@ -27,6 +27,7 @@ code_is pic o first count k width p lines params width_is is =
     rw (params, width_is, is) (ap (λ n. packed o.params pic.shape.width n (spec.interval_lines pic (scan_from pic o first count) k))
     (sym (length_range first count)))
 
+-- the lines of the interval fit one
 pub encode_interval-requires : goal.encode_interval-requires
 encode_interval-requires c =
     let part = c.args.part.now in
@@ -39,6 +40,7 @@ encode_interval-requires c =
     rw (width_is, c.params.ensures, deref_is) (lines_fit pic part.options part.first part.count c.args.interval _ c.requires.part
     c.requires.interval lines_are c.in_ok-lines.ensures.each)
 
+-- the bytes are the code of the interval's lines
 pub returns : goal.returns
 returns c =
     let part = c.args.part.now in

@@ -4,6 +4,7 @@ use Rattle.jls_write.proofs.OneMore.{flat_map_from_more}
 use Rattle.jls_write.specs.WrittenFile as spec
 use Rattle.jls_write.proofs.intervals.lines_of_rows.Goals as goal
 
+-- the lines of one row more are there
 pub loop-row-preserved : goal.loop-row-preserved
 loop-row-preserved c =
     let part = c.args.part.now in

@@ -4,6 +4,7 @@ use Rattle.jls_interval.specs.Lines.{IsLine}
 use Rattle.jls_write.specs.WrittenFile as spec
 use Rattle.jls_write.proofs.intervals.lines_of_rows.Given as goal
 
+-- the lines of the rows so far are there
 abbrev pub invariant-loop-row : goal.invariant-loop-row
 invariant-loop-row l = record {
   lines : map (λ line. line.now) l.lines.items

@@ -7,6 +7,7 @@ use Rattle.jls_write.specs.Picture.{line_of}
 use Rattle.jls_write.proofs.IntervalLines.{map_more, all_by}
 use Rattle.jls_write.proofs.intervals.push_row.Goals as goal
 
+-- the line of one component more is there
 pub loop-component-preserved : goal.loop-component-preserved
 loop-component-preserved c =
     let part = c.args.part.now in

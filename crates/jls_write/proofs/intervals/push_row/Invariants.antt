@@ -4,6 +4,7 @@ use Rattle.jls_interval.specs.Lines.{IsLine}
 use Rattle.jls_write.specs.Picture.{line_of}
 use Rattle.jls_write.proofs.intervals.push_row.Given as goal
 
+-- the lines of the components so far are there
 abbrev pub invariant-loop-component : goal.invariant-loop-component
 invariant-loop-component l = record {
   lines : map (λ line. line.now) l.lines.items ≡ map (λ line. line.now) l.fn.lines.items

@@ -5,6 +5,7 @@ use Rattle.jls_write.specs.WrittenFile as spec
 use Rattle.jls_write.proofs.ScanIds.{scan_header_is}
 use Rattle.jls_write.proofs.intervals.scan_header.Goals as goal
 
+-- the bytes are those of SOS with the scan's identifiers
 pub returns : goal.returns
 returns c =
     let part = c.args.part.now in

@@ -2,6 +2,7 @@ use Rattle.std.proofs.Common.{◌≡◌, ◌+◌, ◌-◌, ◌*◌, sym, ◌∙�
 use Rattle.jls_write.proofs.Sampled.{cut_out, lent_line}
 use Rattle.jls_write.proofs.lender.line_of_samples.Goals as goal
 
+-- the slice of the samples is the line
 pub returns-clause-value : goal.returns-clause-value
 returns-clause-value c =
     let shape = c.args.shape.now in

@@ -3,6 +3,7 @@ use Rattle.jls_partial.specs.Partial.{readings_at}
 use Rattle.jls_partial.proofs.Statuses.{one_reading, settled_by}
 use Rattle.jls_write.proofs.picture.unsettled_line.Goals as goal
 
+-- the first line with none or several readings is not settled
 pub returns-then-count-ne1 : goal.returns-then-count-ne1
 returns-then-count-ne1 c =
     let p = c.args.partial.now in

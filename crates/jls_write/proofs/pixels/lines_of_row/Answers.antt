@@ -7,6 +7,7 @@ use Rattle.jls_write.specs.WholePictures.{IsLineIn}
 use Rattle.jls_write.proofs.Columns.{lent_more, lines_to, lent}
 use Rattle.jls_write.proofs.pixels.lines_of_row.Goals as goal
 
+-- the line of one component more is there
 pub loop-component-preserved : goal.loop-component-preserved
 loop-component-preserved c =
     let len = c.push.ensures.len in
@@ -20,6 +21,7 @@ loop-component-preserved c =
           (subst (λ (t : List ℕ). IsLineIn c.args.picture.now.shape t) c.line.ensures.value (c.line.ensures.width, c.line.ensures.samples));
     }
 
+-- each lent line is a line of the picture
 pub returns-clause-they_fit : goal.returns-clause-they_fit
 returns-clause-they_fit c =
     let pic = c.args.picture.now in

@@ -4,6 +4,7 @@ use Rattle.jls_write.specs.Picture.{line_of}
 use Rattle.jls_write.specs.WholePictures.{IsLineIn}
 use Rattle.jls_write.proofs.pixels.lines_of_row.Given as goal
 
+-- the lines of the components so far are there
 abbrev pub invariant-loop-component : goal.invariant-loop-component
 invariant-loop-component l = record {
   lines : map (λ line. line.now) l.lines.items ≡ map (λ component. line_of l.picture component l.row) (range_with_len 0 l.component);

@@ -5,6 +5,7 @@ use Rattle.jls_write.proofs.pixels.put_column.Goals as goal
 pub bounds-line-column : goal.bounds-line-column
 bounds-line-column c = reaches c.args.wide c.args.lines.now c.args.column c.loop-line.line-index _ c.requires.they_fit c.loop-line-test.true
 
+-- the sample has one byte, or two where it is wide
 pub put_sample-requires : goal.put_sample-requires
 put_sample-requires c =
     let so_far = c.loop-line.invariant.len in
@@ -16,6 +17,7 @@ put_sample-requires c =
           narrow;
     }
 
+-- the sample of one line more is put
 pub loop-line-preserved : goal.loop-line-preserved
 loop-line-preserved c =
     let so_far = c.loop-line.invariant.len in

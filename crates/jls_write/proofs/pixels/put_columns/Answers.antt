@@ -12,6 +12,7 @@ put_column-requires c =
           (omega (arith, c.loop-column-test.true)) c.requires.they_fit;
     }
 
+-- one column more is put
 pub loop-column-preserved : goal.loop-column-preserved
 loop-column-preserved c =
     let so_far = c.loop-column.invariant.len in

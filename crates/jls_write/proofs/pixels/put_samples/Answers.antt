@@ -15,6 +15,7 @@ put_sample-requires c =
       fits = λ narrow. c.requires.they_fit.fit narrow 0 c.loop-column.column (omega arith) c.loop-column-test.true;
     }
 
+-- one sample more is put
 pub loop-column-preserved : goal.loop-column-preserved
 loop-column-preserved c =
     let so_far = c.loop-column.invariant.len in

@@ -12,6 +12,7 @@ file_is : (pic : WholePicture) (header out waits : List ℕ) → header ≡ pnm_
     → out ++ waits ≡ pnm pic
 file_is pic header out waits is all = sym all ∙ ap (λ (t : List ℕ). t ++ raster pic) is
 
+-- the header and the raster went out
 pub returns-clause-all : goal.returns-clause-all
 returns-clause-all g c =
     let put = c.in_ok-write_raster.ensures.all in
@@ -19,6 +20,7 @@ returns-clause-all g c =
     (c.of-waiting.ensures.items ∙ c.deref.ensures.0 ∙ c.pnm_header.ensures ∙ ap pnm_header c.shape.ensures) put.all in
     on_ok_weaker c.hand_out.result (λ rest. handed_as _ _ all_is (handed_on _ _ _ _ _ _ _ _ put.handed rest)) c.hand_out.ensures.all
 
+-- a write failed in the end: a prefix of the file went out
 pub returns-clause-prefix : goal.returns-clause-prefix
 returns-clause-prefix g c =
     let history = g.W.Device.history in

@@ -28,6 +28,7 @@ write_row-requires-clause-early g c =
     gone_early c.args.picture.now _ _ _ _ _ _ _ _ _ c.loop-row.row _ c.shape-2.ensures c.height-row-end.ensures.ranges
     c.height-row-end.ensures.value (omega (arith, c.loop-row-test.true)) c.loop-row.invariant.put c.requires.begun c.requires.few
 
+-- a write failed in a row: a prefix of the rows went out
 pub returns-in_err-write_row-clause-prefix : goal.returns-in_err-write_row-clause-prefix
 returns-in_err-write_row-clause-prefix g c =
     let history = g.W.Device.history in
@@ -47,6 +48,7 @@ returns-in_err-write_row-clause-prefix g c =
     (three_parts (row_bytes pic) row (row + 1) pic.shape.height (row_bytes pic row) low high (sym (flat_map_one (row_bytes pic) row)))
     c.loop-row.invariant.put c.in_err-write_row.ensures.prefix)
 
+-- one row more is put
 pub loop-row-preserved : goal.loop-row-preserved
 loop-row-preserved g c =
     let history = g.W.Device.history in

@@ -4,6 +4,7 @@ use Rattle.jls_write.specs.Pnm.{row_bytes}
 use Rattle.jls_write.specs.Waiting.{PutAfter}
 use Rattle.jls_write.proofs.pnm.write_raster.Given as goal
 
+-- before each row: those before it are put, and few bytes wait
 abbrev pub invariant-loop-row : goal.invariant-loop-row
 invariant-loop-row g l =
     let history = g.W.Device.history in

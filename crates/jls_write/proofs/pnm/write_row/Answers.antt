@@ -22,6 +22,7 @@ module _ (pic : WholePicture) (row start end : ℕ) (low : start ≤ end) (old m
   abbrev pixels : ℕ → ℕ → List ℕ
   pixels from to = flat_map (pixel_bytes pic row) (range_with_len from (to - from))
 
+  -- where handing out a part of a row stops, a prefix of the row went out
   row_stops : (fault : OutputFault) → end ≤ pic.shape.width → StoppedBy fault n (HandedPrefix mid new keeps holds items)
       → StoppedBy fault m (HandedPrefix old new held holds (w ++ row_bytes pic row))
   row_stops fault high stopped =
@@ -30,6 +31,7 @@ module _ (pic : WholePicture) (row start end : ℕ) (low : start ≤ end) (old m
       (three_parts (pixel_bytes pic row) start end pic.shape.width (pixels start end) low high refl) put
       (subst (λ (t : List ℕ). StoppedBy fault n (HandedPrefix mid new keeps holds t)) is stopped)
 
+  -- a part of a row that was put is put after what waited before
   row_goes_on : (u : List ℕ) (o : ℕ) → PutAfter mid new keeps holds items n u o []
       → PutAfter old new held holds w m u o (flat_map (pixel_bytes pic row) (range_with_len 0 end))
   row_goes_on u o p =
@@ -37,6 +39,7 @@ module _ (pic : WholePicture) (row start end : ℕ) (low : start ≤ end) (old m
       (flat_map (pixel_bytes pic row) (range_with_len 0 start)) (pixels start end) put
       (put_first mid new keeps holds v items n u o (pixels start end) is p))
 
+-- so few bytes have gone out that they can be counted
 pub make_room-requires : goal.make_room-requires
 make_room-requires g c =
     let history = g.W.Device.history in
@@ -53,6 +56,7 @@ make_room-requires g c =
     (flat_map px (range_with_len 0 start)) c.loop-start.invariant.put in
     omega (arith, so_far, gone, within, narrow, c.requires.early, c.requires.few)
 
+-- a write failed: a prefix of the row went out
 pub returns-in_err-make_room-clause-prefix : goal.returns-in_err-make_room-clause-prefix
 returns-in_err-make_room-clause-prefix g c =
     let start = c.loop-start.start in
@@ -66,6 +70,7 @@ returns-in_err-make_room-clause-prefix g c =
     c.loop-start.invariant.put c.in_err-make_room.field-0.0 (omega (arith, width_is, c.min.ensures, c.loop-start-test.true))
     c.in_err-make_room.ensures.prefix)
 
+-- some columns more are put
 pub loop-start-preserved : goal.loop-start-preserved
 loop-start-preserved g c =
     let start = c.loop-start.start in

@@ -4,6 +4,7 @@ use Rattle.jls_write.specs.Pnm.{pixel_bytes}
 use Rattle.jls_write.specs.Waiting.{PutAfter}
 use Rattle.jls_write.proofs.pnm.write_row.Given as goal
 
+-- before each step: the columns up to here are put
 abbrev pub invariant-loop-start : goal.invariant-loop-start
 invariant-loop-start g l =
     let history = g.W.Device.history in

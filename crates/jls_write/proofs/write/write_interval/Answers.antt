@@ -13,6 +13,7 @@ use Rattle.jls_write.proofs.FileHanding.{stops_at_once, stops_by, stops_on}
 use Rattle.jls_write.proofs.Scans.{marked_some}
 use Rattle.jls_write.proofs.write.write_interval.Goals as goal
 
+-- so few bytes have gone out that they can be counted
 pub write_part-requires-in-Ok : goal.write_part-requires-in-Ok
 write_part-requires-in-Ok g c =
     let part = c.args.part.now in
@@ -26,6 +27,7 @@ write_part-requires-in-Ok g c =
     let counted = c.in_ok-count-in-Ok.ensures.count in
     omega (arith, most, both, mark, code, counted, c.requires.early)
 
+-- there is no memory for the interval
 pub returns-in-Err-clause-stops : goal.returns-in-Err-clause-stops
 returns-in-Err-clause-stops g c =
     let part = c.args.part.now in
@@ -40,6 +42,7 @@ marked : (pic : WholePicture) (s : Scan) (k : ℕ) (mark code : List ℕ) → ma
 marked pic s k mark code mark_is code_is =
     ap (λ (t : List ℕ). t ++ code) mark_is ∙ ap (λ (t : List ℕ). before_interval pic s k ++ t) code_is
 
+-- what stands before the interval went out, and its code
 pub returns-in_ok-count-in-Ok-clause-all : goal.returns-in_ok-count-in-Ok-clause-all
 returns-in_ok-count-in-Ok-clause-all g c =
     let s = scan_from c.args.part.now.picture.now c.args.part.now.options c.args.part.now.first c.args.part.now.count in
@@ -48,6 +51,7 @@ returns-in_ok-count-in-Ok-clause-all g c =
     on_ok_weaker c.write_part-in-Ok.result
     (λ second. handed_as _ _ all_is (handed_on _ _ _ _ _ _ _ _ c.in_ok-count-in-Ok.ensures.all second)) c.write_part-in-Ok.ensures.all
 
+-- what stands before the interval went out, and its code as far as it did
 pub returns-in_ok-count-in-Ok-clause-stops : goal.returns-in_ok-count-in-Ok-clause-stops
 returns-in_ok-count-in-Ok-clause-stops g c =
     let history = g.W.Device.history in

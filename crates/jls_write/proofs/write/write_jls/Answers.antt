@@ -18,6 +18,7 @@ parts : (pic : WholePicture) (o : WriteOptions) (header : List ℕ) → header �
     → written_file pic o ≡ (header ++ scans_bytes pic o) ++ 0xFF ∷ 0xD9 ∷ []
 parts pic o header is = sym (append_assoc header (scans_bytes pic o) (0xFF ∷ 0xD9 ∷ []) ∙ file_is pic o header is)
 
+-- a write of the header failed
 pub returns-in_err-count-in-Ok-clause-stops : goal.returns-in_err-count-in-Ok-clause-stops
 returns-in_err-count-in-Ok-clause-stops g c =
     let old = g.W.Device.history c.args.sink.now in
@@ -39,6 +40,7 @@ write_scans-requires-clause-early g c =
     let count = c.in_ok-count-in-Ok.ensures.count in
     omega (arith, few, size, count)
 
+-- a scan was not handed out whole
 pub returns-in_err-count-in-Ok-2-clause-stops : goal.returns-in_err-count-in-Ok-2-clause-stops
 returns-in_err-count-in-Ok-2-clause-stops g c =
     let pic = c.args.picture.now in
@@ -59,6 +61,7 @@ write_part-requires-in-Ok g c =
     let more = c.in_ok-count-in-Ok-2.ensures.count in
     omega (arith, few, size, count, scans, more)
 
+-- the write of EOI failed
 pub returns-in_err-write_part-in-Ok-clause-stops : goal.returns-in_err-write_part-in-Ok-clause-stops
 returns-in_err-write_part-in-Ok-clause-stops g c =
     let new = g.W.Device.history c.write_part-in-Ok.new.sink in

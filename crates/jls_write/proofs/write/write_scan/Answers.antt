@@ -8,6 +8,7 @@ use Rattle.jls_write.proofs.FileLength.{marked_at_most}
 use Rattle.jls_write.proofs.FileHanding.{part_out, part_counted, part_stops}
 use Rattle.jls_write.proofs.write.write_scan.Goals as goal
 
+-- so few bytes have gone out that they can be counted
 pub write_interval-requires-clause-early : goal.write_interval-requires-clause-early
 write_interval-requires-clause-early g c =
     let part = c.args.part.now in
@@ -19,6 +20,7 @@ write_interval-requires-clause-early g c =
     let few = c.intervals-interval-end.ensures.few in
     omega (arith, so_far, counted, few, c.loop-interval-test.true, c.requires.early)
 
+-- an interval was not handed out whole
 pub returns-in_err-count-clause-stops : goal.returns-in_err-count-clause-stops
 returns-in_err-count-clause-stops g c =
     let pic = c.args.part.now.picture.now in
@@ -30,6 +32,7 @@ returns-in_err-count-clause-stops g c =
     c.loop-interval.invariant.counted c.loop-interval.invariant.out c.in_err-count.ensures.stops
     (omega (arith, value, c.loop-interval-test.true)) refl)
 
+-- one interval more went out
 pub loop-interval-preserved : goal.loop-interval-preserved
 loop-interval-preserved g c =
     let part = c.args.part.now in

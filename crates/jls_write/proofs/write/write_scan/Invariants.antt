@@ -5,6 +5,7 @@ use Rattle.jls_write.specs.Parts.{scan_from}
 use Rattle.jls_write.specs.WrittenFile.{marked_interval}
 use Rattle.jls_write.proofs.write.write_scan.Given as goal
 
+-- before each interval: those before it went out
 abbrev pub invariant-loop-interval : goal.invariant-loop-interval
 invariant-loop-interval g l =
     let history = g.W.Device.history in

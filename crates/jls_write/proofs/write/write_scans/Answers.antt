@@ -29,6 +29,7 @@ write_scan-requires-clause-early g c =
     let end = c.scan_count-first-end.ensures.value in
     omega (arith, so_far, counted, few, end, c.loop-first-test.true, c.requires.early)
 
+-- a scan was not handed out whole
 pub returns-in_err-done-clause-stops : goal.returns-in_err-done-clause-stops
 returns-in_err-done-clause-stops g c =
     let history = g.W.Device.history in
@@ -45,6 +46,7 @@ returns-in_err-done-clause-stops g c =
     c.in_err-done.field-0.0 c.args.before _ (scan_count pic o) (scans_bytes pic o) c.loop-first.invariant.counted
     c.loop-first.invariant.out stopped (omega (arith, end, c.loop-first-test.true)) (scans_are pic o))
 
+-- one scan more went out
 pub loop-first-preserved : goal.loop-first-preserved
 loop-first-preserved g c =
     let pic = c.args.picture.now in

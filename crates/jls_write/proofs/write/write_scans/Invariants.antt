@@ -6,6 +6,7 @@ use Rattle.jls_write.specs.Parts.{scan_from}
 use Rattle.jls_write.specs.WrittenFile.{scan_bytes}
 use Rattle.jls_write.proofs.write.write_scans.Given as goal
 
+-- before each scan: those before it went out
 abbrev pub invariant-loop-first : goal.invariant-loop-first
 invariant-loop-first g l =
     let history = g.W.Device.history in

@@ -2,6 +2,7 @@ use Rattle.std.proofs.Common.{◌≤◌, ◌*◌, arith}
 use Rattle.jls_write.proofs.Sizes.{product_at_most}
 use Rattle.jls_write.proofs.options.Options.samples_of_interval.Goals as goal
 
+-- a row has few enough samples
 pub overflow_mul-row : goal.overflow_mul-row
 overflow_mul-row c =
     let row = product_at_most c.from.result c.from-2.result 65535 4
@@ -9,6 +10,7 @@ overflow_mul-row c =
     (omega (arith, c.from-2.ensures, c.components_of_scan.ensures.few)) in
     omega (arith, row)
 
+-- an interval has few enough samples
 pub overflow_mul-result : goal.overflow_mul-result
 overflow_mul-result c =
     let row = product_at_most c.from.result c.from-2.result 65535 4
