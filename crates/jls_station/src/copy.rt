@@ -36,7 +36,7 @@ pub struct CopyRefusal<'a> {
     pub cause: CopyCause,
 }
 
-/// Opens a copy and reads it to its end. What was read before a read failed is kept, and so is what all reads gave that may be made.
+/// Opens a copy and reads it to its end. What was read is kept if a read fails, and if all reads that may be made are used up.
 pub fn open_and_read_copy<D: Desk>(
     alloc: Global,
     desk: &mut D,

@@ -56,8 +56,8 @@ impl Intake for CopyIntake {
     }
 }
 
-/// Reads a text on, whose first read gave these bytes, to its end or as far as the source goes, and adds what the reads give.
-/// In the clauses `before` is what the device had done, or what it had left to give, before the first read.
+/// Reads a text on, of which the first read gave these bytes, and adds what the reads give. It goes to the end, or as far as the source
+/// goes. In the clauses `before` is what the device had done, or what it had left to give, before the first read.
 pub(crate) fn read_text_on<S: Source>(
     device: &mut S,
     bytes: &mut Vec<u8>,

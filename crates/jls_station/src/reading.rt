@@ -23,7 +23,7 @@ pub(crate) trait Intake {
     /// The bytes that it was fed. There are none where it takes no more.
     ghost fed: { Self.Held → Option (List ℕ) };
 
-    /// These bytes are enough: no more are wanted.
+    /// Says of the bytes fed that they are enough, so that no more are wanted.
     ghost IsEnough: { List ℕ → Type 0 };
 
     /// Whether no more bytes are wanted.
@@ -45,8 +45,8 @@ pub(crate) fn prefix(buffer: &[u8], count: usize) -> &[u8]
     &buffer[..count]
 }
 
-/// Reads an input on, of which so many reads gave what was fed, until that is enough or as far as the source goes.
-/// In the clauses `before` is what the device had done, or what it had left to give, before these reads.
+/// Reads an input on, of which `made` reads gave what was fed. It goes on until that is enough, or as far as the source goes. In the
+/// clauses `before` is what the device had done, or what it had left to give, before these reads.
 pub(crate) fn read_on<S: Source, I: Intake>(
     device: &mut S,
     held: &mut I::Held,
