@@ -17,6 +17,7 @@ pub names_one_more : (names : List (Bor (List ℕ))) (i : ℕ) (d : Bor (List �
     → map name_of (take (i + 1) names) ≡ map name_of (take i names) ++ (get_or names i d).now ∷ []
 names_one_more names i d within = ap (map name_of) (take_more names i d within) ∙ map-append name_of (take i names) (get_or names i d ∷ [])
 
+-- the names are those before one, that one, and those after it
 pub names_split : (names : List (Bor (List ℕ))) (i : ℕ) (d : Bor (List ℕ)) → i < length names
     → map name_of names ≡ map name_of (take i names) ++ (get_or names i d).now ∷ map name_of (drop (i + 1) names)
 names_split names i d within =

@@ -46,6 +46,7 @@ pub refused_so : (reader : Option (List ℕ)) (f : CopyFault) (stop : ReadStop) 
 refused_so None f stop count answer h n is = tt
 refused_so (Some bytes) f stop count answer h n is = (f, h, is ∙ ap (λ (m : ℕ). input_fault_of_copy f stop m) n)
 
+-- a reader can be refused for want of memory
 pub refused_for_memory : (reader : Option (List ℕ)) (stop : ReadStop) → IfSome reader (λ bytes. IsCopyRefused bytes stop input.OutOfMemory)
 refused_for_memory None stop = tt
 refused_for_memory (Some bytes) stop = (copy.OutOfMemory, tt, refl)
@@ -85,6 +86,7 @@ taken_so (copy.NoPicture f offset) Whole count = take.NoPicture f offset
 taken_so (copy.NoPicture f offset) Failed count = take.Read Failed count
 taken_so (copy.NoPicture f offset) Turns count = take.Read Turns count
 
+-- the fault of a copy as an input is taken for this fault
 is_taken_so : (f : CopyFault) (stop : ReadStop) (count : ℕ) → IsTakenFor (input_fault_of_copy f stop count) (taken_so f stop count)
 unfolding taken_so
 is_taken_so copy.OutOfMemory stop count = for_memory
@@ -105,18 +107,20 @@ IsOfCopy : InputFault → Type 0
 IsOfCopy (input.Text f) = ⊥
 IsOfCopy _ = Unit {0}
 
+-- a fault that is taken for one of a copy is of a copy
 of_copy : (x : InputFault) (taken : TakeFault) → IsTakenFor x taken → IsOfCopy x
 unfolding IsOfCopy
 of_copy _ _ (no_frame f offset) = tt
 of_copy _ _ (unread stop count) = tt
 of_copy _ _ for_memory = tt
 
--- and a text for nothing
+-- a text is taken for no fault of a copy
 pub no_text_taken : (f : TextFault) (taken : TakeFault) → IsTakenFor (input.Text f) taken → ⊥
 unfolding IsOfCopy
 no_text_taken f taken h = of_copy (input.Text f) taken h
 
 module _ (source : Option ℕ) (stop : ReadStop) (old new : History) where
+  -- a copy that was read so far as its reading went gives what its reader gave
   pub whole_copy_gives : (reader : Option (List ℕ)) (p : PartialPicture) (report : CopyReport)
       → IsSomeAnd reader (λ bytes. GrewBy (λ reads. IsRead IsCopyDone reads bytes stop) old new)
       → IfSome reader (λ bytes. (r : ReadCopy) × CopyReads bytes r × (p ≡ marked source r.partial) × (report ≡ report_of bytes r stop))
@@ -137,6 +141,7 @@ module _ (source : Option ℕ) (stop : ReadStop) (old new : History) where
         };
       }
 
+  -- a copy that gives nothing stops the taking, for this fault
   stops_for : (bytes : List ℕ) (f : CopyFault) (how : ReadStop) (answer : TakeFault)
       → GrewBy (λ reads. IsRead IsCopyDone reads bytes how) old new → CopyGivesNone bytes f
       → IsTakenFor (input_fault_of_copy f how (length bytes)) answer → GrewBy (CopyStops answer) old new
@@ -153,6 +158,7 @@ module _ (source : Option ℕ) (stop : ReadStop) (old new : History) where
       grew_as (λ reads. IsRead IsCopyDone reads bytes Turns) (CopyStops (take.Read Turns (length bytes))) old new
       (λ reads is. not_read bytes Turns f offset reads (λ t. absurd cc) is h) k
 
+  -- a copy that is refused stops the taking, for the fault that it is taken for
   pub whole_copy_stops : (reader : Option (List ℕ)) (fault : InputFault) (answer : TakeFault)
       → IsSomeAnd reader (λ bytes. GrewBy (λ reads. IsRead IsCopyDone reads bytes stop) old new)
       → IfSome reader (λ bytes. IsCopyRefused bytes stop fault) → IsTakenFor fault answer → GrewBy (CopyStops answer) old new

@@ -45,7 +45,7 @@ consumes_no_more before mid left prefix h k =
 pub about : (Q : List ℕ → Type 0) (reader : Option (List ℕ)) (bytes : List ℕ) → reader ≡ Some bytes → IfSome reader Q → Q bytes
 about Q reader bytes is h = subst (λ (o : Option (List ℕ)). IfSome o Q) is h
 
--- and what is so of them is so of the reader
+-- what holds of the bytes that a reader was fed holds of the reader
 pub of_reader : (Q : List ℕ → Type 0) (reader : Option (List ℕ)) (bytes : List ℕ) → reader ≡ Some bytes → Q bytes → IsSomeAnd reader Q
 of_reader Q reader bytes is h = subst (λ (o : Option (List ℕ)). IsSomeAnd o Q) (sym is) h
 
@@ -68,6 +68,7 @@ module _ (E : List ℕ → Type 0) (enough : Bool) (held : Option (List ℕ)) (b
   pub goes_on : enough ≡ false → E bytes → ⊥
   goes_on no_more done = false≢true (sym no_more ∙ (about (λ b. IsTrue enough ↔ E b) held bytes is h).1 done)
 
+  -- where the code says that the bytes are enough, they are
   pub is_over : enough ≡ true → E bytes
   is_over over = (about (λ b. IsTrue enough ↔ E b) held bytes is h).0 over
 

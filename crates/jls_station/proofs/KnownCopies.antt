@@ -17,11 +17,13 @@ use Rattle.jls_station.specs.declared.input.InputFault.{InputFault}
 use Rattle.jls_station.specs.declared.take_copy.TakeFault.{TakeFault}
 use Rattle.jls_station.specs.declared.take_copy.TakeFault.TheVariants as take
 
+-- what follows for known bytes follows where there are any
 pub some_then : (o : Option (List ℕ)) (P Q : List ℕ → Type 0) → ((bytes : List ℕ) → P bytes → Q bytes) → IfSome o P → IfSome o Q
 some_then None P Q f h = tt
 some_then (Some bytes) P Q f h = f bytes h
 
 module _ (source : Option ℕ) (stop : ReadStop) where
+  -- what a copy gives, in the words of the known bytes of its source
   pub known_copy_gives : (before reader : Option (List ℕ)) (p : PartialPicture) (report : CopyReport)
       → IsSomeAnd reader (λ prefix. IfSome before (λ bytes. IsPrefixOf bytes prefix stop))
       → IfSome reader (λ bytes. (r : ReadCopy) × CopyReads bytes r × (p ≡ marked source r.partial) × (report ≡ report_of bytes r stop))
@@ -38,7 +40,7 @@ module _ (source : Option ℕ) (stop : ReadStop) where
         partial_is = h.2;
       }
 
-  -- and its report counts no more bytes than there are
+  -- the report of a copy counts no more bytes than its source has
   pub known_copy_count : (before reader : Option (List ℕ)) (p : PartialPicture) (report : CopyReport)
       → IsSomeAnd reader (λ prefix. IfSome before (λ bytes. IsPrefixOf bytes prefix stop))
       → IfSome reader (λ bytes. (r : ReadCopy) × CopyReads bytes r × (p ≡ marked source r.partial) × (report ≡ report_of bytes r stop))
@@ -56,6 +58,7 @@ module _ (source : Option ℕ) (held : PartialPicture) where
   ran_out None = tt
   ran_out (Some bytes) = tt
 
+  -- a prefix of known bytes that gives nothing refuses them
   refused_so : (bytes prefix : List ℕ) (f : CopyFault) (stop : ReadStop) (answer : TakeFault) → IsPrefixOf bytes prefix stop
       → CopyGivesNone prefix f
       → IsTakenFor (input_fault_of_copy f stop (length prefix)) answer → RefusesBytes source held bytes answer
@@ -64,6 +67,7 @@ module _ (source : Option ℕ) (held : PartialPicture) where
   refused_so bytes prefix (copy.NoPicture f offset) Failed _ k h (unread _ _) = (prefix, k, refl, λ t. absurd cc)
   refused_so bytes prefix (copy.NoPicture f offset) Turns _ k h (unread _ _) = (prefix, k, refl, λ t. absurd cc)
 
+  -- a copy that is refused, in the words of the known bytes of its source
   pub known_copy_stops : (stop : ReadStop) (before reader : Option (List ℕ)) (fault : InputFault) (answer : TakeFault)
       → IsSomeAnd reader (λ prefix. IfSome before (λ bytes. IsPrefixOf bytes prefix stop))
       → IfSome reader (λ bytes. IsCopyRefused bytes stop fault) → IsTakenFor fault answer

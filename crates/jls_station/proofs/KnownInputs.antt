@@ -38,6 +38,7 @@ none_read (Some bytes) = ([], record { following = bytes; bytes_are = refl; enou
 none_there : RefusesInput [] (fault.NoPicture marker.Ended 0)
 none_there = (refl, [], record { following = []; bytes_are = refl; enough = λ t. inr refl }, empty_gives_none)
 
+-- an empty input is refused as a copy without a frame
 pub empty_refused : (old new : Option (List ℕ)) → Consumes old new [] → IsAtEnd new
     → IfSome old (λ bytes. RefusesInput bytes (fault.NoPicture marker.Ended 0))
 empty_refused old new h e =
@@ -54,11 +55,13 @@ text_unread (Some bytes) None prefix stop not h = absurd h
 text_unread (Some bytes) (Some left) prefix stop not h =
     (prefix, record { following = left; bytes_are = h; enough = λ is. absurd (not is) }, refl, not)
 
+-- known bytes that are no text are refused for that fault
 bad_so : (known bytes : List ℕ) → is_text bytes ≡ true → known ≡ bytes → (f : TextFault) → IsNoText bytes f
     → RefusesInput known (fault.Text f)
 bad_so known bytes text is f h = subst (λ (t : List ℕ). RefusesInput t (fault.Text f)) (sym is) (text, h)
 
 module _ (bytes : List ℕ) (text : is_text bytes ≡ true) where
+  -- known bytes that are a text with a fault are refused for that fault
   bad_text : (known : List ℕ) → known ≡ bytes → (f : TextFault) → Fails f (read_text bytes) → RefusesInput known (input_fault_of f)
   bad_text known is (text_fault.Magic offset) e = bad_so known bytes text is (text_fault.Magic offset) e
   bad_text known is (text_fault.BadShape offset) e = bad_so known bytes text is (text_fault.BadShape offset) e
@@ -78,6 +81,7 @@ module _ (bytes : List ℕ) (text : is_text bytes ≡ true) where
 
 -- ---- a copy
 
+-- a prefix of known bytes that gives nothing refuses the input
 copy_refused_so : (bytes prefix : List ℕ) (f : CopyFault) (stop : ReadStop) → is_text bytes ≡ false → IsPrefixOf bytes prefix stop
     → CopyGivesNone prefix f
     → RefusesInput bytes (input_fault_of_copy f stop (length prefix))
@@ -90,6 +94,7 @@ copy_refused_so bytes prefix (copy.NoPicture f offset) Turns copied k h = (prefi
 consumed_copy : (first left bytes : List ℕ) → is_text first ≡ false → 0 < length first → bytes ≡ first ++ left → is_text bytes ≡ false
 consumed_copy first left bytes copied some is = ap is_text is ∙ same_first first left some ∙ copied
 
+-- a copy of which nothing is taken is refused, in the words of the known bytes
 pub known_input_stops : (first : List ℕ) (stop : ReadStop) (before left reader : Option (List ℕ)) (answer : InputFault)
     → is_text first ≡ false → 0 < length first → Consumes before left first
     → IsSomeAnd reader (λ prefix. IfSome before (λ bytes. IsPrefixOf bytes prefix stop))

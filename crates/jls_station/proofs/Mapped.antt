@@ -13,6 +13,7 @@ module _ {T E D : Type 0} (made : E → D → Type 0) where
   value_so (Err e) (Ok x) P Q so is p = absurd is
   value_so (Err e) (Err d) P Q so is p = tt
 
+  -- a value that `map_err` left was there before
   pub value_at : (r : Result T E) (s : Result T D) (x : T) → Mapped r s → s ≡ Ok x → r ≡ Ok x
   value_at (Ok y) s x is at =
       let same = IfOk-at_ok (λ z. y ≡ z) at (subst (λ (t : Result T D). IfOk t (λ z. y ≡ z)) (sym is) refl) in
@@ -26,7 +27,7 @@ module _ {T E D : Type 0} (made : E → D → Type 0) where
   error_as (Err e) (Ok x) P Q so is p = absurd is
   error_as (Err e) (Err d) P Q so is p = so e d is p
 
-  -- the same, where each error makes one
+  -- what is said of the error that another error makes, where each makes one
   module _ (f : E → D) (means : (e : E) (d : D) → made e d → d ≡ f e) where
     pub error_so : (r : Result T E) (s : Result T D) (P : E → Type 0) (Q : D → Type 0) → ((e : E) → P e → Q (f e)) → Mapped r s → IfErr r P
         → IfErr s Q

@@ -36,6 +36,7 @@ use Rattle.jls_marker.specs.SegmentLaws.{AreBytes}
 
 -- ---- bytes
 
+-- the first n of some bytes are bytes
 bytes_prefix : (n : ℕ) (xs : List ℕ) → AreBytes xs → AreBytes (take n xs)
 bytes_prefix zero xs h = tt
 bytes_prefix (suc n) [] h = tt
@@ -160,11 +161,13 @@ same_first (b ∷ bytes) more h = refl
 
 -- ---- a copy
 
+-- reads that go on for a copy go on for an input
 goes_on_enough : (fed : List ℕ) (reads : List Event) → GoesOn IsCopyDone fed reads → GoesOn IsEnough fed reads
 goes_on_enough fed [] h = tt
 goes_on_enough fed (gave r b ∷ reads) h = (h.0, h.1, λ e. h.2 e.1, goes_on_enough (fed ++ b) reads h.3)
 goes_on_enough fed (e ∷ reads) h = absurd h
 
+-- where a copy's reading stops, that of an input that is no text does
 stops_enough : (bytes : List ℕ) (last : List Event) (stop : ReadStop) → is_text bytes ≡ false → StopsWith IsCopyDone bytes last stop
     → StopsWith IsEnough bytes last stop
 stops_enough bytes [] Whole copied h = (copied, h)
@@ -200,6 +203,7 @@ pub consumes_nothing : (o : Option (List ℕ)) → Consumes o o []
 consumes_nothing None = tt
 consumes_nothing (Some xs) = refl
 
+-- some bytes that were taken from a source, and then others, are all of them
 pub consumes_on : (old mid new : Option (List ℕ)) (a b : List ℕ) → Consumes old mid a → Consumes mid new b → Consumes old new (a ++ b)
 consumes_on None mid new a b h k = tt
 consumes_on (Some xs) None new a b h k = absurd h
@@ -209,6 +213,7 @@ consumes_on (Some xs) (Some ys) (Some zs) a b h k = h ∙ (ap (λ (t : List ℕ)
 -- ---- what the bytes of one input are
 
 module _ (old new : History) where
+  -- reads of part of an input can end in the refusal for want of memory
   pub out_of_memory_in_part : GrewBy (IsReadInPart IsEnough) old new → GrewBy (ReadsRefuse fault.OutOfMemory) old new
   out_of_memory_in_part = grew_as (IsReadInPart IsEnough) (ReadsRefuse fault.OutOfMemory) old new
       (λ reads h. for_memory reads (between_reads reads h))
@@ -243,6 +248,7 @@ known_all None new bytes h e = tt
 known_all (Some xs) None bytes h e = absurd h
 known_all (Some xs) (Some ys) bytes h e = h ∙ (ap (λ (t : List ℕ). bytes ++ t) e ∙ append-nil bytes)
 
+-- a text that was read is that of the known bytes
 pub known_text : (old : Option (List ℕ)) (bytes : List ℕ) (p : PartialPicture) → IfSome old (λ known. known ≡ bytes) → IsTextOf bytes p
     → IfSome old (λ known. IsTextOf known p)
 known_text None bytes p h is = tt
@@ -254,6 +260,7 @@ module _ (old new : History) (bytes : List ℕ) (text : is_text bytes ≡ true)
   refused_as_text : (f : TextFault) → IsNoText bytes f → GrewBy (ReadsRefuse (fault.Text f)) old new
   refused_as_text f fails = refused_for old new bytes Whole h (fault.Text f) (no_text bytes f text fails)
 
+  -- an input that is a text with a fault is refused for that fault
   pub refused_by : (f : TextFault) → Fails f (read_text bytes) → GrewBy (ReadsRefuse (input_fault_of f)) old new
   refused_by (text_fault.Magic offset) e = refused_as_text (text_fault.Magic offset) e
   refused_by (text_fault.BadShape offset) e = refused_as_text (text_fault.BadShape offset) e
@@ -282,11 +289,13 @@ refused_as_copy old new bytes Turns copied h (copy.NoPicture f offset) e =
 pub empty_gives_none : CopyGivesNone [] (copy.NoPicture marker.Ended 0)
 empty_gives_none = (without_units 0 (Header marker.Ended 0), with_fill_alone 0, refl, refl)
 
+-- no byte is not enough for a copy
 pub empty_goes_on : OneCourse → IsCopyDone [] → ⊥
 empty_goes_on one done =
     false≢true (ap (λ (c : Course). is_final_end c.end) (one [] (without_units 0 (Header marker.Ended 0)) done.0 (with_fill_alone 0) done.1)
     ∙ sym done.2)
 
+-- each fault of a text but want of memory is the input's fault of a text
 pub other_input_fault : (f : TextFault) → (f ≡ text_fault.OutOfMemory → ⊥) → input_fault_of f ≡ fault.Text f
 other_input_fault (text_fault.Magic offset) other = refl
 other_input_fault (text_fault.BadShape offset) other = refl

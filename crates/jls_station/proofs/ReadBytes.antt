@@ -15,6 +15,7 @@ reads_both : (a b : List Event) → AreReads a → AreReads b → AreReads (a ++
 reads_both [] b h k = k
 reads_both (e ∷ a) b h k = (h.0, reads_both a b h.1 k)
 
+-- events with which reading goes on are reads
 reads_on : (Enough : List ℕ → Type 0) (fed : List ℕ) (reads : List Event) → GoesOn Enough fed reads → AreReads reads
 reads_on Enough fed [] h = tt
 reads_on Enough fed (gave room bytes ∷ more) h = (refl, reads_on Enough (fed ++ bytes) more h.3)
@@ -28,6 +29,7 @@ last_read Enough bytes (gave room [] ∷ []) stop h = ((refl, tt), refl)
 last_read Enough bytes (read_failed ∷ []) stop h = ((refl, tt), refl)
 last_read Enough bytes last stop h = absurd h
 
+-- the events of reading an input are reads, and gave its bytes
 pub all_reads : (Enough : List ℕ → Type 0) (bytes : List ℕ) (reads : List Event) (stop : ReadStop) → IsRead Enough reads bytes stop
     → AreReads reads × (bytes_given reads ≡ bytes)
 all_reads Enough bytes reads stop h =

@@ -16,6 +16,7 @@ pub ok_so : {T E : Type 0} (P Q : T → Type 0) (r : Result T E) → ((x : T) �
 ok_so P Q (Ok x) f h = f x h
 ok_so P Q (Err e) f h = tt
 
+-- what follows for some bytes follows where there are some
 some_so : (P Q : List ℕ → Type 0) (o : Option (List ℕ)) → ((bytes : List ℕ) → P bytes → Q bytes) → IsSomeAnd o P → IsSomeAnd o Q
 some_so P Q None f h = absurd h
 some_so P Q (Some bytes) f h = f bytes h
@@ -53,6 +54,7 @@ text_is Q bytes = by (is_text bytes) refl
     by true text h = (text, h)
     by false text h = absurd h
 
+-- the first read of a text gave few bytes
 pub text_few : (bytes : List ℕ) → is_text bytes ≡ true → length bytes ≤ 4096 → IsSomeAnd (text_in bytes) (λ fed. length fed ≤ 4096 * 1)
 text_few bytes text few = subst (λ (o : Option (List ℕ)). IsSomeAnd o (λ fed. length fed ≤ 4096 * 1)) (sym (text_held bytes text))
     (omega (arith, few))
@@ -64,6 +66,7 @@ module _ {E : Type 0} (r : Result ReadStop E) (bytes : List ℕ) where
   pub so_of_text : (Q : ReadStop → List ℕ → Type 0) → IfOk r (λ stop. IsSomeAnd (text_in bytes) (Q stop)) → IfOk r (λ stop. Q stop bytes)
   so_of_text Q = ok_so (λ stop. IsSomeAnd (text_in bytes) (Q stop)) (λ stop. Q stop bytes) r (λ stop h. (text_is (Q stop) bytes h).1)
 
+  -- a text that was read whole is at the end of its source
   pub text_at_end : (left : Option (List ℕ)) → IfOk r (λ stop. stop ≡ Whole → IsSomeAnd (text_in bytes) IsEnough ⊎ IsAtEnd left)
       → IfOk r (λ stop. stop ≡ Whole → IsAtEnd left)
   text_at_end left =

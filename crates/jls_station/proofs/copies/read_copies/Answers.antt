@@ -11,6 +11,7 @@ use Rattle.jls_station.proofs.copies.read_copies.Goals as goal
 abbrev none : Bor (List ℕ)
 none = record { ref_ptr = (0, 0); now = [] }
 
+-- a copy is not taken, after those before it were read
 pub returns-in-Err-clause-stopped : goal.returns-in-Err-clause-stopped
 returns-in-Err-clause-stopped g c =
     let history = g.D.Device.history in
@@ -22,6 +23,7 @@ returns-in-Err-clause-stopped g c =
     (history c.open_and_read_copy.new.desk) c.loop-name.invariant
     (map name_of names) (map name_of (drop (i + 1) names)) refusal (names_split names i none within) c.in-Err.ensures.stopped
 
+-- there is no memory to keep a copy that was read
 pub returns-in-Err-push-clause-stopped : goal.returns-in-Err-push-clause-stopped
 returns-in-Err-push-clause-stopped g c =
     let history = g.D.Device.history in
@@ -37,6 +39,7 @@ returns-in-Err-push-clause-stopped g c =
     (grew_as (IsCopyRead name copy) (StopsAtCopy name cause.OutOfMemory) (history c.loop-name.desk) (history c.open_and_read_copy.new.desk)
     (after_the_last name copy) c.in-Ok.ensures.read)
 
+-- one copy more is read
 pub loop-name-preserved : goal.loop-name-preserved
 loop-name-preserved g c =
     let history = g.D.Device.history in

@@ -4,6 +4,7 @@ use Rattle.jls_io.specs.Event.{GrewBy}
 use Rattle.jls_station.specs.CopyFiles.{AreCopiesRead, copies_of}
 use Rattle.jls_station.proofs.copies.read_copies.Given as goal
 
+-- the copies so far are read
 abbrev pub invariant-loop-name : goal.invariant-loop-name
 invariant-loop-name g l =
     let history = g.D.Device.history in

@@ -11,6 +11,7 @@ returns-in-Err-clause-stopped g c =
     let name = c.args.name.now in
     record { events = not_opened name ∷ []; grew = c.in-Err.ensures.failed; they_are = not_there name }
 
+-- memory ran out while the copy was read
 pub returns-in-Err-read_to_end-clause-stopped : goal.returns-in-Err-read_to_end-clause-stopped
 returns-in-Err-read_to_end-clause-stopped g c =
     let history = g.D.Device.history in
@@ -19,6 +20,7 @@ returns-in-Err-read_to_end-clause-stopped g c =
     (history c.open_input.new.self) (history c.read_to_end.new.device)
     c.in-Ok.ensures.opened (between_reads name) c.in-Err-read_to_end.ensures.refused
 
+-- the copy begins as a text
 pub returns-then-is_text-clause-stopped : goal.returns-then-is_text-clause-stopped
 returns-then-is_text-clause-stopped g c =
     let history = g.D.Device.history in

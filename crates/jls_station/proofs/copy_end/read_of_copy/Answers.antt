@@ -6,6 +6,7 @@ use Rattle.jls_station.proofs.CopyEnds.{copy_given, refused_so, refused_for_memo
 use Rattle.jls_station.proofs.Mapped.{error_at, value_at}
 use Rattle.jls_station.proofs.copy_end.read_of_copy.Goals as goal
 
+-- the copy gives no picture
 pub returns-in_err-read-clause-refused : goal.returns-in_err-read-clause-refused
 returns-in_err-read-clause-refused c =
     let count = c.fed-count.result in
@@ -21,6 +22,7 @@ returns-in_err-put_source-clause-refused c =
     let p = err_from_is_err_and c.from_residual-in_err-put_source.result c.from_residual-in_err-put_source.ensures.1 in
     rw (p.1, p.2) (refused_for_memory c.args.reader c.args.stop)
 
+-- the copy gives its readings, under the source
 pub returns-clause-given : goal.returns-clause-given
 returns-clause-given c =
     let was = value_at _ c.finish.result c.map_err.result c.in_ok-read.read c.map_err.ensures.cases c.in_ok-read.was in

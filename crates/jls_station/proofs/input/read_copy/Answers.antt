@@ -12,6 +12,7 @@ use Rattle.jls_station.proofs.KnownInputs.{input_ran_out, known_input_stops}
 use Rattle.jls_station.proofs.OneInput.{out_of_memory_in_part, part_of_input, read_in_part}
 use Rattle.jls_station.proofs.input.read_copy.Goals as goal
 
+-- there is no memory for what the first read gave
 pub returns-in_err-feed-clause-refused : goal.returns-in_err-feed-clause-refused
 returns-in_err-feed-clause-refused g c before h =
     let now = g.S.Device.history c.args.device.now in
@@ -19,6 +20,7 @@ returns-in_err-feed-clause-refused g c before h =
     rw (p.1, p.2) (out_of_memory_in_part before now
     (part_of_input before now (read_in_part IsCopyDone 1 before now now c.args.first.now h (omega arith))))
 
+-- there is no memory while the rest is read
 pub returns-in_err-stop-clause-refused : goal.returns-in_err-stop-clause-refused
 returns-in_err-stop-clause-refused g c before h =
     let now = g.S.Device.history c.read_copy_on.new.device in
@@ -28,6 +30,7 @@ returns-in_err-stop-clause-refused g c before h =
     rw (p.1, p.2) (out_of_memory_in_part before now
     (part_of_input before now (c.in_err-stop.ensures.refused before c.args.first.now fed h)))
 
+-- the copy is read, and gives its readings
 pub returns-clause-given : goal.returns-clause-given
 returns-clause-given g c before h =
     let first = c.args.first.now in
@@ -38,6 +41,7 @@ returns-clause-given g c before h =
     c.read_copy_on.new.reader given.partial given.report c.of_copy.result c.of_copy.ensures
     (e.begins first fed c.requires.some) (e.read before first fed h) c.in_ok-given.ensures.given
 
+-- the copy gives no picture
 pub returns-in_err-given-clause-refused : goal.returns-in_err-given-clause-refused
 returns-in_err-given-clause-refused g c before h =
     let first = c.args.first.now in
@@ -48,6 +52,7 @@ returns-in_err-given-clause-refused g c before h =
     c.requires.no_text c.read_copy_on.new.reader c.in_err-given.field-0.0
     (e.begins first fed c.requires.some) (e.read before first fed h) c.in_err-given.ensures.refused)
 
+-- what the copy gives, in the words of known bytes
 pub returns-clause-known : goal.returns-clause-known
 returns-clause-known g c before h =
     let first = c.args.first.now in
@@ -67,6 +72,7 @@ returns-in_err-stop-clause-known_refused g c before h =
     let p = err_from_is_err_and c.from_residual-in_err-stop.result c.from_residual-in_err-stop.ensures.1 in
     rw (p.1, p.2) (input_ran_out before)
 
+-- the copy gives no picture, in the words of known bytes
 pub returns-in_err-given-clause-known_refused : goal.returns-in_err-given-clause-known_refused
 returns-in_err-given-clause-known_refused g c before h =
     let first = c.args.first.now in
@@ -76,6 +82,7 @@ returns-in_err-given-clause-known_refused g c before h =
     c.in_err-given.field-0.0
     c.requires.no_text c.requires.some h (c.in_ok-stop.ensures.known before first fed h) c.in_err-given.ensures.refused)
 
+-- no more bytes are counted than the source has
 pub returns-clause-known_count : goal.returns-clause-known_count
 returns-clause-known_count g c before h =
     let first = c.args.first.now in

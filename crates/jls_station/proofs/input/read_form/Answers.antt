@@ -33,6 +33,7 @@ first_gave g c E not =
     (one_read_more E 0 old old new [] 4096 given (nothing_read E 0 old old old []) (rw room at read) not (omega arith) some
     (subst AreBytes c.prefix-first.ensures.prefix c.prefix-first.ensures.bytes))
 
+-- the first read failed
 pub returns-in_err-count-clause-refused : goal.returns-in_err-count-clause-refused
 returns-in_err-count-clause-refused g c =
     let old = g.S.Device.history c.args.device.now in
@@ -46,6 +47,7 @@ returns-in_err-count-clause-refused g c =
     (λ e. empty_goes_on c.copies_have_one_course.ensures e.1) (omega arith))
     (fault.Read Failed 0) (copy_not_read [] Failed marker.Ended 0 refl (λ t. absurd cc) empty_gives_none))
 
+-- the input is empty, which is a copy without a frame
 pub returns-then-count-eq0-clause-refused : goal.returns-then-count-eq0-clause-refused
 returns-then-count-eq0-clause-refused g c =
     let old = g.S.Device.history c.args.device.now in

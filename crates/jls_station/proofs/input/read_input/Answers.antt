@@ -17,6 +17,7 @@ use Rattle.jls_station.proofs.KnownInputs.{none_counted, text_refused}
 use Rattle.jls_station.proofs.OneInput.{all_read, refused_by, text_gives}
 use Rattle.jls_station.proofs.input.read_input.Goals as goal
 
+-- the text has a fault
 pub returns-in_err-partial-in-Text-clause-refused : goal.returns-in_err-partial-in-Text-clause-refused
 returns-in_err-partial-in-Text-clause-refused g c =
     let old = g.S.Device.history c.args.device.now in
@@ -31,6 +32,7 @@ returns-in_err-partial-in-Text-clause-refused g c =
     let p = err_from_is_err_and c.from_residual-in_err-partial-in-Text.result c.from_residual-in_err-partial-in-Text.ensures.1 in
     rw (p.1, p.2, made.1) (refused_by old new bytes form.they_are.1 (all_read c.args.source old new bytes form) made.0 fails)
 
+-- the text is read, and gives its partial picture
 pub returns-in-Text-clause-given : goal.returns-in-Text-clause-given
 returns-in-Text-clause-given g c =
     let old = g.S.Device.history c.args.device.now in
@@ -48,6 +50,7 @@ returns-clause-known_copy g c copied =
     subst (λ (f : InputForm). IfSome (g.S.Source.remaining c.args.device.now) (IsGivenBy c.args.source f)) c.in-Copy.is
     c.in_ok-form.ensures.known_copy
 
+-- the text has a fault, in the words of known bytes
 pub returns-in_err-partial-in-Text-clause-known_refused : goal.returns-in_err-partial-in-Text-clause-known_refused
 returns-in_err-partial-in-Text-clause-known_refused g c =
     let old = g.S.Device.history c.args.device.now in

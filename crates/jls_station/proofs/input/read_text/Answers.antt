@@ -21,6 +21,7 @@ returns-in_err-extend_from_slice-clause-refused g c before h =
     let p = err_from_is_err_and c.from_residual.result c.from_residual.ensures.1 in
     rw (p.1, p.2) (out_of_memory_in_part before now (read_in_part IsEnough 1 before now now c.args.first.now h (omega arith)))
 
+-- there is no memory for the text
 pub returns-in_err-stop-clause-refused : goal.returns-in_err-stop-clause-refused
 returns-in_err-stop-clause-refused g c before h =
     let history = g.S.Device.history in
@@ -28,6 +29,7 @@ returns-in_err-stop-clause-refused g c before h =
     rw (p.1, p.2) (out_of_memory_in_part before (history c.read_text_on.new.device)
     (c.in_err-stop.ensures.refused before (rw (first_held c.clear.ensures.items c.in_ok-extend_from_slice.ensures.items) at h)))
 
+-- the device stopped before the text's end
 pub returns-in_default-clause-refused : goal.returns-in_default-clause-refused
 returns-in_default-clause-refused g c before h =
     let history = g.S.Device.history in
@@ -39,6 +41,7 @@ returns-in_default-clause-refused g c before h =
     (c.in_ok-stop.ensures.read before (rw (first_held c.clear.ensures.items c.in_ok-extend_from_slice.ensures.items) at h))
     (fault.Read stop (length bytes)) (text_not_read bytes stop c.in_ok-stop.ensures.text c.in_default.not-Whole))
 
+-- the text is read to its end
 pub returns-in-Whole-clause-read : goal.returns-in-Whole-clause-read
 returns-in-Whole-clause-read g c before h =
     let history = g.S.Device.history in
@@ -46,6 +49,7 @@ returns-in-Whole-clause-read g c before h =
     subst (λ (stop : ReadStop). GrewBy (λ reads. IsRead IsEnough reads bytes stop) before (history c.read_text_on.new.device)) c.in-Whole.is
     (c.in_ok-stop.ensures.read before (rw (first_held c.clear.ensures.items c.in_ok-extend_from_slice.ensures.items) at h))
 
+-- the text is all of the known bytes
 pub returns-in-Whole-clause-known : goal.returns-in-Whole-clause-known
 returns-in-Whole-clause-known g c before h =
     let remaining = g.S.Source.remaining in

@@ -12,6 +12,7 @@ use Rattle.jls_station.proofs.OneInput.{one_read_more, read_to_end, read_to_fail
 use Rattle.jls_station.proofs.reading.read_on.Goals as goal
 use Rattle.jls_marker.specs.SegmentLaws.{AreBytes}
 
+-- a read failed: the input is read up to there
 pub returns-in-Err-clause-read : goal.returns-in-Err-clause-read
 returns-in-Err-clause-read g c before fed was h =
     let history = g.S.Device.history in
@@ -23,6 +24,7 @@ returns-in-Err-clause-read g c before fed was h =
     (goes_on g.I.Intake.IsEnough c.is_enough.result (g.I.Intake.fed c.loop.held) i.bytes i.is c.is_enough.ensures c.if-is_enough.false)
     (omega arith))
 
+-- the end was met: the input is read whole
 pub returns-then-n-eq0-clause-read : goal.returns-then-n-eq0-clause-read
 returns-then-n-eq0-clause-read g c before fed was h =
     let history = g.S.Device.history in
@@ -36,6 +38,7 @@ returns-then-n-eq0-clause-read g c before fed was h =
     (goes_on g.I.Intake.IsEnough c.is_enough.result (g.I.Intake.fed c.loop.held) i.bytes i.is c.is_enough.ensures c.if-is_enough.false)
     (omega arith) (omega arith) (omega arith))
 
+-- there is no memory for what a read gave
 pub returns-in_err-put-clause-refused : goal.returns-in_err-put-clause-refused
 returns-in_err-put-clause-refused g c before fed was h =
     let history = g.S.Device.history in
@@ -53,6 +56,7 @@ returns-in_err-put-clause-refused g c before fed was h =
     (omega arith) some
     (subst AreBytes c.prefix.ensures.prefix c.prefix.ensures.bytes)) (omega arith))
 
+-- one read more is made, and what it gave is put
 pub loop-preserved : goal.loop-preserved
 loop-preserved g c =
     let history = g.S.Device.history in
@@ -70,6 +74,7 @@ loop-preserved g c =
     some (omega (arith, n, room))
     (subst AreBytes c.prefix.ensures.prefix c.prefix.ensures.bytes) c.in-Ok.ensures.bytes.0
 
+-- the end was met: the known bytes are used up
 pub returns-then-n-eq0-clause-known : goal.returns-then-n-eq0-clause-known
 returns-then-n-eq0-clause-known g c before fed was h =
     let remaining = g.S.Source.remaining in
@@ -86,6 +91,7 @@ loop-init g c =
     (g.S.Source.remaining c.args.device.now)
     c.requires.fed_few
 
+-- so few bytes were fed that these can be too
 pub put-requires : goal.put-requires
 put-requires g c =
     let i = c.loop.invariant in
@@ -122,6 +128,7 @@ returns-then-is_enough-2 g c =
 pub returns-else-is_enough-2-clause-longer : goal.returns-else-is_enough-2-clause-longer
 returns-else-is_enough-2-clause-longer g c = stops_longer c.loop.invariant
 
+-- all reads are used up
 pub returns-else-is_enough-2-clause-read : goal.returns-else-is_enough-2-clause-read
 returns-else-is_enough-2-clause-read g c before fed was h =
     let history = g.S.Device.history in

@@ -1,6 +1,7 @@
 use Rattle.jls_station.proofs.CopySteps.{SoFar}
 use Rattle.jls_station.proofs.reading.read_on.Given as goal
 
+-- the reads so far gave what was fed
 abbrev pub invariant-loop : goal.invariant-loop
 invariant-loop g l =
     let history = g.S.Device.history in

@@ -16,6 +16,7 @@ use Rattle.jls_station.proofs.take_copy.read_from_start.Given.{Over}
 use Rattle.jls_station.proofs.take_copy.read_from_start.Goals.{After-read_of_copy}
 use Rattle.jls_station.proofs.take_copy.read_from_start.Goals as goal
 
+-- there is no memory while the copy is read
 pub returns-in_err-stop-clause-refused : goal.returns-in_err-stop-clause-refused
 returns-in_err-stop-clause-refused g c =
     let old = g.S.Device.history c.args.device.now in
@@ -37,7 +38,7 @@ read_so g c =
     let was = value_at _ c.read_copy_on.result c.map_err.result c.in_ok-stop.stop c.map_err.ensures.cases c.in_ok-stop.was in
     IfOk-at_ok _ was (c.read_copy_on.ensures.read old [] c.new-reader.ensures (nothing_read IsCopyDone 0 old old old []))
 
--- and of known bytes
+-- how the copy was read, in the words of known bytes
 prefix_so : (g : Over) (c : After-read_of_copy g) → IsSomeAnd c.read_copy_on.new.reader
     (λ prefix. IfSome (g.S.Source.remaining c.args.device.now) (λ bytes. IsPrefixOf bytes prefix c.in_ok-stop.stop))
 prefix_so g c =
@@ -55,6 +56,7 @@ returns-clause-given g c =
     value_so _ _ _ _ _ (λ given. whole_copy_gives c.args.source c.in_ok-stop.stop _ _ c.read_copy_on.new.reader given.partial given.report
     (read_so g (goal.at.returns-clause-given g c).After-read_of_copy)) c.map_err-2.ensures.cases c.read_of_copy.ensures.given
 
+-- the copy gives no picture
 pub returns-clause-refused : goal.returns-clause-refused
 returns-clause-refused g c =
     error_as _ c.read_of_copy.result c.map_err-2.result _ _

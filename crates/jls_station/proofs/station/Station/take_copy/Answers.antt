@@ -15,6 +15,7 @@ use Rattle.jls_station.proofs.station.Station.take_copy.Goals as goal
 not_both : (r : Result (Unit {0}) MergeFault) (f : MergeFault) → r ≡ Err f → f ≡ merge.OutOfMemory → r ≡ Err merge.ShapeDiffers → ⊥
 not_both r f is memory other = cc
 
+-- the copy gives no picture
 pub returns-in_err-given-clause-refused : goal.returns-in_err-given-clause-refused
 returns-in_err-given-clause-refused g c =
     let history = g.S.Device.history in
@@ -24,6 +25,7 @@ returns-in_err-given-clause-refused g c =
     (history c.read_from_start.new.device)
     (λ reads h. gives_none c.args.source c.args.self.now fault reads h) c.in_err-given.ensures.refused)
 
+-- the copy has another shape
 pub returns-in-Err-ShapeDiffers-clause-refused : goal.returns-in-Err-ShapeDiffers-clause-refused
 returns-in-Err-ShapeDiffers-clause-refused g c =
     let history = g.S.Device.history in
@@ -38,6 +40,7 @@ returns-in-Err-ShapeDiffers-clause-refused g c =
     (λ reads h. other_shape c.args.source c.args.self.now given.partial given.report reads h
     (c.in-Err-ShapeDiffers.ensures.shape_differs.0 is)) c.in_ok-given.ensures.given)
 
+-- memory ran out while the readings were merged
 pub returns-in-Err-OutOfMemory-clause-refused : goal.returns-in-Err-OutOfMemory-clause-refused
 returns-in-Err-OutOfMemory-clause-refused g c =
     let history = g.S.Device.history in
@@ -51,6 +54,7 @@ returns-in-Err-OutOfMemory-clause-refused g c =
     (λ reads h. no_memory c.args.source c.args.self.now c.take.new.self given.partial given.report reads h same
     (c.in-Err-OutOfMemory.ensures.out_of_memory (ap (λ e. Err e) c.in-Err-OutOfMemory.field-0-is))) c.in_ok-given.ensures.given
 
+-- the readings of the copy are merged
 pub returns-clause-taken : goal.returns-clause-taken
 returns-clause-taken g c =
     let history = g.S.Device.history in
