@@ -20,7 +20,8 @@ fn is_last(told: &[PieceInHand], offset: u64) -> bool {
     }
 }
 
-/// Keeps the piece in hand, in place of what was kept of it before. One that is broken whatever follows would be left out in the end.
+/// Keeps the piece in hand, in place of what was kept of it before. A piece that is broken whatever follows is passed by, since it would be
+/// left out in the end.
 fn note(reader: &CopyReader, told: &mut Vec<PieceInHand>) -> Result<(), AllocError>
     ensures { OnOk result (IfSome reader.now (λ fed. (more : List ℕ) → All (IsTold (fed ++ more)) told.old.items
         → All (IsTold (fed ++ more)) told.new.items)) }
@@ -71,7 +72,7 @@ fn is_recorded(records: &[PieceRecord], offset: u64) -> bool
     false
 }
 
-/// The pieces that have no record, so that they read as lines. Of a copy with more records than are kept, none is known.
+/// The pieces that have no record, so that they read as lines. There are none if the copy has more records than are kept.
 fn without_record(
     alloc: Global,
     read: &CopyRead,
@@ -92,8 +93,8 @@ fn without_record(
     Ok(kept)
 }
 
-/// The pieces of a mended file that read as lines, and the last one with those that stand whole in it, if the file's end cuts it off. A
-/// reader has each in hand before its end, so that none is decoded twice.
+/// The pieces of a mended file that read as lines. If the file's end cuts off the last piece, it comes with the lines that stand whole in
+/// it. A reader has each piece in hand before its end, so that none is decoded twice.
 pub(crate) fn file_pieces(alloc: Global, file: &MendedCopy) -> Result<Vec<PieceInHand>, AllocError>
     ensures { IfOk result (λ pieces. All (IsPieceOf (file_of file.now)) pieces.items) }
 {

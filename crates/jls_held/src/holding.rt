@@ -35,11 +35,11 @@ fn add_chains(
     Ok(())
 }
 
-/// A picture of this shape with lines that the mended files hold. All bytes of such a line's code are held in one of the files, and all
-/// lines before it in its interval are held too, in that file or another. Lines that don't fit the shape are left out, with those after
-/// them in their interval. Two readings of a line can both be held. None has a source.
+/// A picture of this shape with lines that the mended files hold. All bytes of such a line's code are held in one file. All lines before it
+/// in its interval are held too, in that file or another. Lines that don't fit the shape are left out, with those after them in their
+/// interval. Two readings of a line can both be held. None has a source.
 ///
-/// That no held line is left out, no clause says. Lines of each piece are looked for that reads, and of the last one if the file's end cuts
+/// No clause says that no held line is left out. Lines are looked for in each piece that reads, and in the last one if the file's end cuts
 /// it off. The only refusal is out of memory.
 pub fn held_lines(alloc: Global, shape: Shape, files: &[MendedCopy]) -> Result<Partial, AllocError>
     ensures shape { IfOk result (λ held. held.shape ≡ shape) }

@@ -22,7 +22,7 @@ pub struct EditedCopy {
     pub edits: Vec<CopyEdit>,
 }
 
-/// Mended files, and the lines that they hold. Each coding has the edited copies of which the file in its place is mended.
+/// Mended files, and the lines that they hold. The file at each place is mended of the edited copies at this place of `codings`.
 #[derive(Drop)]
 pub struct Judged {
     pub codings: Vec<Vec<EditedCopy>>,
@@ -65,7 +65,7 @@ fn made_of(
     Ok(Some(made))
 }
 
-/// Holds the bytes that the other copy has too.
+/// Marks as held also the bytes that another copy has.
 fn hold_of_either(held: &mut Vec<bool>, others: &[bool])
     requires { length held.old.items ≡ length others.now }
     ensures { held.new.items ≡ held_by_either held.old.items others.now }
@@ -105,8 +105,8 @@ fn mended_of(
     Ok(Some(file))
 }
 
-/// Judges proposals of edited copies. A proposal is taken if it has a copy at least, each number is that of a copy, the edits of each copy
-/// are in order and inside it, and all make the same bytes. Else it is left out.
+/// Judges proposals of edited copies. A proposal is taken if it has one copy or more, and all of them make the same bytes. Each number has
+/// to be that of a copy, whose edits are in order and inside it. Any other proposal is left out.
 ///
 /// The answer has the proposals that are taken, the file that each makes, and the lines that these files hold (`held_lines`). The only
 /// refusal is out of memory.

@@ -1,9 +1,9 @@
 //! Mended files of copies in different codings, and which lines their bytes hold.
 //!
-//! JPEG-LS coding is a function of lines and parameters. So lines that one copy gives can be coded with the parameters of another copy,
-//! and stand in place of its damaged bytes: that is a mended file. Any picture can be coded so, and that a mended file decodes says
-//! nothing. What counts are the bytes that the copy has itself. A line is held where all bytes of its code are such bytes, and all lines
-//! before it in its interval are held, in this mended file or another. The laws of jls_carry_laws say that whatever undamaged files have
+//! JPEG-LS coding is a function of lines and parameters. So lines that one copy gives can be coded with the parameters of another copy. A
+//! mended file has that code in place of the other copy's damaged bytes. Any picture can be coded so, and that a mended file decodes says
+//! nothing. What counts are the bytes that the copy has itself. A line is held if all bytes of its code are such bytes. All lines before it
+//! in its interval have to be held too, in this mended file or another. The laws of jls_carry_laws say that whatever undamaged files have
 //! these bytes, their held lines are the same.
 //!
 //! - `mending`: the mended file of a copy and its edits

@@ -6,7 +6,7 @@ ghost use Rattle.jls_held.specs.Mending.{edits_of, file_of};
 
 use std::alloc::{AllocError, Global};
 
-/// In place of `count` bytes of a copy, from `offset` on, stand these.
+/// An edit of a copy: these bytes take the place of `count` bytes from `offset` on.
 #[derive(Drop)]
 pub struct CopyEdit {
     pub offset: usize,
@@ -22,7 +22,7 @@ pub struct MendedCopy {
 }
 
 impl MendedCopy {
-    /// Appends bytes that the copy has, or has not.
+    /// Appends bytes. `held` says whether the copy has them.
     fn put(&mut self, bytes: &[u8], held: bool) -> Result<(), AllocError>
         ensures bytes { OnOk result (self.new.bytes.items ≡ self.old.bytes.items ++ bytes.now) }
         ensures held { OnOk result (self.new.held.items ≡ self.old.held.items ++ replicate (length bytes.now) held) }

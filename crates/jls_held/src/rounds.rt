@@ -28,8 +28,8 @@ fn is_taken(held: &Partial, component: u8, row: u16, samples: &[u16]) -> bool
     false
 }
 
-/// Takes the next line of a chain, whose earlier lines are held: if all bytes of its code are held, or if it was taken from another piece.
-/// `false` says that it isn't known to be held, or doesn't fit the shape.
+/// Takes the next line of a chain, whose earlier lines are held. It is held if all bytes of its code are, or if it was taken from another
+/// piece. `false` says that it isn't known to be held, or doesn't fit the shape.
 fn take(held: &mut Partial, line: &ChainLine) -> Result<bool, AllocError>
     ensures shape { OnOk result (held.new.shape ≡ held.old.shape) }
     ensures marks { OnOk result (held.new.marks ≡ held.old.marks) }
@@ -47,7 +47,7 @@ fn take(held: &mut Partial, line: &ChainLine) -> Result<bool, AllocError>
     }
 }
 
-/// Takes lines of a chain from this one on, up to the first that isn't known to be held, and says which that is.
+/// Takes lines of a chain from the place `from` on, up to the first that isn't known to be held. The answer is the place of that one.
 fn advance(held: &mut Partial, chain: &[ChainLine], from: usize) -> Result<usize, AllocError>
     ensures from { IfOk result (λ next. from ≤ next) }
     ensures shape { OnOk result (held.new.shape ≡ held.old.shape) }
@@ -63,7 +63,7 @@ fn advance(held: &mut Partial, chain: &[ChainLine], from: usize) -> Result<usize
     Ok(from.max(chain.len()))
 }
 
-/// Takes lines of each chain from the place on to which it has come. True where some chain went on.
+/// Takes lines of each chain from its place of `places` on, and moves these places. The answer says whether one moved.
 fn advance_each(
     held: &mut Partial,
     chains: &[Vec<ChainLine>],
@@ -86,7 +86,7 @@ fn advance_each(
     Ok(moved)
 }
 
-/// How many lines the chains have. So many rounds are enough, since each round but the last takes one.
+/// How many lines the chains have. As many rounds are enough, since each round but the last takes a line.
 fn line_count(chains: &[Vec<ChainLine>]) -> usize {
     let mut count = 0usize;
     for chain in chains {
@@ -95,7 +95,7 @@ fn line_count(chains: &[Vec<ChainLine>]) -> usize {
     count
 }
 
-/// Takes all lines that follow held lines. That none is left out, no clause says: more rounds would take no more.
+/// Takes all lines that follow held lines. No clause says that none is left out: more rounds would take no more.
 pub(crate) fn take_held(
     alloc: Global,
     held: &mut Partial,
