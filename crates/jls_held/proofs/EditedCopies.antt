@@ -32,6 +32,7 @@ pub record IsMendedSoFar (copies : List (List ℕ)) (coding others : List Edited
 pub made_as_long : (copies : List (List ℕ)) (e : EditedCopy) (f : MendedFile) → f ≡ made_of copies e → length f.held ≡ length f.bytes
 made_as_long copies e f is = subst (λ g. length g.held ≡ length g.bytes) (sym is) (held_as_long 0 (get_or copies e.number []) e.edits)
 
+-- the file that the first copy's edits make is mended of that copy so far
 pub first_made : (copies : List (List ℕ)) (coding others : List EditedCopy) (e : EditedCopy) (f : MendedFile)
     → coding ≡ e ∷ others → FitsCopy copies e → f ≡ made_of copies e → IsMendedSoFar copies coding others f
 first_made copies coding others e f coding_is fits is = record {
@@ -42,6 +43,7 @@ first_made copies coding others e f coding_is fits is = record {
   held = ap (λ g. held_by_either g.held (held_by_any copies others)) is ∙ ap (held_by_any copies) (sym coding_is);
 }
 
+-- a file mended of some copies is mended of one more, if its edits make the same bytes
 pub one_more : (copies : List (List ℕ)) (coding others : List EditedCopy) (e : EditedCopy) (f made : MendedFile) (held : List Bool)
     → IsMendedSoFar copies coding (e ∷ others) f → FitsCopy copies e → made ≡ made_of copies e → made.bytes ≡ f.bytes
     → held ≡ held_by_either f.held made.held → IsMendedSoFar copies coding others (record { bytes = f.bytes; held = held })
@@ -62,6 +64,7 @@ pub unfit : (copies : List (List ℕ)) (coding others : List EditedCopy) (e : Ed
     → IsMendedSoFar copies coding (e ∷ others) f → (FitsCopy copies e → ⊥) → IsMendedOf copies coding g → ⊥
 unfit copies coding others e f g s no_fit m = no_fit (s.needed g.bytes m.each).1.0.fits
 
+-- a copy that makes other bytes leaves no file that all make
 pub other_bytes : (copies : List (List ℕ)) (coding others : List EditedCopy) (e : EditedCopy) (f made g : MendedFile)
     → IsMendedSoFar copies coding (e ∷ others) f → made ≡ made_of copies e → (made.bytes ≡ f.bytes → ⊥) → IsMendedOf copies coding g → ⊥
 other_bytes copies coding others e f made g s is differ m =

@@ -28,6 +28,7 @@ in_last [] p c = c
 in_last (q ∷ []) p c = c
 in_last (q ∷ (r ∷ ps)) p c = in_rest p q (r ∷ ps) (in_last (r ∷ ps) p c)
 
+-- the piece that the input's end closes is one of all pieces
 in_cut : (c : Course) (p : FoundPiece) → Contains (cut_pieces c) p → Contains (pieces c) p
 in_cut c p among = cases (closed_by_input c.units) among
   where
@@ -133,6 +134,7 @@ fed_more reader bytes at cut low is =
     let sum : at + (cut - at) ≡ cut = omega (arith, low) in
     is ∙ ap (λ z. Some z) (sym (take-add at (cut - at) bytes)) ∙ ap (λ n. Some (take n bytes)) sum
 
+-- pieces that were told of the first bytes of a file are told of all
 pub told_all : (reader : Option (List ℕ)) (bytes : List ℕ) (cut : ℕ) (old out : List PieceInHand) → reader ≡ Some (take cut bytes)
     → IfSome reader (λ fed. (more : List ℕ) → All (IsTold (fed ++ more)) old → All (IsTold (fed ++ more)) out)
     → All (IsTold bytes) old → All (IsTold bytes) out

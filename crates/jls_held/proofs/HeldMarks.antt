@@ -12,6 +12,7 @@ pub either_none : (ms : List Bool) → held_by_either ms [] ≡ ms
 either_none [] = refl
 either_none (m ∷ ms) = refl
 
+-- marks of three copies can be merged in either order
 pub either_assoc : (ms ns os : List Bool) → held_by_either ms (held_by_either ns os) ≡ held_by_either (held_by_either ms ns) os
 either_assoc [] ns os = refl
 either_assoc (m ∷ ms) [] os = refl
@@ -19,6 +20,7 @@ either_assoc (m ∷ ms) (n ∷ ns) [] = refl
 either_assoc (m ∷ ms) (n ∷ ns) (o ∷ os) =
     ap (λ b. b ∷ held_by_either ms (held_by_either ns os)) (or_assoc m n o) ∙ ap (λ bs. ((m || n) || o) ∷ bs) (either_assoc ms ns os)
 
+-- merged marks are as many as before
 pub length-either : (ms ns : List Bool) → length ms ≡ length ns → length (held_by_either ms ns) ≡ length ms
 length-either [] [] e = refl
 length-either [] (n ∷ ns) e = absurd (omega (arith, e))
@@ -29,6 +31,7 @@ length-either (m ∷ ms) (n ∷ ns) e = let more = length-either ms ns (omega (a
 abbrev pub IsMergedTo : List Bool → List Bool → ℕ → List Bool → Type 0
 IsMergedTo total others i held = take i held ++ held_by_either (drop i held) (drop i others) ≡ total
 
+-- one mark more is merged
 pub one_mark_more : (total others held : List Bool) (i : ℕ) (v : Bool) → i < length held → i < length others
     → (get_or held i false || get_or others i false) ≡ v → IsMergedTo total others i held → IsMergedTo total others (i + 1) (set held i v)
 one_mark_more total others held i v a b is h =
@@ -47,11 +50,13 @@ or_false : (b : Bool) → (b || false) ≡ b
 or_false true = refl
 or_false false = refl
 
+-- a mark that the other copy has is set
 pub mark_set : (total others held : List Bool) (i : ℕ) → i < length held → i < length others → get_or others i false ≡ true
     → IsMergedTo total others i held → IsMergedTo total others (i + 1) (set held i true)
 mark_set total others held i a b is h =
     one_mark_more total others held i true a b (ap (λ m. get_or held i false || m) is ∙ or_true (get_or held i false)) h
 
+-- a mark that the other copy does not have stays
 pub mark_kept : (total others held : List Bool) (i : ℕ) → i < length held → i < length others → get_or others i false ≡ false
     → IsMergedTo total others i held → IsMergedTo total others (i + 1) held
 mark_kept total others held i a b is h =

@@ -57,6 +57,7 @@ any_rows i by_line lines = λ h. absurd (let e : false ≡ true = sym by_line �
 abbrev interval_of_piece : PieceShape → IntervalShape
 interval_of_piece i = interval_shape i.params i.width i.components i.line_count
 
+-- a piece by line that begins with the code of lines does so as an interval
 begins_as_interval : (i : PieceShape) (piece : List ℕ) (lines : List (List ℕ)) (unread : List Bool) → i.by_sample ≡ false
     → BeginsWithCode i piece lines unread → line.BeginsWithCode (interval_of_piece i) piece lines unread
 begins_as_interval i piece lines unread by_line b = record {
@@ -70,6 +71,7 @@ pub record Ends (piece : List ℕ) (size : ℕ) (place : BitPlace) : Type 0 wher
   pub size_is : size ≡ bits_before piece place.bytes + place.bits
   pub few : place.bits < width_after (last_after 0 (take place.bytes piece))
 
+-- where the code of first lines ends is the place at which their bits end in the piece
 pub ends_of : FrontsBeginPieces → (i : PieceShape) (piece : List ℕ) (first others : List (List ℕ)) (unread : List Bool)
     (place : BitPlace) → i.by_sample ≡ false → BeginsWithCode i piece (first ++ others) unread
     → EndsAt (code i.params i.width i.components first) place → Ends piece (code_length i first) place

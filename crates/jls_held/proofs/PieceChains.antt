@@ -119,6 +119,7 @@ module _ (law : FrontsBeginPieces) (strict : StrictPiecesAreByLine) (f : MendedF
       (subst (λ z. EndsAt (code p.plan.params p.plan.width (length p.plan.components) z) (get_or ends n nowhere)) one
       (at.each n (omega (arith, whole, count))))
 
+  -- a byte that carries bits of the next line is not before the end of those before it
   starts_there : (before later : List (List ℕ)) (n : ℕ) → lines_of p ≡ before ++ later → length before ≡ n → (place : ℕ)
       → code_length interval before < bits_before bytes (place + 1) → (start_of ends n).bytes ≤ place
   starts_there before later zero lines count place above = omega arith
@@ -177,7 +178,7 @@ module _ (law : FrontsBeginPieces) (strict : StrictPiecesAreByLine) (f : MendedF
             (first j x (omega (arith, at_end, low)) (omega (arith, n, low))))))
       ]
 
-  -- the same, of the chain that comes out
+  -- one line more, of the chain that comes out
   pub chain_step : (chain : List ChainLine) (l : ChainLine) (rest : List (List ℕ)) (place : ℕ) (start end : BitPlace)
       → IsSoFar p.plan p.interval (lines_of p) chain (samples_in l ∷ rest) l.row place
       → l.component ≡ get_or p.plan.components place 0 → start_of ends (length chain) ≡ start → get_or ends (length chain) nowhere ≡ end
@@ -211,6 +212,7 @@ start_more ends chain l out end out_is end_is =
 module _ (plan : Scan) (k : ℕ) (lines : List (List ℕ)) (chain : List ChainLine) (l : ChainLine) (rest : List (List ℕ)) (place : ℕ)
     (so : IsSoFar plan k lines chain (samples_in l ∷ rest) l.row place) (component : l.component ≡ get_or plan.components place 0)
     (out : List ChainLine) (out_is : out ≡ chain ++ l ∷ []) where
+  -- a chain with its next line is a chain so far, from the next row and place on
   line_more : (next_row next_place : ℕ)
       → ((more : List (List ℕ)) → placed plan.components l.row place (samples_in l ∷ more)
       ≡ reading_of (get_or plan.components place 0) l.row (samples_in l) ∷ placed plan.components next_row next_place more)

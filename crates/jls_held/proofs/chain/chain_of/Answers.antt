@@ -16,6 +16,7 @@ items_of v = v.items
 abbrev line_of : ℕ → ℕ → Vec ℕ Global → Bool → ChainLine
 line_of component row samples held = record { component = component; row = row; samples = samples; is_code_held = held }
 
+-- the next row would be none of a picture: the chain ends here
 pub returns-in_default : goal.returns-in_default
 returns-in_default c =
     let p = c.args.piece in let f = file_of c.args.file.now in let before = c.loop-samples in let chain = before.chain.items in
@@ -37,6 +38,7 @@ returns-in_default c =
     before.invariant.are out out_is in
     are
 
+-- one line more, which is the last of its row
 pub loop-samples-preserved-then-place-components : goal.loop-samples-preserved-then-place-components
 loop-samples-preserved-then-place-components c =
     let p = c.args.piece in let f = file_of c.args.file.now in let before = c.loop-samples in let chain = before.chain.items in
@@ -67,6 +69,7 @@ loop-samples-preserved-then-place-components c =
       are = are;
     }
 
+-- one line more, after which the row goes on
 pub loop-samples-preserved : goal.loop-samples-preserved
 loop-samples-preserved c =
     let p = c.args.piece in let f = file_of c.args.file.now in let before = c.loop-samples in let chain = before.chain.items in

@@ -9,6 +9,7 @@ now_of l = l.now
 abbrev items_of : Vec ℕ Global → List ℕ
 items_of v = v.items
 
+-- one line more is lent
 pub loop-line-preserved : goal.loop-line-preserved
 loop-line-preserved c =
     let piece = c.args.piece.now in let xs = piece.lines.items in let i = c.loop-line.line-index in let x = c.line-item.result in

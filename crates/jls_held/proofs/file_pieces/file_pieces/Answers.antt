@@ -11,6 +11,7 @@ use Rattle.jls_held.proofs.FoundPieces.{told_piece, last_piece_of}
 use Rattle.jls_held.proofs.file_pieces.file_pieces.Goals as goal
 use Rattle.jls_held.proofs.file_pieces.file_pieces.Goals.{in-Some+in_ok-push, in_default}
 
+-- the pieces kept are those of the file, and so is the last one
 pub returns : goal.returns
 returns c =
     let f = file_of c.args.file.now in let P = IsPieceOf f in

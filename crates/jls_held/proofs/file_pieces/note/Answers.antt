@@ -6,6 +6,7 @@ use Rattle.jls_held.proofs.FoundPieces.{note_more, less_one}
 use Rattle.jls_held.proofs.file_pieces.note.Goals as goal
 use Rattle.jls_held.proofs.file_pieces.note.Goals.{then-is_last+in-Some-1, then-is_last+in-None-1, else-is_last}
 
+-- the piece in hand stands in each longer list of bytes
 pub returns : goal.returns
 returns c =
     let less : (bytes : List ℕ) → All (IsTold bytes) c.args.told.now.items → All (IsTold bytes) c.if-is_last.told.items =

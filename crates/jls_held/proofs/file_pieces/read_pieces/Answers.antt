@@ -3,6 +3,7 @@ use Rattle.jls_copy.specs.ReadCopy.{after}
 use Rattle.jls_held.proofs.FoundPieces.{fed_more, told_all}
 use Rattle.jls_held.proofs.file_pieces.read_pieces.Goals as goal
 
+-- the bytes up to the next cut are fed, and the piece in hand is kept
 pub loop-cut-preserved : goal.loop-cut-preserved
 loop-cut-preserved c =
     let bytes = c.args.bytes.now in let at = c.loop-cut.at in let cut = c.in-Some.cut in let found = c.in-Some.ensures.found in

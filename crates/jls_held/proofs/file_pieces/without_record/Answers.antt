@@ -6,6 +6,7 @@ use Rattle.jls_copy.specs.declared.piece.PieceRecord.{PieceRecord}
 use Rattle.jls_held.specs.FilePieces.{IsTold, HasNoRecord}
 use Rattle.jls_held.proofs.file_pieces.without_record.Goals as goal
 
+-- a piece without a record is kept
 pub loop-piece-preserved-in-Continue-1 : goal.loop-piece-preserved-in-Continue-1
 loop-piece-preserved-in-Continue-1 c =
     let piece = c.in-Some.piece in let later = into_iter_items c.next.new.self in let kept = c.loop-piece.kept.items in
@@ -22,6 +23,7 @@ loop-piece-preserved-in-Continue-1 c =
           (All-head (IsTold bytes) piece later (All-same (IsTold bytes) _ _ (sym c.in-Some.ensures.steps.0) (before.left bytes all))));
     }
 
+-- a piece with a record is left out
 pub loop-piece-preserved : goal.loop-piece-preserved
 loop-piece-preserved c =
     let piece = c.in-Some.piece in let later = into_iter_items c.next.new.self in let before = c.loop-piece.invariant in

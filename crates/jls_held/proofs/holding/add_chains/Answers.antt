@@ -12,6 +12,7 @@ chain_of-requires c =
     let P = IsPieceOf (file_of c.args.file.now) in
     All-head P c.in-Some.piece (into_iter_items c.next.new.self) (All-same P _ _ (sym c.in-Some.ensures.steps.0) c.loop-piece.invariant.left)
 
+-- the chain of one piece more is added
 pub loop-piece-preserved : goal.loop-piece-preserved
 loop-piece-preserved c =
     let P = IsPieceOf (file_of c.args.file.now) in

@@ -7,6 +7,7 @@ use Rattle.jls_held.specs.FilePieces.{IsPieceOf}
 use Rattle.jls_held.specs.Chains.{AreChains}
 use Rattle.jls_held.proofs.holding.add_chains.Given as goal
 
+-- the chains of the pieces so far are added
 abbrev pub invariant-loop-piece : goal.invariant-loop-piece
 invariant-loop-piece l = record {
   left : All (IsPieceOf (file_of l.file)) (into_iter_items l.piece-iterator);

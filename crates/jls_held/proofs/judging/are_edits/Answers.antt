@@ -6,6 +6,7 @@ use Rattle.jls_held.proofs.judging.are_edits.Goals.{then-edit-at-via-then-edit-a
 use Rattle.jls_held.proofs.judging.are_edits.Goals.{then-edit-at-via-else-edit-at+else-length-edit+then-length-edit-2}
 use Rattle.jls_held.proofs.judging.are_edits.Goals as goal
 
+-- an edit begins too early, or ends outside of the copy
 pub returns-then-edit-at : goal.returns-then-edit-at
 returns-then-edit-at c = λ are.
     let l = c.loop-edit in

@@ -3,6 +3,7 @@ use Rattle.jls_held.specs.Edits.{AreEdits}
 use Rattle.jls_held.specs.Mending.{edits_of}
 use Rattle.jls_held.proofs.judging.are_edits.Given as goal
 
+-- the edits so far are in order, so the answer is that of the rest
 abbrev pub invariant-loop-edit : goal.invariant-loop-edit
 invariant-loop-edit l = record {
   inside : l.at ≤ l.length;

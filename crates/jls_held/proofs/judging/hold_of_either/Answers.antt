@@ -5,6 +5,7 @@ use Rattle.jls_held.proofs.HeldMarks.{IsMergedTo, mark_set, mark_kept}
 use Rattle.jls_held.proofs.judging.hold_of_either.Goals.{then-others-i, else-others-i}
 use Rattle.jls_held.proofs.judging.hold_of_either.Goals as goal
 
+-- one mark more is that of either
 pub loop-i-preserved : goal.loop-i-preserved
 loop-i-preserved c =
     let l = c.loop-i in let others = c.args.others.now in let total = held_by_either c.args.held.now.items others in

@@ -17,6 +17,7 @@ one_taken copies all before left later pushed coding f m left_is pushed_is so_fa
     subst (AreTaken copies all) (sym (ap (λ xs. xs ++ codings) pushed_is ∙ append_assoc before (coding ∷ []) codings))
     (so_far (coding ∷ codings) (subst (λ xs. AreTaken copies xs (coding ∷ codings)) (sym left_is) (taken coding f m later codings t)))
 
+-- a proposal of which no file is mended is left out
 one_left_out : (copies : List (List ℕ)) (all before left later : List (List EditedCopy)) (proposal : List EditedCopy)
     → ((f : MendedFile) → IsMendedOf copies proposal f → ⊥) → left ≡ proposal ∷ later
     → ((codings : List (List EditedCopy)) → AreTaken copies left codings → AreTaken copies all (before ++ codings))
@@ -49,6 +50,7 @@ loop-proposal-preserved-in-Continue-branch-4 c =
           (AllZip-push (IsMendedOf copies) (codings_of l.codings.items) (map file_of l.files.items) proposal file l.invariant.mended mended));
     }
 
+-- one proposal more is judged, and taken
 pub loop-proposal-preserved : goal.loop-proposal-preserved
 loop-proposal-preserved c =
     let l = c.loop-proposal in let copies = bytes_of c.args.copies.now in
@@ -62,6 +64,7 @@ loop-proposal-preserved c =
       mended = l.invariant.mended;
     }
 
+-- all proposals are judged
 pub returns-clause-taken : goal.returns-clause-taken
 returns-clause-taken c =
     let l = c.loop-proposal in let copies = bytes_of c.args.copies.now in

@@ -4,6 +4,7 @@ use Rattle.jls_held.specs.Mending.{file_of}
 use Rattle.jls_held.specs.Judging.{EditedCopy, AreMendedOf, AreTaken, bytes_of, codings_of}
 use Rattle.jls_held.proofs.judging.judge.Given as goal
 
+-- the proposals so far are judged, and those left are to be
 abbrev pub invariant-loop-proposal : goal.invariant-loop-proposal
 invariant-loop-proposal l = record {
   left : into_iter_len l.proposal-iterator ≡ length (into_iter_items l.proposal-iterator);

@@ -41,6 +41,7 @@ returns-in_default-3 c = λ f m.
     unfit copies coding _ (edited_copy_of c.edited-item.result) (file_of l.file) f
     (subst (λ es. IsMendedSoFar copies coding es (file_of l.file)) more l.invariant) unfit_is m
 
+-- a copy makes other bytes
 pub returns-then-ne : goal.returns-then-ne
 returns-then-ne c = λ f m.
     let l = c.loop-edited in let copies = bytes_of c.args.copies.now in let coding = coding_of c.args.coding.now in
@@ -50,6 +51,7 @@ returns-then-ne c = λ f m.
     (subst (λ es. IsMendedSoFar copies coding es (file_of l.file)) more l.invariant) made.1
     (bytes_differ c.in-Some-3.other.bytes.items l.file.bytes.items (sym c.ne.ensures ∙ c.if-ne.true)) m
 
+-- both files have as many marks
 pub hold_of_either-requires : goal.hold_of_either-requires
 hold_of_either-requires c =
     let l = c.loop-edited in let other = c.in-Some-3.other in
@@ -58,6 +60,7 @@ hold_of_either-requires c =
     let long = made_as_long (bytes_of c.args.copies.now) (edited_copy_of c.edited-item.result) (file_of other) made.1 in
     l.invariant.as_long ∙ (ap length (sym same) ∙ (sym long ∙ ap length (sym c.deref.ensures.value)))
 
+-- one copy more makes the same bytes
 pub loop-edited-preserved : goal.loop-edited-preserved
 loop-edited-preserved c =
     let l = c.loop-edited in let copies = bytes_of c.args.copies.now in let coding = coding_of c.args.coding.now in
@@ -69,6 +72,7 @@ loop-edited-preserved c =
     (file_of other) c.hold_of_either.new.held.items (subst (λ es. IsMendedSoFar copies coding es (file_of l.file)) more l.invariant) made.0 made.1
     same (c.hold_of_either.ensures ∙ ap (held_by_either l.file.held.items) c.deref.ensures.value)
 
+-- all copies make the same bytes
 pub returns : goal.returns
 returns c =
     let l = c.loop-edited in let copies = bytes_of c.args.copies.now in let coding = coding_of c.args.coding.now in

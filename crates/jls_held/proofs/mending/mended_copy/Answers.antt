@@ -16,6 +16,7 @@ overflow_add-at c =
     let edits = subst (AreEdits l.at (length c.args.copy.now)) (left_more edit_of c.args.edits.now l.edit-index c.edit-item.result c.loop-edit-test.true c.edit-item.is) l.invariant.edits in
     let high = within _ _ _ edits.1 in omega (arith, high)
 
+-- one edit more: what is put, with what the edits left make, is the whole
 pub loop-edit-preserved : goal.loop-edit-preserved
 loop-edit-preserved c =
     let l = c.loop-edit in let copy = c.args.copy.now in

@@ -3,6 +3,7 @@ use Rattle.jls_held.specs.Edits.{AreEdits, edited}
 use Rattle.jls_held.specs.Mending.{edits_of}
 use Rattle.jls_held.proofs.mending.mended_copy.Given as goal
 
+-- what is put, with what the edits left make, is the whole
 abbrev pub invariant-loop-edit : goal.invariant-loop-edit
 invariant-loop-edit l = record {
   edits : AreEdits l.at (length l.copy) (edits_of (drop l.edit-index l.edits));

@@ -4,6 +4,7 @@ use Rattle.jls_held.specs.HeldPictures.{AreReadingsHeld}
 use Rattle.jls_held.specs.Chains.{IsChain, AreFirstHeld}
 use Rattle.jls_held.proofs.rounds.advance.Given as goal
 
+-- the lines of the chain before this one are held
 abbrev pub invariant-loop-at : goal.invariant-loop-at
 invariant-loop-at l = record {
   shape : l.held.shape ≡ l.fn.held.shape;

@@ -4,6 +4,7 @@ use Rattle.jls_held.specs.HeldPictures.{AreReadingsHeld}
 use Rattle.jls_held.specs.Chains.{AreChains, ArePlacesHeld}
 use Rattle.jls_held.proofs.rounds.advance_each.Given as goal
 
+-- the lines before the place of each chain are held
 abbrev pub invariant-loop-i : goal.invariant-loop-i
 invariant-loop-i l = record {
   shape : l.held.shape ≡ l.fn.held.shape;

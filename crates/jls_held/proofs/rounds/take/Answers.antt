@@ -4,6 +4,7 @@ use Rattle.jls_held.specs.HeldPictures.{AreReadingsHeld}
 use Rattle.jls_held.proofs.HeldReadings.{held_with}
 use Rattle.jls_held.proofs.rounds.take.Goals as goal
 
+-- the line is inserted as a held reading
 pub returns-in-Ok-clause-held : goal.returns-in-Ok-clause-held
 returns-in-Ok-clause-held c files own all =
     let line = c.args.line.now in let held = own c.if-not-line.false in (

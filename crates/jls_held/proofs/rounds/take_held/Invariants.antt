@@ -4,6 +4,7 @@ use Rattle.jls_held.specs.HeldPictures.{AreReadingsHeld}
 use Rattle.jls_held.specs.Chains.{AreChains, ArePlacesHeld}
 use Rattle.jls_held.proofs.rounds.take_held.Given as goal
 
+-- the lines before the place of each chain are held
 abbrev pub invariant-loop-round : goal.invariant-loop-round
 invariant-loop-round l = record {
   count : length l.places.items ≡ length l.chains;
