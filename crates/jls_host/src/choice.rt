@@ -73,8 +73,9 @@ pub enum Ending {
     Drop,
 }
 
-/// The way of an output by what stands at its name; and, where that is a regular file or leads to a precious one, whether that opens for
-/// writing. A file that is protected is never replaced, whatever stands at the name. One that is precious stays until the output is whole.
+/// The way of an output, by what stands at its name and whether that opens for writing. Whether it opens counts only for a regular file,
+/// and for what leads to a precious one. A file that is protected is never replaced, whatever stands at the name. One that is precious
+/// stays until the output is whole.
 pub fn way_to_make(standing: Standing, opens: bool, is_protected: bool, is_precious: bool) -> Way
     ensures { result ≡ way_of standing opens is_protected is_precious }
 {
@@ -91,7 +92,7 @@ pub fn way_to_make(standing: Standing, opens: bool, is_protected: bool, is_preci
     }
 }
 
-/// Whether no output replaces a file of this kind: it is a JPEG file and these are guarded, or it isn't known what it is.
+/// Whether no output replaces a file of this kind. That is a JPEG file, if these are guarded, or a file of which it isn't known what it is.
 pub fn is_protected(guard: Guard, kind: Kind) -> bool
     ensures { result ≡ protects guard kind }
 {
@@ -102,15 +103,15 @@ pub fn is_protected(guard: Guard, kind: Kind) -> bool
     }
 }
 
-/// Whether an older file is kept, under another name, when an output with other bytes gets its name: it is a partial picture, and none of
-/// the inputs.
+/// Whether an older file is kept, under another name, when an output with other bytes gets its name. Such a file is a partial picture, and
+/// none of the inputs.
 pub fn is_precious(kind: Kind, is_input: bool) -> bool
     ensures { result ≡ spec.is_precious kind is_input }
 {
     kind == Kind::Partial && !is_input
 }
 
-/// Whether what stands at the name for an older file may go: nothing, or a regular file that is a partial picture and no input.
+/// Whether what stands at the name for an older file may go. That is nothing, or a regular file that is a partial picture and no input.
 pub fn can_go(standing: Standing, kind: Kind, is_input: bool) -> bool
     ensures { result ≡ spec.can_go standing kind is_input }
 {

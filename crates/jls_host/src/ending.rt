@@ -13,8 +13,8 @@ use crate::output::{FileBeside, Why, why_protected};
 use crate::recorded::{Held, Recorded};
 use std::io;
 
-/// Sees to the older file of a name, before the file beside it takes the name, and answers whether both have the same bytes. What stands at
-/// the name is looked at anew: another run may have put it there.
+/// Sees to the older file of a name, before the file beside it takes the name. The answer says whether that is precious and has the same
+/// bytes already. What stands at the name is looked at anew, since another run may have put it there.
 fn see_to_older<M: Machine>(
     machine: &mut Recorded<M>,
     name: &str,
@@ -50,7 +50,7 @@ fn see_to_older<M: Machine>(
     }
 }
 
-/// Gives a file beside a name the name.
+/// Gives the file beside a name that name.
 fn take_name<M: Machine>(machine: &mut Recorded<M>, own: &str, name: &str) -> Result<(), Why>
     ensures ok { OnOk result ((x : Option Content) (i : ℕ) (bytes : List ℕ) (precious : Bool) →
         Went (MayTake name.now x (own.now, i, bytes) precious) (IsWhole name.now x bytes precious) (IsTaken name.now x bytes precious)
@@ -76,8 +76,8 @@ fn copy_over<M: Machine>(machine: &mut Recorded<M>, own: &str, name: &str) -> io
     machine.remove(own)
 }
 
-/// Has a file stored, with the permission bits of the file that it is copied to, keeps that if it is precious, copies the new file to the
-/// name, unless that has the same bytes, and removes it.
+/// Stores the file beside a name, with the permission bits of the file that it is copied to. Keeps the older file if that is precious. Then
+/// copies the new file over it, unless both have the same bytes, and removes the new one.
 fn put_over<M: Machine>(
     machine: &mut Recorded<M>,
     held: &Held<M::File>,
@@ -97,7 +97,8 @@ fn put_over<M: Machine>(
     Ok(())
 }
 
-/// Has a file stored, with the permission bits of the file that it replaces, keeps that if it is precious, and gives the new file the name.
+/// Stores the file beside a name, with the permission bits of the file that it replaces. Keeps the older file if that is precious. Then
+/// gives the new file the name.
 fn put_named<M: Machine>(
     machine: &mut Recorded<M>,
     held: &Held<M::File>,

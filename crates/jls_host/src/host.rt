@@ -44,10 +44,10 @@ struct Calls<'a> {
     inputs: &'a [Identity],
 }
 
-/// Files by their names, where `-` is standard input as an input and standard output as an output. Each read and each write is one
-/// call of the system, or none where nothing is open: nothing is buffered, tried again or counted here. Reads go to the input
-/// that was opened last, and writes to the output that was created last; an opening that fails changes neither. An output is whole when
-/// another is created: it is kept then. How an output is made, and what becomes of it, `Output` says. No contract says any of this.
+/// Files by their names, where `-` is standard input as an input and standard output as an output. Each read and each write is one call of
+/// the system, or none where nothing is open. Nothing is buffered, tried again or counted here. Reads go to the input that was opened last,
+/// and writes to the output that was created last. An opening that fails changes neither. An output is whole when another is created, and
+/// is kept then. How an output is made, and what becomes of it, `Output` says. No contract says any of this.
 #[derive(Drop)]
 pub struct HostFiles<'a> {
     rt: &'a HostRuntime,

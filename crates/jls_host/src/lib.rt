@@ -14,8 +14,8 @@
 //! - `program`: runs a program over them (`run_program`)
 //!
 //! - No contract can say what a file has. So calls are noted, and `Disk` says what each may have done to names and files.
-//! - Where a file beside OUT takes its name, OUT shows at every moment what it showed, or all of the new bytes, stored for good (`IsWhole`
-//!   of `Moments`). An older partial picture that is no input stands whole at OUT or at `OUT~`.
+//! - Where a file beside OUT takes its name, OUT shows at every moment what it showed, or all of the new bytes. These are stored for good
+//!   then (`IsWhole` of `Moments`). An older partial picture that is no input stands whole at OUT or at `OUT~`.
 //!
 //! Definitions: `Choices`, `Disk`, `Moments`, `Outputs`, `Recorded`, `Standings`. Inside the crate: `Steps`, `Called`, and `CallCode` (how
 //! the checker's logic stores calls).

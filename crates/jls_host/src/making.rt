@@ -18,8 +18,8 @@ use std::io;
 /// Files beside one output are tried under the numbers below this.
 pub(crate) const TRIES: u32 = 10_000;
 
-/// Whether a file at the name may do where none can be made beside it for this reason: the folder takes no file, or the longer name
-/// is too long. A full disk is no such reason: what stands at the name would be lost.
+/// Whether this error says that the folder takes no file, or that the longer name is too long. Then a file at the name may do in place of
+/// one beside it. A full disk is no such error: what stands at the name would be lost.
 fn is_of_folder(error: &io::Error) -> bool {
     matches!(
         error.kind(),
@@ -110,7 +110,7 @@ pub(crate) fn look<M: Machine>(machine: &mut Recorded<M>, name: &str, guard: Gua
     }
 }
 
-/// Whether a file of this name opens for writing, where that is asked.
+/// Whether a file of this name opens for writing, if that is asked, and else `false`.
 fn opens_where<M: Machine>(machine: &mut Recorded<M>, name: &str, is_asked: bool) -> bool
     ensures { (x : Option Content) (plain : Bool) → Went (IsSeen name.now x plain) (FirstShows name.now x) (IsSeen name.now x plain)
         (calls_of machine.old) (calls_of machine.new) }
@@ -121,7 +121,7 @@ fn opens_where<M: Machine>(machine: &mut Recorded<M>, name: &str, is_asked: bool
     false
 }
 
-/// How an output of a name is made at which this was found: where a file is to be replaced, that is asked to open for writing.
+/// How the output of a name is made, at which this was found. Where a file is to be replaced, it is asked whether that opens for writing.
 pub(crate) fn way<M: Machine>(machine: &mut Recorded<M>, name: &str, found: Found) -> Way
     ensures plainly { result ≡ Way.Beside → plainly found.standing ≡ true }
     ensures went { (x : Option Content) (plain : Bool) → Went (IsSeen name.now x plain) (FirstShows name.now x) (IsSeen name.now x plain)

@@ -78,7 +78,8 @@ fn copy_beside<M: Machine>(machine: &mut Recorded<M>, name: &str) -> Option<Name
     }
 }
 
-/// Gives the file of this name a second name, or, where it is to be copied or has none, a copy beside it. `None` if neither can be had.
+/// Gives the file of this name a second name beside it. If it is to be copied, or can't have a second name, it makes a copy there. `None`
+/// if neither can be had.
 fn second_beside<M: Machine>(machine: &mut Recorded<M>, name: &str, is_copied: bool) -> Option<Name>
     ensures found { IfSome result (λ second. (x : Option Content) (held : Option Beside) →
         Went (Steady name.now x held) (Shows name.now x) (IsSecond name.now second.bytes x held) (calls_of machine.old)
@@ -122,7 +123,7 @@ fn set_aside<M: Machine>(
     }
 }
 
-/// Looks at what has the name for older files, and answers whether it is the file of the name. If it stays, that is an error.
+/// Looks at what has the name for older files. The answer says whether that is the very file of the name. `Err` comes if it must not go.
 fn see_kept<M: Machine>(machine: &mut Recorded<M>, name: &str, kept: &str) -> Result<bool, Why>
     requires { kept.now ≡ older_name name.now }
     ensures same { (x : Option Content) (held : Option Beside) →
@@ -139,8 +140,8 @@ fn see_kept<M: Machine>(machine: &mut Recorded<M>, name: &str, kept: &str) -> Re
     Ok(machine.are_one(name, kept))
 }
 
-/// Keeps the file of this name under the name for older files: by a second name that it gets, or else by a copy. If the file itself will be
-/// written, it is a copy. What has the name for older files goes if it is a partial picture and no input; else it stays, and that is an
+/// Keeps the file of this name under the name for older files, by a second name that it gets, or else by a copy. If the file itself will be
+/// written, it is a copy. What has the name for older files goes if it is a partial picture and no input. If it must stay, that is an
 /// error.
 pub(crate) fn keep<M: Machine>(
     machine: &mut Recorded<M>,

@@ -64,9 +64,12 @@ pub(crate) fn why_protected(kind: Kind) -> Why {
 }
 
 impl<F: Write + Drop> Output<F> {
-    /// Makes the output of this name. If nothing stands there, or a regular file, it is a file of its own beside the name, and what stands
-    /// there stays. So it is where a link leads to a precious file. Else it is the file at the name, emptied. A protected file is an error,
-    /// and stays. So is one that does not open for writing, and a precious file beside which no file can be made.
+    /// Makes the output of this name. If nothing stands there, or a regular file that opens for writing, it is a file of its own beside the
+    /// name. So it is where a link leads to a precious file that opens. Otherwise it is the file at the name, emptied. It is that file too
+    /// where the folder takes no file beside it, unless a precious file would be lost.
+    ///
+    /// `Err` comes for a protected file, and it is proved that this one stays. It also comes if the file that is to be replaced does not
+    /// open for writing. And it comes if no file can be made beside a precious one, or a call of the system fails.
     pub fn create<M: Machine<File = F>>(
         machine: &mut Recorded<M>,
         name: &str,
@@ -107,9 +110,9 @@ impl<F: Write + Drop> Output<F> {
         machine.write(&mut self.held, bytes)
     }
 
-    /// Ends the output: a file beside the name takes the name, once all of it is stored, or is removed. Where it can't be stored or
-    /// renamed it is removed too, what stands at the name stays, and `Err` has the name. So it is where a precious file of that name can't
-    /// be kept. A folder that can't be synced is no error: the name has the whole output then.
+    /// Ends the output. A file beside the name takes the name once all of it is stored, or is removed. If it can't be stored or renamed, it
+    /// is removed too, what stands at the name stays, and `Err` has the name. The same comes of a precious file at the name that can't be
+    /// kept. A folder that can't be synced is no error: the name has the whole output then.
     pub fn end<M: Machine<File = F>>(
         self,
         machine: &mut Recorded<M>,
