@@ -38,6 +38,7 @@ nothing = None
 some_not_none : (i : ℕ) → Some i ≢ nothing
 some_not_none i e = cc
 
+-- a name that leads nowhere is not that of the file beside
 other_than_free : (name second : List ℕ) (x : Option Content) (held : Option Beside) (d : Disk) → d.leads second ≡ None →
     Steady name x held d → IsOther second held
 other_than_free name second x None d free s = tt
@@ -47,6 +48,7 @@ far_from : (name second : List ℕ) (held : Option Beside) → name ≢ second �
 far_from name second None a b = (a, tt)
 far_from name second (Some held) a b = ((a, tt), (b, tt))
 
+-- a number that no name leads to is not that of the file beside
 number_unused : (name : List ℕ) (j : ℕ) (x : Option Content) (held : Option Beside) (d : Disk) → ((n : List ℕ) → d.leads n ≢ Some j) →
     Steady name x held d → IsOtherNumber j held
 number_unused name j x None d unused s = tt
@@ -59,6 +61,7 @@ IsNamedBeside name second = (rest : List ℕ) × (second ≡ name ++ (codes ".jl
 pub named_other : (name second : List ℕ) → IsNamedBeside name second → name ≢ second
 named_other name second named e = beside_is_other name named.0 (e ∙ named.1)
 
+-- a file that is made beside a steady name is a new, empty one beside it
 pub made_new : (name second : List ℕ) (j : ℕ) (x : Option Content) (held : Option Beside) → IsNamedBeside name second → (d e : Disk) →
     Steady name x held d → Made second j d e → IsNew name second j [] x held e
 made_new name second j x held named d e s m =
@@ -79,6 +82,7 @@ made_new name second j x held named d e s m =
       number = number;
     }
 
+-- a file that was not made leaves the name steady
 pub not_made : (name second : List ℕ) (j : ℕ) (x : Option Content) (held : Option Beside) → IsNamedBeside name second → (d e : Disk) →
     Steady name x held d → Did (makes second j) false d e → Steady name x held e
 not_made name second j x held named d e s (inl same) = subst (Steady name x held) (sym same) s
@@ -93,6 +97,7 @@ beside_stays name own i j d e alone b = record {
   apart = λ h. b.apart (sym (ap (λ (f : List ℕ → Option ℕ). f name) alone.leads) ∙ h);
 }
 
+-- a name shows the same where a file alone changes that it does not lead to
 pub shows_stays : (name : List ℕ) (j : ℕ) (x : Option Content) (d e : Disk) → FileAlone j d e → d.leads name ≢ Some j → Shows name x d →
     Shows name x e
 shows_stays name j x d e alone apart s = record {
@@ -100,6 +105,7 @@ shows_stays name j x d e alone apart s = record {
   content_is = shown_apart j d e name alone.files apart (ap (λ (f : List ℕ → Option ℕ). f name) alone.leads) ∙ s.content_is;
 }
 
+-- a name stays steady where a file alone changes that it does not lead to
 pub steady_stays : (name : List ℕ) (j : ℕ) (x : Option Content) (held : Option Beside) (d e : Disk) → FileAlone j d e →
     d.leads name ≢ Some j → IsOtherNumber j held → Steady name x held d → Steady name x held e
 steady_stays name j x None d e alone apart other s = record {
@@ -125,6 +131,7 @@ wrote_new name second j bytes more x held d e n w = record {
   number = n.number;
 }
 
+-- a copy that went well has all bytes of the name's file
 pub copied_new : (name second : List ℕ) (j : ℕ) (x : Option Content) (held : Option Beside) (d e : Disk) →
     IsNew name second j [] x held d → Did (copies name j) true d e → IsNew name second j (all_bytes x) x held e
 copied_new name second j x held d e n did =
@@ -135,6 +142,7 @@ pub not_copied : (name second : List ℕ) (j : ℕ) (x : Option Content) (held :
     IsNew name second j [] x held d → Did (copies name j) false d e → IsOpened name second j x held e
 not_copied name second j x held d e n did = (_, wrote_new name second j [] _ x held d e n did.1)
 
+-- a stored copy of all bytes stands at its name
 stands_copied : (x : Option Content) (second : List ℕ) (j : ℕ) (e : Disk) → e.is_plain second ≡ true → e.leads second ≡ Some j →
     e.has j ≡ (all_bytes x, true) → StandsAt x second e
 stands_copied None second j e plain leads has = tt
@@ -143,6 +151,7 @@ stands_copied (Some old) second j e plain leads has = inr (record {
   content_is = ap (λ (to : Option ℕ). content_of e.has to) leads ∙ ap (λ (c : Content). Some c) has;
 })
 
+-- a copy of the name's file that is stored is a second file of it
 pub synced_second : (name second : List ℕ) (j : ℕ) (x : Option Content) (held : Option Beside) (d e : Disk) →
     IsNew name second j (all_bytes x) x held d → Did (syncs j) true d e → IsSecond name second x held e
 synced_second name second j x held d e n did =
@@ -155,6 +164,7 @@ synced_second name second j x held d e n did =
       other = n.other;
     }
 
+-- a sync that failed leaves the new file
 pub not_synced : (name second : List ℕ) (j : ℕ) (bytes : List ℕ) (x : Option Content) (held : Option Beside) (d e : Disk) →
     IsNew name second j bytes x held d → Did (syncs j) false d e → IsNew name second j bytes x held e
 not_synced name second j bytes x held d e n did =
@@ -170,6 +180,7 @@ stands_linked name second (Some old) d e s plain leads files = inl (record {
       (ap (λ (has : ℕ → Content). content_of has (d.leads name)) files ∙ s.content_is);
 })
 
+-- a second name that is given to the name's file is a second file of it
 pub linked_second : (name second : List ℕ) (x : Option Content) (held : Option Beside) → IsNamedBeside name second → (d e : Disk) →
     Steady name x held d → Did (links name second) true d e → IsSecond name second x held e
 linked_second name second x held named d e s did =
@@ -184,6 +195,7 @@ linked_second name second x held named d e s did =
       other = other;
     }
 
+-- a second name that was not given leaves the name steady
 pub not_linked : (name second : List ℕ) (x : Option Content) (held : Option Beside) → IsNamedBeside name second → (d e : Disk) →
     Steady name x held d → Did (links name second) false d e → Steady name x held e
 not_linked name second x held named d e s (inl same) = subst (Steady name x held) (sym same) s
@@ -212,6 +224,7 @@ pub moved : (second kept : List ℕ) (names : List (List ℕ)) (d e : Disk) → 
 moved second kept names d e plain n =
     ap (λ (to : Option ℕ). content_of e.has to) (n.leads plain) ∙ ap (λ (has : ℕ → Content). content_of has (d.leads second)) n.files
 
+-- what stands at a name stands at the other one after the rename
 stands_renamed : (x : Option Content) (second kept : List ℕ) (names : List (List ℕ)) (d e : Disk) → d.is_plain second ≡ true →
     StandsAt x second d → Named second kept names d e → StandsAt x kept e
 stands_renamed None second kept names d e plain s n = tt
@@ -220,6 +233,7 @@ stands_renamed (Some old) second kept names d e plain (inl s) n = inl
 stands_renamed (Some old) second kept names d e plain (inr s) n = inr
     (record { plain = n.plain plain; content_is = moved second kept names d e plain n ∙ s.content_is })
 
+-- after the rename the older file is kept
 pub kept_second : (name second : List ℕ) (x : Option Content) (held : Option Beside) (d e : Disk) → IsSecond name second x held d →
     Did (renames second (older_name name)) true d e → IsKept name x held e
 kept_second name second x held d e s n = record {
@@ -228,6 +242,7 @@ kept_second name second x held d e s n = record {
   stands = stands_renamed x second (older_name name) (second ∷ older_name name ∷ []) d e s.plain s.stands n;
 }
 
+-- where a second file does not get the name for older files, it is left unkept
 pub not_kept : (name second : List ℕ) (x : Option Content) (held : Option Beside) (d e : Disk) → IsSecond name second x held d →
     Did (renames second (older_name name)) false d e → IsUnkept name second x held e
 not_kept name second x held d e s (inl same) = record {

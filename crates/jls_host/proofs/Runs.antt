@@ -5,6 +5,7 @@ use Rattle.std.proofs.lemmas.List.{append-nil}
 use Rattle.jls_host.specs.Disk.{Disk, Act, Call, Did, Through, Went, asks_plain, asks_partial, asks_input, asks_one, asks_equal, looks}
 use Rattle.jls_host.specs.Disk.{writes}
 
+-- calls that lead to a state, and others that lead on from there, are one run
 joined : (Always Mid Then : Disk → Type 0) (xs ys : List Call) (d : Disk) → Through Always Mid xs d →
     ((c : Disk) → Mid c → Through Always Then ys c) → Through Always Then (xs ++ ys) d
 joined Always Mid Then [] ys d t next = next d t.1
@@ -19,6 +20,7 @@ and_then {First} {Always} {Mid} {Then} {old} p q = record {
   through = λ d f. joined Always Mid Then p.calls q.calls d (p.through d f) q.through;
 }
 
+-- a run leads to what follows from where it leads
 weakened : (Always Then Always' Then' : Disk → Type 0) → ((d : Disk) → Always d → Always' d) → ((d : Disk) → Then d → Then' d) →
     (xs : List Call) (d : Disk) → Through Always Then xs d → Through Always' Then' xs d
 weakened A T A' T' a b [] d t = (a d t.0, b d t.1)
@@ -113,6 +115,7 @@ pub all_err : {T E Q : Type 0} (r : Result T E) → Q → OnErr r Q
 all_err (Ok x) q = tt
 all_err (Err e) q = q
 
+-- nothing is both true and false
 pub not_both : {Q : Type 0} (b : Bool) → b ≡ true → b ≡ false → Q
 not_both b e f = absurd (true_is_not (sym e ∙ f))
   where

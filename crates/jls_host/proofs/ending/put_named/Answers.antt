@@ -9,6 +9,7 @@ pub returns-in-Err-clause-err : goal.returns-in-Err-clause-err
 returns-in-Err-clause-err g c = λ x bytes p. store_failed c.args.name.now c.args.own.now (number_of c.args.held.now) x bytes p
     c.in-Err.ensures.failed
 
+-- the file took the name
 pub returns-in-Ok-see_to_older-clause-ok : goal.returns-in-Ok-see_to_older-clause-ok
 returns-in-Ok-see_to_older-clause-ok g c = on_ok_weaker c.take_name.result (λ w x bytes p.
     and_then (store_went c.args.name.now c.args.own.now (number_of c.args.held.now) x bytes p c.in-Ok.ensures.noted)
@@ -16,6 +17,7 @@ returns-in-Ok-see_to_older-clause-ok g c = on_ok_weaker c.take_name.result (λ w
     (c.in-Ok-see_to_older.ensures.ok x (number_of c.args.held.now) bytes p)) (w x (number_of c.args.held.now) bytes p)))
     c.take_name.ensures.ok
 
+-- the file did not take the name
 pub returns-in-Ok-see_to_older-clause-err : goal.returns-in-Ok-see_to_older-clause-err
 returns-in-Ok-see_to_older-clause-err g c = on_err_weaker c.take_name.result (λ w x bytes p.
     and_then (store_went c.args.name.now c.args.own.now (number_of c.args.held.now) x bytes p c.in-Ok.ensures.noted)
@@ -23,6 +25,7 @@ returns-in-Ok-see_to_older-clause-err g c = on_err_weaker c.take_name.result (λ
     (c.in-Ok-see_to_older.ensures.ok x (number_of c.args.held.now) bytes p)) (w x (number_of c.args.held.now) bytes p)))
     c.take_name.ensures.err
 
+-- the older file could not be seen to
 pub returns-in-Err-see_to_older-clause-err : goal.returns-in-Err-see_to_older-clause-err
 returns-in-Err-see_to_older-clause-err g c = λ x bytes p.
     and_then (store_went c.args.name.now c.args.own.now (number_of c.args.held.now) x bytes p c.in-Ok.ensures.noted)

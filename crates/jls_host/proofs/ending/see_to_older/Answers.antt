@@ -16,6 +16,7 @@ returns-then-is_protected-clause-err g c = λ x i bytes p.
     with_less (λ d s. s) (λ d s. s) (λ d s. s.steady) (asked_partial c.args.name.now (maybe_partial c.kind-kind.result)
     c.kind-kind.ensures.noted (λ d s. s.steady.shows))
 
+-- what stands at the name is not precious
 pub returns-then-not-is_precious-clause-ok : goal.returns-then-not-is_precious-clause-ok
 returns-then-not-is_precious-clause-ok g c = λ x i bytes p.
     let held : Beside = (c.args.own.now, i, bytes) in
@@ -26,6 +27,7 @@ returns-then-not-is_precious-clause-ok g c = λ x i bytes p.
     (input_told c.args.name.now x held p (maybe_partial c.kind-kind.result) c.is_input-is_input.result
     c.is_input-is_input.ensures.noted))
 
+-- the two files could not be compared
 pub returns-in-Err-clause-err : goal.returns-in-Err-clause-err
 returns-in-Err-clause-err g c = λ x i bytes p.
     let held : Beside = (c.args.own.now, i, bytes) in
@@ -35,6 +37,7 @@ returns-in-Err-clause-err g c = λ x i bytes p.
     c.is_input-is_input.ensures.noted)
     (asked_equal c.args.own.now c.args.name.now false c.in-Err.ensures.failed (λ d t. t.stored.steady.shows))))
 
+-- the older file has the same bytes
 pub returns-then-is_there-clause-ok : goal.returns-then-is_there-clause-ok
 returns-then-is_there-clause-ok g c = λ x i bytes p.
     let held : Beside = (c.args.own.now, i, bytes) in
@@ -45,6 +48,7 @@ returns-then-is_there-clause-ok g c = λ x i bytes p.
     (c.in-Ok.ensures.noted ∙ ap (λ (b : Bool). calls_of c.is_input-is_input.new.self ++ (asks_equal c.args.own.now c.args.name.now, b)
     ∷ []) c.if-is_there.true)))
 
+-- the older file is kept, and the new one may take the name
 pub returns-in-Ok-keep-clause-ok : goal.returns-in-Ok-keep-clause-ok
 returns-in-Ok-keep-clause-ok g c = λ x i bytes p.
     let held : Beside = (c.args.own.now, i, bytes) in
@@ -56,6 +60,7 @@ returns-in-Ok-keep-clause-ok g c = λ x i bytes p.
     (asked_equal c.args.own.now c.args.name.now c.in-Ok.is_there c.in-Ok.ensures.noted (λ d t. t.stored.steady.shows)))))
     (c.in-Ok-keep.ensures.ok x (Some held)))
 
+-- the older file could not be kept
 pub returns-in-Err-keep-clause-err : goal.returns-in-Err-keep-clause-err
 returns-in-Err-keep-clause-err g c = λ x i bytes p.
     let held : Beside = (c.args.own.now, i, bytes) in

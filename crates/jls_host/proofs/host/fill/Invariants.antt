@@ -1,6 +1,7 @@
 use Rattle.std.proofs.Common.{length, ◌-◌, ◌≤◌}
 use Rattle.jls_host.proofs.host.fill.Given as goal
 
+-- no more is filled than there is room for
 abbrev pub invariant-loop-filled : goal.invariant-loop-filled
 invariant-loop-filled l = l.filled ≤ length l.into
 

@@ -5,6 +5,7 @@ use Rattle.jls_host.proofs.Runs.{and_then, with_less, at_name}
 use Rattle.jls_host.proofs.Takes.{begun, cond_none}
 use Rattle.jls_host.proofs.making.create_at_own.Goals as goal
 
+-- a file was made beside the name, which it takes at the end unless it is copied
 pub returns-in-Ok-create_beside-clause-beside : goal.returns-in-Ok-create_beside-clause-beside
 returns-in-Ok-create_beside-clause-beside g c = λ n own e.
     let names = cond_none c.args.is_copied (c.in-Ok.whole.bytes, c.in-Ok-create_beside.own.bytes) (n, own) e in (

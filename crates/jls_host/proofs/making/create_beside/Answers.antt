@@ -14,6 +14,7 @@ loop-number-preserved g c = λ x held.
     (make_failed c.args.name.now c.as_str.result.now c.in-Err.ensures.failed.0
     (decimal c.loop-number.number, c.as_str.ensures.value ∙ c.in-Some.ensures.named) c.in-Err.ensures.failed.1 x held)
 
+-- a file was made beside the name
 pub returns-in-Ok-clause-found : goal.returns-in-Ok-clause-found
 returns-in-Ok-clause-found g c = λ x held.
     and_then (c.loop-number.invariant x held)

@@ -14,6 +14,7 @@ returns-in-Ok-copy_and_sync-clause-found g c = λ x held.
     and_then (looked c.args.name.now true c.mode-mode.ensures.noted (λ d s. s.shows))
     (and_then (c.in-Ok.ensures.found x held) (c.in-Ok-copy_and_sync.ensures.ok c.in-Ok.made.1.bytes x held))
 
+-- the copy could not be made, and is removed
 pub returns-clause-none : goal.returns-clause-none
 returns-clause-none g c = λ x held.
     let last = either c.remove.result (removes c.as_str.result.now) (calls_of c.copy_and_sync.new.machine) (calls_of c.remove.new.self)

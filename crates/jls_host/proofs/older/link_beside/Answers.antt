@@ -13,6 +13,7 @@ loop-number-preserved g c = λ x held.
     (link_failed c.args.name.now c.as_str.result.now (decimal c.loop-number.number, c.as_str.ensures.value ∙ c.in-Some.ensures.named)
     c.in-Err.ensures.failed x held)
 
+-- the file has a second name
 pub returns-in-Ok-clause-found : goal.returns-in-Ok-clause-found
 returns-in-Ok-clause-found g c = λ x held.
     and_then (c.loop-number.invariant x held)

@@ -23,6 +23,7 @@ returns-clause-same g c = λ x held.
     (and_then (asked_input c.args.kept.now c.is_input-is_input.result c.is_input-is_input.ensures.noted (λ d s. s.shows))
     (asked_one c.args.name.now c.args.kept.now c.are_one.result c.are_one.ensures.noted (λ d s. s.shows))))
 
+-- both names lead to one file, which is kept already
 pub returns-clause-kept : goal.returns-clause-kept
 returns-clause-kept g c = λ is x held.
     and_then (plain_seen c.args.name.now (plainly c.standing-standing.result)

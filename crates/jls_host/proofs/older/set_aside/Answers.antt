@@ -11,6 +11,7 @@ returns-in-Ok-clause-ok g c = λ x held.
     (λ (k : List ℕ). calls_of c.args.machine.now ++ (renames c.args.second.now k, true) ∷ []) c.requires) x held)
     (looked c.args.kept.now c.sync_folder.ensures.noted.0 c.sync_folder.ensures.noted.1 (λ d k. k.steady.shows))
 
+-- the rename failed, and the second file is removed
 pub returns-in-Err-clause-err : goal.returns-in-Err-clause-err
 returns-in-Err-clause-err g c = λ x held.
     let last = either c.remove.result (removes c.args.second.now) (calls_of c.rename.new.self) (calls_of c.remove.new.self)

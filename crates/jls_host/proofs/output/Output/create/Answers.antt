@@ -4,6 +4,7 @@ use Rattle.jls_host.proofs.Runs.{and_then, with_less}
 use Rattle.jls_host.proofs.Takes.{steady_seen}
 use Rattle.jls_host.proofs.output.Output.create.Goals as goal
 
+-- the output is a file of its own beside the name
 pub returns-in-Beside : goal.returns-in-Beside
 returns-in-Beside g c = record {
   beside = IfOk-weaker c.create_at_own.result _ _ (λ o h n own e.
