@@ -36,7 +36,7 @@ pub fn print_about<E: Sink>(faults: &mut E, program: &'static str, name: &str, t
     );
 }
 
-/// Prints such a line that ends with a number.
+/// Prints a line about the input or output of this name, which ends with a number.
 pub fn print_with_number<E: Sink>(
     faults: &mut E,
     program: &'static str,

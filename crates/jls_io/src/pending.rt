@@ -12,8 +12,8 @@ use arrayvec::ArrayVec;
 /// The most bytes that wait.
 const MOST_PENDING: usize = 4096;
 
-/// The end of a line that is not handed out yet, in a buffer on the stack; and whether all writes of the line went well so far. A write
-/// that fails ends the line.
+/// The end of a line that is not handed out yet, in a buffer on the stack. `went` says whether all writes of the line went well so far. A
+/// write that fails ends the line.
 #[derive(Drop)]
 pub(crate) struct Pending {
     bytes: ArrayVec<u8, MOST_PENDING>,
