@@ -19,7 +19,7 @@ grew_on A B C old mid new join h k = record {
   they_are = join h.events k.events h.they_are k.they_are;
 }
 
--- the same growth, seen as another
+-- a growth by some events is one by other events, if they are these
 pub grew_as : (A B : List Event → Type 0) (old new : History) → ((events : List Event) → A events → B events) → GrewBy A old new
     → GrewBy B old new
 grew_as A B old new see h = record { events = h.events; grew = h.grew; they_are = see h.events h.they_are }

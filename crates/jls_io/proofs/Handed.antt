@@ -19,12 +19,14 @@ module _ (line bytes : List ℕ) (before old new : History) where
   flushed_not true e h = absurd cc
   flushed_not false e h = h
 
+  -- what waited went out, and nothing waits
   pub flushed_whole : (went : Bool) → went ≡ true → GrewBy (Wrote bytes) old new → HandedBut line went bytes before old
       → HandedBut line true [] before new
   flushed_whole true e k h =
       (h.0 ++ bytes, written_on before old new h.0 bytes h.1 k, h.2 ∙ sym (append-nil (h.0 ++ bytes)))
   flushed_whole false e k h = absurd cc
 
+  -- where writing what waits failed, the line ends there
   pub flushed_prefix : (went : Bool) (count : ℕ) → went ≡ true → GrewBy (WrotePrefix bytes count) old new
       → HandedBut line went bytes before old
       → HandedBut line false [] before new
@@ -37,6 +39,7 @@ module _ (line bytes : List ℕ) (before old new : History) where
 
 -- ---- more bytes
 
+-- more bytes of the line wait after those that did
 pub pushed : (line bytes more : List ℕ) (went : Bool) (before now : History) → HandedBut line went bytes before now
     → HandedBut (line ++ more) went (bytes ++ more) before now
 pushed line bytes more true before now h =
@@ -54,6 +57,7 @@ pub fresh : (bytes : List ℕ) (went : Bool) (h : History) → bytes ≡ [] → 
 fresh bytes went h e w =
     subst (λ (b : List ℕ). HandedBut [] went b h h) (sym e) (subst (λ (w : Bool). HandedBut [] w [] h h) (sym w) (begun h))
 
+-- a line of which nothing waits any more is printed
 pub printed : (line bytes : List ℕ) (went : Bool) (old new : History) → bytes ≡ [] → HandedBut line went bytes old new
     → GrewBy (Printed line) old new
 printed line bytes true old new e h =
@@ -68,6 +72,7 @@ pub none_yet : (f : ℕ → List ℕ) (line bytes : List ℕ) (went : Bool) (bef
     → HandedBut (line ++ flat_map f []) went bytes before now
 none_yet f line bytes went before now h = subst (λ (l : List ℕ). HandedBut l went bytes before now) (sym (append-nil line)) h
 
+-- the line with one item more
 pub one_more : (f : ℕ → List ℕ) (line items : List ℕ) (item : ℕ) (bytes : List ℕ) (went : Bool) (before now : History)
     → HandedBut ((line ++ flat_map f items) ++ f item) went bytes before now
     → HandedBut (line ++ flat_map f (items ++ item ∷ [])) went bytes before now
@@ -80,6 +85,7 @@ handed_as line line' bytes went before now e h = subst (λ (l : List ℕ). Hande
 
 -- ---- parts of a line
 
+-- the parts and the newline are the line
 pub line_ends : (parts : List LinePart) → flat_map part_bytes parts ++ codes "\n" ≡ line_of parts
 line_ends [] = refl
 line_ends (part ∷ parts) = append_assoc (part_bytes part) (flat_map part_bytes parts) (codes "\n")

@@ -8,6 +8,7 @@ pub appends_nothing : (o : Option (List ℕ)) → Appends o o []
 appends_nothing None = tt
 appends_nothing (Some xs) = sym (append-nil xs)
 
+-- some bytes that were added, and then others, are all of them
 pub appends_on : (old mid new : Option (List ℕ)) (bs cs : List ℕ) → Appends old mid bs → Appends mid new cs → Appends old new (bs ++ cs)
 appends_on None mid new bs cs h k = tt
 appends_on (Some xs) None new bs cs h k = absurd h

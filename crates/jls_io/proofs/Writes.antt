@@ -55,6 +55,7 @@ module _ (old mid new : History) where
   pub written_on : (a b : List ℕ) → GrewBy (Wrote a) old mid → GrewBy (Wrote b) mid new → GrewBy (Wrote (a ++ b)) old new
   written_on a b = grew_on (Wrote a) (Wrote b) (Wrote (a ++ b)) old mid new (wrote_on a b)
 
+  -- some bytes that were written, and then a prefix of others, are a prefix of all of them
   pub cut_after : (a b : List ℕ) (count : ℕ) → GrewBy (Wrote a) old mid → GrewBy (WrotePrefix b count) mid new
       → GrewBy (WrotePrefix (a ++ b) (length a + count)) old new
   cut_after a b count = grew_on (Wrote a) (WrotePrefix b count) (WrotePrefix (a ++ b) (length a + count)) old mid new

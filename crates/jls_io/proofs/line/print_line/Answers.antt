@@ -10,6 +10,7 @@ loop-part-init g c =
     fresh c.new-pending.result.bytes.items c.new-pending.result.went (g.E.Device.history c.args.faults.now) c.new-pending.ensures.empty
     c.new-pending.ensures.well
 
+-- all parts and the newline are handed out, or the line ended before
 pub returns : goal.returns
 returns g c =
     let history = g.E.Device.history in

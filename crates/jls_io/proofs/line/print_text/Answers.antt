@@ -2,6 +2,7 @@ use Rattle.std.proofs.Common.{[]}
 use Rattle.jls_io.proofs.Handed.{fresh, printed}
 use Rattle.jls_io.proofs.line.print_text.Goals as goal
 
+-- the text is handed out, or ended before
 pub returns : goal.returns
 returns g c =
     let h0 = g.E.Device.history c.args.faults.now in

@@ -24,6 +24,7 @@ loop-part-init g c = record {
   handed = λ line before h. none_yet encode_utf8 line _ _ before _ h;
 }
 
+-- one character more of the code is put
 pub loop-part-preserved : goal.loop-part-preserved
 loop-part-preserved g c = record {
   left = one_less _ _ _ _ _ c.in-Some.part c.loop-part.invariant.left c.in-Some.is c.next.ensures.steps;

@@ -7,6 +7,7 @@ use Rattle.jls_io.specs.Event.{History}
 use Rattle.jls_io.specs.Handing.{HandedBut}
 use Rattle.jls_io.proofs.names.put_code.Given as goal
 
+-- the characters of the code so far are handed out but for what waits
 abbrev pub invariant-loop-part : goal.invariant-loop-part
 invariant-loop-part g l = record {
   left : l.yielded ++ escape_rest l.part-iterator ≡ escape_unicode l.fn.c;

@@ -15,6 +15,7 @@ loop-c-preserved g c = λ line before h.
     one_more shown_bytes line c.loop-c.yielded c.in-Some.c _ _ before _
     (c.put_shown.ensures (line ++ flat_map shown_bytes c.loop-c.yielded) before (c.loop-c.invariant line before h))
 
+-- all characters of the name are put
 pub returns : goal.returns
 returns g c = λ line before h.
     let t = YieldsList-end (YieldsList-from_chars c.args.name.now c.utf8.name cc) c.loop-c.yielded _ c.loop-c.yielded_by _ _ c.in-None.is

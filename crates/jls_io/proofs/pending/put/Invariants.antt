@@ -3,6 +3,7 @@ use Rattle.jls_io.specs.Event.{History}
 use Rattle.jls_io.specs.Handing.{HandedBut}
 use Rattle.jls_io.proofs.pending.put.Given as goal
 
+-- the bytes so far are handed out but for what waits
 abbrev pub invariant-loop-byte : goal.invariant-loop-byte
 invariant-loop-byte g l =
     (line : List ℕ) (before : History)

@@ -3,6 +3,7 @@ use Rattle.jls_io.specs.Handing.{HandedBut}
 use Rattle.jls_io.proofs.Handed.{pushed}
 use Rattle.jls_io.proofs.pending.put_byte.Goals as goal
 
+-- the byte waits after the others
 pub returns : goal.returns
 returns g c = λ line before h.
     let now = g.E.Device.history c.make_room.new.faults in

@@ -8,6 +8,7 @@ use Rattle.jls_io.proofs.Known.{appends_on}
 use Rattle.jls_io.proofs.Writes.{one_write_more}
 use Rattle.jls_io.proofs.writing.write_all.Goals as goal
 
+-- one write more took some of the bytes
 pub loop-done-preserved : goal.loop-done-preserved
 loop-done-preserved g c =
     let history = g.W.Device.history in

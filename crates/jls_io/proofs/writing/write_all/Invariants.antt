@@ -4,6 +4,7 @@ use Rattle.jls_io.specs.Event.{GrewBy}
 use Rattle.jls_io.specs.Writing.{Wrote}
 use Rattle.jls_io.proofs.writing.write_all.Given as goal
 
+-- the bytes before this one went out
 abbrev pub invariant-loop-done : goal.invariant-loop-done
 invariant-loop-done g l =
     let history = g.W.Device.history in
