@@ -18,7 +18,7 @@ fn begins_range(partial: &Partial, component: u8, line: u16) -> bool
     partial.count(component, line) == 0 && (line == 0 || partial.count(component, line - 1) != 0)
 }
 
-/// The last of the missing lines that follow one another from this one on, which is missing.
+/// The last of the missing lines that follow one another from the line `first` on, which is missing.
 fn end_of_range(partial: &Partial, component: u8, first: u16) -> u16
     requires component_in { component < length partial.now.shape.ids }
     requires first_in { first < partial.now.shape.height }

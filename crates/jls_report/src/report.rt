@@ -63,14 +63,14 @@ impl Report {
         self.counts.settled
     }
 
-    /// How many lines have none.
+    /// How many lines have no reading.
     pub fn missing(&self) -> u32
         ensures { result ≡ self.now.missing }
     {
         self.counts.missing
     }
 
-    /// How many lines have several.
+    /// How many lines have several readings.
     pub fn disputed(&self) -> u32
         ensures { result ≡ self.now.disputed }
     {
