@@ -20,6 +20,7 @@ three_sums f g h k each (x ∷ xs) = let rest = three_sums f g h k each xs in le
 one_of_three : (n : ℕ) → cond (n == 1) 1 0 + cond (n == 0) 1 0 + cond (nat_lt 1 n) 1 0 ≡ 1
 one_of_three n = grind (arith, nat_tests)
 
+-- the settled, missing and disputed lines of a component are all of its lines
 of_component : (p : PartialPicture) (component : ℕ)
     → count_by (is_settled_line p component) (lines p.shape) + count_by (is_missing p component) (lines p.shape)
     + count_by (is_disputed p component) (lines p.shape) ≡ p.shape.height
@@ -32,6 +33,7 @@ of_component p component =
     let size : length (lines p.shape) ≡ p.shape.height = length-range_with_len 0 p.shape.height in
     omega (arith, all, size)
 
+-- the law: the three numbers add up to all lines
 pub counts_are_all_lines : CountsAreAllLines
 counts_are_all_lines p =
     three_sums (λ component. count_by (is_settled_line p component) (lines p.shape))

@@ -16,11 +16,13 @@ use Rattle.jls_report.proofs.LongestRanges.{range_is_longest, no_range, first_or
 
 -- ---- counting in a list that is made number by number
 
+-- counting over lists is adding up the counts of each
 count_over : {X : Type 0} (q : X → Bool) (f : ℕ → List X) (ks : List ℕ) → count_by q (flat_map f ks) ≡ sum_by (λ k. count_by q (f k)) ks
 count_over q f [] = refl
 count_over q f (k ∷ ks) = sum_by-append (λ x. cond (q x) 1 0) (f k) (flat_map f ks) ∙ ap (λ n. count_by q (f k) + n) (count_over q f ks)
     ∙ sym (sum_by-cons (λ i. count_by q (f i)) k ks)
 
+-- numbers that are all 0 add up to 0
 none_counts : (g : ℕ → ℕ) (a n : ℕ) → ((k : ℕ) → a ≤ k → k < a + n → g k ≡ 0) → sum_by g (range_with_len a n) ≡ 0
 none_counts g a zero each = refl
 none_counts g a (suc n) each =
@@ -52,12 +54,14 @@ one_counts g a (suc n) (suc j) below others =
 abbrev one_if : Bool → ℕ
 one_if b = cond b 1 0
 
+-- counting a list of at most two
 count_two : {X : Type 0} (q : X → Bool) (b d : Bool) (x y : X)
     → count_by q (cond b (x ∷ []) (cond d (y ∷ []) [])) ≡ cond b (one_if (q x)) (cond d (one_if (q y)) 0)
 count_two q true d x y = zero-add (cond (q x) 1 0)
 count_two q false true x y = zero-add (cond (q y) 1 0)
 count_two q false false x y = refl
 
+-- entries of which none speaks of the line count as 0
 not_counted : (b d s t : Bool) → (b ≡ true → s ≡ true → ⊥) → (d ≡ true → t ≡ true → ⊥) → cond b (one_if s) (cond d (one_if t) 0) ≡ 0
 not_counted true d true t first second = absurd (first refl refl)
 not_counted true d false t first second = refl
@@ -74,6 +78,7 @@ second_counted b d s t first is speaks =
 
 -- ---- what an entry speaks of
 
+-- three tests that hold hold together
 all_true : (b c d : Bool) → b ≡ true → c ≡ true → d ≡ true → (b && (c && d)) ≡ true
 all_true true true d x y z = z
 all_true true false d x y z = absurd cc
@@ -87,6 +92,7 @@ covers component line c first last speaks =
     let inner = and_parts (nat_le first line) (nat_le line last) outer.1 in
     (eqb-true c component outer.0, leb-true first line inner.0, leb-true line last inner.1)
 
+-- an entry of a disputed line speaks of that line alone
 is_line : (component line c l readings : ℕ) → speaks_of component line (Disputed c l readings) ≡ true → (c ≡ component) × (l ≡ line)
 is_line component line c l readings speaks =
     let both = and_parts (c == component) (l == line) speaks in (eqb-true c component both.0, eqb-true l line both.1)
@@ -99,18 +105,21 @@ record BeginsAt (missing : ℕ → Bool) (line first : ℕ) : Type 0 where
   each : (k : ℕ) → first ≤ k → k < line → missing k ≡ true
   above : (k : ℕ) → k + 1 ≡ first → missing k ≡ false
 
+-- of two such places neither is before the other
 not_before : (missing : ℕ → Bool) (line f g : ℕ) → BeginsAt missing line f → BeginsAt missing line g → f < g → ⊥
 not_before missing line f g at_f at_g less =
     let most = at_g.at_most in
     let before : g - 1 + 1 ≡ g = omega arith in
     false≢true (sym (at_g.above (g - 1) before) ∙ at_f.each (g - 1) (omega arith) (omega arith))
 
+-- there is one such place
 one_beginning : (missing : ℕ → Bool) (line f g : ℕ) → BeginsAt missing line f → BeginsAt missing line g → (f ≡ g → ⊥) → ⊥
 one_beginning missing line f g at_f at_g differ =
     let low : f < g → ⊥ = not_before missing line f g at_f at_g in
     let high : g < f → ⊥ = not_before missing line g f at_g at_f in
     differ (omega arith)
 
+-- there is such a place for each line
 beginning : (missing : ℕ → Bool) (line : ℕ) → (first : ℕ) × BeginsAt missing line first
 beginning missing zero = (
   zero,
@@ -170,6 +179,7 @@ module _ (p : PartialPicture) (component line : ℕ) (component_in : component <
   abbrev dispute_at : ℕ → ℕ → ReportEntry
   dispute_at c l = Disputed c l (reading_count p c l)
 
+  -- how often the entries at a line speak of another, by what stands there
   spoken_is : (c l : ℕ) → spoken c l
       ≡ cond (begins_range p c l) (one_if (speaks_of component line (range_at c l)))
       (cond (is_disputed p c l) (one_if (speaks_of component line (dispute_at c l))) 0)
@@ -179,11 +189,13 @@ module _ (p : PartialPicture) (component line : ℕ) (component_in : component <
   Unspoken c l = (begins_range p c l ≡ true → speaks_of component line (range_at c l) ≡ true → ⊥)
       × (is_disputed p c l ≡ true → speaks_of component line (dispute_at c l) ≡ true → ⊥)
 
+  -- entries that do not speak of the line count as 0
   unspoken : (c l : ℕ) → Unspoken c l → spoken c l ≡ 0
   unspoken c l silent = spoken_is c l
       ∙ not_counted (begins_range p c l) (is_disputed p c l) (speaks_of component line (range_at c l))
       (speaks_of component line (dispute_at c l)) silent.0 silent.1
 
+  -- entries of another component do not speak of the line
   other_component : (c l : ℕ) → (c ≡ component → ⊥) → Unspoken c l
   other_component c l ne = (
     λ begins speaks. ne (covers component line c l (last_of c l) speaks).0,
@@ -223,6 +235,7 @@ module _ (p : PartialPicture) (component line : ℕ) (component_in : component <
   read_line some l within begins speaks =
       let none = eqb-true (reading_count p component line) 0 (is_missing_there l within begins speaks).1 in omega (arith, none)
 
+  -- no entry speaks of a settled line
   settled_line : reading_count p component line ≡ 1 → count_by (speaks_of component line) (report_entries p) ≡ 0
   settled_line one =
       total line line_in (λ k within ne. silent k within) ∙ unspoken component line (silent line line_in)
@@ -237,6 +250,7 @@ module _ (p : PartialPicture) (component line : ℕ) (component_in : component <
             omega (arith, several, same),
       )
 
+  -- exactly one entry speaks of a disputed line
   disputed_line : 2 ≤ reading_count p component line → count_by (speaks_of component line) (report_entries p) ≡ 1
   disputed_line several =
       total line line_in (λ k within ne. (
@@ -265,6 +279,7 @@ module _ (p : PartialPicture) (component line : ℕ) (component_in : component <
           is_missing_at (inl before) = at.each (last + 1) (let rising = range.rising in omega arith) before
           is_missing_at (inr reached) = let same : last + 1 ≡ line = omega arith in ap (is_missing p component) same ∙ missing
 
+  -- exactly one entry speaks of a missing line
   missing_line : reading_count p component line ≡ 0 → count_by (speaks_of component line) (report_entries p) ≡ 1
   missing_line none =
       let missing : is_missing p component line ≡ true = ap (λ n. n == 0) none in
@@ -300,11 +315,13 @@ module _ (p : PartialPicture) (component line : ℕ) (component_in : component <
           here (inl before) = at.each first (omega arith) before
           here (inr reached) = let most = at.at_most in let same : first ≡ line = omega arith in ap (is_missing p component) same ∙ missing
 
+-- a number is 0, 1 or at least 2
 three_ways : (n : ℕ) → (n ≡ 0) ⊎ ((n ≡ 1) ⊎ (2 ≤ n))
 three_ways zero = inl refl
 three_ways (suc zero) = inr (inl refl)
 three_ways (suc (suc n)) = inr (inr (omega arith))
 
+-- the law: each line is settled, or exactly one entry speaks of it
 pub each_line_once : EachLineOnce
 each_line_once p component line component_in line_in =
     one_way (three_ways (reading_count p component line))

@@ -15,16 +15,19 @@ use Rattle.jls_report.proofs.LongestRanges.{no_range, some_pass}
 
 -- ---- sums
 
+-- adding up over lists is adding up the sums of each
 sum_over : {X : Type 0} (q : X → ℕ) (f : ℕ → List X) (ks : List ℕ) → sum_by q (flat_map f ks) ≡ sum_by (λ k. sum_by q (f k)) ks
 sum_over q f [] = refl
 sum_over q f (k ∷ ks) =
     sum_by-append q (f k) (flat_map f ks) ∙ ap (λ n. sum_by q (f k) + n) (sum_over q f ks) ∙ sym (sum_by-cons (λ i. sum_by q (f i)) k ks)
 
+-- sums of the same numbers are the same
 sum_same : (f g : ℕ → ℕ) → ((k : ℕ) → f k ≡ g k) → (ks : List ℕ) → sum_by f ks ≡ sum_by g ks
 sum_same f g each [] = refl
 sum_same f g each (k ∷ ks) =
     let here = each k in let rest = sum_same f g each ks in omega (arith, here, rest, sum_by-cons f k ks, sum_by-cons g k ks)
 
+-- sums of numbers that are the same in a range are the same
 sum_same_in : (f g : ℕ → ℕ) (a n : ℕ) → ((k : ℕ) → a ≤ k → k < a + n → f k ≡ g k) → sum_by f (range_with_len a n)
     ≡ sum_by g (range_with_len a n)
 sum_same_in f g a zero each = refl
@@ -35,6 +38,7 @@ sum_same_in f g a (suc n) each =
 
 -- ---- disputed lines
 
+-- the entries at a line count one disputed line, if it is
 one_disputed : (b d : Bool) (component first last line readings : ℕ) → (d ≡ true → b ≡ false)
     → sum_by disputed_of (cond b (Missing component first last ∷ []) (cond d (Disputed component line readings ∷ []) [])) ≡ cond d 1 0
 one_disputed true true component first last line readings apart = let e = apart refl in absurd cc
@@ -45,6 +49,7 @@ one_disputed false false component first last line readings apart = refl
 some_readings : (n : ℕ) → nat_lt 1 n ≡ true → 0 < n
 some_readings n more = grind (arith, nat_tests, more)
 
+-- the entries at a line count one disputed line, if it is
 disputed_at : (p : PartialPicture) (component line : ℕ) → sum_by disputed_of (entries_at p component line)
     ≡ cond (is_disputed p component line) 1 0
 disputed_at p component line =
@@ -52,6 +57,7 @@ disputed_at p component line =
     line (reading_count p component line)
     (λ more. no_range p component line (some_readings (reading_count p component line) more))
 
+-- the entries of a component count its disputed lines
 disputed_in : (p : PartialPicture) (component : ℕ) → sum_by disputed_of (component_entries p component)
     ≡ sum_by (λ line. cond (is_disputed p component line) 1 0) (lines p.shape)
 disputed_in p component =
@@ -61,6 +67,7 @@ disputed_in p component =
 
 -- ---- missing lines
 
+-- the entries at a line count the lines of the range that begins there
 one_missing : (b d : Bool) (component line count readings : ℕ) → (b ≡ true → 0 < count)
     → sum_by missing_of (cond b (Missing component line (line + count - 1) ∷ []) (cond d (Disputed component line readings ∷ []) []))
     ≡ cond b count 0
@@ -69,6 +76,7 @@ one_missing true d component line count readings some = let more = some refl in
 one_missing false true component line count readings some = refl
 one_missing false false component line count readings some = refl
 
+-- the entries at a line count the missing lines from there on, if a range begins
 missing_at : (p : PartialPicture) (component line : ℕ) → line < p.shape.height
     → sum_by missing_of (entries_at p component line) ≡ cond (begins_range p component line) (missing_from p component line) 0
 missing_at p component line below =
@@ -84,6 +92,7 @@ module _ (missing : ℕ → Bool) (height : ℕ) where
   abbrev run : ℕ → ℕ
   run line = prefix_len missing (range_with_len line (height - line))
 
+  -- one line more: what the ranges count is what was counted so far, and one if the line is missing
   one_step : (here above : Bool) (more rest count : ℕ) → rest + cond here more 0 ≡ count
       → (cond (here && not above) (cond here (1 + more) 0) 0 + rest) + cond above (cond here (1 + more) 0) 0 ≡ cond here 1 0 + count
   one_step true true more rest count e = omega (arith, e)
@@ -112,6 +121,7 @@ module _ (missing : ℕ → Bool) (height : ℕ) where
       let counts = sum_by-cons (λ k. cond (missing k) 1 0) line (range_with_len (line + 1) n) in
       omega (arith, step, first, sums, counts)
 
+-- the ranges of a component have as many lines as are missing in it
 missing_in : (p : PartialPicture) (component : ℕ) → sum_by missing_of (component_entries p component)
     ≡ sum_by (λ line. cond (is_missing p component line) 1 0) (lines p.shape)
 missing_in p component =
@@ -124,6 +134,7 @@ missing_in p component =
     (λ line low high. missing_at p component line (omega (arith, high)))
     ∙ sym (add-zero _) ∙ runs
 
+-- the law: the numbers of missing and disputed lines are those of the entries
 pub counts_are_of_entries : CountsAreOfEntries
 counts_are_of_entries p = (
   sym (sum_over missing_of (component_entries p) (components p.shape)

@@ -17,6 +17,7 @@ use Rattle.jls_report.specs.Ranges.{FullCountIsSettled}
 one_less : (f : ℕ → ℕ) (a n : ℕ) → sum_by f (range_with_len a (suc n)) ≡ f a + sum_by f (range_with_len (a + 1) n)
 one_less f a n = sum_by-cons f a (range_with_len (a + 1) n)
 
+-- numbers of at most m add up to at most n times m
 at_most : (f : ℕ → ℕ) (m : ℕ) → ((x : ℕ) → f x ≤ m) → (a n : ℕ) → sum_by f (range_with_len a n) ≤ n * m
 at_most f m le a zero = omega arith
 at_most f m le a (suc n) = let step = one_less f a n in let here = le a in let rest = at_most f m le (a + 1) n in
@@ -39,7 +40,7 @@ each_is f m le a (suc n) e (suc k) lt =
     let same : a + 1 + k ≡ a + suc k = omega arith in
     subst (λ (x : ℕ). f x ≡ m) same (each_is f m le (a + 1) n others k (omega (arith, lt)))
 
--- and the other way round
+-- where each number is as large as can be, the sum is
 sum_is : (f : ℕ → ℕ) (m a n : ℕ) → ((x : ℕ) → a ≤ x → x < a + n → f x ≡ m) → sum_by f (range_with_len a n) ≡ n * m
 sum_is f m a zero each = omega arith
 sum_is f m a (suc n) each =
@@ -51,6 +52,7 @@ sum_is f m a (suc n) each =
 from_zero : (f : ℕ → ℕ) (m : ℕ) → ((x : ℕ) → f x ≤ m) → (n : ℕ) → sum_by f (range_with_len 0 n) ≡ n * m → (k : ℕ) → k < n → f k ≡ m
 from_zero f m le n e k lt = let same : 0 + k ≡ k = omega arith in subst (λ (x : ℕ). f x ≡ m) same (each_is f m le 0 n e k lt)
 
+-- n numbers m add up to n times m
 to_zero : (f : ℕ → ℕ) (m n : ℕ) → ((k : ℕ) → k < n → f k ≡ m) → sum_by f (range_with_len 0 n) ≡ n * m
 to_zero f m n each = sum_is f m 0 n (λ x ge lt. each x (omega (arith, lt)))
 
@@ -62,6 +64,7 @@ counted n = cond (n == 1) 1 0
 at_most_one : (n : ℕ) → counted n ≤ 1
 at_most_one n = grind (arith, nat_tests)
 
+-- what counts as one reading is one
 is_one : (n : ℕ) → counted n ≡ 1 → n ≡ 1
 is_one n e = grind (arith, nat_tests, e)
 
@@ -73,6 +76,7 @@ module _ (p : PartialPicture) where
   few_lines component = subst (λ (n : ℕ). settled_lines component ≤ n) (length-range_with_len 0 p.shape.height)
       (count_by-le-length (is_settled_line p component) (lines p.shape))
 
+  -- where all lines of a component are counted as settled, each is
   of_component : (component : ℕ) → settled_lines component ≡ p.shape.height → (line : ℕ) → line < p.shape.height
       → status_of (readings_at p component line) ≡ Settled
   of_component component e line lt =
@@ -83,6 +87,7 @@ module _ (p : PartialPicture) where
       (is_one (length (readings_at p component line))
       (from_zero f 1 (λ l. at_most_one (length (readings_at p component l))) p.shape.height all line lt))
 
+  -- where each line of a component is settled, all are counted
   to_component : (component : ℕ) → ((line : ℕ) → line < p.shape.height → status_of (readings_at p component line) ≡ Settled)
       → settled_lines component ≡ p.shape.height
   to_component component each =
@@ -93,6 +98,7 @@ module _ (p : PartialPicture) where
       let sum : sum_by f (range_with_len 0 p.shape.height) ≡ p.shape.height = omega (arith, all) in
       sum
 
+-- the law: all lines are counted as settled exactly where each is
 pub full_count : FullCountIsSettled
 full_count p = (
   λ e component within. of_component p component

@@ -18,23 +18,27 @@ use Rattle.jls_report.proofs.RangeEnds.{prefix_is}
 
 -- ---- numbers that pass, from the start on
 
+-- each number before the end of a prefix passes the test
 passes : (test : ℕ → Bool) (a n k : ℕ) → k < prefix_len test (range_with_len a n) → test (a + k) ≡ true
 passes test a n k below =
     let size : length (range_with_len a n) ≡ n = length-range_with_len a n in
     let most = prefix_len-le-length test (range_with_len a n) in
     ap test (sym (get_or-range_with_len a n k 0 (omega (arith, size, most, below)))) ∙ prefix_len_passes test (range_with_len a n) k 0 below
 
+-- the number at the end of a prefix fails the test
 stops : (test : ℕ → Bool) (a n : ℕ) → prefix_len test (range_with_len a n) < n → test (a + prefix_len test (range_with_len a n)) ≡ false
 stops test a n below =
     let size : length (range_with_len a n) ≡ n = length-range_with_len a n in
     ap test (sym (get_or-range_with_len a n (prefix_len test (range_with_len a n)) 0 below))
     ∙ prefix_len_stops test (range_with_len a n) 0 (omega (arith, size, below))
 
+-- a prefix is no longer than the range
 within : (test : ℕ → Bool) (a n : ℕ) → prefix_len test (range_with_len a n) ≤ n
 within test a n =
     let size : length (range_with_len a n) ≡ n = length-range_with_len a n in
     let most = prefix_len-le-length test (range_with_len a n) in omega (arith, size, most)
 
+-- where the first of a range of numbers passes a test, some pass from there on
 pub some_pass : (test : ℕ → Bool) (a n : ℕ) → 0 < n → test a ≡ true → 0 < prefix_len test (range_with_len a n)
 some_pass test a zero more here = absurd (omega arith)
 some_pass test a (suc n) more here =
@@ -48,6 +52,7 @@ or_second : (b d : Bool) → (b || d) ≡ true → b ≡ false → d ≡ true
 or_second true d is first = absurd cc
 or_second false d is first = is
 
+-- a line is the first, or the one above it is not missing, where that is known
 pub first_or : (n : ℕ) (missing : ℕ → Bool) → ((line : ℕ) → line + 1 ≡ n → missing line ≡ false) → (n == 0 || not (missing (n - 1))) ≡ true
 first_or zero missing above = refl
 first_or (suc n) missing above =
@@ -57,6 +62,7 @@ first_or (suc n) missing above =
 
 -- ---- where a range begins
 
+-- a range that begins at a line, with all missing lines from there on, is a longest one
 pub range_is_longest : (p : PartialPicture) (component line : ℕ) → component < length p.shape.ids → line < p.shape.height
     → begins_range p component line ≡ true
     → IsLongestRange p component line (line + missing_from p component line - 1)
@@ -83,6 +89,7 @@ range_is_longest p component line component_in line_in begins =
           subst (λ (i : ℕ). missing i ≡ false) next_is (stops missing line n (omega arith));
     }
 
+-- a longest range begins at its first line
 pub longest_begins : (p : PartialPicture) (component first last : ℕ) → IsLongestRange p component first last
     → begins_range p component first ≡ true
 longest_begins p component first last range =
@@ -90,6 +97,7 @@ longest_begins p component first last range =
     (range.each first (omega arith) range.rising)
     (first_or first (is_missing p component) range.above)
 
+-- a longest range ends where the missing lines from its first on end
 longest_ends : (p : PartialPicture) (component first last : ℕ) → IsLongestRange p component first last
     → first + missing_from p component first - 1 ≡ last
 longest_ends p component first last range =
@@ -119,6 +127,7 @@ found_at p e there =
     let l = of_line.0 in
     (c, l, component_in, line_in, one_of (begins_range p c l) (is_disputed p c l) _ _ e of_line.2)
 
+-- an entry at a line of the picture is one of the report
 pub listed_at : (p : PartialPicture) (e : ReportEntry) (component line : ℕ) → component < length p.shape.ids → line < p.shape.height
     → Contains (entries_at p component line) e → Contains (report_entries p) e
 listed_at p e component line component_in line_in here =
@@ -129,6 +138,7 @@ listed_at p e component line component_in line_in here =
     (member_over (entries_at p component) 0 p.shape.height line e line_in
     (subst (λ (l : ℕ). Contains (entries_at p component l) e) (sym l_is) here)))
 
+-- the law: the ranges of a report are the longest ones, and no others
 pub ranges_are_longest : RangesAreLongest
 ranges_are_longest p component first last = (
   λ there.
@@ -159,6 +169,7 @@ no_range p component line some =
     ap (λ b. b && (line == 0 || not (is_missing p component (line - 1))))
     (ne_eqb (reading_count p component line) 0 (λ e. omega (arith, e)))
 
+-- the law: the entries of disputed lines are those of the picture, and no others
 pub disputed_are_listed : DisputedAreListed
 disputed_are_listed p component line readings = (
   λ there.

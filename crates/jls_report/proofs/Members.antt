@@ -15,7 +15,7 @@ found_over f a (suc n) x there =
           (found.0, below, found.2)
     ]
 
--- and what stands at one of them is a member
+-- what stands at one of the numbers is a member
 pub member_over : {X : Type 0} (f : ℕ → List X) (a n j : ℕ) (x : X) → j < n → Contains (f (a + j)) x
     → Contains (flat_map f (range_with_len a n)) x
 member_over f a zero j x below here = absurd (omega arith)
@@ -41,6 +41,7 @@ pub first_of_two : {X : Type 0} (b d : Bool) (x y : X) → b ≡ true → Contai
 first_of_two true d x y is = (0, omega arith, refl)
 first_of_two false d x y is = absurd cc
 
+-- the second of two is a member, where the first is not there
 pub second_of_two : {X : Type 0} (b d : Bool) (x y : X) → b ≡ false → d ≡ true → Contains (cond b (x ∷ []) (cond d (y ∷ []) [])) y
 second_of_two true d x y is also = absurd cc
 second_of_two false true x y is also = (0, omega arith, refl)

@@ -8,6 +8,7 @@ use Rattle.jls_report.specs.declared.entry.ReportEntry.TheVariants.{Missing, Dis
 use Rattle.jls_report.specs.Lines.{reading_count, is_disputed}
 use Rattle.jls_report.specs.Report.{begins_range, missing_from, entries_at, component_entries, report_entries, component_of, AreOfShape}
 
+-- what holds of all that each number makes holds of all that they make
 all-over : {X : Type 0} (P : X → Type 0) (f : ℕ → List X) (a n : ℕ) → ((k : ℕ) → k < a + n → AllByRecursion P (f k))
     → AllByRecursion P (flat_map f (range_with_len a n))
 all-over P f a zero each = tt
@@ -25,6 +26,7 @@ either_is n component first last line readings true d within = (within, tt)
 either_is n component first last line readings false true within = (within, tt)
 either_is n component first last line readings false false within = tt
 
+-- each entry of a report is of a component of the shape
 pub of_shape : (p : PartialPicture) → AreOfShape p.shape (report_entries p)
 of_shape p =
     let n : ℕ = length p.shape.ids in

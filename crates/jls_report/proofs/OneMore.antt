@@ -12,7 +12,7 @@ sum_by_more f n = ap (sum_by f) (from_zero n) ∙ sum_by_push f (range_with_len 
 pub count_by_more : (p : ℕ → Bool) (n : ℕ) → count_by p (range_with_len 0 (n + 1)) ≡ count_by p (range_with_len 0 n) + cond (p n) 1 0
 count_by_more p n = sum_by_more (λ x. cond (p x) 1 0) n
 
--- and one element more of a list
+-- one element more of a list adds what it gives
 pub flat_map_take_more : {X Y : Type 0} (f : X → List Y) (xs : List X) (i : ℕ) (x : X) → i < length xs → x ≡ get_or xs i x
     → flat_map f (take (i + 1) xs) ≡ flat_map f (take i xs) ++ f x
 flat_map_take_more f xs i x within is =

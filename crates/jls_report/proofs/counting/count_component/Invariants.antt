@@ -3,6 +3,7 @@ use Rattle.std.specs.List.{count_by, range_with_len}
 use Rattle.jls_report.specs.Lines.{is_settled_line, is_missing, is_disputed}
 use Rattle.jls_report.proofs.counting.count_component.Given as goal
 
+-- the lines so far are counted
 abbrev pub invariant-loop-line : goal.invariant-loop-line
 invariant-loop-line l = record {
   settled : l.counts.settled ≡ count_by (is_settled_line l.partial l.component) (range_with_len 0 l.line);

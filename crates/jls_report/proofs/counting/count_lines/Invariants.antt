@@ -3,6 +3,7 @@ use Rattle.std.specs.List.{sum_by, count_by, range_with_len}
 use Rattle.jls_report.specs.Lines.{is_settled_line, is_missing, is_disputed, lines}
 use Rattle.jls_report.proofs.counting.count_lines.Given as goal
 
+-- before each component: those before it are counted
 abbrev pub invariant-loop-component : goal.invariant-loop-component
 invariant-loop-component l = record {
   settled : l.counts.settled ≡ sum_by (λ component. count_by (is_settled_line l.partial component) (lines l.partial.shape))

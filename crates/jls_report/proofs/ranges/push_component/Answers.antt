@@ -4,6 +4,7 @@ use Rattle.jls_values.proofs.Lists.{flat_map_more}
 use Rattle.jls_report.specs.Report.{entries_at}
 use Rattle.jls_report.proofs.ranges.push_component.Goals as goal
 
+-- the entry of one line more is appended, where one begins
 pub loop-line-preserved : goal.loop-line-preserved
 loop-line-preserved c =
     let at = entries_at c.args.partial.now c.args.component in

@@ -3,6 +3,7 @@ use Rattle.std.specs.Prelude.{codes, decimal}
 use Rattle.jls_values.proofs.Lists.{appended}
 use Rattle.jls_report.proofs.text.put_precision.Goals as goal
 
+-- the words and the precision are put
 pub returns : goal.returns
 returns c =
     let shape = c.args.shape.now in

@@ -5,6 +5,7 @@ use Rattle.jls_values.proofs.Lists.{appended}
 use Rattle.jls_report.specs.ReportText.{size_text, precision_text}
 use Rattle.jls_report.proofs.text.put_shape.Goals as goal
 
+-- the line of the shape is put
 pub returns : goal.returns
 returns c =
     let shape = c.args.shape.now in
