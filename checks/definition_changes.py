@@ -125,7 +125,7 @@ CHANGES = [
         "last_interval",
         (INTERVAL_OF, "line_count = row_count s k * components", "line_count = row_count s 0 * components"),
         (
-            (STATE, "rows = row_count s k; bytes", "rows = row_count s 0; bytes"),
+            (STATE, "rows = row_count s k;", "rows = row_count s 0;"),
             (PIECE, "let (_, rows) = plan.rows(number);", "let (_, rows) = plan.rows(0);"),
         ),
         "piece::OpenPiece::open",
@@ -147,7 +147,7 @@ CHANGES = [
         "placed counts components in the scan and not in the frame",
         "placed_by_turns",
         (PIECES, "reading_of (get_or components place 0) row line", "reading_of place row line"),
-        ((FINDINGS, "take_line(partial, components[place], row, line)?;", "take_line(partial, place as u8, row, line)?;"),),
+        ((FINDINGS, "take_line(partial, components[place], row, &line)?;", "take_line(partial, place as u8, row, &line)?;"),),
         "findings::take_lines",
     ),
     Change(
