@@ -10,10 +10,10 @@ use Rattle.jls_pixel.specs.Code.{event_bits, pixel_code}
 use Rattle.jls_pixel.specs.Growth.{pixel_steps, start}
 use Rattle.jls_pixel.specs.EventRead.{RefusesEvent}
 use Rattle.jls_pixel.specs.RowRead.{RowBegun, NoRows}
-use Rattle.jls_pixel.specs.PixelReading.{IsWorking, IsComplete, BeginsNoCode, IsReading, KeepsShape}
+use Rattle.jls_pixel.specs.PixelReading.{shape_of, IsWorking, IsComplete, BeginsNoCode, IsReading, KeepsShape}
 use Rattle.jls_pixel.specs.Heads.{IsCutCode, IsHead}
 use Rattle.jls_pixel.specs.OpenEvents.{CutsEvents}
-use Rattle.jls_pixel.specs.CutRows.{shape_of, IsCut, CutsNothing}
+use Rattle.jls_pixel.specs.CutRows.{IsCut, CutsNothing}
 use Rattle.jls_pixel.specs.declared.pixel_reader.State.TheVariants.{Working}
 use Rattle.jls_pixel.specs.declared.pixel_reader.PixelReader.{PixelReader}
 use Rattle.jls_pixel.proofs.RowsGrow.{grown_part}

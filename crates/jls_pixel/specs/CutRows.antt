@@ -1,19 +1,15 @@
 -- What a reader finds at the end of its bits. It concerns no caller.
 use Rattle.std.specs.Prelude.{◌≡◌, Bool, List}
 use Rattle.jls_values.specs.Params.{CodingParameters}
-use Rattle.jls_pixel.specs.Pixels.{PixelShape, rows_above, pixel_shape}
+use Rattle.jls_pixel.specs.Pixels.{rows_above}
 use Rattle.jls_pixel.specs.RowRead.{NoRows}
 use Rattle.jls_pixel.specs.Heads.{IsCutCode, IsCutEvent}
 use Rattle.jls_pixel.specs.OpenEvents.{CutsNoEvent}
-use Rattle.jls_pixel.specs.PixelReading.{IsReading}
+use Rattle.jls_pixel.specs.PixelReading.{shape_of, IsReading}
 use Rattle.jls_pixel.specs.declared.pixel_reader.State.TheVariants.{Working}
 use Rattle.jls_pixel.specs.declared.pixel_reader.PixelReader.{PixelReader}
 use Rattle.jls_pixel.specs.declared.cut_rows.RestEnd.{RestEnd}
 use Rattle.jls_pixel.specs.declared.cut_rows.RestEnd.TheVariants.{Complete, Cut, Broken}
-
--- the interval that a reader reads
-abbrev pub shape_of : CodingParameters → PixelReader → PixelShape
-shape_of p d = pixel_shape p d.width d.components d.count
 
 -- the bits given cut an event, before which these rows were finished
 pub record IsCut (p : CodingParameters) (given : List Bool) (d : PixelReader) : Type 0 where

@@ -21,5 +21,8 @@ pub mod PixelBytes
 pub mod Heads
 pub mod OpenEvents
 pub mod OpenSamples
+pub mod Answers
+pub mod SampleCodes
+pub mod RowsInWork
 pub mod CutEnds
 pub mod CutRows

@@ -1,5 +1,5 @@
 -- The first bits of a sample's code, and which samples they can go on to. It concerns no caller.
-use Rattle.std.specs.Prelude.{◌≡◌, ℕ, ◌+◌, ◌≤◌, Bool, List}
+use Rattle.std.specs.Prelude.{◌≡◌, ℕ, ◌+◌, ◌≤◌, Bool, Option, List}
 use Rattle.jls_values.specs.Params.{qbpp}
 use Rattle.jls_bits.specs.CodeState.{IsOpen, bits_fed}
 use Rattle.jls_context.specs.Variables.{Variables}
@@ -9,6 +9,8 @@ use Rattle.jls_pixel.specs.Code.{sample_bits}
 use Rattle.jls_pixel.specs.After.{CellsAfter}
 use Rattle.jls_pixel.specs.Reading.{coded_as, order_of, IsKind}
 use Rattle.jls_pixel.specs.OpenEvents.{k_of, limit_of}
+use Rattle.jls_pixel.specs.SampleCodes.{CutsSamplesBy, CutsNoSampleBy}
+use Rattle.jls_pixel.specs.declared.coder.Coder.{Coder}
 use Rattle.jls_pixel.specs.declared.cut_sample.OpenSample.{OpenSample}
 
 -- the code's first bits
@@ -31,3 +33,11 @@ abbrev pub IsNotCut : Variables → OpenSample → ℕ → Type 0
 IsNotCut cells o sample =
     (earlier : List CodedSample) → CellsAfter cells.parameters cells earlier
     → IsProperPrefix (first_bits cells o) (sample_bits cells.parameters (order_of o.kind) earlier (coded_as o.kind o.near sample)) → ⊥
+
+-- they begin the bits of a sample that can come, which is not the one that is excepted
+abbrev pub BeginsSample : Coder → Option ℕ → OpenSample → Type 0
+BeginsSample coder except o = CutsSamplesBy coder o.kind o.near except (first_bits coder.cells o)
+
+-- or those of no such sample
+abbrev pub BeginsNoSample : Coder → Option ℕ → OpenSample → Type 0
+BeginsNoSample coder except o = CutsNoSampleBy coder o.kind o.near except (first_bits coder.cells o)

@@ -3,7 +3,8 @@ use Rattle.std.specs.Prelude.{◌≡◌, ℕ, ◌+◌, ◌-◌, ◌*◌, ◌^◌
 use Rattle.std.specs.List.{AllByRecursion}
 use Rattle.jls_values.specs.Params.{CodingParameters}
 use Rattle.jls_context.specs.Variables.{Variables}
-use Rattle.jls_pixel.specs.Pixels.{AreRows, IsPixel, rows_above}
+use Rattle.jls_bits.specs.Bits.{bits_read, is_whole}
+use Rattle.jls_pixel.specs.Pixels.{PixelShape, pixel_shape, AreRows, IsPixel, rows_above}
 use Rattle.jls_pixel.specs.Code.{pixel_code}
 use Rattle.jls_pixel.specs.EventRead.{RefusesEvent}
 use Rattle.jls_pixel.specs.RowRead.{RowBegun, NoRows}
@@ -96,3 +97,23 @@ pub record KeepsShape (old new : PixelReader) : Type 0 where
 -- how many pixels are to come
 abbrev pub pixels_left : PixelReader → ℕ
 pixels_left d = (d.count - length d.rows) * d.width + (d.width - length d.row.items)
+
+-- Names that contracts of readers share -----------------------------------------------------------------
+
+-- the interval that a reader reads
+abbrev pub shape_of : CodingParameters → PixelReader → PixelShape
+shape_of p d = pixel_shape p d.width d.components d.count
+
+-- a reader was given some bits
+abbrev pub IsReader : PixelReader → Type 0
+IsReader d = (p : CodingParameters) × (given : List Bool) × IsReading p given d
+
+-- this holds of whatever bits a reader was given
+abbrev pub ForBitsOf : PixelReader → (CodingParameters → List Bool → Type 0) → Type 0
+ForBitsOf d P = (p : CodingParameters) (given : List Bool) → IsReading p given d → P p given
+
+-- this holds of whatever bytes have those bits for data bits
+abbrev pub ForBytesOf : PixelReader → (PixelShape → List ℕ → Type 0) → Type 0
+ForBytesOf d P =
+    (p : CodingParameters) (bytes : List ℕ) → AllByRecursion (λ x. x < 256) bytes → is_whole bytes ≡ true
+    → IsReading p (bits_read bytes) d → P (shape_of p d) bytes

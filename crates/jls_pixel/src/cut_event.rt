@@ -1,10 +1,10 @@
 //! Whether the bits that are left are the first ones, and not all, of an event that can come next.
 
-ghost use Rattle.std.specs.Prelude.{◌≡◌, ◌<◌, ◌≤◌, true, false, length, IfOk};
-ghost use Rattle.std.specs.List.{AllByRecursion};
-ghost use Rattle.jls_pixel.specs.Pixels.{IsPixel, pixel_neighbours, is_run_pixel};
-ghost use Rattle.jls_pixel.specs.Place.{above_of};
-ghost use Rattle.jls_pixel.specs.OpenEvents.{CutsEvents, CutsNoEvent};
+ghost use Rattle.std.specs.Prelude.{◌≡◌, ◌<◌, ◌≤◌, true, length};
+ghost use Rattle.jls_pixel.specs.Pixels.{is_run_pixel};
+ghost use Rattle.jls_pixel.specs.Place.{nears_at};
+ghost use Rattle.jls_pixel.specs.Answers.{IfYes, IfNo};
+ghost use Rattle.jls_pixel.specs.RowsInWork.{ArePixels, ArePixelsAbove, CutsEventsAt, CutsNoEventAt};
 
 use crate::coder::Coder;
 use crate::cut_pixel::pixel_is_cut;
@@ -30,14 +30,12 @@ fn run_is_cut(
     row: &[Pixel],
 ) -> Result<bool, AllocError>
     requires run_index { run_index ≤ 31 }
-    requires above { AllByRecursion (IsPixel coder.old.cells.parameters place.now.components) place.now.row_above.now }
-    requires row { AllByRecursion (IsPixel coder.old.cells.parameters place.now.components) row.now }
+    requires above { ArePixelsAbove coder.old place.now }
+    requires row { ArePixels coder.old place.now row.now }
     requires column { length row.now < place.now.width }
-    requires mode { is_run_pixel (pixel_neighbours place.now.width (above_of place.now) row.now place.now.components) ≡ true }
-    ensures yes { IfOk result (λ cut. cut ≡ true → CutsEvents coder.old.cells.parameters place.now.width place.now.components
-        (above_of place.now) row.now coder.old.cells run_index pending.old) }
-    ensures no { IfOk result (λ cut. cut ≡ false → CutsNoEvent coder.old.cells.parameters place.now.width place.now.components
-        (above_of place.now) row.now coder.old.cells run_index pending.old) }
+    requires mode { is_run_pixel (nears_at place.now row.now) ≡ true }
+    ensures yes { IfYes result (CutsEventsAt place.now row.now coder.old run_index pending.old) }
+    ensures no { IfNo result (CutsNoEventAt place.now row.now coder.old run_index pending.old) }
 {
     let columns = (place.width - row.len()) as u32;
     match read_run_end(pending, run_index, columns) {
@@ -67,13 +65,11 @@ pub(crate) fn event_is_cut(
     row: &[Pixel],
 ) -> Result<bool, AllocError>
     requires run_index { run_index ≤ 31 }
-    requires above { AllByRecursion (IsPixel coder.old.cells.parameters place.now.components) place.now.row_above.now }
-    requires row { AllByRecursion (IsPixel coder.old.cells.parameters place.now.components) row.now }
+    requires above { ArePixelsAbove coder.old place.now }
+    requires row { ArePixels coder.old place.now row.now }
     requires column { length row.now < place.now.width }
-    ensures yes { IfOk result (λ cut. cut ≡ true → CutsEvents coder.old.cells.parameters place.now.width place.now.components
-        (above_of place.now) row.now coder.old.cells run_index pending.old) }
-    ensures no { IfOk result (λ cut. cut ≡ false → CutsNoEvent coder.old.cells.parameters place.now.width place.now.components
-        (above_of place.now) row.now coder.old.cells run_index pending.old) }
+    ensures yes { IfYes result (CutsEventsAt place.now row.now coder.old run_index pending.old) }
+    ensures no { IfNo result (CutsNoEventAt place.now row.now coder.old run_index pending.old) }
 {
     if place.is_run(row) {
         run_is_cut(alloc, pending, coder, run_index, place, row)

@@ -1,11 +1,11 @@
 //! Whether the bits that are left are the first ones, and not all, of the samples of a pixel that can come.
 
-ghost use Rattle.std.specs.Prelude.{◌≡◌, ◌<◌, ◌≤◌, true, false, length, IfOk};
-ghost use Rattle.std.specs.List.{AllByRecursion};
-ghost use Rattle.jls_pixel.specs.Pixels.{IsPixel, component_neighbours, pixel_neighbours, run_value};
-ghost use Rattle.jls_pixel.specs.Place.{above_of};
+ghost use Rattle.std.specs.Prelude.{◌<◌, length};
+ghost use Rattle.jls_pixel.specs.Place.{run_value_at};
 ghost use Rattle.jls_pixel.specs.Reading.{IsKind};
-ghost use Rattle.jls_pixel.specs.OpenEvents.{IsExcepted, CutsPixels, CutsNoPixel};
+ghost use Rattle.jls_pixel.specs.OpenEvents.{IsExcepted};
+ghost use Rattle.jls_pixel.specs.Answers.{IfYes, IfNo};
+ghost use Rattle.jls_pixel.specs.RowsInWork.{ArePixels, ArePixelsAbove, CutsPixelsAt, CutsNoPixelAt};
 
 use crate::coder::Coder;
 use crate::cut_sample::sample_is_cut;
@@ -26,8 +26,7 @@ fn excepted_sample(
 ) -> Option<u16>
     requires column { length row.now < place.now.width }
     requires few { length first.now < 4 }
-    ensures { IsExcepted kind (run_value (pixel_neighbours place.now.width (above_of place.now) row.now place.now.components))
-        first.now ra result }
+    ensures { IsExcepted kind (run_value_at place.now row.now) first.now ra result }
 {
     match kind {
         SampleKind::Regular => None,
@@ -53,13 +52,11 @@ pub(crate) fn pixel_is_cut(
     row: &[Pixel],
 ) -> Result<bool, AllocError>
     requires kind { IsKind kind }
-    requires above { AllByRecursion (IsPixel coder.old.cells.parameters place.now.components) place.now.row_above.now }
-    requires row { AllByRecursion (IsPixel coder.old.cells.parameters place.now.components) row.now }
+    requires above { ArePixelsAbove coder.old place.now }
+    requires row { ArePixels coder.old place.now row.now }
     requires column { length row.now < place.now.width }
-    ensures yes { IfOk result (λ cut. cut ≡ true → CutsPixels coder.old.cells.parameters kind
-        (pixel_neighbours place.now.width (above_of place.now) row.now place.now.components) coder.old.cells pending.old) }
-    ensures no { IfOk result (λ cut. cut ≡ false → CutsNoPixel coder.old.cells.parameters kind
-        (pixel_neighbours place.now.width (above_of place.now) row.now place.now.components) coder.old.cells pending.old) }
+    ensures yes { IfYes result (CutsPixelsAt place.now row.now coder.old kind pending.old) }
+    ensures no { IfNo result (CutsNoPixelAt place.now row.now coder.old kind pending.old) }
 {
     let mut pixel = Pixel::new();
     for component in 0..place.components {

@@ -1,11 +1,9 @@
 //! The rows that stand whole where the bits of an interval break off.
 
-ghost use Rattle.std.specs.Prelude.{◌≡◌, ◌<◌, true, false, ℕ, List, Bool, IfOk};
-ghost use Rattle.std.specs.List.{AllByRecursion};
-ghost use Rattle.jls_values.specs.Params.{CodingParameters};
-ghost use Rattle.jls_bits.specs.Bits.{bits_read, is_whole};
-ghost use Rattle.jls_pixel.specs.PixelReading.{IsReading, KeepsShape};
-ghost use Rattle.jls_pixel.specs.CutRows.{shape_of, IsCut, CutsNothing, RestEndIs};
+ghost use Rattle.std.specs.Prelude.{◌≡◌, IfOk};
+ghost use Rattle.jls_pixel.specs.Answers.{IfYes, IfNo};
+ghost use Rattle.jls_pixel.specs.PixelReading.{KeepsShape, IsReader, ForBitsOf, ForBytesOf};
+ghost use Rattle.jls_pixel.specs.CutRows.{IsCut, CutsNothing, RestEndIs};
 ghost use Rattle.jls_pixel.specs.CutEnds.{CutEndIs};
 
 use crate::cut_end::PixelCutEnd;
@@ -30,11 +28,9 @@ impl PixelReader {
     /// Whether the bits that wait are the first ones, and not all, of an event that can come next.
     fn is_cut(&self) -> Result<bool, AllocError>
         requires state { self.now.state ≡ State.Working }
-        requires reading { (p : CodingParameters) × (given : List Bool) × IsReading p given self.now }
-        ensures yes { IfOk result (λ cut. cut ≡ true → (p : CodingParameters) (given : List Bool) → IsReading p given self.now
-            → IsCut p given self.now) }
-        ensures no { IfOk result (λ cut. cut ≡ false → (p : CodingParameters) (given : List Bool) → IsReading p given self.now
-            → CutsNothing p self.now) }
+        requires reading { IsReader self.now }
+        ensures yes { IfYes result (ForBitsOf self.now (λ p given. IsCut p given self.now)) }
+        ensures no { IfNo result (ForBitsOf self.now (λ p given. CutsNothing p self.now)) }
     {
         let place = self.rows.next_place(self.width, self.components);
         let mut pending = self.pending.try_clone()?;
@@ -51,10 +47,9 @@ impl PixelReader {
 
     /// Reads the events that are left, where no bit follows, and says what the bits come to.
     fn read_to_end(&mut self) -> Result<RestEnd, AllocError>
-        requires { (p : CodingParameters) × (given : List Bool) × IsReading p given self.old }
+        requires { IsReader self.old }
         ensures shape { KeepsShape self.old self.new }
-        ensures end { IfOk result (λ end. (p : CodingParameters) (given : List Bool) → IsReading p given self.old
-            → RestEndIs p given self.new end) }
+        ensures end { IfOk result (λ end. ForBitsOf self.old (λ p given. RestEndIs p given self.new end)) }
     {
         'events: while self.is_working() {
             if self.is_cut()? {
@@ -70,8 +65,7 @@ impl PixelReader {
     /// What the bytes of all bits so far give, where no event is left.
     fn judged_cut(self) -> PixelCutEnd
         requires { self.state ≡ State.Working → ⊥ }
-        ensures { (p : CodingParameters) (bytes : List ℕ) → AllByRecursion (λ x. x < 256) bytes → is_whole bytes ≡ true
-            → IsReading p (bits_read bytes) self → CutEndIs (shape_of p self) bytes result }
+        ensures { ForBytesOf self (λ shape bytes. CutEndIs shape bytes result) }
     {
         match self.state {
             State::Working => unreachable!(),
@@ -90,9 +84,8 @@ impl PixelReader {
 
     /// The same, after the events that are left.
     pub(crate) fn into_cut_end(mut self) -> Result<PixelCutEnd, AllocError>
-        requires { (p : CodingParameters) × (given : List Bool) × IsReading p given self }
-        ensures { (p : CodingParameters) (bytes : List ℕ) → AllByRecursion (λ x. x < 256) bytes → is_whole bytes ≡ true
-            → IsReading p (bits_read bytes) self → IfOk result (CutEndIs (shape_of p self) bytes) }
+        requires { IsReader self }
+        ensures { ForBytesOf self (λ shape bytes. IfOk result (CutEndIs shape bytes)) }
     {
         match self.read_to_end()? {
             RestEnd::Complete => Ok(self.judged_cut()),

@@ -1,12 +1,14 @@
 //! Whether the bits that are left are the first ones, and not all, of the code of a sample that can come (ITU-T T.87, A.5.3 and A.7.2).
 
-ghost use Rattle.std.specs.Prelude.{◌≡◌, ℕ, ◌+◌, ◌^◌, ◌≤◌, true, false, pos, ◌-ℤ◌, IfSome, IfNone, IfOk};
+ghost use Rattle.std.specs.Prelude.{◌≡◌, ◌+◌, ◌^◌, ◌≤◌, true, false, pos, ◌-ℤ◌, IfSome, IfNone};
 ghost use Rattle.jls_values.specs.Params.{qbpp};
 ghost use Rattle.jls_bits.specs.CodeState.{IsOpen, bits_fed};
 ghost use Rattle.jls_context.specs.Mode.{with_sign};
 ghost use Rattle.jls_pixel.specs.Reading.{IsKind};
-ghost use Rattle.jls_pixel.specs.OpenEvents.{CutsNoCode, k_of, limit_of, IsNot, CodesSample, CutsSamples, CutsNoSample};
-ghost use Rattle.jls_pixel.specs.OpenSamples.{IsOpenSample, first_bits, IsNotCut};
+ghost use Rattle.jls_pixel.specs.OpenEvents.{CutsNoCode, k_of, limit_of, IsNot};
+ghost use Rattle.jls_pixel.specs.Answers.{IfYes, IfNo};
+ghost use Rattle.jls_pixel.specs.SampleCodes.{parameters_of, IsSample, CodesSampleBy, CutsSamplesBy, CutsNoSampleBy};
+ghost use Rattle.jls_pixel.specs.OpenSamples.{IsOpenSample, IsNotCut, BeginsSample, BeginsNoSample};
 
 use crate::coder::{Coder, RegularMode};
 use crate::pending_bits::PendingBits;
@@ -45,10 +47,10 @@ pub(crate) struct CodeShape {
 /// The shape of the code of a sample.
 fn code_shape(coder: &Coder, kind: SampleKind, near: Neighbours) -> CodeShape
     requires { IsKind kind }
-    ensures k { result.k ≡ k_of coder.now.cells.parameters kind near coder.now.cells }
-    ensures limit { result.limit ≡ limit_of coder.now.cells.parameters kind }
+    ensures k { result.k ≡ k_of (parameters_of coder.now) kind near coder.now.cells }
+    ensures limit { result.limit ≡ limit_of (parameters_of coder.now) kind }
     ensures k_at_most { result.k ≤ 16 }
-    ensures room { qbpp coder.now.cells.parameters + 2 ≤ result.limit }
+    ensures room { qbpp (parameters_of coder.now) + 2 ≤ result.limit }
     ensures limit_at_most { result.limit ≤ 64 }
 {
     match kind {
@@ -73,9 +75,9 @@ fn signed_difference(negative: bool, sample: u16, prediction: u16) -> i32
 
 /// The number that is coded for a sample in regular mode.
 fn regular_number(coder: &Coder, near: Neighbours, sample: u16) -> u32
-    requires sample { sample ≤ coder.now.cells.parameters.maxval }
-    ensures number { CodesSample coder.now.cells.parameters SampleKind.Regular near coder.now.cells sample result }
-    ensures at_most { result ≤ 2 ^ qbpp coder.now.cells.parameters }
+    requires sample { IsSample coder.now sample }
+    ensures number { CodesSampleBy coder.now SampleKind.Regular near sample result }
+    ensures at_most { result ≤ 2 ^ qbpp (parameters_of coder.now) }
 {
     let RegularMode { context, negative } = coder.regular_mode(near);
     let predicted = coder
@@ -90,10 +92,10 @@ fn regular_number(coder: &Coder, near: Neighbours, sample: u16) -> u32
 /// The number that is coded for a sample of a pixel that interrupts a run. RItype is 0.
 fn interrupting_number(coder: &Coder, near: Neighbours, order: u8, sample: u16) -> u32
     requires order { order ≤ 15 }
-    requires above { near.rb ≤ coder.now.cells.parameters.maxval }
-    requires sample { sample ≤ coder.now.cells.parameters.maxval }
-    ensures number { CodesSample coder.now.cells.parameters (SampleKind.Interrupting order) near coder.now.cells sample result }
-    ensures at_most { result ≤ 2 ^ qbpp coder.now.cells.parameters }
+    requires above { IsSample coder.now near.rb }
+    requires sample { IsSample coder.now sample }
+    ensures number { CodesSampleBy coder.now (SampleKind.Interrupting order) near sample result }
+    ensures at_most { result ≤ 2 ^ qbpp (parameters_of coder.now) }
 {
     let error = coder
         .cells
@@ -104,10 +106,10 @@ fn interrupting_number(coder: &Coder, near: Neighbours, order: u8, sample: u16) 
 /// The number that is coded for a sample of this kind.
 fn sample_number(coder: &Coder, kind: SampleKind, near: Neighbours, sample: u16) -> u32
     requires kind { IsKind kind }
-    requires above { near.rb ≤ coder.now.cells.parameters.maxval }
-    requires sample { sample ≤ coder.now.cells.parameters.maxval }
-    ensures number { CodesSample coder.now.cells.parameters kind near coder.now.cells sample result }
-    ensures at_most { result ≤ 2 ^ qbpp coder.now.cells.parameters }
+    requires above { IsSample coder.now near.rb }
+    requires sample { IsSample coder.now sample }
+    ensures number { CodesSampleBy coder.now kind near sample result }
+    ensures at_most { result ≤ 2 ^ qbpp (parameters_of coder.now) }
 {
     match kind {
         SampleKind::Regular => regular_number(coder, near, sample),
@@ -138,9 +140,8 @@ fn is_excepted(except: Option<u16>, sample: u16) -> bool
 /// Whether the first bits of a code are those of this sample, and it is not the one that is excepted.
 fn sample_begins(coder: &Coder, begun: OpenSample, except: Option<u16>, sample: u16) -> bool
     requires begun { IsOpenSample coder.now.cells begun }
-    requires sample { sample ≤ coder.now.cells.parameters.maxval }
-    ensures yes { result ≡ true → CutsSamples coder.now.cells.parameters begun.kind begun.near except coder.now.cells
-        (first_bits coder.now.cells begun) }
+    requires sample { IsSample coder.now sample }
+    ensures yes { result ≡ true → BeginsSample coder.now except begun }
     ensures no { result ≡ false → IsNot except sample → IsNotCut coder.now.cells begun sample }
 {
     if is_excepted(except, sample) {
@@ -153,10 +154,8 @@ fn sample_begins(coder: &Coder, begun: OpenSample, except: Option<u16>, sample: 
 /// Whether the first bits of a code are those of a sample that is not the one that is excepted.
 fn some_sample_begins(coder: &Coder, begun: OpenSample, except: Option<u16>) -> bool
     requires { IsOpenSample coder.now.cells begun }
-    ensures yes { result ≡ true → CutsSamples coder.now.cells.parameters begun.kind begun.near except coder.now.cells
-        (first_bits coder.now.cells begun) }
-    ensures no { result ≡ false → CutsNoSample coder.now.cells.parameters begun.kind begun.near except coder.now.cells
-        (first_bits coder.now.cells begun) }
+    ensures yes { result ≡ true → BeginsSample coder.now except begun }
+    ensures no { result ≡ false → BeginsNoSample coder.now except begun }
 {
     for sample in 0..u32::from(coder.lengths.maxval) + 1 {
         if sample_begins(coder, begun, except, sample as u16) {
@@ -175,9 +174,9 @@ pub(crate) fn sample_is_cut(
     except: Option<u16>,
 ) -> Result<bool, AllocError>
     requires kind { IsKind kind }
-    requires above { near.rb ≤ coder.now.cells.parameters.maxval }
-    ensures yes { IfOk result (λ cut. cut ≡ true → CutsSamples coder.now.cells.parameters kind near except coder.now.cells pending.now) }
-    ensures no { IfOk result (λ cut. cut ≡ false → CutsNoSample coder.now.cells.parameters kind near except coder.now.cells pending.now) }
+    requires above { IsSample coder.now near.rb }
+    ensures yes { IfYes result (CutsSamplesBy coder.now kind near except pending.now) }
+    ensures no { IfNo result (CutsNoSampleBy coder.now kind near except pending.now) }
 {
     let shape = code_shape(coder, kind, near);
     let mut left = pending.try_clone()?;

@@ -1,12 +1,13 @@
 //! Reading one event: a pixel in regular mode, or a run with what ends it.
 
-ghost use Rattle.std.specs.Prelude.{◌≡◌, ◌+◌, ◌<◌, ◌≤◌, ◌++◌, true, false, length, replicate, nat_eq, IfSome, IfNone, IfOk};
+ghost use Rattle.std.specs.Prelude.{◌≡◌, ◌+◌, ◌<◌, ◌≤◌, ◌++◌, true, false, length, replicate, nat_eq, IfOk};
 ghost use Rattle.std.specs.Cmp.Lexicographic.{pointwise};
-ghost use Rattle.std.specs.List.{AllByRecursion};
-ghost use Rattle.jls_pixel.specs.Pixels.{IsPixel, pixel_neighbours, is_run_pixel, run_value};
-ghost use Rattle.jls_pixel.specs.Place.{above_of};
-ghost use Rattle.jls_pixel.specs.EventRead.{ReadsEvent, RefusesEvent};
-ghost use Rattle.jls_pixel.specs.InterruptionRead.{InterruptionRead, NoInterruption};
+ghost use Rattle.jls_pixel.specs.Pixels.{is_run_pixel};
+ghost use Rattle.jls_pixel.specs.Place.{nears_at, run_value_at};
+ghost use Rattle.jls_pixel.specs.Answers.{IfFound, IfNoneFound};
+ghost use Rattle.jls_pixel.specs.SampleCodes.{parameters_of};
+ghost use Rattle.jls_pixel.specs.RowsInWork.{ArePixels, ArePixelsAbove, GrowsWithin, ReadsEventAt, RefusesEventAt};
+ghost use Rattle.jls_pixel.specs.RowsInWork.{InterruptionReadAt, NoInterruptionAt};
 
 use crate::coder::Coder;
 use crate::pending_bits::PendingBits;
@@ -25,8 +26,7 @@ pub(crate) fn push_run(
     count: u32,
 ) -> Result<(), AllocError>
     requires { length row.old.items + count ≤ place.now.width }
-    ensures { IfOk result (λ _. row.new.items ≡ row.old.items
-        ++ replicate count (run_value (pixel_neighbours place.now.width (above_of place.now) row.old.items place.now.components))) }
+    ensures { IfOk result (λ _. row.new.items ≡ row.old.items ++ replicate count (run_value_at place.now row.old.items)) }
 {
     for _pixel in 0..count {
         let value = place.run_value(row);
@@ -44,20 +44,17 @@ fn read_regular_pixel(
     row: &mut Vec<Pixel>,
 ) -> Result<Option<u8>, AllocError>
     requires run_index { run_index ≤ 31 }
-    requires above { AllByRecursion (IsPixel coder.old.cells.parameters place.now.components) place.now.row_above.now }
-    requires row { AllByRecursion (IsPixel coder.old.cells.parameters place.now.components) row.old.items }
+    requires above { ArePixelsAbove coder.old place.now }
+    requires row { ArePixels coder.old place.now row.old.items }
     requires column { length row.old.items < place.now.width }
-    requires mode { is_run_pixel (pixel_neighbours place.now.width (above_of place.now) row.old.items place.now.components) ≡ false }
-    ensures read { IfOk result (λ o. IfSome o (λ next. ReadsEvent coder.old.cells.parameters place.now.width place.now.components
-        (above_of place.now) row.old.items row.new.items coder.old.cells coder.new.cells run_index next pending.old pending.new)) }
-    ensures pixels { IfOk result (λ o. IfSome o (λ _.
-        AllByRecursion (IsPixel coder.old.cells.parameters place.now.components) row.new.items)) }
-    ensures columns { IfOk result (λ o. IfSome o (λ _. (length row.old.items < length row.new.items)
-        × (length row.new.items ≤ place.now.width))) }
-    ensures refused { IfOk result (λ o. IfNone o (RefusesEvent coder.old.cells.parameters place.now.width place.now.components
-        (above_of place.now) row.old.items coder.old.cells run_index pending.old)) }
-    ensures run_index { IfOk result (λ o. IfSome o (λ next. next ≤ 31)) }
-    ensures parameters { coder.new.cells.parameters ≡ coder.old.cells.parameters }
+    requires mode { is_run_pixel (nears_at place.now row.old.items) ≡ false }
+    ensures read { IfFound result (ReadsEventAt place.now row.old.items row.new.items coder.old coder.new run_index
+        pending.old pending.new) }
+    ensures pixels { IfFound result (λ _. ArePixels coder.old place.now row.new.items) }
+    ensures columns { IfFound result (λ _. GrowsWithin place.now row.old.items row.new.items) }
+    ensures refused { IfNoneFound result (RefusesEventAt place.now row.old.items coder.old run_index pending.old) }
+    ensures run_index { IfFound result (λ next. next ≤ 31) }
+    ensures parameters { parameters_of coder.new ≡ parameters_of coder.old }
 {
     match read_pixel(pending, coder, SampleKind::Regular, place, row) {
         None => Ok(None),
@@ -71,8 +68,7 @@ fn read_regular_pixel(
 /// Whether a pixel is the value of a run that goes on at the pixel that follows these pixels of the row.
 fn is_run_value(place: &Place<'_>, row: &[Pixel], pixel: &Pixel) -> bool
     requires { length row.now < place.now.width }
-    ensures { result ≡ pointwise nat_eq pixel.now
-        (run_value (pixel_neighbours place.now.width (above_of place.now) row.now place.now.components)) }
+    ensures { result ≡ pointwise nat_eq pixel.now (run_value_at place.now row.now) }
 {
     pixel.is_same(&place.run_value(row))
 }
@@ -87,14 +83,13 @@ fn read_interruption(
     row: &mut Vec<Pixel>,
 ) -> Result<Option<u8>, AllocError>
     requires run_index { run_index ≤ 31 }
-    requires above { AllByRecursion (IsPixel coder.old.cells.parameters place.now.components) place.now.row_above.now }
-    requires row { AllByRecursion (IsPixel coder.old.cells.parameters place.now.components) row.old.items }
+    requires above { ArePixelsAbove coder.old place.now }
+    requires row { ArePixels coder.old place.now row.old.items }
     requires column { length row.old.items < place.now.width }
-    ensures read { IfOk result (λ o. IfSome o (λ next. InterruptionRead coder.old.cells.parameters place.now.width place.now.components
-        (above_of place.now) row.old.items row.new.items coder.old.cells coder.new.cells run_index next pending.old pending.new)) }
-    ensures refused { IfOk result (λ o. IfNone o (NoInterruption coder.old.cells.parameters place.now.width place.now.components
-        (above_of place.now) row.old.items coder.old.cells run_index pending.old)) }
-    ensures parameters { coder.new.cells.parameters ≡ coder.old.cells.parameters }
+    ensures read { IfFound result (InterruptionReadAt place.now row.old.items row.new.items coder.old coder.new run_index
+        pending.old pending.new) }
+    ensures refused { IfNoneFound result (NoInterruptionAt place.now row.old.items coder.old run_index pending.old) }
+    ensures parameters { parameters_of coder.new ≡ parameters_of coder.old }
 {
     let kind = SampleKind::Interrupting {
         order: run_order(run_index),
@@ -121,20 +116,17 @@ fn read_run_pixels(
     row: &mut Vec<Pixel>,
 ) -> Result<Option<u8>, AllocError>
     requires run_index { run_index ≤ 31 }
-    requires above { AllByRecursion (IsPixel coder.old.cells.parameters place.now.components) place.now.row_above.now }
-    requires row { AllByRecursion (IsPixel coder.old.cells.parameters place.now.components) row.old.items }
+    requires above { ArePixelsAbove coder.old place.now }
+    requires row { ArePixels coder.old place.now row.old.items }
     requires column { length row.old.items < place.now.width }
-    requires mode { is_run_pixel (pixel_neighbours place.now.width (above_of place.now) row.old.items place.now.components) ≡ true }
-    ensures read { IfOk result (λ o. IfSome o (λ next. ReadsEvent coder.old.cells.parameters place.now.width place.now.components
-        (above_of place.now) row.old.items row.new.items coder.old.cells coder.new.cells run_index next pending.old pending.new)) }
-    ensures pixels { IfOk result (λ o. IfSome o (λ _.
-        AllByRecursion (IsPixel coder.old.cells.parameters place.now.components) row.new.items)) }
-    ensures columns { IfOk result (λ o. IfSome o (λ _. (length row.old.items < length row.new.items)
-        × (length row.new.items ≤ place.now.width))) }
-    ensures refused { IfOk result (λ o. IfNone o (RefusesEvent coder.old.cells.parameters place.now.width place.now.components
-        (above_of place.now) row.old.items coder.old.cells run_index pending.old)) }
-    ensures run_index { IfOk result (λ o. IfSome o (λ next. next ≤ 31)) }
-    ensures parameters { coder.new.cells.parameters ≡ coder.old.cells.parameters }
+    requires mode { is_run_pixel (nears_at place.now row.old.items) ≡ true }
+    ensures read { IfFound result (ReadsEventAt place.now row.old.items row.new.items coder.old coder.new run_index
+        pending.old pending.new) }
+    ensures pixels { IfFound result (λ _. ArePixels coder.old place.now row.new.items) }
+    ensures columns { IfFound result (λ _. GrowsWithin place.now row.old.items row.new.items) }
+    ensures refused { IfNoneFound result (RefusesEventAt place.now row.old.items coder.old run_index pending.old) }
+    ensures run_index { IfFound result (λ next. next ≤ 31) }
+    ensures parameters { parameters_of coder.new ≡ parameters_of coder.old }
 {
     let columns = (place.width - row.len()) as u32;
     match read_run(pending, run_index, columns) {
@@ -160,19 +152,16 @@ pub(crate) fn read_event(
     row: &mut Vec<Pixel>,
 ) -> Result<Option<u8>, AllocError>
     requires run_index { run_index ≤ 31 }
-    requires above { AllByRecursion (IsPixel coder.old.cells.parameters place.now.components) place.now.row_above.now }
-    requires row { AllByRecursion (IsPixel coder.old.cells.parameters place.now.components) row.old.items }
+    requires above { ArePixelsAbove coder.old place.now }
+    requires row { ArePixels coder.old place.now row.old.items }
     requires column { length row.old.items < place.now.width }
-    ensures read { IfOk result (λ o. IfSome o (λ next. ReadsEvent coder.old.cells.parameters place.now.width place.now.components
-        (above_of place.now) row.old.items row.new.items coder.old.cells coder.new.cells run_index next pending.old pending.new)) }
-    ensures pixels { IfOk result (λ o. IfSome o (λ _.
-        AllByRecursion (IsPixel coder.old.cells.parameters place.now.components) row.new.items)) }
-    ensures columns { IfOk result (λ o. IfSome o (λ _. (length row.old.items < length row.new.items)
-        × (length row.new.items ≤ place.now.width))) }
-    ensures refused { IfOk result (λ o. IfNone o (RefusesEvent coder.old.cells.parameters place.now.width place.now.components
-        (above_of place.now) row.old.items coder.old.cells run_index pending.old)) }
-    ensures run_index { IfOk result (λ o. IfSome o (λ next. next ≤ 31)) }
-    ensures parameters { coder.new.cells.parameters ≡ coder.old.cells.parameters }
+    ensures read { IfFound result (ReadsEventAt place.now row.old.items row.new.items coder.old coder.new run_index
+        pending.old pending.new) }
+    ensures pixels { IfFound result (λ _. ArePixels coder.old place.now row.new.items) }
+    ensures columns { IfFound result (λ _. GrowsWithin place.now row.old.items row.new.items) }
+    ensures refused { IfNoneFound result (RefusesEventAt place.now row.old.items coder.old run_index pending.old) }
+    ensures run_index { IfFound result (λ next. next ≤ 31) }
+    ensures parameters { parameters_of coder.new ≡ parameters_of coder.old }
 {
     if place.is_run(row) {
         read_run_pixels(pending, coder, run_index, place, row)

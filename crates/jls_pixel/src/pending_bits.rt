@@ -1,9 +1,8 @@
 //! The bits that wait to be read, and Golomb codes that are read from them.
 
-ghost use Rattle.std.specs.Prelude.{◌≡◌, ◌+◌, ◌*◌, ◌^◌, ◌<◌, ◌≤◌, ◌⊎◌, [], ◌∷◌, ◌++◌, true, length, min, IfSome, IfNone, IfOk, OnOk, OnErr};
-ghost use Rattle.jls_bits.specs.Bits.{bits};
-ghost use Rattle.jls_bits.specs.Golomb.{golomb, has_golomb, NoCodeBegins};
-ghost use Rattle.jls_pixel.specs.PendingBits.{bits_of_all};
+ghost use Rattle.std.specs.Prelude.{◌≡◌, ◌+◌, ◌<◌, ◌≤◌, ◌⊎◌, [], ◌∷◌, ◌++◌, true, length, min, IfSome, IfNone, IfOk, OnOk};
+ghost use Rattle.jls_bits.specs.Golomb.{NoCodeBegins};
+ghost use Rattle.jls_pixel.specs.PendingBits.{bits_of, bits_of_all, ReadsCode};
 
 use crate::data_bits::DataBits;
 use jls_bits::{Chunk, CodeState, CodeStep};
@@ -65,7 +64,7 @@ impl PendingBits {
 
     /// Appends the data bits of a byte.
     pub(crate) fn append(&mut self, next: DataBits) -> Result<(), AllocError>
-        ensures { OnOk result (self.new ≡ self.old ++ bits next.count next.value) }
+        ensures { OnOk result (self.new ≡ self.old ++ bits_of next) }
     {
         match self.after.push_back(next) {
             Ok(()) => Ok(()),
@@ -105,7 +104,7 @@ impl PendingBits {
         requires k { k ≤ 16 }
         requires qbpp { (1 ≤ qbpp) × (qbpp ≤ 16) }
         requires g { (qbpp + 2 ≤ g) × (g ≤ 64) }
-        ensures some { IfSome result (λ m. (has_golomb k g qbpp m ≡ true) × (self.old ≡ golomb k g qbpp m ++ self.new)) }
+        ensures some { IfSome result (ReadsCode k g qbpp self.old self.new) }
         ensures none { IfNone result (self.new ≡ self.old) }
     {
         fill(&mut self.first, &mut self.after);
@@ -118,7 +117,7 @@ fn read_code(pending: &mut PendingBits, k: u8, g: u8, qbpp: u8) -> Option<u32>
     requires k { k ≤ 16 }
     requires qbpp { (1 ≤ qbpp) × (qbpp ≤ 16) }
     requires g { (qbpp + 2 ≤ g) × (g ≤ 64) }
-    ensures some { IfSome result (λ m. (has_golomb k g qbpp m ≡ true) × (pending.old ≡ golomb k g qbpp m ++ pending.new)) }
+    ensures some { IfSome result (ReadsCode k g qbpp pending.old pending.new) }
     ensures none { IfNone result (NoCodeBegins k g qbpp pending.old) }
 {
     let mut state = CodeState::START;
@@ -137,7 +136,7 @@ pub(crate) fn read_golomb(pending: &mut PendingBits, k: u8, g: u8, qbpp: u8) -> 
     requires k { k ≤ 16 }
     requires qbpp { (1 ≤ qbpp) × (qbpp ≤ 16) }
     requires g { (qbpp + 2 ≤ g) × (g ≤ 64) }
-    ensures some { IfSome result (λ m. (has_golomb k g qbpp m ≡ true) × (pending.old ≡ golomb k g qbpp m ++ pending.new)) }
+    ensures some { IfSome result (ReadsCode k g qbpp pending.old pending.new) }
     ensures none { IfNone result (NoCodeBegins k g qbpp pending.old) }
 {
     match pending.take_short(k, g, qbpp) {

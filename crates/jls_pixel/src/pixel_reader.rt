@@ -1,13 +1,13 @@
 //! The rows of an interval, from a few bits at a time.
 
-ghost use Rattle.std.specs.Prelude.{◌≡◌, ◌↔◌, ◌+◌, ◌<◌, ◌≤◌, ◌++◌, true, false, ℕ, List, Bool, length, min, IsTrue, IfOk, IfErr, OnOk};
-ghost use Rattle.std.specs.List.{AllByRecursion};
+ghost use Rattle.std.specs.Prelude.{◌≡◌, ◌↔◌, ◌+◌, ◌<◌, ◌≤◌, ◌++◌, List, Bool, length, min, IsTrue, IfOk, IfErr, OnOk};
 ghost use Rattle.jls_values.specs.Params.{CodingParameters};
-ghost use Rattle.jls_bits.specs.Bits.{bits, bits_read, is_whole};
-ghost use Rattle.jls_pixel.specs.Pixels.{pixel_shape};
 ghost use Rattle.jls_pixel.specs.Reads.{Reads};
 ghost use Rattle.jls_pixel.specs.RowRead.{NoRows};
 ghost use Rattle.jls_pixel.specs.PieceFaults.{FaultIs};
+ghost use Rattle.jls_pixel.specs.PendingBits.{bits_of};
+ghost use Rattle.jls_pixel.specs.Answers.{IfYes, IfNo};
+ghost use Rattle.jls_pixel.specs.SampleCodes.{parameters_of};
 
 use crate::coder::Coder;
 use crate::data_bits::DataBits;
@@ -76,6 +76,7 @@ const LONGEST: usize = 368;
 
 impl PixelReader {
     ghost use Rattle.jls_pixel.specs.PixelReading.{IsReading, HasTaken, TakesEvent, PushesEvent, KeepsReading, KeepsShape, pixels_left};
+    ghost use Rattle.jls_pixel.specs.PixelReading.{IsReader, ForBitsOf, ForBytesOf};
 
     /// A second reader that was given the same bits.
     pub(crate) fn try_clone(&self) -> Result<PixelReader, AllocError>
@@ -107,14 +108,14 @@ impl PixelReader {
     /// read.
     fn take_event(&mut self) -> Result<bool, AllocError>
         requires state { self.old.state ≡ State.Working }
-        requires reading { (p : CodingParameters) × (given : List Bool) × IsReading p given self.old }
+        requires reading { IsReader self.old }
         ensures shape { KeepsShape self.old self.new }
         ensures rows { self.new.rows ≡ self.old.rows }
         ensures event { IfOk result (TakesEvent self.old self.new) }
-        ensures columns { IfOk result (λ taken. taken ≡ true → length self.old.row.items < length self.new.row.items) }
-        ensures within { IfOk result (λ taken. taken ≡ true → length self.new.row.items ≤ self.new.width) }
+        ensures columns { IfYes result (length self.old.row.items < length self.new.row.items) }
+        ensures within { IfYes result (length self.new.row.items ≤ self.new.width) }
         ensures state { self.new.state ≡ self.old.state }
-        ensures parameters { self.new.coder.cells.parameters ≡ self.old.coder.cells.parameters }
+        ensures parameters { parameters_of self.new.coder ≡ parameters_of self.old.coder }
     {
         let place = self.rows.next_place(self.width, self.components);
         match read_event(
@@ -140,7 +141,7 @@ impl PixelReader {
         ensures reading { OnOk result ((p : CodingParameters) (given : List Bool) → HasTaken p given self.old
             → IsReading p given self.new) }
         ensures fewer { OnOk result (pixels_left self.new ≤ pixels_left self.old) }
-        ensures parameters { self.new.coder.cells.parameters ≡ self.old.coder.cells.parameters }
+        ensures parameters { parameters_of self.new.coder ≡ parameters_of self.old.coder }
     {
         if self.row.len() < usize::from(self.width) {
             return Ok(());
@@ -157,11 +158,11 @@ impl PixelReader {
     /// The same as `take_event`, and adds the row to the finished ones, if it is whole.
     pub(crate) fn push_event(&mut self) -> Result<bool, AllocError>
         requires state { self.old.state ≡ State.Working }
-        requires reading { (p : CodingParameters) × (given : List Bool) × IsReading p given self.old }
+        requires reading { IsReader self.old }
         ensures shape { KeepsShape self.old self.new }
         ensures event { IfOk result (PushesEvent self.old self.new) }
-        ensures fewer { IfOk result (λ taken. taken ≡ true → pixels_left self.new < pixels_left self.old) }
-        ensures parameters { self.new.coder.cells.parameters ≡ self.old.coder.cells.parameters }
+        ensures fewer { IfYes result (pixels_left self.new < pixels_left self.old) }
+        ensures parameters { parameters_of self.new.coder ≡ parameters_of self.old.coder }
     {
         if !self.take_event()? {
             return Ok(false);
@@ -172,7 +173,7 @@ impl PixelReader {
 
     /// Reads events as long as so many bits wait that the next one is among them.
     fn read_waiting(&mut self) -> Result<(), AllocError>
-        requires { (p : CodingParameters) × (given : List Bool) × IsReading p given self.old }
+        requires { IsReader self.old }
         ensures shape { KeepsShape self.old self.new }
         ensures reading { OnOk result (KeepsReading self.old self.new) }
     {
@@ -190,10 +191,9 @@ impl PixelReader {
 
     /// Takes the data bits of the next byte.
     pub(crate) fn push(&mut self, next: DataBits) -> Result<(), AllocError>
-        requires { (p : CodingParameters) × (given : List Bool) × IsReading p given self.old }
+        requires { IsReader self.old }
         ensures shape { KeepsShape self.old self.new }
-        ensures reading { OnOk result ((p : CodingParameters) (given : List Bool) → IsReading p given self.old
-            → IsReading p (given ++ bits next.count next.value) self.new) }
+        ensures reading { OnOk result (ForBitsOf self.old (λ p given. IsReading p (given ++ bits_of next) self.new)) }
     {
         match self.state {
             State::Working => {
@@ -211,12 +211,11 @@ impl PixelReader {
 
     /// Reads the events that are left, where no bit follows, and says whether the rows are all there.
     fn read_rest(&mut self) -> Result<bool, AllocError>
-        requires { (p : CodingParameters) × (given : List Bool) × IsReading p given self.old }
+        requires { IsReader self.old }
         ensures shape { KeepsShape self.old self.new }
-        ensures rows { IfOk result (λ found. found ≡ true → KeepsReading self.old self.new) }
-        ensures ended { IfOk result (λ found. found ≡ true → self.new.state ≡ State.Working → ⊥) }
-        ensures none { IfOk result (λ found. found ≡ false → (p : CodingParameters) (given : List Bool) → IsReading p given self.old
-            → NoRows p self.old.width self.old.components self.old.count given) }
+        ensures rows { IfYes result (KeepsReading self.old self.new) }
+        ensures ended { IfYes result (self.new.state ≡ State.Working → ⊥) }
+        ensures none { IfNo result (ForBitsOf self.old (λ p. NoRows p self.old.width self.old.components self.old.count)) }
     {
         'events: while self.is_working() {
             if !self.push_event()? {
@@ -229,11 +228,8 @@ impl PixelReader {
     /// The rows that the bytes of all bits so far read as, or why there are none, where no event is left.
     fn judged(self) -> Result<FinishedRows, PixelFault>
         requires { self.state ≡ State.Working → ⊥ }
-        ensures rows { (p : CodingParameters) (bytes : List ℕ) → AllByRecursion (λ x. x < 256) bytes → is_whole bytes ≡ true
-            → IsReading p (bits_read bytes) self → IfOk result (Reads (pixel_shape p self.width self.components self.count) bytes) }
-        ensures fault { (p : CodingParameters) (bytes : List ℕ) → AllByRecursion (λ x. x < 256) bytes → is_whole bytes ≡ true
-            → IsReading p (bits_read bytes) self
-            → IfErr result (λ fault. FaultIs fault (pixel_shape p self.width self.components self.count) bytes) }
+        ensures rows { ForBytesOf self (λ shape bytes. IfOk result (Reads shape bytes)) }
+        ensures fault { ForBytesOf self (λ shape bytes. IfErr result (λ fault. FaultIs fault shape bytes)) }
     {
         match self.state {
             State::Working => unreachable!(),
@@ -250,12 +246,9 @@ impl PixelReader {
 
     /// The same, after the events that are left.
     pub(crate) fn into_rows(mut self) -> Result<FinishedRows, PixelFault>
-        requires { (p : CodingParameters) × (given : List Bool) × IsReading p given self }
-        ensures rows { (p : CodingParameters) (bytes : List ℕ) → AllByRecursion (λ x. x < 256) bytes → is_whole bytes ≡ true
-            → IsReading p (bits_read bytes) self → IfOk result (Reads (pixel_shape p self.width self.components self.count) bytes) }
-        ensures fault { (p : CodingParameters) (bytes : List ℕ) → AllByRecursion (λ x. x < 256) bytes → is_whole bytes ≡ true
-            → IsReading p (bits_read bytes) self
-            → IfErr result (λ fault. FaultIs fault (pixel_shape p self.width self.components self.count) bytes) }
+        requires { IsReader self }
+        ensures rows { ForBytesOf self (λ shape bytes. IfOk result (Reads shape bytes)) }
+        ensures fault { ForBytesOf self (λ shape bytes. IfErr result (λ fault. FaultIs fault shape bytes)) }
     {
         match self.read_rest() {
             Err(AllocError) => Err(PixelFault::OutOfMemory),

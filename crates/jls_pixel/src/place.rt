@@ -2,7 +2,7 @@
 
 ghost use Rattle.std.specs.Prelude.{◌≡◌, ◌^◌, ◌<◌, ◌≤◌, length, get_or};
 ghost use Rattle.jls_context.specs.Mode.{is_run_mode};
-ghost use Rattle.jls_pixel.specs.Pixels.{samples_of, component_neighbours, pixel_neighbours, is_run_pixel, run_value};
+ghost use Rattle.jls_pixel.specs.Pixels.{samples_of, is_run_pixel};
 
 use crate::pixel::Pixel;
 use jls_context::Neighbours;
@@ -29,7 +29,7 @@ pub(crate) struct Place<'a> {
 }
 
 impl<'a> Place<'a> {
-    ghost use Rattle.jls_pixel.specs.Place.{above_of};
+    ghost use Rattle.jls_pixel.specs.Place.{above_of, near_at, nears_at, run_value_at};
 
     /// The place of a row below these two.
     pub(crate) fn below(
@@ -54,7 +54,7 @@ impl<'a> Place<'a> {
     /// The samples round a component of the pixel that follows these pixels of the row.
     pub(crate) fn neighbours(&self, row: &[Pixel], component: usize) -> Neighbours
         requires { length row.now < self.now.width }
-        ensures { result ≡ component_neighbours self.now.width (above_of self.now) row.now component }
+        ensures { result ≡ near_at self.now row.now component }
     {
         let x = row.len();
         let rb = sample_at(self.row_above, x, component);
@@ -76,7 +76,7 @@ impl<'a> Place<'a> {
     /// Whether the gradients of a component of the pixel that follows these pixels of the row are 0.
     fn has_no_gradient(&self, row: &[Pixel], component: usize) -> bool
         requires { length row.now < self.now.width }
-        ensures { result ≡ is_run_mode (component_neighbours self.now.width (above_of self.now) row.now component) }
+        ensures { result ≡ is_run_mode (near_at self.now row.now component) }
     {
         let near = self.neighbours(row, component);
         near.rd == near.rb && near.rb == near.rc && near.rc == near.ra
@@ -85,7 +85,7 @@ impl<'a> Place<'a> {
     /// Whether the pixel that follows these pixels of the row is in run mode.
     pub(crate) fn is_run(&self, row: &[Pixel]) -> bool
         requires { length row.now < self.now.width }
-        ensures { result ≡ is_run_pixel (pixel_neighbours self.now.width (above_of self.now) row.now self.now.components) }
+        ensures { result ≡ is_run_pixel (nears_at self.now row.now) }
     {
         for component in 0..self.components {
             if !self.has_no_gradient(row, component) {
@@ -98,7 +98,7 @@ impl<'a> Place<'a> {
     /// The value of a run that begins or goes on at the pixel that follows these pixels of the row.
     pub(crate) fn run_value(&self, row: &[Pixel]) -> Pixel
         requires { length row.now < self.now.width }
-        ensures { result ≡ run_value (pixel_neighbours self.now.width (above_of self.now) row.now self.now.components) }
+        ensures { result ≡ run_value_at self.now row.now }
     {
         let mut value = Pixel::new();
         for component in 0..self.components {

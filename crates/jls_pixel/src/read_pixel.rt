@@ -1,10 +1,10 @@
 //! Reading the samples of one pixel.
 
-ghost use Rattle.std.specs.Prelude.{◌≡◌, ◌<◌, ◌≤◌, length, IfSome, IfNone};
-ghost use Rattle.std.specs.List.{AllByRecursion};
-ghost use Rattle.jls_pixel.specs.Pixels.{IsPixel, pixel_neighbours};
-ghost use Rattle.jls_pixel.specs.Place.{above_of};
-ghost use Rattle.jls_pixel.specs.Reading.{IsKind, ReadsPixel, RefusesPixel};
+ghost use Rattle.std.specs.Prelude.{◌≡◌, ◌<◌, length, IfSome, IfNone};
+ghost use Rattle.jls_pixel.specs.Pixels.{IsPixel};
+ghost use Rattle.jls_pixel.specs.Reading.{IsKind};
+ghost use Rattle.jls_pixel.specs.SampleCodes.{parameters_of};
+ghost use Rattle.jls_pixel.specs.RowsInWork.{ArePixels, ArePixelsAbove, ReadsPixelAt, RefusesPixelAt};
 
 use crate::coder::Coder;
 use crate::pending_bits::PendingBits;
@@ -21,16 +21,13 @@ pub(crate) fn read_pixel(
     row: &[Pixel],
 ) -> Option<Pixel>
     requires kind { IsKind kind }
-    requires above { AllByRecursion (IsPixel coder.old.cells.parameters place.now.components) place.now.row_above.now }
-    requires row { AllByRecursion (IsPixel coder.old.cells.parameters place.now.components) row.now }
+    requires above { ArePixelsAbove coder.old place.now }
+    requires row { ArePixels coder.old place.now row.now }
     requires column { length row.now < place.now.width }
-    ensures read { IfSome result (λ pixel. ReadsPixel coder.old.cells.parameters kind
-        (pixel_neighbours place.now.width (above_of place.now) row.now place.now.components) pixel coder.old.cells coder.new.cells
-        pending.old pending.new) }
-    ensures pixel { IfSome result (IsPixel coder.old.cells.parameters place.now.components) }
-    ensures refused { IfNone result (RefusesPixel coder.old.cells.parameters kind
-        (pixel_neighbours place.now.width (above_of place.now) row.now place.now.components) coder.old.cells pending.old) }
-    ensures parameters { coder.new.cells.parameters ≡ coder.old.cells.parameters }
+    ensures read { IfSome result (ReadsPixelAt place.now row.now coder.old coder.new kind pending.old pending.new) }
+    ensures pixel { IfSome result (IsPixel (parameters_of coder.old) place.now.components) }
+    ensures refused { IfNone result (RefusesPixelAt place.now row.now coder.old kind pending.old) }
+    ensures parameters { parameters_of coder.new ≡ parameters_of coder.old }
 {
     let mut pixel = Pixel::new();
     for component in 0..place.components {

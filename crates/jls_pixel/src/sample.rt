@@ -1,7 +1,8 @@
 //! Reading one sample (ITU-T T.87, A.4, A.5 and A.7.2).
 
 ghost use Rattle.std.specs.Prelude.{◌≡◌, ◌≤◌, IfSome, IfNone};
-ghost use Rattle.jls_pixel.specs.Reading.{IsKind, ReadsSample, RefusesSample};
+ghost use Rattle.jls_pixel.specs.Reading.{IsKind};
+ghost use Rattle.jls_pixel.specs.SampleCodes.{parameters_of, IsSample, ReadsSampleBy, RefusesSampleBy};
 
 use crate::coder::{Coder, RegularMode};
 use crate::pending_bits::{PendingBits, read_golomb};
@@ -17,11 +18,10 @@ pub(crate) enum SampleKind {
 
 /// Reads a sample in regular mode. None where none stands at the start of what is left.
 fn read_regular(pending: &mut PendingBits, coder: &mut Coder, near: Neighbours) -> Option<u16>
-    ensures read { IfSome result (λ s. ReadsSample coder.old.cells.parameters SampleKind.Regular near s coder.old.cells coder.new.cells
-        pending.old pending.new) }
-    ensures sample { IfSome result (λ s. s ≤ coder.old.cells.parameters.maxval) }
-    ensures refused { IfNone result (RefusesSample coder.old.cells.parameters SampleKind.Regular near coder.old.cells pending.old) }
-    ensures parameters { coder.new.cells.parameters ≡ coder.old.cells.parameters }
+    ensures read { IfSome result (ReadsSampleBy coder.old coder.new SampleKind.Regular near pending.old pending.new) }
+    ensures sample { IfSome result (IsSample coder.old) }
+    ensures refused { IfNone result (RefusesSampleBy coder.old SampleKind.Regular near pending.old) }
+    ensures parameters { parameters_of coder.new ≡ parameters_of coder.old }
 {
     let RegularMode { context, negative } = coder.regular_mode(near);
     let lengths = coder.lengths;
@@ -55,13 +55,11 @@ fn read_interrupting(
     order: u8,
 ) -> Option<u16>
     requires order { order ≤ 15 }
-    requires above { near.rb ≤ coder.old.cells.parameters.maxval }
-    ensures read { IfSome result (λ s. ReadsSample coder.old.cells.parameters (SampleKind.Interrupting order) near s coder.old.cells
-        coder.new.cells pending.old pending.new) }
-    ensures sample { IfSome result (λ s. s ≤ coder.old.cells.parameters.maxval) }
-    ensures refused { IfNone result (RefusesSample coder.old.cells.parameters (SampleKind.Interrupting order) near coder.old.cells
-        pending.old) }
-    ensures parameters { coder.new.cells.parameters ≡ coder.old.cells.parameters }
+    requires above { IsSample coder.old near.rb }
+    ensures read { IfSome result (ReadsSampleBy coder.old coder.new (SampleKind.Interrupting order) near pending.old pending.new) }
+    ensures sample { IfSome result (IsSample coder.old) }
+    ensures refused { IfNone result (RefusesSampleBy coder.old (SampleKind.Interrupting order) near pending.old) }
+    ensures parameters { parameters_of coder.new ≡ parameters_of coder.old }
 {
     let lengths = coder.lengths;
     let limit = lengths.limit - order - 1;
@@ -86,12 +84,11 @@ pub(crate) fn read_sample(
     near: Neighbours,
 ) -> Option<u16>
     requires kind { IsKind kind }
-    requires above { near.rb ≤ coder.old.cells.parameters.maxval }
-    ensures read { IfSome result (λ s. ReadsSample coder.old.cells.parameters kind near s coder.old.cells coder.new.cells
-        pending.old pending.new) }
-    ensures sample { IfSome result (λ s. s ≤ coder.old.cells.parameters.maxval) }
-    ensures refused { IfNone result (RefusesSample coder.old.cells.parameters kind near coder.old.cells pending.old) }
-    ensures parameters { coder.new.cells.parameters ≡ coder.old.cells.parameters }
+    requires above { IsSample coder.old near.rb }
+    ensures read { IfSome result (ReadsSampleBy coder.old coder.new kind near pending.old pending.new) }
+    ensures sample { IfSome result (IsSample coder.old) }
+    ensures refused { IfNone result (RefusesSampleBy coder.old kind near pending.old) }
+    ensures parameters { parameters_of coder.new ≡ parameters_of coder.old }
 {
     match kind {
         SampleKind::Regular => read_regular(pending, coder, near),

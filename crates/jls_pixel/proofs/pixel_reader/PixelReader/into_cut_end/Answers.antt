@@ -3,7 +3,8 @@ use Rattle.jls_bits.specs.Bits.{bits_read}
 use Rattle.jls_pixel.specs.Pixels.{PixelShape}
 use Rattle.jls_pixel.specs.Heads.{IsHead}
 use Rattle.jls_pixel.specs.CutEnds.{CutEndIs}
-use Rattle.jls_pixel.specs.CutRows.{shape_of, RestEndIs}
+use Rattle.jls_pixel.specs.PixelReading.{shape_of}
+use Rattle.jls_pixel.specs.CutRows.{RestEndIs}
 use Rattle.jls_pixel.specs.declared.cut_end.PixelCutEnd.TheVariants.{Head}
 use Rattle.jls_pixel.specs.declared.cut_rows.RestEnd.TheVariants.{Complete, Cut, Broken}
 use Rattle.jls_pixel.specs.declared.decode.PixelFault.TheVariants.{Broken as IsNoCode}

@@ -2,7 +2,7 @@ use Rattle.std.proofs.Common.{◌<◌, List, ℕ, sym, subst, inl, arith, length
 use Rattle.jls_bits.specs.Bits.{bits_read}
 use Rattle.jls_pixel.specs.Heads.{IsHead}
 use Rattle.jls_pixel.specs.PixelReading.{BeginsNoCode, IsComplete}
-use Rattle.jls_pixel.specs.CutRows.{shape_of}
+use Rattle.jls_pixel.specs.PixelReading.{shape_of}
 use Rattle.jls_pixel.proofs.DecodedPieces.{broken_bits, piece_is_long}
 use Rattle.jls_pixel.proofs.PixelReading.{state_of, no_code_here}
 use Rattle.jls_pixel.proofs.CutRows.{in_range, no_code_head, over_head}
