@@ -1,4 +1,4 @@
--- How many bits an event has at most, and what follows from it: bits that are as many, and begin with no event, go on to none.
+-- How many bits an event has at most. What follows from it: bits that are as many, and begin with no event, go on to none.
 use Rattle.std.proofs.Common.{◌≡◌, ℕ, suc, ◌+◌, ◌-◌, ◌*◌, ◌/◌, ◌^◌, ◌<◌, ◌≤◌, Bool, true, false, ltb, leb, eqb, List, [], ◌∷◌, ◌++◌, length}
 use Rattle.std.proofs.Common.{replicate, refl, ap, ◌∙◌, subst, arith, inl, inr, length-append}
 use Rattle.std.specs.Prelude.{ℤ, pos, negsuc, neg_ℤ, ◌+ℤ◌, int_le, int_lt, unsigned_abs}

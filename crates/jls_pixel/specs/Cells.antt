@@ -12,7 +12,7 @@ use Rattle.jls_interval.specs.Cells.{regular_error, interruption_error}
 use Rattle.jls_interval.specs.Runs.{blocks, run_index_lowered}
 use Rattle.jls_pixel.specs.Events.{Event, regular_pixel, run_to_end, interrupted_run}
 
--- a sample that has a code of its own: one of a pixel in regular mode, or of a pixel that interrupts a run (T.87 A.4, A.7.2)
+-- a sample that has a code of its own. It is of a pixel in regular mode, or of a pixel that interrupts a run (T.87 A.4, A.7.2)
 pub data CodedSample : Type 0 where
   regular : Neighbours → ℕ → CodedSample
   interrupting : Neighbours → ℕ → CodedSample

@@ -13,8 +13,8 @@ use Rattle.jls_pixel.specs.Events.{Event, regular_pixel, run_to_end, interrupted
 use Rattle.jls_pixel.specs.Cells.{CodedSample, regular, interrupting, coded_with, coded_samples, cell_before, run_cell_before}
 use Rattle.jls_pixel.specs.Cells.{run_index_before}
 
--- the bits of a sample of a pixel that interrupts a run: the Golomb code, with the limit LIMIT - J - 1, of EM for RItype 0. J is `order`
--- (T.87 A.5.3, A.7, B.2)
+-- the bits of a sample of a pixel that interrupts a run. They are the Golomb code of EM for RItype 0, with the limit LIMIT - J - 1. J is
+-- `order` (T.87 A.5.3, A.7, B.2)
 abbrev pub interrupting_bits : CodingParameters → RunCell → Neighbours → ℕ → ℕ → List Bool
 interrupting_bits p cell near order sample =
     golomb (run_k false cell) (limit p - order - 1) (qbpp p) (interruption_mapped false cell (interruption_error p near sample))
@@ -30,7 +30,7 @@ bits_of_samples p order earlier [] = []
 bits_of_samples p order earlier (sample ∷ later) =
     sample_bits p order earlier sample ++ bits_of_samples p order (earlier ++ sample ∷ []) later
 
--- the bits of an event after the earlier ones. J is taken at RUNindex after the full blocks, before its fall, and is the same for all
+-- the bits of an event after the earlier ones. J is taken at RUNindex after the full blocks, before its fall. It is the same for all
 -- samples of the pixel that interrupts the run (T.87 A.5.3, A.7, B.2)
 unfoldable pub event_bits : CodingParameters → List Event → Event → List Bool
 event_bits p earlier (regular_pixel nears pixel) =

@@ -16,8 +16,8 @@ use Rattle.jls_pixel.specs.declared.pixel_reader.PixelReader.{PixelReader}
 abbrev pub longest_event : ℕ
 longest_event = 368
 
--- of the bits given, the first ones are those of whole events, which lead from the start to these finished rows and to this row, which may
--- be whole; the others wait
+-- of the bits given, the first ones are those of whole events, and the others wait. The events lead from the start to these finished rows
+-- and to this row, which may be whole
 pub record IsBegun (p : CodingParameters) (w c n : ℕ) (given : List Bool) (rows : List (List (List ℕ))) (row : List (List ℕ))
     (cells : Variables) (run_index : ℕ) (pending : List Bool) : Type 0 where
   pub begun : RowBegun p w c n given rows row cells run_index pending
@@ -67,7 +67,7 @@ pub record HasTaken (p : CodingParameters) (given : List Bool) (d : PixelReader)
   pub shape : HasShape p d
   pub begun : IsBegun p d.width d.components d.count given d.rows d.row.items d.coder.cells d.run_index d.pending
 
--- The bits given are no rows' code with more bits after it, and if an event would have to be whole, none of which these are the first ones.
+-- The bits given are no rows' code with more bits after it. If so many wait that an event has to be whole, they are the first ones of none.
 -- No event stands at the start of the bits that wait
 pub record FindsNone (p : CodingParameters) (given : List Bool) (d : PixelReader) : Type 0 where
   pub none : NoRows p d.width d.components d.count given

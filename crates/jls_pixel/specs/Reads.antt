@@ -1,5 +1,5 @@
--- When bytes of scan data read as an interval's rows, and what else they are (T.87 A.1; that at most seven bits may follow, of any
--- value, is this project's choice).
+-- When bytes of scan data read as an interval's rows, and what else they are (T.87 A.1). That at most seven bits may follow, of any
+-- value, is this project's choice.
 use Rattle.std.specs.Prelude.{ℕ, ◌≤◌, ◌<◌, Bool, List, ◌++◌, length}
 use Rattle.std.specs.List.{AllByRecursion}
 use Rattle.jls_values.specs.Params.{CodingParameters}

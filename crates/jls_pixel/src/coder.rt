@@ -50,7 +50,7 @@ impl Coder {
         }
     }
 
-    /// The context and the SIGN of a sample that is coded in regular mode, whatever its gradients: where all are 0, they are context 0
+    /// The context and the SIGN of a sample that is coded in regular mode, whatever its gradients. Where all are 0, they are context 0
     /// and +1.
     #[tactic(auto, using(crate::proofs::ContextZero::zero_context))]
     pub(crate) fn regular_mode(&self, near: Neighbours) -> RegularMode

@@ -1,4 +1,4 @@
-//! Whether the bits that are left are the first ones, and not all, of the code of a sample that can come (ITU-T T.87, A.5.3 and A.7.2).
+//! Whether the bits that are left are the first ones, and not all, of a sample that can come (ITU-T T.87, A.5.3 and A.7.2).
 
 ghost use Rattle.std.specs.Prelude.{◌≡◌, ◌+◌, ◌^◌, ◌≤◌, true, false, pos, ◌-ℤ◌, IfSome, IfNone};
 ghost use Rattle.jls_values.specs.Params.{qbpp};

@@ -1,4 +1,4 @@
-//! One interval of scan data that is interleaved by sample: the code of its rows of pixels, what reads as it, and the laws of both.
+//! One interval of scan data that is interleaved by sample: the code of its rows, what reads as it, and the laws of both.
 //! The crate `jls_piece` stands on it.
 //!
 //! - `pixel`, `place`: a pixel. A row with the two rows above, and the samples round its next pixel
@@ -12,16 +12,17 @@
 //! - `pixel_decoder`: the public decoder. It gives the data bits of its bytes to the reader
 //! - `decode`: `decode_pixels`: a decoder that is pushed the whole piece
 //! - `cut_end`, `cut_rows`, `cut_event`, `cut_run`, `cut_pixel`, `cut_sample`: heads. What a decoder answers where the input ends. The
-//!   finished rows. Whether the bits that wait are the first ones of an event, and the same for a run, for a pixel, and for a sample, by
+//!   finished rows. Whether the bits that wait are the first ones of an event. The same for a run, for a pixel, and for a sample, by
 //!   trying each value that it can have
 //! - `laws`, `heads`: the laws. Codes are apart, and rows grow event by event. Heads are one
 //!
-//! What is the same as in an interval by line is that of `jls_interval` and `jls_context`: neighbours, predictions, errors, cells, the
-//! blocks of a run, Golomb codes. Definitions: `Pixels` (rows, the neighbours of a pixel, its mode), `Events` (pixels in regular mode, and
-//! runs), `Cells` (the state before an event), `Code` (bits), `Reads` (which bytes read, are too long, are broken). For laws and the
-//! decoder: `Growth` (the interval as a code that is read step by step), `Laws`, `PieceFaults`. The record `PixelBytes` is what contracts
-//! see of a decoder. `FinishedRows` says which list handles of rows are. `Heads`: the rows that stand whole where bits break off, and their
-//! laws. `CutEnds` says what `finish_cut` answers. The other files are needed inside the crate only.
+//! Neighbours, predictions, errors, cells, the blocks of a run and Golomb codes are those of `jls_interval` and `jls_context`, as in an
+//! interval by line. Definitions: `Pixels` (rows, the neighbours of a pixel, its mode) and `Events` (pixels in regular mode, and runs).
+//! `Cells` (the state before an event) and `Code` (bits). `Reads`: which bytes read, are too long, are broken. For laws and the decoder:
+//! `Growth` (the interval as a code that is read step by step), `Laws`, `PieceFaults`. The record `PixelBytes` is what contracts see of a
+//! decoder. `FinishedRows` says which list handles of rows are. `Heads`: the rows that stand whole where bits break off, and their laws.
+//! `CutEnds` says what `finish_cut` answers. The other files are needed inside the crate only. Of these `Place`, `SampleCodes`,
+//! `RowsInWork`, `Answers` and the end of `PixelReading` have names that contracts share.
 //!
 //! # What differs from an interval by line
 //!
