@@ -15,6 +15,8 @@ use Rattle.jls_pixel.specs.EventRead.{ReadsEvent, RefusesEvent}
 use Rattle.jls_pixel.specs.RowRead.{RowBegun, NoRows}
 use Rattle.jls_pixel.specs.PixelReading.{IsBegun, IsWorking, IsComplete, BeginsNoCode, StateIs, IsReading, HasShape, HasTaken}
 use Rattle.jls_pixel.specs.PixelReading.{KeepsShape, longest_event}
+use Rattle.jls_pixel.specs.Place.{above_of}
+use Rattle.jls_pixel.specs.declared.place.Place.{Place}
 use Rattle.jls_pixel.specs.declared.pixel_reader.State.{State}
 use Rattle.jls_pixel.specs.declared.pixel_reader.State.TheVariants.{Working, Complete}
 use Rattle.jls_pixel.specs.declared.pixel_reader.PixelReader.{PixelReader}
@@ -32,6 +34,17 @@ module _ (p : CodingParameters) (d : PixelReader) (given : List Bool) (reading :
   pub working : d.state ≡ Working
       → IsWorking p d.width d.components d.count given d.rows d.row.items d.coder.cells d.run_index d.pending
   working e = state_of Working e
+
+-- what holds at the place of the row in work holds of the reader
+pub same_place : (d : PixelReader) (place : Place) → place.width ≡ d.width → place.components ≡ d.components
+    → above_of place ≡ rows_above d.rows → (p : CodingParameters) → d.coder.cells.parameters ≡ p
+    → (P : CodingParameters → ℕ → ℕ → RowsAbove → Type 0)
+    → P d.coder.cells.parameters place.width place.components (above_of place) → P p d.width d.components (rows_above d.rows)
+same_place d place width components above p is P x =
+    subst (λ (z : RowsAbove). P p d.width d.components z) above
+    (subst (λ z. P p d.width z (above_of place)) components
+    (subst (λ z. P p z place.components (above_of place)) width
+    (subst (λ (z : CodingParameters). P z place.width place.components (above_of place)) is x)))
 
 module _ (p : CodingParameters) (w c n : ℕ) (some : 0 < w) where
   -- more bits come
