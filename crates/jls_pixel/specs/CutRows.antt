@@ -12,17 +12,18 @@ use Rattle.jls_pixel.specs.declared.cut_rows.RestEnd.{RestEnd}
 use Rattle.jls_pixel.specs.declared.cut_rows.RestEnd.TheVariants.{Complete, Cut, Broken}
 
 -- the bits given cut an event, before which these rows were finished
-pub record IsCut (p : CodingParameters) (given : List Bool) (d : PixelReader) : Type 0 where
-  pub cut : IsCutEvent (shape_of p d) given
-  pub rows_are : cut.position.rows ≡ d.rows
+pub record IsCut (p : CodingParameters) (given : List Bool) (reader : PixelReader) : Type 0 where
+  pub cut : IsCutEvent (shape_of p reader) given
+  pub rows_are : cut.position.rows ≡ reader.rows
 
 -- the bits that wait are a proper prefix of no event that can come next
 abbrev pub CutsNothing : CodingParameters → PixelReader → Type 0
-CutsNothing p d =
-    CutsNoEvent p d.width d.components (rows_above d.rows) d.row.items d.coder.cells d.run_index d.pending
+CutsNothing p reader =
+    CutsNoEvent p reader.width reader.components (rows_above reader.rows) reader.row.items reader.coder.cells reader.run_index
+    reader.pending
 
 -- what the bits given have come to
 abbrev pub RestEndIs : CodingParameters → List Bool → PixelReader → RestEnd → Type 0
-RestEndIs p given d Complete = IsReading p given d × (d.state ≡ Working → ⊥)
-RestEndIs p given d Cut = IsCut p given d
-RestEndIs p given d Broken = NoRows p d.width d.components d.count given × (IsCutCode (shape_of p d) given → ⊥)
+RestEndIs p given reader Complete = IsReading p given reader × (reader.state ≡ Working → ⊥)
+RestEndIs p given reader Cut = IsCut p given reader
+RestEndIs p given reader Broken = NoRows p reader.width reader.components reader.count given × (IsCutCode (shape_of p reader) given → ⊥)

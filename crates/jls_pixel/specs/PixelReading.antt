@@ -18,61 +18,67 @@ longest_event = 368
 
 -- of the bits given, the first ones are those of whole events, and the others wait. The events lead from the start to these finished rows
 -- and to this row, which may be whole
-pub record IsBegun (p : CodingParameters) (w c n : ℕ) (given : List Bool) (rows : List (List (List ℕ))) (row : List (List ℕ))
-    (cells : Variables) (run_index : ℕ) (pending : List Bool) : Type 0 where
-  pub begun : RowBegun p w c n given rows row cells run_index pending
-  pub few : length rows < n
-  pub columns : length row ≤ w
-  pub pixels : AllByRecursion (IsPixel p c) row
+pub record IsBegun (p : CodingParameters) (width components count : ℕ) (given : List Bool) (rows : List (List (List ℕ)))
+    (row : List (List ℕ)) (cells : Variables) (run_index : ℕ) (pending : List Bool) : Type 0 where
+  pub begun : RowBegun p width components count given rows row cells run_index pending
+  pub few : length rows < count
+  pub columns : length row ≤ width
+  pub pixels : AllByRecursion (IsPixel p components) row
   pub run_index_at_most : run_index ≤ 31
 
 -- the same, and the row is not whole
-pub record IsWorking (p : CodingParameters) (w c n : ℕ) (given : List Bool) (rows : List (List (List ℕ))) (row : List (List ℕ))
-    (cells : Variables) (run_index : ℕ) (pending : List Bool) : Type 0 where
-  pub begun : IsBegun p w c n given rows row cells run_index pending
-  pub unfinished : length row < w
+pub record IsWorking (p : CodingParameters) (width components count : ℕ) (given : List Bool) (rows : List (List (List ℕ)))
+    (row : List (List ℕ)) (cells : Variables) (run_index : ℕ) (pending : List Bool) : Type 0 where
+  pub begun : IsBegun p width components count given rows row cells run_index pending
+  pub unfinished : length row < width
 
 -- all rows are there, and so many bits, counted up to 8, came after their code
-pub record IsComplete (p : CodingParameters) (w c n : ℕ) (given : List Bool) (rows : List (List (List ℕ))) (extra : ℕ) : Type 0 where
+pub record IsComplete (p : CodingParameters) (width components count : ℕ) (given : List Bool) (rows : List (List (List ℕ)))
+    (extra : ℕ) : Type 0 where
   pub unread : List Bool
-  pub are_rows : AreRows p w c n rows
-  pub begins : given ≡ pixel_code p w c rows ++ unread
+  pub are_rows : AreRows p width components count rows
+  pub begins : given ≡ pixel_code p width components rows ++ unread
   pub counted : extra ≡ min 8 (length unread)
 
 -- no rows' code begins with the bits given, whatever comes
 abbrev pub BeginsNoCode : CodingParameters → ℕ → ℕ → ℕ → List Bool → Type 0
-BeginsNoCode p w c n given = (more : List Bool) → NoRows p w c n (given ++ more)
+BeginsNoCode p width components count given = (more : List Bool) → NoRows p width components count (given ++ more)
 
 -- what the bits given have come to
 abbrev pub StateIs : CodingParameters → ℕ → ℕ → ℕ → List Bool → List (List (List ℕ)) → List (List ℕ) → Variables → ℕ → List Bool → State
     → Type 0
-StateIs p w c n given rows row cells run_index pending Working = IsWorking p w c n given rows row cells run_index pending
-StateIs p w c n given rows row cells run_index pending (Complete extra) = IsComplete p w c n given rows extra
-StateIs p w c n given rows row cells run_index pending NoCode = BeginsNoCode p w c n given
+StateIs p width components count given rows row cells run_index pending Working =
+    IsWorking p width components count given rows row cells run_index pending
+StateIs p width components count given rows row cells run_index pending (Complete extra) =
+    IsComplete p width components count given rows extra
+StateIs p width components count given rows row cells run_index pending NoCode = BeginsNoCode p width components count given
 
 -- the parameters and the shape of the interval
-pub record HasShape (p : CodingParameters) (d : PixelReader) : Type 0 where
-  pub parameters : d.coder.cells.parameters ≡ p
-  pub width_at_least : 0 < d.width
-  pub width_below : d.width < 2 ^ 16
-  pub components_at_most : d.components ≤ 4
+pub record HasShape (p : CodingParameters) (reader : PixelReader) : Type 0 where
+  pub parameters : reader.coder.cells.parameters ≡ p
+  pub width_at_least : 0 < reader.width
+  pub width_below : reader.width < 2 ^ 16
+  pub components_at_most : reader.components ≤ 4
 
 -- what the fields of a reader say of the bits given
-pub record IsReading (p : CodingParameters) (given : List Bool) (d : PixelReader) : Type 0 where
-  pub shape : HasShape p d
-  pub state_is : StateIs p d.width d.components d.count given d.rows d.row.items d.coder.cells d.run_index d.pending d.state
+pub record IsReading (p : CodingParameters) (given : List Bool) (reader : PixelReader) : Type 0 where
+  pub shape : HasShape p reader
+  pub state_is : StateIs p reader.width reader.components reader.count given reader.rows reader.row.items reader.coder.cells
+      reader.run_index reader.pending reader.state
 
 -- the same after an event, where its row may be whole
-pub record HasTaken (p : CodingParameters) (given : List Bool) (d : PixelReader) : Type 0 where
-  pub shape : HasShape p d
-  pub begun : IsBegun p d.width d.components d.count given d.rows d.row.items d.coder.cells d.run_index d.pending
+pub record HasTaken (p : CodingParameters) (given : List Bool) (reader : PixelReader) : Type 0 where
+  pub shape : HasShape p reader
+  pub begun : IsBegun p reader.width reader.components reader.count given reader.rows reader.row.items reader.coder.cells reader.run_index
+      reader.pending
 
 -- The bits given are no rows' code with more bits after it. If so many wait that an event has to be whole, they are the first ones of none.
 -- No event stands at the start of the bits that wait
-pub record FindsNone (p : CodingParameters) (given : List Bool) (d : PixelReader) : Type 0 where
-  pub none : NoRows p d.width d.components d.count given
-  pub never : longest_event ≤ length d.pending → BeginsNoCode p d.width d.components d.count given
-  pub refuses : RefusesEvent p d.width d.components (rows_above d.rows) d.row.items d.coder.cells d.run_index d.pending
+pub record FindsNone (p : CodingParameters) (given : List Bool) (reader : PixelReader) : Type 0 where
+  pub none : NoRows p reader.width reader.components reader.count given
+  pub never : longest_event ≤ length reader.pending → BeginsNoCode p reader.width reader.components reader.count given
+  pub refuses : RefusesEvent p reader.width reader.components (rows_above reader.rows) reader.row.items reader.coder.cells reader.run_index
+      reader.pending
 
 -- an event was taken, or none stands at the start of the bits that wait
 abbrev pub TakesEvent : PixelReader → PixelReader → Bool → Type 0
@@ -96,24 +102,24 @@ pub record KeepsShape (old new : PixelReader) : Type 0 where
 
 -- how many pixels are to come
 abbrev pub pixels_left : PixelReader → ℕ
-pixels_left d = (d.count - length d.rows) * d.width + (d.width - length d.row.items)
+pixels_left reader = (reader.count - length reader.rows) * reader.width + (reader.width - length reader.row.items)
 
 -- Names that contracts of readers share -----------------------------------------------------------------
 
 -- the interval that a reader reads
 abbrev pub shape_of : CodingParameters → PixelReader → PixelShape
-shape_of p d = pixel_shape p d.width d.components d.count
+shape_of p reader = pixel_shape p reader.width reader.components reader.count
 
 -- a reader was given some bits
 abbrev pub IsReader : PixelReader → Type 0
-IsReader d = (p : CodingParameters) × (given : List Bool) × IsReading p given d
+IsReader reader = (p : CodingParameters) × (given : List Bool) × IsReading p given reader
 
 -- this holds of whatever bits a reader was given
 abbrev pub ForBitsOf : PixelReader → (CodingParameters → List Bool → Type 0) → Type 0
-ForBitsOf d P = (p : CodingParameters) (given : List Bool) → IsReading p given d → P p given
+ForBitsOf reader P = (p : CodingParameters) (given : List Bool) → IsReading p given reader → P p given
 
 -- this holds of whatever bytes have those bits for data bits
 abbrev pub ForBytesOf : PixelReader → (PixelShape → List ℕ → Type 0) → Type 0
-ForBytesOf d P =
+ForBytesOf reader P =
     (p : CodingParameters) (bytes : List ℕ) → AllByRecursion (λ x. x < 256) bytes → is_whole bytes ≡ true
-    → IsReading p (bits_read bytes) d → P (shape_of p d) bytes
+    → IsReading p (bits_read bytes) reader → P (shape_of p reader) bytes

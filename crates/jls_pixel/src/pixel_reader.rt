@@ -72,7 +72,7 @@ fn counted_on(extra: u8, more: u8) -> u8
 }
 
 /// An event is read once so many bits wait, and none has more. So none is begun that can't be ended.
-const LONGEST: usize = 368;
+const LONGEST_EVENT: usize = 368;
 
 impl PixelReader {
     ghost use Rattle.jls_pixel.specs.PixelReading.{IsReading, HasTaken, TakesEvent, PushesEvent, KeepsReading, KeepsShape, pixels_left};
@@ -178,7 +178,7 @@ impl PixelReader {
         ensures reading { OnOk result (KeepsReading self.old self.new) }
     {
         'events: while self.is_working() {
-            if !self.pending.has(LONGEST) {
+            if !self.pending.has(LONGEST_EVENT) {
                 return Ok(());
             }
             if !self.push_event()? {
