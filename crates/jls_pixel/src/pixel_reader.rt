@@ -133,7 +133,7 @@ impl PixelReader {
         }
     }
 
-    /// Adds the row in work to the finished ones, if it is whole.
+    /// Adds the row in work to the finished ones, if it is whole. With the last row all are there.
     fn end_row(&mut self) -> Result<(), AllocError>
         requires state { self.old.state ≡ State.Working }
         requires taken { (p : CodingParameters) × (given : List Bool) × HasTaken p given self.old }
