@@ -37,8 +37,8 @@ searched_of last was = record {
 }
 
 module _ (most_tries : ℕ) (ps : List Part) (s : Setting) (before : Searched) (begun last : Search) (is : IsGroupBegun s before begun)
-    (at : IsAt ps last)
-    (alike : IsAlike begun last) (stops : CanGoOn last most_tries → ⊥) (went_on : GoesFrom ps begun last most_tries) (within : before.tries ≤ most_tries)
+    (at : IsAt ps last) (alike : IsAlike begun last) (stops : CanGoOn last most_tries → ⊥) (went_on : GoesFrom ps begun last most_tries)
+    (within : before.tries ≤ most_tries)
   where
     goal_is : last.goal ≡ Group s
     goal_is = alike.0 ∙ is.0

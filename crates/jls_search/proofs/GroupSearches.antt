@@ -79,8 +79,8 @@ module _ (most_tries copies : ℕ) (ps : List Part) (m n more : List (List ℕ))
   group_later g is = record {
     each_copy = is.each_copy;
     within = is.within;
-    each = λ copy s at. setting_later most_tries (tries_in g.settings) (tries_in g.settings) ps m n more (omega arith) is.within on few g.group
-        copy s (is.each copy s at);
+    each = λ copy s at. setting_later most_tries (tries_in g.settings) (tries_in g.settings) ps m n more (omega arith) is.within on few
+        g.group copy s (is.each copy s at);
   }
 
   groups_later : (gs : List GroupSearched) → AllByRecursion (IsGroupSearched most_tries copies ps m) gs
@@ -89,7 +89,8 @@ module _ (most_tries copies : ℕ) (ps : List Part) (m n more : List (List ℕ))
   groups_later (g ∷ gs) each = (group_later g each.0, groups_later gs each.1)
 
 -- a setting that was gone through
-pub went : (most_tries : ℕ) (ps : List Part) (s : Setting) (before more : Searched) (cut : Bool) → before.tries ≤ more.tries → more.tries ≤ most_tries
+pub went : (most_tries : ℕ) (ps : List Part) (s : Setting) (before more : Searched) (cut : Bool) → before.tries ≤ more.tries
+    → more.tries ≤ most_tries
     → Added ps s (lists_of before.splices.items) (lists_of more.splices.items)
     → length more.splices.items ≤ min (length before.splices.items + 64) 4096 → (cut ≡ false → before.tries < more.tries)
     → (cut ≡ true → (more.tries ≡ most_tries) ⊎ (min (length before.splices.items + 64) 4096 ≤ length more.splices.items))
@@ -150,7 +151,8 @@ goes_first most_tries ps group s untried few = record {
 -- one copy more
 pub goes_more : (most_tries copies : ℕ) (ps : List Part) (group : Group) (before mid more : Searched)
     → GoesThroughCopies most_tries copies ps group before mid
-    → GoesThrough most_tries ps (record { group = group; copy = copies }) mid more → GoesThroughCopies most_tries (copies + 1) ps group before more
+    → GoesThrough most_tries ps (record { group = group; copy = copies }) mid more
+    → GoesThroughCopies most_tries (copies + 1) ps group before more
 goes_more most_tries copies ps group before mid more h g =
     let ss : List SettingSearched = h.settings in
     let s : SettingSearched = g.came_to in
@@ -168,7 +170,8 @@ goes_more most_tries copies ps group before mid more h g =
             (λ copy t at. setting_later most_tries (tries_in ss) (tries_in (ss ++ s ∷ [])) ps (lists_of mid.splices.items)
             (lists_of more.splices.items)
             s.splices rose within g.found g.few group copy t (h.is.each copy t at))
-            (subst (λ n. IsSettingSearched most_tries (tries_in (ss ++ s ∷ [])) ps (lists_of more.splices.items) group n s) (sym h.is.each_copy)
+            (subst (λ n. IsSettingSearched most_tries (tries_in (ss ++ s ∷ [])) ps (lists_of more.splices.items) group n s)
+            (sym h.is.each_copy)
             (subst (λ t. IsSettingSearched most_tries t ps (lists_of more.splices.items) group copies s) tries g.is));
       };
       tries = tries;
@@ -184,7 +187,8 @@ goes_more most_tries copies ps group before mid more h g =
 -- Groups -----------------------------------------------------------------------------------------------------------
 
 -- no group yet
-pub none_searched : (most_tries copies : ℕ) (ps : List Part) (groups : List Group) → AreGroupsSearched most_tries copies ps (take 0 groups) 0 [] false
+pub none_searched : (most_tries copies : ℕ) (ps : List Part) (groups : List Group)
+    → AreGroupsSearched most_tries copies ps (take 0 groups) 0 [] false
 none_searched most_tries copies ps groups = record {
   searched = [];
   in_some_order = IsPermutation-refl [];
@@ -210,8 +214,9 @@ reordered most_tries copies ps groups ordered tries found used same h = record {
 }
 
 -- one group more
-pub one_more_group : (most_tries copies : ℕ) (ps : List Part) (groups : List Group) (i : ℕ) (d : Group) (tries sum : ℕ) (begun more : Searched)
-    → i < length groups → AreGroupsSearched most_tries copies ps (take i groups) tries (lists_of begun.splices.items) begun.is_used_up
+pub one_more_group : (most_tries copies : ℕ) (ps : List Part) (groups : List Group) (i : ℕ) (d : Group) (tries sum : ℕ)
+    (begun more : Searched) → i < length groups
+    → AreGroupsSearched most_tries copies ps (take i groups) tries (lists_of begun.splices.items) begun.is_used_up
     → GoesThroughCopies most_tries copies ps (get_or groups i d) begun more → sum ≡ min (tries + more.tries) (2 ^ 32 - 1)
     → AreGroupsSearched most_tries copies ps (take (i + 1) groups) sum (lists_of more.splices.items) more.is_used_up
 one_more_group most_tries copies ps groups i d tries sum begun more within h g sum_is =
@@ -229,8 +234,8 @@ one_more_group most_tries copies ps groups i d tries sum begun more within h g s
           (IsPermutation-append_left (group ∷ []) (take i groups) (map (λ (x : GroupSearched). x.group) gs) h.in_some_order));
       each =
           all_more (IsGroupSearched most_tries copies ps (lists_of more.splices.items)) gs one
-          (groups_later most_tries copies ps (lists_of begun.splices.items) (lists_of more.splices.items) (given_in g.settings) g.found g.few gs
-          h.each)
+          (groups_later most_tries copies ps (lists_of begun.splices.items) (lists_of more.splices.items) (given_in g.settings) g.found
+          g.few gs h.each)
           g.is;
       tries_are = omega (arith, a, b, e, sum_is);
       found_are =

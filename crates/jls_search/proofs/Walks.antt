@@ -24,8 +24,8 @@ came_to parts s h =
     (subst (λ g. StandsOrIsSettled s.judge.ceiling parts g s.path.items found s.goes_on) h.goal_is h.is_at.goes)
 
 -- one that stopped while there was more to try has made all its tries, or found as many files as it finds at most
-pub stopped : (s : Search) (most_tries : ℕ) → (CanGoOn s most_tries → ⊥) → s.tries ≤ most_tries → length (lists_of s.splices.items) ≤ s.most → s.goes_on
-    ≡ true
+pub stopped : (s : Search) (most_tries : ℕ) → (CanGoOn s most_tries → ⊥) → s.tries ≤ most_tries
+    → length (lists_of s.splices.items) ≤ s.most → s.goes_on ≡ true
     → (s.tries ≡ most_tries) ⊎ (length (lists_of s.splices.items) ≡ s.most)
 stopped s most_tries stops within few more =
     elim (cases_lt s.tries most_tries) [
@@ -37,7 +37,8 @@ stopped s most_tries stops within few more =
     ]
 
 -- which are 64 for whole files
-pub used_up : (parts : List Part) (s : Search) (most_tries : ℕ) → IsSearch parts s → (CanGoOn s most_tries → ⊥) → s.tries ≤ most_tries → s.goes_on ≡ true
+pub used_up : (parts : List Part) (s : Search) (most_tries : ℕ) → IsSearch parts s → (CanGoOn s most_tries → ⊥)
+    → s.tries ≤ most_tries → s.goes_on ≡ true
     → (s.tries ≡ most_tries) ⊎ (length (lists_of s.splices.items) ≡ 64)
 used_up parts s most_tries is stops within more =
     elim (stopped s most_tries stops within is.is_at.few more) [

@@ -25,7 +25,7 @@ abbrev pub GivesEachLine : PictureShape → Course → Type 0
 GivesEachLine shape c = (component line : ℕ) → component < length shape.ids → line < shape.height
     → (samples : List ℕ) × CourseHasReading c (reading_of component line samples)
 
--- a file has a frame, no fault of its headers ended it, each piece can be decoded, and each line of its frame has a reading
+-- A file has a frame, and no fault of its headers ended it. Each piece can be decoded, and each line of its frame has a reading
 pub record IsFaultless (file : List ℕ) : Type 0 where
   pub course : Course
   pub is_course : IsCourseUnder Wide file course

@@ -12,23 +12,23 @@ use Rattle.jls_diff.specs.declared.group.Group.{Group}
 use Rattle.jls_search.specs.declared.found.GroupsReported.{GroupsReported}
 use Rattle.jls_search.specs.declared.found.FoundSplices.{FoundSplices}
 
--- what a search by groups came to: how many groups there are, how much it tried, the splices, each as its choices, and whether it was cut
--- off
+-- What a search by groups came to: how many groups there are, how much it tried, and whether it was cut off. Each of its splices stands as
+-- its choices
 pub record ByGroups : Type 0 where
   pub groups : ℕ
   pub tries : ℕ
   pub choices : List (List ℕ)
   pub is_used_up : Bool
 
--- the parts of the copies; the splices that the search of all came to, each as its choices, and whether it was cut off; and what a search
--- by groups came to, if there was one
+-- What was found: the parts of the copies, and the splices that the search of all came to, each as its choices. Beside these stand whether
+-- it was cut off, and what a search by groups came to, if there was one
 pub record Found : Type 0 where
   pub parts : List Part
   pub choices : List (List ℕ)
   pub is_used_up : Bool
   pub by_groups : Option ByGroups
 
--- the groups take in each part in which copies differ; and outside of some group each splice is what one copy has, and reads in that group
+-- The groups take in each part in which copies differ. Each splice reads in one of the groups, and outside of it is what one copy has
 pub record IsByGroups (parts : List Part) (b : ByGroups) : Type 0 where
   pub groups : List Group
   pub are_groups : AllByRecursion (IsGroup parts) groups
@@ -36,8 +36,8 @@ pub record IsByGroups (parts : List Part) (b : ByGroups) : Type 0 where
   pub count_is : b.groups ≡ length groups
   pub each : AllByRecursion (IsOfGroup parts) b.choices
 
--- a search by groups searched groups that take in each part in which copies differ, so often each at most, with each of so many copies
--- outside of it. What it tells of its groups, of its tries, of its splices and of whether it was cut off is so
+-- A search by groups searched groups that take in each part in which copies differ. It tried each so often at most, with each of so many
+-- copies outside of it. What it tells of its groups, of its tries, of its splices and of whether it was cut off is so
 pub record IsGroupSearch (most_tries copies : ℕ) (parts : List Part) (b : ByGroups) : Type 0 where
   pub groups : List Group
   pub are_groups : AllByRecursion (IsGroup parts) groups
@@ -46,8 +46,8 @@ pub record IsGroupSearch (most_tries copies : ℕ) (parts : List Part) (b : ByGr
   pub once : IsOnce b.choices
   pub searched : AreGroupsSearched most_tries copies parts groups b.tries b.choices b.is_used_up
 
--- a search over these copies, for files under the ceiling, found it; groups, which have no ceiling, were searched where the search of all
--- splices was cut off or came to nothing, and only there
+-- A search over these copies, for files under the ceiling, found it. Groups were searched where the search of all splices was cut off or
+-- came to nothing, and only there. They have no ceiling
 pub record IsFound (ceiling : Option ℕ) (copies : List (List ℕ)) (f : Found) : Type 0 where
   pub are_parts : AreParts copies f.parts
   pub came_to : CameTo (IsSought ceiling) f.parts f.choices f.is_used_up
@@ -74,7 +74,7 @@ by_groups_of choices reported = record {
   is_used_up = reported.is_used_up;
 }
 
--- what a search found, from the value of the code: its first `whole` splices are those of the search of all, the others those of groups
+-- What a search found, from the value of the code. Its first `whole` splices are those of the search of all, the others those of groups
 abbrev pub found_of : FoundSplices → Found
 found_of s = record {
   parts = s.parts;

@@ -39,7 +39,7 @@ IsPassedFor parts (Group setting) choices = IsPassedBy parts setting.group choic
 abbrev pub IsSettledFor : List Part → Goal → List (List ℕ) → List ℕ → Type 0
 IsSettledFor parts goal found choices = Contains found choices ⊎ IsPassedFor parts goal choices
 
--- a search is at a path, which goes up to a part whose ways it tries, or to the end: what it is after is settled, or still to come
+-- A search is at a path, which goes up to a part whose ways it tries, or to the end. What it is after is settled, or still to come
 pub record Stands (ceiling : Option ℕ) (parts : List Part) (goal : Goal) (path : List ℕ) (found : List (List ℕ)) : Type 0 where
   pub is_set : IsSetFor parts goal path
   pub stop : IsStop parts goal path

@@ -12,8 +12,8 @@ use Rattle.jls_search.specs.declared.setting.Goal.TheVariants.{Group as ForGroup
 use Rattle.jls_search.specs.declared.setting.Setting.{Setting}
 use Rattle.jls_search.specs.declared.whole_search.Searched.{Searched}
 
--- what the search of a group with one copy outside of it came to: how much it tried, the splices that it found and that were not found
--- before, each as its choices, and whether it was cut off
+-- What the search of a group with one copy outside of it came to: how much it tried, and whether it was cut off. The splices are those
+-- that it found and that were not found before, each as its choices
 pub record SettingSearched : Type 0 where
   pub tries : ℕ
   pub splices : List (List ℕ)
@@ -36,11 +36,11 @@ given_in settings = flat_map (λ s. s.splices) settings
 abbrev pub is_cut_in : List SettingSearched → Bool
 is_cut_in settings = list_any (λ s. s.is_cut_off) settings
 
--- of a group that was tried so often, where these splices were found in all: with the copy of this number outside of it at most 64 were
--- found, which read so. It was tried, and each splice of bytes that reads so is among those found, or is passed by; or it was cut off,
--- where the group had all its tries, 64 were found, or 4,096 were in all
-pub record IsSettingSearched (most_tries tries : ℕ) (parts : List Part) (found : List (List ℕ)) (group : Group) (copy : ℕ) (s : SettingSearched)
-    : Type 0 where
+-- What the search of a group with this copy outside of it came to. The group was tried so often, and these splices were found in all. At
+-- most 64 were found with the copy, and they read so. If it was not cut off, it was tried, and each splice of bytes that reads so was
+-- found, or is passed by. If it was, the group had all its tries, 64 were found, or 4,096 were in all
+pub record IsSettingSearched (most_tries tries : ℕ) (parts : List Part) (found : List (List ℕ)) (group : Group) (copy : ℕ)
+    (s : SettingSearched) : Type 0 where
   pub few : length s.splices ≤ 64
   pub each : AllByRecursion (ReadsWith parts group copy) s.splices
   pub some : s.is_cut_off ≡ false → 0 < s.tries
@@ -55,8 +55,8 @@ pub record IsGroupSearched (most_tries copies : ℕ) (parts : List Part) (found 
   pub each : (copy : ℕ) (s : SettingSearched) → slice_get g.settings copy ≡ Some s
       → IsSettingSearched most_tries (tries_in g.settings) parts found g.group copy s
 
--- a search of these groups, in some order, each with tries of its own: what it tried in all, as far as 32 bits tell it; what it found in
--- all, at most 4,096 splices; and whether it was cut off anywhere
+-- A search of these groups, in some order, each with tries of its own. It tells what it tried in all, as far as 32 bits tell it, and
+-- whether it was cut off anywhere. In all it found at most 4,096 splices
 pub record AreGroupsSearched (most_tries copies : ℕ) (parts : List Part) (groups : List Group) (tries : ℕ) (found : List (List ℕ))
     (is_used_up : Bool) : Type 0 where
   pub searched : List GroupSearched

@@ -41,7 +41,7 @@ pub record IsNextStop (parts : List Part) (from stop : ℕ) : Type 0 where
 abbrev pub IsLiving : List Part → ℕ → LivingPath → Type 0
 IsLiving parts from path = IsKeptReader parts path.kept × IsNextPath parts from path.kept.choices.items
 
--- a path that begins so, and goes on to the next part in which copies differ, is one of those that live now, or is dead. Those that lived
+-- A path begins so, and goes on to the next part in which copies differ. It is one of those that live now, or is dead. Those that lived
 -- before still do
 pub record IsTaken (Sought : List ℕ → Type 0) (parts : List Part) (begin : List ℕ) (old new : List (List ℕ)) : Type 0 where
   pub path : List ℕ

@@ -25,7 +25,7 @@ pub record IsNextPath (parts : List Part) (from : ℕ) (path : List ℕ) : Type 
   pub from_on : from ≤ length path
   pub same : NoPartDiffers parts from (length path)
 
--- no file of the kind that is sought begins with what all copies have alike, up to the first part in which they differ, or to the end
+-- no file of the kind that is sought begins as all copies do, up to the first part in which they differ, or else whole
 abbrev pub IsFirstDead : (List ℕ → Type 0) → List Part → Type 0
 IsFirstDead Sought parts = (path : List ℕ) × IsNextPath parts 0 path × IsDead Sought (prefix_of parts path)
 

@@ -31,8 +31,9 @@ ReadsInGroup parts group choices =
 abbrev pub HasManyFaults : List ℕ → Type 0
 HasManyFaults file = (c : Course) × IsCourseUnder Wide file c × (rs : List PieceRecord) × AreRecordsOf (pieces c) rs × (4096 < length rs)
 
--- no file is tried that begins with what the path makes: the file has ended there, before the group; or the path goes into the group, and
--- the piece in hand is broken, or the file has ended there and doesn't read from the group's begin on, or has too many faulty pieces
+-- No file is tried that begins with what the path makes. The file has ended there, before the group. Or the path goes into the group, and
+-- the piece in hand is broken. Or it goes there, and the file has ended, and doesn't read from the group's begin on or has too many faulty
+-- pieces
 pub data IsGivenUp (parts : List Part) (group : Group) (path : List ℕ) : Type 0 where
   ended_before : length path ≤ group.begin.part → IsDoneUnder Wide (prefix_of parts path) true → IsGivenUp parts group path
   broken : group.begin.part < length path → IsPieceBrokenUnder Wide (prefix_of parts path) → IsGivenUp parts group path
@@ -40,8 +41,8 @@ pub data IsGivenUp (parts : List Part) (group : Group) (path : List ℕ) : Type 
       → (ReadsBetween (offset_of parts path group.begin) None (prefix_of parts path) → HasManyFaults (prefix_of parts path))
       → IsGivenUp parts group path
 
--- a file that choices make is passed by: it has too many faulty pieces, or what its first choices make was given up, up to a part of the
--- group
+-- A file that choices make is passed by. It has too many faulty pieces, or what its first choices make, up to a part of the group, was
+-- given up
 abbrev pub IsPassedBy : List Part → Group → List ℕ → Type 0
 IsPassedBy parts group choices =
     HasManyFaults (prefix_of parts choices) ⊎ ((count : ℕ) × IsInside group count × IsGivenUp parts group (take count choices))
@@ -81,6 +82,6 @@ abbrev pub IsAddedOnce : List (List ℕ) → List ℕ → List (List ℕ) → Ty
 IsAddedOnce before choices found =
     (Contains before choices × (found ≡ before)) ⊎ ((Contains before choices → ⊥) × (found ≡ before ++ choices ∷ []))
 
--- splices that a search by groups has found so far: each reads in a group, with a copy outside of it, and none is there twice
+-- Splices that a search by groups has found so far. Each reads in a group, with a copy outside of it, and none is there twice
 abbrev pub AreOfGroups : List Part → List (List ℕ) → Type 0
 AreOfGroups parts found = AllByRecursion (IsOfGroup parts) found × IsOnce found

@@ -14,7 +14,7 @@ abbrev pub IsOffsetBetween : ℕ → Option ℕ → ℕ → Type 0
 IsOffsetBetween from None offset = from ≤ offset
 IsOffsetBetween from (Some to) offset = (from ≤ offset) × (offset < to)
 
--- the file doesn't end before the first of these, nor by a fault of its headers before the second or, if there is none, at all
+-- The file doesn't end before the first of these. No fault of its headers ends it before the second or, if there is none, at all
 abbrev pub Reaches : ℕ → Option ℕ → End → Type 0
 Reaches from to (Eoi offset) = from ≤ offset
 Reaches from to (Input offset) = from ≤ offset

@@ -81,14 +81,14 @@ pub record IsAt (parts : List Part) (s : Search) : Type 0 where
   pub few : length (lists_of s.splices.items) ≤ s.most
   pub kept : AreKept parts s.judge
 
--- a search of whole files has come so far: each splice that is sought under its ceiling is one that it found, or is still to come. It finds
+-- A search of whole files has come so far. Each splice that is sought under its ceiling is one that it found, or is still to come. It finds
 -- 64 files at most
 pub record IsSearch (parts : List Part) (s : Search) : Type 0 where
   pub is_at : IsAt parts s
   pub goal_is : s.goal ≡ Whole
   pub most_is : s.most ≡ 64
 
--- a search can go on: there is more to try, fewer tries than these were made, and fewer files were found than it finds at most
+-- A search can go on. There is more to try, fewer tries than these were made, and fewer files were found than it finds at most
 abbrev pub CanGoOn : Search → ℕ → Type 0
 CanGoOn s most_tries = (s.goes_on ≡ true) × (s.tries < most_tries) × (length (lists_of s.splices.items) < s.most)
 
@@ -145,7 +145,7 @@ AreEachKept parts readers = AllByRecursion (λ reader. IfSome reader (IsKeptRead
 abbrev pub IsBegunOn : List Part → List ℕ → BegunReader → Type 0
 IsBegunOn parts path begun = (begun.choices ≤ length path) × (begun.reader ≡ Some (prefix_of parts (take begun.choices path)))
 
--- what a reader was fed is enough: no file without a fault begins so, or the piece in hand begins at the offset or after it. Where it is
+-- What a reader was fed is enough. No file without a fault begins so, or the piece in hand begins at the offset or after it. Where it is
 -- fed to the end, nothing is enough
 abbrev pub IsFedEnough : Until → List ℕ → Type 0
 IsFedEnough UntilDead = IsDead IsFaultless

@@ -8,8 +8,8 @@ use Rattle.jls_search.specs.declared.settling.Settled.{Settled}
 use Rattle.jls_search.specs.declared.settling.Settled.TheVariants.{Held, Differ, NoFrame}
 use Rattle.jls_search.specs.declared.shape_found.ShapeFound.TheVariants as found
 
--- what comes of copies and of the splices found: a station of the shape that is found for them, which took them all, each under the source
--- if there is one; or why no shape is found
+-- What comes of copies and of the splices found: a station, or why no shape is found for them. The station has the shape that is found,
+-- and took them all, each under the source if there is one
 abbrev pub SettlesFiles : Option ℕ → List (List ℕ) → List (List ℕ) → Settled → Type 0
 SettlesFiles source copies splices (Held taken) =
     IsShapeFound copies splices (found.Taken taken.station.shape)

@@ -74,8 +74,8 @@ IsCopyNamed copies copy = IsFirstOther copies copy ⊎ (NoneIsOther copies × (c
 
 -- What is found ----------------------------------------------------------------------------------------------------
 
--- what comes of the copies and of the splices found: the shape that is taken; or two files without a fault differ in shape, and this is the
--- copy that is named; or each file has a fault and no copy has a frame, and this is the fault of the first copy, with its offset
+-- What comes of the copies and of the splices found. It is the shape that is taken. Or two files without a fault differ in shape, and this
+-- is the copy that is named. Or each file has a fault and no copy has a frame, and this is the fault of the first copy, with its offset
 abbrev pub IsShapeFound : List (List ℕ) → List (List ℕ) → ShapeFound → Type 0
 IsShapeFound copies found (Taken shape) = IsShapeTaken copies found shape
 IsShapeFound copies found (Differ copy) = ShapesDiffer (copies ++ found) × IsCopyNamed copies copy

@@ -19,8 +19,8 @@ pub data Give (source : Option ℕ) (shape : PictureShape) : List (List ℕ) →
   gives_nothing : (file : List ℕ) (files : List (List ℕ)) (given : List PartialPicture) → (HasFrameOfShape shape file → ⊥)
       → Give source shape files given → Give source shape (file ∷ files) given
 
--- a station that held the first of these took the files, each under the source if there is one, and holds the second: the union of what it
--- held and of all that they give
+-- A station that held the first of these took the files, each under the source if there is one, and holds the second. That is the union of
+-- what it held and of all that they give
 pub record TakesFiles (source : Option ℕ) (files : List (List ℕ)) (old new : PartialPicture) : Type 0 where
   pub given : List PartialPicture
   pub give : Give source old.shape files given

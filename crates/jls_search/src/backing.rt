@@ -1,5 +1,5 @@
-//! What speaks for a path of a search level by level: how many copies have its ways, and how many bits a code that learns saves on its
-//! lines. No contract speaks of it, but that a place in a list is one.
+//! What speaks for a path of a search level by level. It is how many copies have its ways, and how many bits a code that learns saves on
+//! its lines. No contract speaks of it, but that a place in a list is one.
 
 ghost use Rattle.std.specs.Prelude.{◌<◌, ◌≤◌, length};
 ghost use Rattle.jls_diff.specs.PartsOf.{parts_of};
@@ -98,7 +98,7 @@ pub(crate) fn weakest(living: &[LivingPath]) -> usize
     least
 }
 
-/// Whether two paths have the same first choices, so many.
+/// Whether two paths have the same first `count` choices.
 fn share(path: &[usize], other: &[usize], count: usize) -> bool {
     match (path.get(..count), other.get(..count)) {
         (Some(first), Some(second)) => *first == *second,
@@ -106,8 +106,8 @@ fn share(path: &[usize], other: &[usize], count: usize) -> bool {
     }
 }
 
-/// The place for a path that goes on from so many choices: after those that go on from the same choices and of whose next way as many
-/// copies have the bytes, or more.
+/// The place for a path that goes on from so many choices. It is after those that go on from the same choices, where as many copies or more
+/// have the bytes of their next way.
 pub(crate) fn place_for(living: &[LivingPath], path: &[usize], backing: u64, count: usize) -> usize
     ensures { result ≤ length living.now }
 {

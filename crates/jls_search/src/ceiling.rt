@@ -16,7 +16,7 @@ fn are_within(ceiling: u16, samples: &[u16]) -> bool
     samples.iter().all(|sample| *sample <= ceiling)
 }
 
-/// Whether this reading of a line is.
+/// Whether each sample of this reading of a line is at most the ceiling.
 fn is_reading_within(ceiling: u16, partial: &Partial, component: u8, line: u16, i: usize) -> bool
     requires component_in { component < length partial.now.shape.ids }
     requires line_in { line < partial.now.shape.height }
@@ -27,7 +27,7 @@ fn is_reading_within(ceiling: u16, partial: &Partial, component: u8, line: u16, 
     are_within(ceiling, partial.reading(component, line, i))
 }
 
-/// Whether each reading of a line is.
+/// Whether each sample of each reading of a line is at most the ceiling.
 fn is_line_within(ceiling: u16, partial: &Partial, component: u8, line: u16) -> bool
     requires component_in { component < length partial.now.shape.ids }
     requires line_in { line < partial.now.shape.height }
@@ -42,7 +42,7 @@ fn is_line_within(ceiling: u16, partial: &Partial, component: u8, line: u16) -> 
     true
 }
 
-/// Whether each line of a component is.
+/// Whether each sample of each reading of a component is at most the ceiling.
 fn is_component_within(ceiling: u16, partial: &Partial, component: u8) -> bool
     requires { component < length partial.now.shape.ids }
     ensures { IsTrue result ↔ IsComponentWithin ceiling partial.now component }
@@ -56,7 +56,7 @@ fn is_component_within(ceiling: u16, partial: &Partial, component: u8) -> bool
     true
 }
 
-/// Whether each component is.
+/// Whether each sample of each reading of a picture is at most the ceiling.
 fn is_picture_within(ceiling: u16, partial: &Partial) -> bool
     ensures { IsTrue result ↔ IsPictureWithin ceiling partial.now }
 {

@@ -80,7 +80,7 @@ fn is_same(part: &Part<'_>) -> bool
     }
 }
 
-/// The same, of the part at this place.
+/// Whether all copies have the part at this place alike.
 pub(crate) fn is_same_at(parts: &Parts<'_>, place: usize) -> bool
     requires { place < length parts.now }
     ensures same { result ≡ true → IsFirstWay (get_or parts.now place (Same [])) 0 }
@@ -117,7 +117,7 @@ fn choice_of(part: &Part<'_>, copy: usize) -> usize
     }
 }
 
-/// The same, of the part at this place.
+/// The choice that takes of the part at this place what this copy has there.
 pub(crate) fn choice_at(parts: &Parts<'_>, place: usize, copy: usize) -> usize
     requires place { place < length parts.now }
     requires copy { AllByRecursion (HasCopy copy) parts.now }

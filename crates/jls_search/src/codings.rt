@@ -137,8 +137,8 @@ fn is_one_of(windows: &[u64; LONGEST_PERIOD], window: u64) -> bool {
     is_one
 }
 
-/// At how many places of a stretch there is news that doesn't go past it: bytes, so many as are compared, that don't stand at one of the
-/// places shortly before them.
+/// At how many places of a stretch there is news that doesn't go past it. News is so many bytes as are compared that don't stand at one of
+/// the places shortly before them.
 fn count_news(bytes: &[u8], from: usize, end: usize) -> usize {
     let start = from.saturating_sub(LONGEST_PERIOD);
     let mut before = [0u64; LONGEST_PERIOD];
@@ -210,8 +210,8 @@ fn news_from(copies: &[&[u8]], number: usize, from: usize) -> usize {
     }
 }
 
-/// Whether the scan data of two copies, which begin at these offsets, are mostly alike where they could differ: three quarters of what the
-/// one has that has less. Where that is next to nothing, they aren't: it would be alike to any.
+/// Whether the scan data of two copies, which begin at these offsets, are mostly alike where they could differ. That is three quarters of
+/// what the one has that has less. Where that is next to nothing, they aren't: it would be alike to any.
 fn are_mostly_alike(copies: &[&[u8]], parts: &Parts<'_>, pair: Pair, data: Offsets) -> bool {
     let found = compare(copies, parts, pair, data);
     let Some(from) = found.from else {
@@ -317,8 +317,8 @@ fn has_witness(
     Ok(false)
 }
 
-/// A number for each copy, the same for those of one coding, as far as can be told: that of the first of them, from 0. The parts are those
-/// of the copies. `Err` comes where memory is refused.
+/// A number for each copy, the same for those of one coding, as far as can be told. It is that of the first of them, from 0. The parts are
+/// those of the copies. `Err` comes where memory is refused.
 pub fn codings_of(
     alloc: Global,
     copies: &[&[u8]],
@@ -354,7 +354,7 @@ pub fn codings_of(
     Ok(numbers)
 }
 
-/// Whether copies are of several codings for sure: there are several, as far as can be told, and for each of them a copy has the same first
+/// Whether copies are of several codings for sure. There are several, as far as can be told. For each of them a copy has the same first
 /// lines as a copy of another, though its bytes differ there. The parts are those of the copies. `Err` comes where memory is refused.
 pub fn are_surely_of_several_codings(
     alloc: Global,

@@ -34,11 +34,11 @@ pub struct FoundSplices<'a> {
     pub parts: Parts<'a>,
     /// The splices, each as its choices, one for each part: those of the search of all, and after them those that groups gave.
     pub splices: Vec<Vec<usize>>,
-    /// The reader of the first of them, if it is kept. It was fed all of it.
+    /// A reader that was fed what its choices make, if one is kept.
     pub reader: Option<KeptReader>,
     /// How many of them the search of all came to.
     pub whole: usize,
-    /// The greatest sample that the files may have that the search of all sought, if there was a limit.
+    /// The greatest sample that the files may have that the search of all sought, if there was a ceiling.
     pub ceiling: Option<u16>,
     /// How many prefixes and files the search of all tried.
     pub tries: u32,
@@ -48,7 +48,7 @@ pub struct FoundSplices<'a> {
     pub by_groups: Option<GroupsReported>,
 }
 
-/// Whether groups are searched, where the search of all splices was cut off or was not, and came to so many.
+/// Whether groups are searched, where the search of all splices was cut off or was not, and came to `whole` splices.
 fn wants_groups(is_used_up: bool, whole: usize) -> bool
     ensures yes { result ≡ true → (is_used_up ≡ true) ⊎ (whole ≡ 0) }
     ensures no { result ≡ false → (is_used_up ≡ false) × (whole ≢ 0) }

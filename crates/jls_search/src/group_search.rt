@@ -120,7 +120,7 @@ fn begin(
     })
 }
 
-/// What it came to. It was cut off where there is more to try, or another was before.
+/// What the search of a group came to. It was cut off where there is more to try, or another was before.
 fn went(search: Search, was_cut: bool) -> Gone
     ensures searched { result.searched ≡ record {
       ceiling = None;
@@ -255,15 +255,16 @@ fn search_in_turn(
 ///
 /// In a group the search goes depth first, part by part: ways in the order of the copies, those with equal bytes once. A prefix is given
 /// up before a part of the group. There the piece in hand begins in the group, or the group begins in it, and it is broken. Or the file has
-/// ended there, before the group, or without reading in it. Each prefix and each file that is tried
-/// counts. The reading of the copies, which orders the groups, does not. Each group may be tried `most_tries` times, with all copies together.
-/// A group with one copy gives 64 files at most, and all groups 4,096.
+/// ended there, before the group, or without reading in it.
+///
+/// Each prefix and each file that is tried counts. The reading of the copies, which orders the groups, does not. Each group may be tried
+/// `most_tries` times, with all copies together. A group with one copy gives 64 files at most, and all groups 4,096.
 ///
 /// Where the search of a group with a copy wasn't cut off, each splice that reads so was found, or was passed by. It is passed by where
 /// some prefix of it is given up, or it has more than 4,096 faulty pieces.
 ///
-/// `is_used_up` says that somewhere the search ended with the tries of a group or with such a number of files, while there was more to
-/// try. `tries` is what was tried in all groups, or the greatest number of its type. `Err` comes where memory is refused.
+/// `is_used_up` says that the search of some group ended while there was more to try. Its tries were used up, or so many files were found.
+/// `tries` is what was tried in all groups, or the greatest number of its type. `Err` comes where memory is refused.
 pub fn search_groups(
     alloc: Global,
     copies: &[&[u8]],

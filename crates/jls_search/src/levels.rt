@@ -229,7 +229,7 @@ fn note_lone(
 }
 
 /// The paths of the levels at which exactly one path lives, the shortest first: each begins the next one. A path lives unless it was found
-/// that no file that is sought begins with what it makes. `ceiling` is the greatest sample that such a file may have, if there is a limit.
+/// that no file that is sought begins with what it makes. `ceiling` is the greatest sample that such a file may have, if there is one.
 ///
 /// Levels are gone through in turn. Each path that is judged counts as a try. The search stops at the end of the parts, and where no path
 /// of a level lives. It also stops within a level, where so many tries are used up or more than 64 paths live. Such a level doesn't count.
@@ -247,7 +247,8 @@ fn lone_paths(
     requires some_way { AllByRecursion HasSomeWay parts.now }
     requires short { IsShort parts.now }
     ensures lone { IfOk result (λ found. AllByRecursion (IsLone (IsSought ceiling) parts.now) (lists_of found.items)) }
-    ensures some { IfOk result (λ found. (most_tries ≡ 0) ⊎ IsFirstDead (IsSought ceiling) parts.now ⊎ (0 < length (lists_of found.items))) }
+    ensures some { IfOk result
+        (λ found. (most_tries ≡ 0) ⊎ IsFirstDead (IsSought ceiling) parts.now ⊎ (0 < length (lists_of found.items))) }
     ensures untried { most_tries ≡ 0 → IfOk result (λ found. lists_of found.items ≡ []) }
 {
     let mut lone = Vec::new(alloc);
@@ -285,13 +286,13 @@ fn path_at(mut paths: Vec<Vec<usize>>, place: usize) -> Option<Vec<usize>>
 }
 
 /// The path of the last level at which exactly one path lives. Levels are gone through in turn. A path lives unless it was found that no
-/// file that is sought begins with what it makes. `ceiling` is the greatest sample that such a file may have, if there is a limit.
+/// file that is sought begins with what it makes. `ceiling` is the greatest sample that such a file may have, if there is one.
 ///
 /// Each path that is judged counts as a try. The search stops at the end of the parts, and where no path of a level lives. It also stops
 /// within a level, where so many tries are used up or more than 64 paths live. Such a level doesn't count.
 ///
-/// `None` comes only where no file that is sought begins with what all copies have alike, up to the first part in which they differ, or no
-/// try is allowed. `Err` comes where memory is refused.
+/// `None` comes only where no try is allowed, or where no file that is sought begins as all copies do before they differ. `Err` comes where
+/// memory is refused.
 pub fn lone_path(
     alloc: Global,
     parts: &Parts<'_>,
@@ -309,9 +310,9 @@ pub fn lone_path(
     Ok(path_at(paths, last))
 }
 
-/// The path of the last level at which exactly one path lives and is trusted, and else of the first whose path goes into scan data. A path
-/// is trusted if it goes on behind its last choice for so long that wrong bytes hardly would. Levels, tries and the answers are as for
-/// `lone_path`.
+/// The path of the last level at which exactly one path lives and is trusted. If none is, it is that of the first whose path goes into scan
+/// data. A path is trusted if it goes on behind its last choice for so long that wrong bytes hardly would. Levels, tries and the answers
+/// are as for `lone_path`.
 pub fn trusted_path(
     alloc: Global,
     parts: &Parts<'_>,

@@ -17,8 +17,8 @@
 //! - `next_level`: what the paths of a level go on to
 //! - `backing`: what speaks for a path; `saving`: how many bits its lines would save in a code that learns, `learning_code`. No contract
 //!   speaks of these three
-//! - `levels`: the levels of the search for the cut file, and those at which exactly one path lives; `trusted`: which of these paths are
-//!   trusted. No contract speaks of the latter
+//! - `levels`: the levels of the search for the cut file, and those at which exactly one path lives
+//! - `trusted`: which of these paths are trusted. No contract speaks of it
 //! - `codings`: which copies are of one coding, as far as can be told; `first_lines`: whether two surely aren't. No contract speaks of
 //!   these two
 //! - `laws`: the laws of searches
@@ -35,8 +35,8 @@
 //! - `files`: the copies and the splices that a search found, as one value
 //! - `seen`: what is seen of each file: its shape, and whether it has a fault; the verdict on each
 //! - `reading_files`: each file is read once: what is seen of it is kept, and a station of the first frame's shape takes it
-//! - `reading_splices`: the splices among them; what several begin with alike is read once, as long as its reader is kept, and what the
-//!   search fed to the reader that comes with them is not read again
+//! - `reading_splices`: the splices among them. What several begin with alike is read once, as long as its reader is kept. What the search
+//!   fed to the reader that comes with them is not read again
 //! - `shape_rule`, `shape_found`: the shape that is taken, or the copy that is named; what is found of shapes so far
 //! - `file`, `taking`: a station takes one file; all files
 //! - `settling`: the station of the shape that is taken, or why there is none
@@ -51,12 +51,12 @@
 //! Not proved:
 //!
 //! - That a search gives up choices as soon as it could. So the exact number of tries is open.
-//! - That a file which a search by groups passes by doesn't read in the group: a piece that begins before the group may be the broken one.
+//! - That a file which a search by groups passes by doesn't read in the group. A piece that begins before the group may be the broken one.
 //! - That no later level that `lone_path` comes to has one path that lives, and how many tries it makes. Which path is trusted.
-//! - How often a file is decoded.
+//! - That the reader which comes with what a search found is that of the first file. How often a file is decoded.
 //! - Which groups are searched first (`order`), but that each has its turn.
-//! - How many ways a search level by level judges, how many of its paths live, which of them it lets go, and the order of what it finds
-//!   (`backing`, `saving`, `learning_code`).
+//! - How many ways a search level by level judges, and the order of what it finds. How many of its paths live, and which of them it lets
+//!   go (`backing`, `saving`, `learning_code`).
 #![tactic(auto)]
 
 mod adding;

@@ -58,7 +58,7 @@ fn look_at_file(judge: &Judge, reader: WideReader) -> Result<PathVerdict, AllocE
     Ok(PathVerdict::Dead)
 }
 
-/// What it sees of a shorter one.
+/// What a search of whole files sees of a path that goes up to a part. The reader was fed what it makes.
 fn look_at_prefix(judge: &Judge, reader: WideReader) -> Result<PathVerdict, AllocError>
     ensures { (parts : List SpecPart) (path : List ℕ) → IsPath parts path → length path < length parts
         → reader ≡ Some (prefix_of parts path) → IfOk result (λ sight. IsSeenFor judge.now.ceiling parts Whole path sight) }
@@ -100,9 +100,9 @@ fn look_for_whole(
     }
 }
 
-/// What a search of a group sees of a path that goes up to a part of the group. The reader was fed what it makes. The path is dead where the
-/// piece in hand begins in the group, or the group begins in it, and it is broken. It is dead too where the file is at its end, and reads
-/// no more.
+/// What a search of a group sees of a path that goes up to a part of the group. The reader was fed what it makes. The path is dead where
+/// the piece in hand begins in the group, or the group begins in it, and it is broken. It is dead too where the file is at its end, and
+/// reads no more.
 fn look_at_prefix_in_group(
     parts: &Parts<'_>,
     setting: Setting,

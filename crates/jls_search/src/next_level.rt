@@ -33,7 +33,7 @@ const LEAST_LIVING: usize = 4;
 /// What a search level by level goes by.
 #[derive(Clone, Copy)]
 pub struct LevelRules {
-    /// The greatest sample that a file may have that is sought, if there is a limit.
+    /// The greatest sample that a file may have that is sought, if there is a ceiling.
     pub ceiling: Option<u16>,
     /// How many ways are judged at most.
     pub tries: u32,

@@ -8,7 +8,7 @@ ghost use Rattle.jls_search.specs.Places.{offset_of, end_offset_of};
 
 use jls_diff::{Border, Parts};
 
-/// How many bytes the first choices make, so many of them.
+/// How many bytes the first `count` choices make.
 fn prefix_length(parts: &Parts<'_>, path: &[usize], count: usize) -> usize
     requires path { IsPath parts.now path.now }
     requires count { count ≤ length path.now }
@@ -33,7 +33,7 @@ pub(crate) fn border_offset(parts: &Parts<'_>, path: &[usize], border: Border) -
     (prefix_length(parts, path, border.part) + border.at) as u64
 }
 
-/// The same, of the border where a group ends, if one does.
+/// The offset of the border where a group ends, if one does, in the file that the choices make.
 pub(crate) fn end_offset(parts: &Parts<'_>, path: &[usize], end: Option<Border>) -> Option<u64>
     requires path { IsPath parts.now path.now }
     requires few { length (prefix_of parts.now path.now) ≤ 2 ^ 63 - 1 }

@@ -68,8 +68,8 @@ fn told_between(read: &CopyRead, from: u64, to: Option<u64>) -> Option<bool>
     Some(reaches(from, to, read.ended()))
 }
 
-/// Whether what was read is a file that reads between two offsets: no piece that begins at the first or after it, and before the second,
-/// is faulty. Without a second one it goes to the file's end. `false` comes too where the file has more than 4,096 faulty pieces.
+/// Whether what was read is a file that reads between two offsets. No piece is faulty that begins at the first or after it, and before the
+/// second. Without a second one it goes to the file's end. `false` comes too where the file has more than 4,096 faulty pieces.
 pub(crate) fn reads_between(read: &CopyRead, from: u64, to: Option<u64>) -> bool
     ensures reads { result ≡ true → (file : List ℕ) → CopyReadsUnder Wide file read.now → ReadsBetween from to file }
     ensures unread { result ≡ false → (file : List ℕ) → CopyReadsUnder Wide file read.now → AllByRecursion (λ b. b < 256) file
@@ -81,8 +81,8 @@ pub(crate) fn reads_between(read: &CopyRead, from: u64, to: Option<u64>) -> bool
     }
 }
 
-/// Whether what was fed reads there, if it ends here. `None` comes where it has more than 4,096 faulty pieces. The only refusal is out of
-/// memory.
+/// Whether what was fed reads between two offsets, if it ends here. `None` comes where it has more than 4,096 faulty pieces. The only
+/// refusal is out of memory.
 pub(crate) fn told_by(
     reader: WideReader,
     from: u64,
@@ -100,7 +100,8 @@ pub(crate) fn told_by(
     }
 }
 
-/// The same; `false` comes too where it has more than 4,096 faulty pieces.
+/// Whether what was fed reads between two offsets, if it ends here. `false` comes too where it has more than 4,096 faulty pieces. The only
+/// refusal is out of memory.
 pub(crate) fn is_read_between(
     reader: WideReader,
     from: u64,

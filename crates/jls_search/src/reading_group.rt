@@ -24,7 +24,7 @@ fn are_bytes(way: &[u8])
     let _ = way.len();
 }
 
-/// So is what the path makes.
+/// What the path makes is bytes.
 pub(crate) fn makes_bytes(parts: &Parts<'_>, path: &[usize])
     requires path { IsPath parts.now path.now }
     ensures { AllByRecursion (λ b. b < 256) (prefix_of parts.now path.now) }

@@ -46,8 +46,8 @@ pub struct Search {
 }
 
 impl Search {
-    /// A search of whole files that has tried nothing. `ceiling` is the greatest sample that a file may have that it seeks, if there is a
-    /// limit.
+    /// A search of whole files that has tried nothing. `ceiling` is the greatest sample that a file may have that it seeks, if there is
+    /// one.
     pub fn begin(
         alloc: Global,
         parts: &Parts<'_>,
@@ -76,7 +76,7 @@ impl Search {
         })
     }
 
-    /// Whether it can go on: there is more to try, fewer tries than these were made, and fewer files were found than it finds at most.
+    /// Whether it can go on. There is more to try, fewer tries than these were made, and fewer files were found than it finds at most.
     pub fn can_go_on(&self, most_tries: u32) -> bool
         ensures { IsTrue result ↔ CanGoOn self.now most_tries }
     {

@@ -81,7 +81,7 @@ fn first_other(seen: &[Seen], shape: &Shape) -> Option<usize>
     None
 }
 
-/// The copy that is named where shapes differ.
+/// The copy that is named where shapes differ: the first whose frame is another than the first one, or copy 0 if none is.
 fn copy_to_name(copies: &[Seen]) -> usize
     ensures { IsNamed copies.now result }
 {

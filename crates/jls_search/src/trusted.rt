@@ -1,9 +1,9 @@
 //! Which of the lone paths are trusted. This only advises: no contract speaks of it, and each promise holds whatever it answers.
 //!
-//! Behind a place that no copy has true, wrong bytes can go on for a while, up to the next part in which copies differ. How long wrong
-//! bytes go on is measured: each other way of a part is put in place of the path's own, and one bit is flipped at each of some places. A
-//! path is trusted if it goes on for twice as long behind its last choice as any of these, and none of them reaches its end from before
-//! that choice.
+//! Behind a place that no copy has true, wrong bytes can go on for a while, up to the next part in which copies differ. How long they go on
+//! is measured by changes of the path. Each other way of a part is put in place of its own, and one bit is flipped at each of some places.
+//! A path is trusted if it goes on for twice as long behind its last choice as with any change. Besides, no change before that choice may
+//! go on up to the end of the path.
 
 use crate::ceiling::is_above;
 use crate::faultless::is_found_dead;
@@ -105,7 +105,7 @@ impl Trial {
 #[derive(Drop)]
 struct Walk<'w> {
     ceiling: Option<u16>,
-    /// What the path makes.
+    /// Its bytes.
     bytes: &'w [u8],
     /// A reader that was fed the first of these bytes, and how many.
     reader: WideReader,
@@ -192,7 +192,7 @@ impl Walk<'_> {
     }
 }
 
-/// What a path makes, in memory.
+/// A path, as bytes in memory.
 #[derive(Drop)]
 struct Made {
     bytes: Vec<u8>,
@@ -220,7 +220,7 @@ impl Made {
         self.borders.get(place).copied().unwrap_or(self.bytes.len())
     }
 
-    /// What the first choices of the path make from the last part on in which copies differ.
+    /// The stretch up to the end of the first `count` choices. It begins with the last of their parts that is a difference.
     fn last_stretch(&self, parts: &Parts<'_>, count: usize) -> Stretch {
         let mut last = 0usize;
         for place in 0..count.min(parts.len()) {
@@ -286,9 +286,9 @@ impl Stretch {
     }
 }
 
-/// The place of the longest of these paths that is trusted, and else of the first that goes into scan data; their count, if none does. They
-/// are lone ones, each of which begins the next. One that goes up to the end of all copies is trusted: these end before a place that is
-/// known to be bad, or were cut off.
+/// The place of the longest of these paths that is trusted. If none is, it is that of the first that goes into scan data, or their count if
+/// none does. The paths are lone ones, each of which begins the next. One that goes up to the end of all copies is trusted. These end
+/// before a place that is known to be bad, or were cut off.
 pub(crate) fn last_trusted(
     alloc: Global,
     parts: &Parts<'_>,

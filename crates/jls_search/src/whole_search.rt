@@ -18,11 +18,11 @@ pub const MOST_FOUND: usize = 64;
 /// What a search came to.
 #[derive(Drop)]
 pub struct Searched {
-    /// The greatest sample that a file may have that was sought, if there is a limit.
+    /// The greatest sample that a file may have that was sought, if there is a ceiling.
     pub ceiling: Option<u16>,
     /// The splices that were sought and found, each as its choices, one for each part.
     pub splices: Vec<Vec<usize>>,
-    /// The reader of the first of them, if it is kept. It was fed all of it.
+    /// A reader that was fed what its choices make, if one is kept.
     pub reader: Option<KeptReader>,
     /// How many prefixes and files were tried.
     pub tries: u32,
@@ -30,7 +30,7 @@ pub struct Searched {
     pub is_used_up: bool,
 }
 
-/// Searches the splices of some copies for files without a fault, whose samples are at most the ceiling, if there is one, as `Search` does.
+/// Searches the splices of some copies for files without a fault, as `Search` does. Their samples are at most the ceiling, if there is one.
 ///
 /// Parts of short copies are as it requires them (`parts_can_be_searched`).
 ///

@@ -48,8 +48,8 @@ returns-clause-searched c =
     let hs : List Group = c.in_ok-ordered.ordered.items in
     let same : IsPermutation gs hs = subst (λ xs. IsPermutation xs hs) c.deref.ensures.value c.in_ok-ordered.ensures.same in
     let searched : AreGroupsSearched c.args.most_tries copies ps hs by.tries (lists_of by.splices.items) by.is_used_up =
-    subst (λ xs. AreGroupsSearched c.args.most_tries copies ps xs by.tries (lists_of by.splices.items) by.is_used_up) c.deref-2.ensures.value
-    c.in_ok-searched.ensures.searched in
+    subst (λ xs. AreGroupsSearched c.args.most_tries copies ps xs by.tries (lists_of by.splices.items) by.is_used_up)
+    c.deref-2.ensures.value c.in_ok-searched.ensures.searched in
     reordered c.args.most_tries copies ps gs hs by.tries (lists_of by.splices.items) by.is_used_up same searched
 
 pub returns-clause-splices : goal.returns-clause-splices

@@ -34,11 +34,10 @@ loop-group-preserved c =
       splices = c.in_ok-more.ensures.splices;
       kept = c.in_ok-more.ensures.kept;
       searched =
-          one_more_group c.args.extent.most_tries c.args.extent.copies c.args.parts.now c.args.groups.now c.loop-group.group-index _ was.tries
-          c.saturating_add.result (record
+          one_more_group c.args.extent.most_tries c.args.extent.copies c.args.parts.now c.args.groups.now c.loop-group.group-index _
+          was.tries c.saturating_add.result (record
           { ceiling = was.ceiling; splices = was.splices; reader = was.reader; tries = 0; is_used_up = was.is_used_up })
-          c.in_ok-more.more.searched
-          c.loop-group-test.true c.loop-group.invariant.searched c.in_ok-more.ensures.goes sum;
+          c.in_ok-more.more.searched c.loop-group-test.true c.loop-group.invariant.searched c.in_ok-more.ensures.goes sum;
     }
 
 pub returns-clause-searched : goal.returns-clause-searched

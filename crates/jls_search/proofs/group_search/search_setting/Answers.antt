@@ -22,8 +22,9 @@ pub returns-clause-goes : goal.returns-clause-goes
 returns-clause-goes c =
     let before = c.args.gone.searched in
     subst (GoesThrough c.args.most_tries c.args.parts.now c.args.setting before) (sym c.went.ensures.searched)
-    (went_through c.args.most_tries c.args.parts.now c.args.setting before c.in_ok-search.search c.run.new.self c.in_ok-search.ensures.untried
-    c.in_ok-run.ensures.stands c.in_ok-run.ensures.alike c.in_ok-run.ensures.stops c.in_ok-run.ensures.went c.requires.few.0)
+    (went_through c.args.most_tries c.args.parts.now c.args.setting before c.in_ok-search.search c.run.new.self
+    c.in_ok-search.ensures.untried c.in_ok-run.ensures.stands c.in_ok-run.ensures.alike c.in_ok-run.ensures.stops
+    c.in_ok-run.ensures.went c.requires.few.0)
 
 pub returns-clause-kept : goal.returns-clause-kept
 returns-clause-kept c =

@@ -31,8 +31,8 @@ returns-clause-used_up c = λ yes.
     let went = c.in_ok-go_on.ensures.went.within in
     let none = c.in_ok-begun.ensures.untried.0 in
     let all = length-map (λ (v : Vec ℕ Global). v.items) walk.splices.items in
-    elim (used_up c.args.parts.now walk c.args.most_tries c.in_ok-go_on.ensures.stands c.in_ok-go_on.ensures.stops (omega (arith, went, none))
-    (sym same.used_up ∙ yes)) [
+    elim (used_up c.args.parts.now walk c.args.most_tries c.in_ok-go_on.ensures.stands c.in_ok-go_on.ensures.stops
+    (omega (arith, went, none)) (sym same.used_up ∙ yes)) [
       | inl made ↦ inl (same.tries ∙ made)
       | inr full ↦ inr (ap (λ (v : Vec (Vec ℕ Global) Global). length v.items) same.splices ∙ omega (arith, all, full))
     ]

@@ -17,7 +17,8 @@ returns-clause-stands c =
     c.in_ok-take_path.ensures.taken in
     let each : AllByRecursion (IsLiving ps 0) living =
     subst (λ (begin : List ℕ). AllByRecursion (IsLiving ps (length begin)) living) none
-    (c.in_ok-take_path.ensures.each (subst (AllByRecursion (IsLiving ps (length c.new.result.items))) (sym c.new-living.ensures.items) tt)) in
+    (c.in_ok-take_path.ensures.each
+    (subst (AllByRecursion (IsLiving ps (length c.new.result.items))) (sym c.new-living.ensures.items) tt)) in
     record {
       within = stop.within;
       each = read_to ps 0 c.next_stop.result stop living each;
