@@ -32,5 +32,5 @@ mod version;
 pub use answering::answer;
 pub use outcome::{Cause, Done, Refusal, exit_status};
 pub use output::{create, write_output};
-pub use printing::{print_not_created, print_outcome, print_refusal};
+pub use printing::{print_not_created, print_outcome};
 pub use version::VERSION;

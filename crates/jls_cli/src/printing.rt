@@ -205,7 +205,7 @@ fn print_cause<E: Sink>(faults: &mut E, program: &'static str, name: &str, cause
 }
 
 /// Prints why a command stopped, as one line.
-pub fn print_refusal<E: Sink>(faults: &mut E, program: &'static str, refusal: Refusal<'_>)
+fn print_refusal<E: Sink>(faults: &mut E, program: &'static str, refusal: Refusal<'_>)
     ensures { GrewBy (Printed (refusal_line program.now refusal.entry)) (E.history faults.old) (E.history faults.new) }
 {
     print_cause(faults, program, refusal.name, refusal.cause);

@@ -22,15 +22,15 @@ use std::alloc::{AllocError, Global};
 
 /// What a search by groups came to.
 #[derive(Drop)]
-pub struct SearchedGroups {
+pub(crate) struct SearchedGroups {
     /// The groups, in the order of the file.
-    pub groups: Vec<Group>,
+    pub(crate) groups: Vec<Group>,
     /// The splices that read in one of them, and whether the search was cut off.
-    pub searched: Searched,
+    pub(crate) searched: Searched,
 }
 
 /// How many splices a search by groups finds at most, of all groups.
-pub const MOST_BY_GROUPS: usize = 4096;
+pub(crate) const MOST_BY_GROUPS: usize = 4096;
 
 /// How many copies there are, and how often each group is tried at most.
 #[derive(Clone, Copy)]
@@ -265,7 +265,7 @@ fn search_in_turn(
 ///
 /// `is_used_up` says that the search of some group ended while there was more to try. Its tries were used up, or so many files were found.
 /// `tries` is what was tried in all groups, or the greatest number of its type. `Err` comes where memory is refused.
-pub fn search_groups(
+pub(crate) fn search_groups(
     alloc: Global,
     copies: &[&[u8]],
     parts: &Parts<'_>,

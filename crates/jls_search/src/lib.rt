@@ -107,7 +107,6 @@ pub use faultless::{is_dead, is_faultless, is_read_faultless, is_sought};
 pub use feeding::{feed_any, reader_of};
 pub use files::Files;
 pub use found::{FoundSplices, GroupsReported, complete_by_groups};
-pub use group_search::{MOST_BY_GROUPS, SearchedGroups, search_groups};
 pub use kept::{Judge, KeptReader};
 pub use laws::{parts_can_be_searched, searches_come_to_each_splice};
 pub use learning_code::{LearningCode, PARTS_OF_BIT};
