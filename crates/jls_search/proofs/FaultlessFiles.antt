@@ -121,20 +121,20 @@ dead_if_done stay (Some prefix) done t h has_fault = λ more low f.
 
 -- Answers ----------------------------------------------------------------------------------------------------------
 
-pub never_faultless : (fed : Option (List ℕ)) (fault : CopyFault) (r : Result Bool AllocError)
-    → IfOk r (λ answer. IsAnswerWithoutFrame fault answer)
+pub faultless_if_sought : (fed : Option (List ℕ)) (r : Result Bool AllocError)
+    → IfOk r (λ answer. answer ≡ true → IfSome fed (λ bytes. IsSought None bytes))
     → IfOk r (λ answer. answer ≡ true → IfSome fed (λ bytes. IsFaultless bytes))
-never_faultless fed (NoPicture f n) (Ok answer) h = λ t. absurd cc
-never_faultless fed OutOfMemory (Ok answer) h = absurd h
-never_faultless fed fault (Err e) h = tt
+faultless_if_sought fed (Ok answer) h = λ t. some_then fed (λ bytes. IsSought None bytes) (λ bytes. IsFaultless bytes)
+    (λ bytes sought. sought.0) (h t)
+faultless_if_sought fed (Err e) h = tt
 
-pub ever_faulty : (fed : Option (List ℕ)) (fault : CopyFault) (r : Result Bool AllocError)
-    → IfOk r (λ answer. IsAnswerWithoutFrame fault answer)
-    → IfSome fed (λ bytes. CopyGivesNoneUnder Wide bytes fault)
+pub faulty_if_unsought : (fed : Option (List ℕ)) (r : Result Bool AllocError)
+    → IfOk r (λ answer. answer ≡ false → IfSome fed (λ bytes. AllByRecursion (λ b. b < 256) bytes → IsSought None bytes → ⊥))
     → IfOk r (λ answer. answer ≡ false → IfSome fed (λ bytes. AllByRecursion (λ b. b < 256) bytes → IsFaultless bytes → ⊥))
-ever_faulty fed (NoPicture f n) (Ok answer) h none = λ _. faulty_without_frame fed f n none
-ever_faulty fed OutOfMemory (Ok answer) h none = absurd h
-ever_faulty fed fault (Err e) h none = tt
+faulty_if_unsought fed (Ok answer) h = λ t. some_then fed (λ bytes. AllByRecursion (λ b. b < 256) bytes → IsSought None bytes → ⊥)
+    (λ bytes. AllByRecursion (λ b. b < 256) bytes → IsFaultless bytes → ⊥)
+    (λ bytes unsought low faultless. unsought low (faultless, tt)) (h t)
+faulty_if_unsought fed (Err e) h = tt
 
 pub ever_unsought : (ceiling : Option ℕ) (fed : Option (List ℕ)) (fault : CopyFault) (r : Result Bool AllocError)
     → IfOk r (λ answer. IsAnswerWithoutFrame fault answer) → IfSome fed (λ bytes. CopyGivesNoneUnder Wide bytes fault)

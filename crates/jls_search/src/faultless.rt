@@ -25,12 +25,13 @@ fn ends_well(end: End) -> bool
     }
 }
 
-/// Whether what was read is a file without a fault: no fault of the headers ended it, no piece of it is faulty, and each line of its frame
+/// Whether what was read is a file without a fault. No fault of the headers ended it, no piece of it is faulty, and each line of its frame
 /// is read.
 pub fn is_read_faultless(read: &CopyRead) -> bool
     ensures faultless { result ≡ true → (file : List ℕ) → CopyReadsUnder Wide file read.now → IsFaultless file }
     ensures faulty { result ≡ false
         → (file : List ℕ) → CopyReadsUnder Wide file read.now → AllByRecursion (λ b. b < 256) file → IsFaultless file → ⊥ }
+    ensures ends { result ≡ true → EndsWell read.now.ended }
 {
     records_are_of_faulty_pieces_under();
     if read.piece_count() != 0 {
@@ -59,10 +60,7 @@ pub fn is_faultless(reader: WideReader) -> Result<bool, AllocError>
     ensures faulty { IfOk result
         (λ answer. answer ≡ false → IfSome reader (λ bytes. AllByRecursion (λ b. b < 256) bytes → IsFaultless bytes → ⊥)) }
 {
-    match reader.finish() {
-        Ok(read) => Ok(is_read_faultless(&read)),
-        Err(fault) => without_frame(fault),
-    }
+    is_sought(None, reader)
 }
 
 /// Whether what was read is a file without a fault, whose samples are at most the ceiling, if there is one.
@@ -79,8 +77,8 @@ fn is_read_sought(ceiling: Option<u16>, read: &CopyRead) -> bool
     is_read_within(ceiling, read.partial())
 }
 
-/// Whether what was fed is a file that is sought, if it ends here: one without a fault, whose samples are at most the ceiling, if there is
-/// one. The only refusal is out of memory.
+/// Whether what was fed is a file that is sought, if it ends here. Such a file has no fault, and its samples are at most the ceiling, if
+/// there is one. The only refusal is out of memory.
 pub fn is_sought(ceiling: Option<u16>, reader: WideReader) -> Result<bool, AllocError>
     ensures sought { IfOk result (λ answer. answer ≡ true → IfSome reader (λ bytes. IsSought ceiling bytes)) }
     ensures unsought { IfOk result
@@ -92,7 +90,7 @@ pub fn is_sought(ceiling: Option<u16>, reader: WideReader) -> Result<bool, Alloc
     }
 }
 
-/// Whether it is a file with a fault.
+/// Whether what was fed is a file with a fault, if it ends here.
 fn has_fault(reader: WideReader) -> Result<bool, AllocError>
     ensures { IfOk result
         (λ answer. answer ≡ true → IfSome reader (λ bytes. AllByRecursion (λ b. b < 256) bytes → IsFaultless bytes → ⊥)) }
@@ -104,7 +102,7 @@ fn has_fault(reader: WideReader) -> Result<bool, AllocError>
     Ok(true)
 }
 
-/// Whether it is known that no file without a fault begins with the bytes fed, whatever comes: a piece that a marker closed is faulty, or
+/// Whether it is known that no file without a fault begins with the bytes fed, whatever comes. A piece that a marker closed is faulty, or
 /// the piece in hand is broken. `false` says nothing.
 pub(crate) fn is_broken(reader: &WideReader) -> bool
     ensures { result ≡ true → IfSome reader.now (λ prefix. IsDead IsFaultless prefix) }
@@ -138,7 +136,7 @@ pub fn is_dead(reader: WideReader) -> Result<bool, AllocError>
     Ok(false)
 }
 
-/// The same, of a reader that goes on.
+/// Whether it is known that no file without a fault begins with the bytes fed, as `is_dead` tells it. The reader goes on.
 pub(crate) fn is_found_dead(reader: &WideReader) -> Result<bool, AllocError>
     ensures { IfOk result (λ dead. dead ≡ true → IfSome reader.now (λ prefix. IsDead IsFaultless prefix)) }
 {

@@ -24,7 +24,7 @@ pub struct KeptReader {
 /// What a search judges paths by. A path that begins with the choices of a reader is read from there on, and not from its first byte.
 #[derive(Drop)]
 pub struct Judge {
-    /// The greatest sample that a whole file may have that is sought, if there is a limit.
+    /// The greatest sample that a whole file may have that is sought, if there is a ceiling.
     pub ceiling: Option<u16>,
     /// In a search of a group: the reader of the last open path up to the part where the group begins. A search of whole files fills it
     /// never.
@@ -63,7 +63,7 @@ pub(crate) fn begun_from(
     })
 }
 
-/// A reader to go on from along the path: a clone of the kept one, if its choices begin the path, and else a new one.
+/// A reader to go on from along the path: from the kept one as `begun_from` does, or a new one if none is kept.
 pub(crate) fn begun_on(
     alloc: Global,
     kept: &Option<KeptReader>,
@@ -71,17 +71,13 @@ pub(crate) fn begun_on(
 ) -> Result<BegunReader, AllocError>
     ensures { (parts : List Part) → IfSome kept.now (IsKeptReader parts) → IfOk result (IsBegunOn parts path.now) }
 {
-    if let Some(last) = kept {
-        if path.starts_with(&last.choices) {
-            let choices = last.choices.len();
-            let reader = last.reader.try_clone()?;
-            return Ok(BegunReader { reader, choices });
-        }
+    match kept {
+        Some(last) => begun_from(alloc, last, path),
+        None => Ok(BegunReader {
+            reader: WideReader::new(alloc),
+            choices: 0,
+        }),
     }
-    Ok(BegunReader {
-        reader: WideReader::new(alloc),
-        choices: 0,
-    })
 }
 
 /// A reader that was fed what the path makes. It goes on from one that was fed what the first choices make.

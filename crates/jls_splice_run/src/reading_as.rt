@@ -4,10 +4,9 @@ ghost use Rattle.std.specs.Prelude.{◌≡◌, ℕ, List, ◌<◌, true, length,
 ghost use Rattle.std.specs.List.{AllByRecursion};
 ghost use Rattle.jls_copy.specs.CopyReads.{CopyReads};
 ghost use Rattle.jls_held.specs.Mending.{file_of};
-ghost use Rattle.jls_search.specs.Faultless.{EndsWell};
 ghost use Rattle.jls_splice_run.specs.ReadsAs.{EachReadsAs, HaveComponentAlike, HaveLineAlike, HaveSameSize, ReadsAs};
 
-use jls_copy::{CopyFault, CopyRead, CopyReader, End};
+use jls_copy::{CopyFault, CopyRead, CopyReader};
 use jls_held::MendedCopy;
 use jls_partial::Partial;
 use jls_search::is_read_faultless;
@@ -79,26 +78,11 @@ pub(crate) fn are_one_picture(one: &Partial, other: &Partial) -> bool {
     have_all_alike(one, other)
 }
 
-/// Whether no fault of the headers ended what was read.
-fn ends_well(end: End) -> bool
-    ensures { result ≡ true → EndsWell end }
-{
-    match end {
-        End::Eoi(_) => true,
-        End::Input(_) => true,
-        End::Header(_, _) => false,
-    }
-}
-
 /// Whether a file of which this was read has no fault, and gives each line of the picture, and no other.
 fn is_read_as(read: &CopyRead, picture: &Partial) -> bool
     ensures { result ≡ true → (file : List ℕ) → CopyReads file read.now
         → AllByRecursion (λ b. b < 256) file → ReadsAs picture.now file }
 {
-    let well_ended = ends_well(read.ended());
-    if !well_ended {
-        return false;
-    }
     let faultless = is_read_faultless(read);
     if !faultless {
         return false;

@@ -25,6 +25,11 @@ returns-clause-faultless c = λ yes file reads.
     (subst EndsWell c.ended.ensures (c.ends_well-well_ended.ensures.0 well))
     (subst IsEachLineRead c.partial.ensures (c.is_each_line_read.ensures.0 each))
 
+pub returns-clause-ends : goal.returns-clause-ends
+returns-clause-ends c = λ yes.
+    let well : IsTrue c.ends_well-well_ended.result = search rules in
+    subst EndsWell c.ended.ensures (c.ends_well-well_ended.ensures.0 well)
+
 pub returns-clause-faulty : goal.returns-clause-faulty
 returns-clause-faulty c = λ no file reads low faultless.
     let r = faultless_read (c.records_are_of_faulty_pieces_under.ensures Wide) file c.args.read.now reads low faultless in

@@ -1,7 +1,6 @@
 use Rattle.std.proofs.Common.{◌≡◌, ◌∙◌, ℕ, ◌<◌, length, ap, subst}
 use Rattle.jls_values.specs.Shape.{PictureShape}
 use Rattle.jls_partial.specs.Partial.{PartialPicture}
-use Rattle.jls_search.specs.Faultless.{EndsWell}
 use Rattle.jls_splice_run.specs.ReadsAs.{HaveComponentAlike, HaveSameSize}
 use Rattle.jls_splice_run.proofs.StrictCourses.{wide_reading}
 use Rattle.jls_splice_run.proofs.reading_as.is_read_as.Goals as goal
@@ -13,7 +12,7 @@ returns c =
     let of_read : c.shape.result.now ≡ c.args.read.now.partial.shape =
     c.shape.ensures.value ∙ ap (λ (p : PartialPicture). p.shape) c.partial.ensures in
     let sized = c.have_same_size-sized.ensures c.if-not-sized.false in
-    let well = subst EndsWell c.ended.ensures (c.ends_well-well_ended.ensures c.if-not-well_ended.false) in
+    let well = c.is_read_faultless-faultless.ensures.ends c.if-not-faultless.false in
     record {
       are_bytes = bytes;
       faultless = c.is_read_faultless-faultless.ensures.faultless c.if-not-faultless.false file (wide_reading file c.args.read.now reads well);
