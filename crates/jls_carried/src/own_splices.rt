@@ -4,12 +4,12 @@ ghost use Rattle.std.specs.Prelude.{◌<◌, length, IfOk};
 ghost use Rattle.std.specs.List.{AllByRecursion};
 ghost use Rattle.jls_diff.specs.Parts.{AreParts};
 ghost use Rattle.jls_diff.specs.PartsOf.{bytes_of, parts_of};
-ghost use Rattle.jls_search.specs.Choices.{HasSomeWay};
-ghost use Rattle.jls_search.specs.Search.{IsShort};
+ghost use Rattle.jls_search.specs.Choices.{HasSomeWay, IsWhole};
+ghost use Rattle.jls_search.specs.Search.{IsShort, lists_of};
 ghost use Rattle.jls_search.specs.SearchLaws.{AreShort};
 
-use jls_diff::{Part, Parts, find_finer_parts, find_parts};
-use jls_search::{LevelRules, LevelSearch, Searched, are_short, parts_can_be_searched};
+use jls_diff::{Parts, find_finer_parts, find_parts};
+use jls_search::{LevelRules, LevelSearch, Searched, are_short, file_of, parts_can_be_searched};
 use std::alloc::{AllocError, Global};
 
 /// How many files of a coding are taken at most. Where there are more, none of them says much.
@@ -32,41 +32,59 @@ fn search_levels(
 ) -> Result<Searched, AllocError>
     requires some_way { AllByRecursion HasSomeWay parts.now }
     requires short { IsShort parts.now }
+    ensures { IfOk result (λ searched. AllByRecursion (IsWhole parts.now) (lists_of searched.splices.items)) }
 {
     let mut search = LevelSearch::begin(alloc, parts, rules)?;
     'levels: while !search.is_over(parts) {
         search.go_on(alloc, parts)?;
     }
-    search.into_searched(alloc, parts)
+    let searched = search.into_searched(alloc, parts)?;
+    Ok(searched)
 }
 
-/// The bytes of this way of a part, if there is one.
-fn way_at<'a>(parts: &Parts<'a>, place: usize, choice: usize) -> Option<&'a [u8]> {
-    if place >= parts.len() {
-        return None;
-    }
-    match parts.part(place) {
-        Part::Same(bytes) => Some(*bytes),
-        Part::Differ(ways) => ways.get(choice).copied(),
-    }
-}
-
-/// The bytes that choices make.
-fn bytes_of_choices(
+/// Searches the splices of these parts: each way is judged, or else paths are let go.
+fn search_over(
     alloc: Global,
     parts: &Parts<'_>,
-    choices: &[usize],
-) -> Result<Vec<u8>, AllocError> {
-    let mut file = Vec::new(alloc);
-    for (place, choice) in choices.iter().enumerate() {
-        if let Some(way) = way_at(parts, place, *choice) {
-            file.extend_from_slice(way)?;
-        }
+    bounds: SearchBounds,
+) -> Result<Searched, AllocError>
+    requires some_way { AllByRecursion HasSomeWay parts.now }
+    requires short { IsShort parts.now }
+    ensures { IfOk result (λ searched. AllByRecursion (IsWhole parts.now) (lists_of searched.splices.items)) }
+{
+    let mut rules = LevelRules {
+        ceiling: bounds.limit,
+        tries: bounds.tries,
+        lets_go: false,
+    };
+    let searched = search_levels(alloc, parts, rules)?;
+    if !searched.is_used_up || !searched.splices.is_empty() {
+        return Ok(searched);
     }
-    Ok(file)
+    rules.lets_go = true;
+    search_levels(alloc, parts, rules)
 }
 
-/// The files that a search over these parts finds, and that are no copies: one that judges each way, or else one that lets paths go.
+/// Of the files that choices make those that are no copies.
+fn new_files(
+    alloc: Global,
+    copies: &[&[u8]],
+    parts: &Parts<'_>,
+    splices: &[Vec<usize>],
+) -> Result<Vec<Vec<u8>>, AllocError>
+    requires { AllByRecursion (IsWhole parts.now) (lists_of splices.now) }
+{
+    let mut files = Vec::new(alloc);
+    for choices in splices {
+        let file = file_of(alloc, parts, choices)?;
+        if !copies.iter().any(|copy| **copy == *file) {
+            files.push(file)?;
+        }
+    }
+    Ok(files)
+}
+
+/// The files that a search over these parts finds, and that are no copies. There are none if it finds too many.
 fn files_over<'a>(
     alloc: Global,
     copies: &[&'a [u8]],
@@ -78,26 +96,11 @@ fn files_over<'a>(
     requires parts { AreParts (bytes_of copies.now) parts.now }
 {
     parts_can_be_searched();
-    let mut rules = LevelRules {
-        ceiling: bounds.limit,
-        tries: bounds.tries,
-        lets_go: false,
-    };
-    let mut searched = search_levels(alloc, parts, rules)?;
-    if searched.is_used_up && searched.splices.is_empty() {
-        rules.lets_go = true;
-        searched = search_levels(alloc, parts, rules)?;
+    let searched = search_over(alloc, parts, bounds)?;
+    if searched.splices.len() > MOST_OWN {
+        return Ok(Vec::new(alloc));
     }
-    let mut files = Vec::new(alloc);
-    if searched.splices.len() <= MOST_OWN {
-        for choices in &searched.splices {
-            let file = bytes_of_choices(alloc, parts, choices)?;
-            if !copies.iter().any(|copy| **copy == *file) {
-                files.push(file)?;
-            }
-        }
-    }
-    Ok(files)
+    new_files(alloc, copies, parts, &searched.splices)
 }
 
 /// The files that copies of one coding make, over their parts, or over finer ones if there are none over these.

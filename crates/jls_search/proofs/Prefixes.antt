@@ -33,6 +33,13 @@ prefix_more (p ∷ ps) (c ∷ cs) (suc i) h l =
     ap (λ z. way c p ++ z) (prefix_more ps cs i h.1 (omega (arith, l)))
     ∙ sym (append_assoc (way c p) (prefix_of ps (take i cs)) (way (get_or cs i 0) (get_or ps i (Same []))))
 
+-- one choice more
+pub prefix_one_more : (ps : List Part) (cs : List ℕ) (i : ℕ) (file bytes : List ℕ) → IsPath ps cs → i < length cs
+    → file ≡ prefix_of ps (take i cs) → bytes ≡ way (get_or cs i 0) (get_or ps i (Same [])) → file ++ bytes ≡ prefix_of ps (take (i + 1) cs)
+prefix_one_more ps cs i file bytes path l is here =
+    let e : i + 1 ≡ suc i = omega arith in
+    rw e (ap (λ z. z ++ bytes) is ∙ ap (λ z. prefix_of ps (take i cs) ++ z) here ∙ sym (prefix_more ps cs i path l))
+
 pub prefix_at_most : (ps : List Part) (cs : List ℕ) (i : ℕ) → IsPath ps cs → length (prefix_of ps (take i cs)) ≤ length (prefix_of ps cs)
 prefix_at_most ps cs zero h = omega arith
 prefix_at_most ps [] (suc i) h = omega arith

@@ -4,7 +4,7 @@
 //! - `short`: whether copies are short enough for a search
 //! - `choosing`: choices at a part; `path`: goes through choices of parts in depth-first order
 //! - `setting`: what a search is after: whole files, or a group and the copy that the rest of the file is taken from
-//! - `feeding`: feeds what they make to a `WideReader`
+//! - `making`: the bytes that they make, in memory; `feeding`: feeds these to a `WideReader`
 //! - `faultless`: judges it: a file without a fault, or a prefix that none begins with
 //! - `lines`: whether each line of a picture was read
 //! - `ceiling`: whether samples are at most the greatest that a file may have that is sought
@@ -81,6 +81,7 @@ mod levels;
 mod lines;
 mod living;
 mod looking;
+mod making;
 mod next_level;
 mod offsets;
 mod order;
@@ -112,6 +113,7 @@ pub use laws::{parts_can_be_searched, searches_come_to_each_splice};
 pub use learning_code::{LearningCode, PARTS_OF_BIT};
 pub use level_search::LevelSearch;
 pub use levels::{lone_path, trusted_path};
+pub use making::file_of;
 pub use next_level::{LevelRules, LivingPath};
 pub use saving::Saving;
 pub use searching::Search;

@@ -7,22 +7,13 @@ use Rattle.std.proofs.lemmas.List.{length-map}
 use Rattle.std.proofs.lemmas.List.Sums.{sum_by-cons}
 use Rattle.jls_diff.proofs.Slices.{count_of_slices}
 use Rattle.jls_diff.specs.PartsOf.{bytes_of}
-use Rattle.jls_diff.specs.Parts.{AreParts, Part, Same, made, way}
-use Rattle.jls_search.proofs.Prefixes.{prefix_more}
-use Rattle.jls_search.specs.Choices.{IsPath, prefix_of}
+use Rattle.jls_diff.specs.Parts.{AreParts, Part, made}
 use Rattle.jls_search.specs.SearchLaws.{AreShort}
 use Rattle.jls_search.specs.Found.{Found}
 use Rattle.jls_splice_run.specs.Limits.{has_some}
 use Rattle.jls_splice_run.specs.Making.{files_reported, lacks_single, promise_of}
 use Rattle.jls_splice_run.specs.declared.found.Promise.TheVariants.{Picture, Lines}
 use Rattle.jls_splice_run.specs.Single.{IsSingleAsked}
-
--- one choice more
-pub prefix_one_more : (ps : List Part) (cs : List ℕ) (i : ℕ) (file bytes : List ℕ) → IsPath ps cs → i < length cs
-    → file ≡ prefix_of ps (take i cs) → bytes ≡ way (get_or cs i 0) (get_or ps i (Same [])) → file ++ bytes ≡ prefix_of ps (take (i + 1) cs)
-prefix_one_more ps cs i file bytes path l is here =
-    let e : i + 1 ≡ suc i = omega arith in
-    rw e (ap (λ z. z ++ bytes) is ∙ ap (λ z. prefix_of ps (take i cs) ++ z) here ∙ sym (prefix_more ps cs i path l))
 
 -- the first copy of short ones is short
 first_within : (copies : List (List ℕ)) → length (get_or copies 0 []) ≤ sum_by length copies

@@ -1,10 +1,9 @@
-//! The files that a search found, as bytes; and whether others have bytes that none of them has.
+//! How many of the files that a search found are no copies; and whether others have bytes that none of them has.
 
-ghost use Rattle.std.specs.Prelude.{◌≡◌, ◌-◌, ◌^◌, ◌≤◌, ◌<◌, length, IfOk, get_or, [], map, option_map};
+ghost use Rattle.std.specs.Prelude.{◌≡◌, ◌^◌, ◌≤◌, ◌<◌, length, IfOk, map, option_map};
 ghost use Rattle.std.specs.List.{AllByRecursion};
-ghost use Rattle.jls_diff.specs.Parts.{Same, way};
-ghost use Rattle.jls_diff.specs.PartsOf.{bytes_of, part_of, parts_of};
-ghost use Rattle.jls_search.specs.Choices.{IsFirstWay, IsPath, IsWhole, prefix_of};
+ghost use Rattle.jls_diff.specs.PartsOf.{bytes_of, parts_of};
+ghost use Rattle.jls_search.specs.Choices.{IsWhole};
 ghost use Rattle.jls_search.specs.Files.{files_taken};
 ghost use Rattle.jls_search.specs.Search.{files_of, lists_of};
 ghost use Rattle.jls_splice_run.specs.Files as spec;
@@ -12,24 +11,8 @@ ghost use Rattle.jls_splice_run.specs.Listing.{named_files};
 
 use crate::listing::NumberedFile;
 use jls_diff::Parts;
-use jls_search::Files;
+use jls_search::{Files, file_of};
 use std::alloc::{AllocError, Global};
-
-/// The bytes that choices make.
-pub(crate) fn file_of(
-    alloc: Global,
-    parts: &Parts<'_>,
-    choices: &[usize],
-) -> Result<Vec<u8>, AllocError>
-    requires { IsPath parts.now choices.now }
-    ensures { IfOk result (λ file. file.items ≡ prefix_of parts.now choices.now) }
-{
-    let mut file = Vec::new(alloc);
-    for place in 0..choices.len() {
-        file.extend_from_slice(parts.way(place, choices[place]))?;
-    }
-    Ok(file)
-}
 
 /// Whether a file has the bytes of a copy.
 fn is_copy(copies: &[&[u8]], file: &[u8]) -> bool

@@ -11,8 +11,7 @@ ghost use Rattle.jls_search.specs.Files.{AreVerdicts, files_taken, splices_found
 ghost use Rattle.jls_splice_run.specs.Listing.{AreNamed, IsNumbered, is_named, named_files, numbered};
 
 use crate::completing::completed;
-use crate::files::file_of;
-use jls_search::Files;
+use jls_search::{Files, file_of};
 use std::alloc::{AllocError, Global};
 
 /// How many files get a name at most.

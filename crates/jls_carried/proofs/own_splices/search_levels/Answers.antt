@@ -1,4 +1,8 @@
 use Rattle.std.proofs.Common.{arith}
+use Rattle.jls_values.proofs.Lists.{all_weaker}
+use Rattle.jls_search.specs.Choices.{IsWhole, prefix_of}
+use Rattle.jls_search.specs.Faultless.{IsSought}
+use Rattle.jls_search.specs.Search.{lists_of}
 use Rattle.jls_carried.proofs.own_splices.search_levels.Goals as goal
 
 pub levels-init : goal.levels-init
@@ -16,3 +20,10 @@ levels-smaller c =
     let further = c.in_ok-go_on.ensures.further in
     let within = c.in_ok-go_on.ensures.stands.within in
     omega (arith, further, within)
+
+pub returns : goal.returns
+returns c =
+    let ps = c.args.parts.now in
+    let searched = c.in_ok-searched.searched in
+    all_weaker (λ choices. IsWhole ps choices × IsSought c.levels.search.rules.ceiling (prefix_of ps choices)) (IsWhole ps)
+    (lists_of searched.splices.items) (λ choices h. h.0) c.in_ok-searched.ensures.came_to.files

@@ -1,8 +1,8 @@
 use Rattle.std.proofs.Common.{List, ◌∙◌}
 use Rattle.jls_diff.specs.Parts.{Part}
 use Rattle.jls_search.proofs.Paths.{path_at}
-use Rattle.jls_splice_run.proofs.MakingLemmas.{prefix_one_more}
-use Rattle.jls_splice_run.proofs.files.file_of.Goals as goal
+use Rattle.jls_search.proofs.Prefixes.{prefix_one_more}
+use Rattle.jls_search.proofs.making.file_of.Goals as goal
 
 pub way-requires : goal.way-requires
 way-requires c =
