@@ -20,10 +20,10 @@ fn are_several(codings: &[usize]) -> bool {
     codings.iter().any(|coding| *coding != 0)
 }
 
-/// Whether no sample of a line is above the limit, if there is one.
-fn is_within(line: &Option<Vec<u16>>, limit: Option<u16>) -> bool {
-    match (line, limit) {
-        (Some(line), Some(limit)) => line.iter().all(|sample| *sample <= limit),
+/// Whether no sample of a line is above the ceiling, if there is one.
+fn is_within(line: &Option<Vec<u16>>, ceiling: Option<u16>) -> bool {
+    match (line, ceiling) {
+        (Some(line), Some(ceiling)) => line.iter().all(|sample| *sample <= ceiling),
         _ => true,
     }
 }
@@ -97,12 +97,12 @@ struct CarriedSize {
     components: usize,
 }
 
-/// What is proposed of each coding of these copies. Nothing, where a line that is settled has a sample above the limit.
+/// What is proposed of each coding of these copies. Nothing, where a line that is settled has a sample above the ceiling.
 fn proposed_of(
     alloc: Global,
     carried: Carried,
     size: CarriedSize,
-    limit: Option<u16>,
+    ceiling: Option<u16>,
 ) -> Result<Proposed, AllocError> {
     let Carried {
         codings,
@@ -113,7 +113,7 @@ fn proposed_of(
     let count = size.copies;
     let is_doubtful = has_disputed || has_gap(&lines, size.components);
     let mut proposals = Vec::new(alloc);
-    if lines.iter().all(|line| is_within(line, limit)) {
+    if lines.iter().all(|line| is_within(line, ceiling)) {
         for coding in codings {
             let edited = edited_copies(alloc, coding, count)?;
             if !edited.is_empty() {
@@ -241,7 +241,7 @@ fn carry_with_splices(
     let splices = splices_of_codings(alloc, speakers, codings, bounds)?;
     if splices.is_empty() {
         let carried = carry(alloc, speakers, codings, speakers.len())?;
-        return proposed_of(alloc, carried, size, bounds.limit);
+        return proposed_of(alloc, carried, size, bounds.ceiling);
     }
     let numbers = numbers_with(alloc, codings, &splices)?;
     let all = with_splices(alloc, speakers, splices)?;
@@ -250,7 +250,7 @@ fn carry_with_splices(
         slices.push(bytes)?;
     }
     let carried = carry(alloc, &slices, &numbers, speakers.len())?;
-    proposed_of(alloc, carried, size, bounds.limit)
+    proposed_of(alloc, carried, size, bounds.ceiling)
 }
 
 /// What copies in several codings give each other.
@@ -265,10 +265,10 @@ pub struct Between {
     pub is_doubtful: bool,
 }
 
-/// What copies give each other, for a picture of this shape: mended files, one for each coding of copies, with the edits that make it of
-/// them, and the lines that these files hold. Witnesses give the copies lines, and hold none. `None` comes where all are of one coding, as
-/// far as can be told. Nothing is proposed that has a sample above the limit, if there is one. The
-/// splices of each coding are searched, and speak beside its copies. `Err` comes where memory is refused.
+/// What copies give each other, for a picture of this shape. Each coding of copies has a mended file, with the edits that make it of them.
+/// The lines are those that these files hold. Witnesses give the copies lines, and hold none. `None` comes where all are of one coding, as
+/// far as can be told. Nothing is proposed that has a sample above the ceiling, if there is one. The splices of each coding are searched,
+/// and speak beside its copies. `Err` comes where memory is refused.
 ///
 /// No contract speaks of what is found, but that it is as judged.
 pub fn carry_between(

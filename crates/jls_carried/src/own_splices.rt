@@ -18,8 +18,8 @@ const MOST_OWN: usize = 4;
 /// What a search is allowed.
 #[derive(Clone, Copy)]
 pub struct SearchBounds {
-    /// The greatest sample that a file may have, if there is a limit.
-    pub limit: Option<u16>,
+    /// The greatest sample that a file may have, if there is such a ceiling.
+    pub ceiling: Option<u16>,
     /// How many ways are judged at most.
     pub tries: u32,
 }
@@ -53,7 +53,7 @@ fn search_over(
     ensures { IfOk result (λ searched. AllByRecursion (IsWhole parts.now) (lists_of searched.splices.items)) }
 {
     let mut rules = LevelRules {
-        ceiling: bounds.limit,
+        ceiling: bounds.ceiling,
         tries: bounds.tries,
         lets_go: false,
     };

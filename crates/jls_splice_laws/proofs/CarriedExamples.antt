@@ -366,7 +366,7 @@ what_was_made = record {
 
 is_made : IsMade asked copies what_was_made
 is_made = record {
-  is_found_for = record { limit_is = tt; is_found = is_found; of_groups = of_groups };
+  is_found_for = record { ceiling_is = tt; is_found = is_found; of_groups = of_groups };
   cut_ceiling_is = tt;
   is_lone = tt;
   is_cut = inl refl;

@@ -13,7 +13,7 @@ use Rattle.jls_carried.specs.CodingLines.{are_all_printed}
 use Rattle.jls_splice_run.specs.Carrying.{Carried, IsCarried, carried_promise, handed_by, joined}
 use Rattle.jls_splice_run.specs.Copies.{bytes_read}
 use Rattle.jls_splice_run.specs.Making.{Made, files_taken, promise_with}
-use Rattle.jls_splice_run.specs.Limits.{has_some}
+use Rattle.jls_splice_run.specs.Ceilings.{has_some}
 use Rattle.jls_splice_run.specs.ReadsAs.{EachReadsAs, ReadsAs}
 use Rattle.jls_splice_run.specs.declared.found.Promise.{Promise}
 use Rattle.jls_splice_run.specs.declared.found.Promise.TheVariants.{Held, Picture, Lines}

@@ -31,7 +31,7 @@ use Rattle.jls_splice_run.specs.BadLists.{AreSearched}
 use Rattle.jls_splice_run.specs.Inputs.{AreInputs}
 use Rattle.jls_splice_run.specs.Copies.{AreWhole, bytes_read, stops_read}
 use Rattle.jls_splice_run.specs.Handing.{HandsAll}
-use Rattle.jls_splice_run.specs.Limits.{has_some}
+use Rattle.jls_splice_run.specs.Ceilings.{has_some}
 use Rattle.jls_splice_run.specs.Listing.{AreNamedAsked, NamedFile, is_named}
 use Rattle.jls_splice_run.specs.Single.{IsOnly, IsSingleAsked}
 use Rattle.jls_splice_run.specs.Making.{IsCutFile, IsCutTaken, IsMade, IsPictureOf, IsPictureOfFiles, Made, cut_file, is_of_picture}
@@ -270,7 +270,7 @@ module _ (a : Asked) (copies taken : List (List ℕ)) (shape : PictureShape) (cu
 
   among_beside : (promise : Promise) (mended : List MendedFile) → Contains (files_beside promise mended taken) file
   among_beside Held mended = Contains-append_right (map (λ (f : MendedFile). f.bytes) mended) taken file among
-  among_beside (Picture limit) mended = among
+  among_beside (Picture printed) mended = among
   among_beside Lines mended = among
 
   -- and files of which it is one have the numbers
@@ -294,22 +294,22 @@ picture_is_given : (a : Asked) (copies : List (List ℕ)) (m : Made) → IsMade 
 picture_is_given a copies m is none = is.picture_is ∙ ap (λ (c : Option Carried). joined a.options.source c m.given) none
 
 -- what the promise stands on
-promised : (carried : Option Carried) (ceiling limit : Option ℕ) (f : Found) (is_settled : Bool)
-    → promise_with carried ceiling f is_settled ≡ Picture limit
-    → (f.is_used_up ≡ false) × (has_some f.choices ≡ true) × (is_settled ≡ true) × (ceiling ≡ limit) × (carried ≡ None)
-promised None ceiling limit f is_settled e =
+promised : (carried : Option Carried) (ceiling printed : Option ℕ) (f : Found) (is_settled : Bool)
+    → promise_with carried ceiling f is_settled ≡ Picture printed
+    → (f.is_used_up ≡ false) × (has_some f.choices ≡ true) × (is_settled ≡ true) × (ceiling ≡ printed) × (carried ≡ None)
+promised None ceiling printed f is_settled e =
     let p = by f.is_used_up (has_some f.choices) is_settled e in (p.0, p.1, p.2, p.3, refl)
   where
     by : (used some all : Bool)
-        → (if used then Lines else (if some then (if all then Picture ceiling else Lines) else Lines)) ≡ Picture limit
-        → (used ≡ false) × (some ≡ true) × (all ≡ true) × (ceiling ≡ limit)
+        → (if used then Lines else (if some then (if all then Picture ceiling else Lines) else Lines)) ≡ Picture printed
+        → (used ≡ false) × (some ≡ true) × (all ≡ true) × (ceiling ≡ printed)
     by true some all e = absurd cc
     by false false all e = absurd cc
     by false true false e = absurd cc
     by false true true e = (refl, refl, refl, cc)
-promised (Some c) ceiling limit f is_settled e = absurd (by c.is_held c.are_read (are_sound c.codings c.strangers) e)
+promised (Some c) ceiling printed f is_settled e = absurd (by c.is_held c.are_read (are_sound c.codings c.strangers) e)
   where
-    by : (held read sound : Bool) → (if held then (if read then (if sound then Held else Lines) else Lines) else Lines) ≡ Picture limit → ⊥
+    by : (held read sound : Bool) → (if held then (if read then (if sound then Held else Lines) else Lines) else Lines) ≡ Picture printed → ⊥
     by false read sound e = cc
     by true false sound e = cc
     by true true false e = cc
@@ -387,11 +387,11 @@ module _ (are_faultless : WholeFilesAreFaultless) (words : List Text) (a : Asked
         (are_faultless pic file is.whole) completed
 
 pub spliced_runs_give_no_other : WholeFilesAreFaultless → SplicedCopiesGiveNoOther → SplicedRunsGiveNoOther
-spliced_runs_give_no_other are_faultless never words a desk report faults d limit promises =
-    let p = promised d.made.carried d.made.ceiling limit d.made.found d.made.is_settled promises in
+spliced_runs_give_no_other are_faultless never words a desk report faults d printed promises =
+    let p = promised d.made.carried d.made.ceiling printed d.made.found d.made.is_settled promises in
     let settled : IsSettled d.made.picture = d.is_made.settled.0 p.2 in
     record {
-      of_limit = p.3;
+      of_ceiling = p.3;
       not_cut_off = p.0;
       some_file = p.1;
       settled = settled;

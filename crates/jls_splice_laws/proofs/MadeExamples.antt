@@ -333,7 +333,7 @@ what_was_made = record {
 
 is_made : IsMade asked (file ∷ other ∷ []) what_was_made
 is_made = record {
-  is_found_for = record { limit_is = tt; is_found = is_found; of_groups = tt };
+  is_found_for = record { ceiling_is = tt; is_found = is_found; of_groups = tt };
   cut_ceiling_is = tt;
   is_lone = tt;
   is_cut = inl refl;

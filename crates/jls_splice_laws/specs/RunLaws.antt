@@ -20,7 +20,7 @@ use Rattle.jls_splice_run.specs.Copies.{AreWhole, bytes_read}
 use Rattle.jls_splice_run.specs.FaultLines.{program}
 use Rattle.jls_splice_run.specs.Handing.{HandsAll}
 use Rattle.jls_splice_run.specs.Inputs.{AreInputs}
-use Rattle.jls_splice_run.specs.Limits.{has_some}
+use Rattle.jls_splice_run.specs.Ceilings.{has_some}
 use Rattle.jls_splice_run.specs.Listing.{is_named}
 use Rattle.jls_splice_run.specs.Making.{Made, IsMade, is_of_picture, notes, promise_on}
 use Rattle.jls_splice_run.specs.declared.found.Promise.TheVariants.{Picture}
@@ -76,34 +76,34 @@ FailedReadsCauseStatus4 =
 
 -- ---- what was made
 
--- An undamaged file of a picture, by line or by sample, is a splice of the copies, as they are parted. No sample of it is above the limit,
--- if there is one
-pub record IsWholeSplice (limit : Option ℕ) (copies : List (List ℕ)) (m : Made) (pic : WholePicture) (file : List ℕ) : Type 0 where
+-- An undamaged file of a picture, by line or by sample, is a splice of the copies, as they are parted. No sample of it is above the
+-- ceiling, if there is one
+pub record IsWholeSplice (ceiling : Option ℕ) (copies : List (List ℕ)) (m : Made) (pic : WholePicture) (file : List ℕ) : Type 0 where
   pub is_picture : IsPicture pic
   pub whole : IsWholeFileUnder Wide pic file
-  pub within : IsWithin limit file
+  pub within : IsWithin ceiling file
   pub splice : IsSplice (length copies) m.found.parts file
 
--- the run prints that it promises the picture, with this limit of samples if there is one
+-- the run prints that it promises the picture, with this ceiling if there is one
 abbrev pub PromisesPicture : Option ℕ → Made → Type 0
-PromisesPicture limit m = promise_on m ≡ Picture limit
+PromisesPicture ceiling m = promise_on m ≡ Picture ceiling
 
--- What a promise of the picture stands on. The search that counts had this limit, was not cut off and found a file, and each line is
--- settled. The picture is that of each undamaged file that is a splice and within the limit
-pub record IsPromised (limit : Option ℕ) (copies : List (List ℕ)) (m : Made) : Type 0 where
-  pub of_limit : m.ceiling ≡ limit
+-- What a promise of the picture stands on. The search that counts had this ceiling, was not cut off and found a file, and each line is
+-- settled. The picture is that of each undamaged file that is a splice and within the ceiling
+pub record IsPromised (ceiling : Option ℕ) (copies : List (List ℕ)) (m : Made) : Type 0 where
+  pub of_ceiling : m.ceiling ≡ ceiling
   pub not_cut_off : m.found.is_used_up ≡ false
   pub some_file : has_some m.found.choices ≡ true
   pub settled : IsSettled m.picture
-  pub no_other : (pic : WholePicture) (file : List ℕ) → IsWholeSplice limit copies m pic file → picture_of m.picture ≡ pic
+  pub no_other : (pic : WholePicture) (file : List ℕ) → IsWholeSplice ceiling copies m pic file → picture_of m.picture ≡ pic
 
 -- Where the picture is promised, the promise stands on that, whatever the status is
 abbrev pub SplicedRunsGiveNoOther : Type 0
 SplicedRunsGiveNoOther =
-    (words : List Text) (a : Asked) (desk report faults : List Event) (did : DidMake words a desk report faults) (limit : Option ℕ)
-    → PromisesPicture limit did.made → IsPromised limit (bytes_read did.copies) did.made
+    (words : List Text) (a : Asked) (desk report faults : List Event) (did : DidMake words a desk report faults) (ceiling : Option ℕ)
+    → PromisesPicture ceiling did.made → IsPromised ceiling (bytes_read did.copies) did.made
 
--- The search that counts was not cut off, and an undamaged file within its limit is a splice, with or without its EOI. Then a file that
+-- The search that counts was not cut off, and an undamaged file within its ceiling is a splice, with or without its EOI. Then a file that
 -- `--file` gives is that file with its EOI. Where `--files` gives fewer than 64 files, it is among them
 abbrev pub SplicedRunsHandOutTheFile : Type 0
 SplicedRunsHandOutTheFile =

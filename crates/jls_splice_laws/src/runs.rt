@@ -43,8 +43,8 @@ pub fn spliced_runs_give_no_other()
 }
 
 /// A law: assume that the search that counts was not cut off. Assume also that an undamaged file, with or without its EOI, is a splice of
-/// the copies. No sample of it is above the limit of that search, if it has one. Then the file that `--file` gives is that file, completed
-/// by EOI. Where `--files` gives fewer than 64 files, it is one of them. A file with its EOI stays as it is.
+/// the copies. No sample of it is above the ceiling of that search, if it has one. Then the file that `--file` gives is that file,
+/// completed by EOI. Where `--files` gives fewer than 64 files, it is one of them. A file with its EOI stays as it is.
 pub fn spliced_runs_hand_out_the_file()
     ensures { SplicedRunsHandOutTheFile }
 {

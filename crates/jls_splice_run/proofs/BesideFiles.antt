@@ -17,7 +17,7 @@ use Rattle.jls_splice_run.specs.declared.found.Promise.TheVariants.{Held, Lines,
 pub more_beside : (promise : Promise) (mended : List MendedFile) (files more : List (List ℕ))
     → files_beside promise mended files ++ more ≡ files_beside promise mended (files ++ more)
 more_beside Held mended files more = append_assoc (map (λ (f : MendedFile). f.bytes) mended) files more
-more_beside (Picture limit) mended files more = refl
+more_beside (Picture ceiling) mended files more = refl
 more_beside Lines mended files more = refl
 
 -- mended files that read as a picture have no fault
@@ -46,5 +46,5 @@ module _ (files : List (List ℕ)) (verdicts : List Bool) (are : AreVerdicts fil
       → (promise ≡ Held → AllByRecursion (λ f. IsFaultless f.bytes) mended)
       → AreVerdicts (files_beside promise mended files) (verdicts_beside promise mended verdicts)
   are_verdicts_beside Held mended none = with_mended mended (none refl)
-  are_verdicts_beside (Picture limit) mended none = are
+  are_verdicts_beside (Picture ceiling) mended none = are
   are_verdicts_beside Lines mended none = are

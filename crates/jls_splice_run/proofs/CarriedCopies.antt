@@ -65,7 +65,7 @@ are_printed copies few (c ∷ codings) (f ∷ files) all =
 pub carried_file_maps : {A B : Type 0} (g : A → B) (name : Option A) (promise : Promise) (files : List MendedFile)
     → carried_file (option_map g name) promise files ≡ carried_file name promise files
 carried_file_maps g None promise files = refl
-carried_file_maps g (Some name) (Picture limit) files = refl
+carried_file_maps g (Some name) (Picture ceiling) files = refl
 carried_file_maps g (Some name) Held [] = refl
 carried_file_maps g (Some name) Held (f ∷ files) = refl
 carried_file_maps g (Some name) Lines files = refl

@@ -32,7 +32,7 @@ abbrev report : SearchReport
 report = record {
   splices = 0;
   is_used_up = false;
-  limit = None;
+  ceiling = None;
   by_groups = Some (record { groups = 1; is_used_up = false });
   before = None;
   files = Some 2;

@@ -9,7 +9,7 @@ mod MendedNumbers
 mod MappedMore
 mod CarriedCopies
 mod Offsets
-mod KeptLimits
+mod KeptCeilings
 mod Told
 mod LineBegins
 mod BadListExamples

@@ -10,7 +10,7 @@ use Rattle.jls_diff.specs.PartsOf.{bytes_of}
 use Rattle.jls_diff.specs.Parts.{AreParts, Part, made}
 use Rattle.jls_search.specs.SearchLaws.{AreShort}
 use Rattle.jls_search.specs.Found.{Found}
-use Rattle.jls_splice_run.specs.Limits.{has_some}
+use Rattle.jls_splice_run.specs.Ceilings.{has_some}
 use Rattle.jls_splice_run.specs.Making.{files_reported, lacks_single, promise_of}
 use Rattle.jls_splice_run.specs.declared.found.Promise.TheVariants.{Picture, Lines}
 use Rattle.jls_splice_run.specs.Single.{IsSingleAsked}

@@ -68,10 +68,10 @@ completed = refl
 lacking : single_line true ≡ codes "no single file\n"
 lacking = refl
 
-cut_at : before_line (Some (record { offset = 128; limit = None })) ≡ codes "before 128\n"
+cut_at : before_line (Some (record { offset = 128; ceiling = None })) ≡ codes "before 128\n"
 cut_at = rw d128 refl
 
-cut_within : before_line (Some (record { offset = 12; limit = Some 4095 })) ≡ codes "before 12, samples up to 4095\n"
+cut_within : before_line (Some (record { offset = 12; ceiling = Some 4095 })) ≡ codes "before 12, samples up to 4095\n"
 cut_within = rw (d12, d4095) refl
 
 no_cut : before_line None ≡ []
@@ -102,15 +102,15 @@ only_lines = refl
 counted_limit : limit_line (Some 4095) ≡ codes "limit 4095\n"
 counted_limit = rw d4095 refl
 
-no_limit : limit_line None ≡ []
-no_limit = refl
+no_ceiling : limit_line None ≡ []
+no_ceiling = refl
 
 -- all lines of a run whose searches were cut off, of one that found nothing, and of one that found all that it asked for
 abbrev cut_short : SearchReport
 cut_short = record {
   splices = 3;
   is_used_up = true;
-  limit = None;
+  ceiling = None;
   by_groups = Some (record { groups = 2; is_used_up = true });
   before = None;
   files = Some 12;
@@ -129,9 +129,9 @@ abbrev before_a_place : SearchReport
 before_a_place = record {
   splices = 0;
   is_used_up = false;
-  limit = None;
+  ceiling = None;
   by_groups = Some (record { groups = 1; is_used_up = false });
-  before = Some (record { offset = 4; limit = None });
+  before = Some (record { offset = 4; ceiling = None });
   files = None;
   is_eoi_added = false;
   lacks_single_file = false;
@@ -147,7 +147,7 @@ abbrev complete : SearchReport
 complete = record {
   splices = 1;
   is_used_up = false;
-  limit = Some 4095;
+  ceiling = Some 4095;
   by_groups = None;
   before = None;
   files = None;

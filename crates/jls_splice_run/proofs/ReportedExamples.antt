@@ -7,7 +7,7 @@ use Rattle.jls_report.proofs.PrintedNumbers.{d1, d60}
 use Rattle.jls_search.specs.Found.{Found}
 use Rattle.jls_splice_run.specs.Files.{count_new}
 use Rattle.jls_splice_run.specs.Listing.{numbered}
-use Rattle.jls_splice_run.specs.Making.{cut_end, files_reported, lacks_single, limit_reported, promise_of}
+use Rattle.jls_splice_run.specs.Making.{cut_end, files_reported, lacks_single, ceiling_reported, promise_of}
 use Rattle.jls_splice_run.specs.declared.found.Promise.TheVariants.{Picture, Lines}
 
 -- "abXc" and "abYcZZ"
@@ -32,18 +32,18 @@ record ReportedExamples : Type 0 where
   cut_off_not_settled : promise_of (Some 4095) (found one true) false ≡ Lines
   cut_off_none_found : promise_of (Some 4095) (found [] true) true ≡ Lines
   cut_off_none_found_not_settled : promise_of (Some 4095) (found [] true) false ≡ Lines
-  -- with no limit of samples
-  promised_without_limit : promise_of None (found one false) true ≡ Picture None
+  -- with no ceiling
+  promised_without_ceiling : promise_of None (found one false) true ≡ Picture None
   -- the cut file of so many choices ends in the first copy before the part that has none: "ab", "abX", "abXc"
-  before_the_first_differ : cut_end parts None (0 ∷ []) ≡ record { offset = 2; limit = None }
-  after_the_first_differ : cut_end parts (Some 4095) (0 ∷ 1 ∷ []) ≡ record { offset = 3; limit = Some 4095 }
-  before_the_second_differ : cut_end parts None (0 ∷ 1 ∷ 0 ∷ []) ≡ record { offset = 4; limit = None }
+  before_the_first_differ : cut_end parts None (0 ∷ []) ≡ record { offset = 2; ceiling = None }
+  after_the_first_differ : cut_end parts (Some 4095) (0 ∷ 1 ∷ []) ≡ record { offset = 3; ceiling = Some 4095 }
+  before_the_second_differ : cut_end parts None (0 ∷ 1 ∷ 0 ∷ []) ≡ record { offset = 4; ceiling = None }
   -- of three files found one is a copy
   two_new : count_new (codes "abXc" ∷ codes "abYcZZ" ∷ []) (codes "abYc" ∷ codes "abYcZZ" ∷ codes "abXcZZ" ∷ []) ≡ 2
   none_new : count_new (codes "abXc" ∷ []) (codes "abXc" ∷ []) ≡ 0
-  -- a limit that was given has no line, and one that the search took has
-  given_limit : limit_reported (Some 4095) (Some 4095) ≡ None
-  own_limit : limit_reported None (Some 4095) ≡ Some 4095
+  -- a ceiling that was given has no line, and one that the search took has
+  given_ceiling : ceiling_reported (Some 4095) (Some 4095) ≡ None
+  own_ceiling : ceiling_reported None (Some 4095) ≡ Some 4095
   -- how many files are written, where they are asked for
   two_files : files_reported (Some (codes "part")) (codes "x" ∷ codes "y" ∷ []) ≡ Some 2
   not_asked : files_reported {A = List ℕ} None (codes "x" ∷ []) ≡ None
@@ -63,14 +63,14 @@ reported_examples = record {
   cut_off_not_settled = refl;
   cut_off_none_found = refl;
   cut_off_none_found_not_settled = refl;
-  promised_without_limit = refl;
+  promised_without_ceiling = refl;
   before_the_first_differ = refl;
   after_the_first_differ = refl;
   before_the_second_differ = refl;
   two_new = refl;
   none_new = refl;
-  given_limit = refl;
-  own_limit = refl;
+  given_ceiling = refl;
+  own_ceiling = refl;
   two_files = refl;
   not_asked = refl;
   lacking = refl;

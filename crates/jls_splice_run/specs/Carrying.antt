@@ -59,7 +59,7 @@ carried_promise c = promise_for c.codings c.strangers c.is_held c.are_read
 -- is then a copy with edits. Else they are the held lines and what the files taken give
 abbrev pub handed_by : Promise → Option ℕ → PartialPicture → PartialPicture → PartialPicture
 handed_by Held source held given = marked source held
-handed_by (Picture limit) source held given = union held given
+handed_by (Picture ceiling) source held given = union held given
 handed_by Lines source held given = union held given
 
 -- and so where copies in several codings may have given each other something
@@ -87,7 +87,7 @@ carried_files (Some prefix) files = numbered_from prefix 1 (take 64 files)
 -- them if the picture is promised
 abbrev pub files_beside : Promise → List MendedFile → List (List ℕ) → List (List ℕ)
 files_beside Held mended taken = map (λ f. f.bytes) mended ++ taken
-files_beside (Picture limit) mended taken = taken
+files_beside (Picture ceiling) mended taken = taken
 files_beside Lines mended taken = taken
 
 -- As the code has it ------------------------------------------------------------------------------------------------
@@ -107,5 +107,5 @@ carried_of b is_alone is_held are_read = record {
 -- verdicts on the same files: no mended file of a promised picture has a fault
 abbrev pub verdicts_beside : Promise → List MendedFile → List Bool → List Bool
 verdicts_beside Held mended verdicts = replicate (length mended) true ++ verdicts
-verdicts_beside (Picture limit) mended verdicts = verdicts
+verdicts_beside (Picture ceiling) mended verdicts = verdicts
 verdicts_beside Lines mended verdicts = verdicts

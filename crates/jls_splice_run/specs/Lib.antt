@@ -1,6 +1,6 @@
 -- What the contracts of this crate cite.
 pub mod Differences
-pub mod Limits
+pub mod Ceilings
 pub mod Lines
 pub mod Telling
 pub mod FaultLines

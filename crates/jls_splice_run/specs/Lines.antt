@@ -29,10 +29,10 @@ splices_line count = codes "splices " ++ decimal count ++ codes "\n"
 abbrev pub used_up_line : Bool → List ℕ
 used_up_line is_used_up = if is_used_up then codes "tries used up\n" else []
 
--- the line of the limit of samples of the search that counts; no line if it has none, or it was given
+-- the line of the ceiling of the search that counts; no line if it has none, or it was given
 abbrev pub limit_line : Option ℕ → List ℕ
 limit_line None = []
-limit_line (Some limit) = codes "limit " ++ decimal limit ++ codes "\n"
+limit_line (Some ceiling) = codes "limit " ++ decimal ceiling ++ codes "\n"
 
 -- how the line of the search by groups ends. It says if that search was cut off
 abbrev pub groups_end : Bool → List ℕ
@@ -43,17 +43,17 @@ abbrev pub groups_line : Option GroupSearch → List ℕ
 groups_line None = []
 groups_line (Some found) = codes "by groups " ++ decimal found.groups ++ groups_end found.is_used_up
 
--- how a line ends: with the limit of samples, if there is one, after these words
+-- how a line ends: with the ceiling, if there is one, after these words
 abbrev pub samples_end : List ℕ → Option ℕ → List ℕ
 samples_end words None = codes "\n"
-samples_end words (Some limit) = words ++ decimal limit ++ codes "\n"
+samples_end words (Some ceiling) = words ++ decimal ceiling ++ codes "\n"
 
 -- the line of where the cut file ends: its offset in the first copy; no line if none was taken
 abbrev pub before_line : Option CutFileEnd → List ℕ
 before_line None = []
-before_line (Some end) = codes "before " ++ decimal end.offset ++ samples_end (codes ", samples up to ") end.limit
+before_line (Some end) = codes "before " ++ decimal end.offset ++ samples_end (codes ", samples up to ") end.ceiling
 
--- what the line of a promise of the picture begins with: its premise, but for the limit of samples
+-- what the line of a promise of the picture begins with: its premise, but for the ceiling
 abbrev pub picture_words : List ℕ
 picture_words = codes "promise picture if the true file has what one copy has at each differ, and what all have elsewhere"
 
@@ -69,7 +69,7 @@ lists_words has_lists = if has_lists then codes " (copies are without their bad 
 
 -- the line of the promise that holds, where there are lists of bad places or none
 abbrev pub promise_line : Bool → Promise → List ℕ
-promise_line has_lists (Picture limit) = picture_words ++ lists_words has_lists ++ samples_end (codes " and samples are up to ") limit
+promise_line has_lists (Picture ceiling) = picture_words ++ lists_words has_lists ++ samples_end (codes " and samples are up to ") ceiling
 promise_line has_lists Held = held_words ++ lists_words has_lists ++ codes "\n"
 promise_line has_lists Lines = codes "promise lines\n"
 
@@ -88,7 +88,7 @@ single_line lacks_single_file = if lacks_single_file then codes "no single file\
 
 -- the lines of what the searches came to, in their order
 abbrev pub search_lines : SearchReport → List ℕ
-search_lines r = splices_line r.splices ++ used_up_line r.is_used_up ++ limit_line r.limit ++ groups_line r.by_groups
+search_lines r = splices_line r.splices ++ used_up_line r.is_used_up ++ limit_line r.ceiling ++ groups_line r.by_groups
 
 -- the lines of what is made of it, in their order
 abbrev pub outcome_lines : SearchReport → List ℕ

@@ -26,7 +26,7 @@ use Rattle.jls_splice_run.specs.declared.found.Promise.{Promise}
 use Rattle.jls_splice_run.specs.declared.found.Promise.TheVariants.{Held, Picture, Lines}
 use Rattle.jls_splice_run.specs.declared.differences.Difference.{Difference}
 use Rattle.jls_splice_run.specs.declared.found.SearchReport.{SearchReport}
-use Rattle.jls_splice_run.specs.Limits.{KeepsLimit, has_some}
+use Rattle.jls_splice_run.specs.Ceilings.{KeepsCeiling, has_some}
 use Rattle.jls_station.specs.declared.input.ReadStop.{ReadStop}
 use Rattle.jls_station.specs.declared.input.ReadStop.TheVariants.{Whole}
 use Rattle.jls_station.specs.CopyFiles.{CopyBytes}
@@ -48,7 +48,7 @@ use Rattle.jls_splice_run.specs.Files.{count_new, is_eoi_added}
 use Rattle.jls_splice_run.specs.Listing.{AreCompleted, AreNamedAsked, NamedFile, named_files}
 use Rattle.jls_splice_run.specs.ReadsAs.{EachReadsAs}
 use Rattle.jls_splice_run.specs.Single.{IsSingleAsked}
-use Rattle.jls_splice_run.specs.declared.limits.FoundInTurn.{FoundInTurn}
+use Rattle.jls_splice_run.specs.declared.stages.FoundInTurn.{FoundInTurn}
 use Rattle.jls_splice_run.specs.declared.made.Made.{Made as MadeValue}
 
 -- ---- what was found and made
@@ -81,7 +81,7 @@ abbrev pub IsCutTaken : List (List ℕ) → Found → Option (List ℕ) → Opti
 IsCutTaken copies f lone cut =
     (cut ≡ lone) ⊎ ((cut ≡ None) × IfSome lone (λ path. TakesNoCut copies (splices_in f) (prefix_of f.parts path)))
 
--- what is made of copies: the limit of samples of the search that counts, if it had one; what was found; the limit under which a cut file
+-- what is made of copies: the ceiling of the search that counts, if it had one; what was found; the ceiling under which a cut file
 -- was sought, if there was one; its choices, if one was found; and those of the one that was taken; what the files taken give; what copies
 -- in several codings gave each other, if that was looked for; the picture, and whether each line of it is settled; the single file; and the
 -- files that have numbers
@@ -98,10 +98,10 @@ pub record Made : Type 0 where
   pub single : Option (List ℕ)
   pub files : List NamedFile
 
--- what was found was sought in these copies as it was asked for: the search that counts keeps the limit that is given. If groups were
+-- what was found was sought in these copies as it was asked for: the search that counts keeps the ceiling that is given. If groups were
 -- searched, each was with each of the copies outside of it, and has tries of its own
 pub record IsFoundFor (a : Asked) (copies : List (List ℕ)) (ceiling : Option ℕ) (f : Found) : Type 0 where
-  pub limit_is : KeepsLimit a.options.ceiling ceiling
+  pub ceiling_is : KeepsCeiling a.options.ceiling ceiling
   pub is_found : IsFound ceiling copies f
   pub of_groups : IfSome f.by_groups (IsGroupSearch a.options.tries (length copies) f.parts)
 
@@ -129,7 +129,7 @@ AreNamedOf a taken (Some c) named =
 -- all of it is made of these copies
 pub record IsMade (a : Asked) (copies : List (List ℕ)) (m : Made) : Type 0 where
   pub is_found_for : IsFoundFor a copies m.ceiling m.found
-  pub cut_ceiling_is : KeepsLimit a.options.ceiling m.cut_ceiling
+  pub cut_ceiling_is : KeepsCeiling a.options.ceiling m.cut_ceiling
   pub is_lone : IfSome m.lone (IsCutFile m.cut_ceiling m.found)
   pub is_cut : IsCutTaken copies m.found m.lone m.cut
   pub is_given : IsPictureOf a.options.source copies (splices_in m.found) (cut_file m.found m.cut) m.given
@@ -159,12 +159,12 @@ groups_reported (Some b) = Some (record { groups = b.groups; is_used_up = b.is_u
 
 -- where the cut file ends
 abbrev pub cut_end : List Part → Option ℕ → List ℕ → CutFileEnd
-cut_end parts ceiling path = record { offset = offset_at parts (length path); limit = ceiling }
+cut_end parts ceiling path = record { offset = offset_at parts (length path); ceiling = ceiling }
 
--- the limit of the search that counts, where none was given
-abbrev pub limit_reported : Option ℕ → Option ℕ → Option ℕ
-limit_reported None ceiling = ceiling
-limit_reported (Some given) ceiling = None
+-- the ceiling of the search that counts, where none was given
+abbrev pub ceiling_reported : Option ℕ → Option ℕ → Option ℕ
+ceiling_reported None ceiling = ceiling
+ceiling_reported (Some given) ceiling = None
 
 -- the promise that holds: of the picture, if the search of all splices was not cut off and found a file, and each line is settled
 abbrev pub promise_of : Option ℕ → Found → Bool → Promise
@@ -182,7 +182,7 @@ promise_on m = promise_with m.carried m.ceiling m.found m.is_settled
 
 -- whether a promise is of the picture
 abbrev pub is_of_picture : Promise → Bool
-is_of_picture (Picture limit) = true
+is_of_picture (Picture ceiling) = true
 is_of_picture Held = true
 is_of_picture Lines = false
 
@@ -201,7 +201,7 @@ abbrev pub report_on : Asked → List (List ℕ) → Made → SearchReport
 report_on a copies m = record {
   splices = count_new copies (splices_in m.found);
   is_used_up = m.found.is_used_up;
-  limit = limit_reported a.options.ceiling m.ceiling;
+  ceiling = ceiling_reported a.options.ceiling m.ceiling;
   by_groups = groups_reported m.found.by_groups;
   before = option_map (cut_end m.found.parts m.cut_ceiling) m.cut;
   files = files_reported a.options.files m.files;
@@ -264,13 +264,13 @@ CantMake a copies r =
 
 -- ---- as the code has it
 
--- what was made where copies gave each other nothing. It is told by what was found with the limit of a cut file, and by the choices of
+-- what was made where copies gave each other nothing. It is told by what was found with the ceiling of a cut file, and by the choices of
 -- the one found and of the one taken; by the picture, by whether each line of it is settled, and by what the code holds of it
 abbrev pub made_of : FoundInTurn → Option (Vec ℕ Global) → Option (Vec ℕ Global) → PartialPicture → Bool → MadeValue → Made
 made_of all lone cut p is_settled v = record {
   ceiling = all.splices.ceiling;
   found = found_of all.splices;
-  cut_ceiling = all.cut_limit;
+  cut_ceiling = all.cut_ceiling;
   lone = option_map (λ path. path.items) lone;
   cut = option_map (λ path. path.items) cut;
   given = p;
@@ -288,7 +288,7 @@ abbrev pub carried_made : Option ℕ → FoundInTurn → Option (Vec ℕ Global)
 carried_made source all lone given c is_settled v = record {
   ceiling = all.splices.ceiling;
   found = found_of all.splices;
-  cut_ceiling = all.cut_limit;
+  cut_ceiling = all.cut_ceiling;
   lone = option_map (λ path. path.items) lone;
   cut = None;
   given = given;

@@ -26,9 +26,9 @@ use crate::completing::{completed, completed_in};
 use crate::copies::slices_of;
 use crate::files::{count_new, is_eoi_added};
 use crate::found::{Promise, SearchReport};
-use crate::limits::FoundInTurn;
+use crate::stages::FoundInTurn;
 use crate::listing::{MOST_NAMED, NumberedFile, numbered_name};
-use crate::made::{Made, files_asked, files_reported, groups_reported, lacks_file, limit_reported};
+use crate::made::{Made, files_asked, files_reported, groups_reported, lacks_file, ceiling_reported};
 use crate::printed_lines::{lines_of_carried, notes_of_carried};
 use crate::reading_as::{are_one_picture, each_reads_as};
 use crate::task::{Task, has_lists};
@@ -328,7 +328,7 @@ fn texts_of_judged(
     let report = SearchReport {
         splices,
         is_used_up: found.is_used_up,
-        limit: limit_reported(task.options.ceiling, found.ceiling),
+        ceiling: ceiling_reported(task.options.ceiling, found.ceiling),
         by_groups: groups_reported(found.by_groups),
         before: None,
         files: files_reported(task.options.files, &numbered),
@@ -384,7 +384,7 @@ pub(crate) fn carried_texts(
     let is_alone = is_none_faultless(&held.faultless);
     let shape = given.shape().to_owned();
     let bounds = SearchBounds {
-        limit: task.options.ceiling,
+        ceiling: task.options.ceiling,
         tries: task.options.tries,
     };
     let witnesses = slices_of(alloc, witnesses)?;

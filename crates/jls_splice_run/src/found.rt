@@ -17,15 +17,15 @@ pub struct GroupSearch {
 pub struct CutFileEnd {
     /// The offset in the first copy.
     pub offset: u64,
-    /// The limit of samples of the files that were sought, if there was one.
-    pub limit: Option<u16>,
+    /// The ceiling of the files that were sought, if there was one.
+    pub ceiling: Option<u16>,
 }
 
 /// Which promise holds of OUT.
 #[derive(Clone, Copy, Debug, PartialEq, Eq)]
 pub enum Promise {
     /// Each line of OUT is settled. All are the picture's, if the true file is a splice of the copies, and if no sample of it is above the
-    /// limit, where there is one.
+    /// ceiling, where there is one.
     Picture(Option<u16>),
     /// Each line of OUT is settled, and held. All are the picture's, if the copies of each coding are of one file of it. That file has the
     /// bytes that they have outside of their edits. At the edits it has as many bytes as the mended file, and the same marker segments.
@@ -53,8 +53,8 @@ pub struct SearchReport {
     pub splices: usize,
     /// Whether the search of all splices that counts was cut off.
     pub is_used_up: bool,
-    /// The limit of samples of the search that counts, where none was given and it has one.
-    pub limit: Option<u16>,
+    /// The ceiling of the search that counts, where none was given and it has one.
+    pub ceiling: Option<u16>,
     /// What the search by groups came to, if there was one.
     pub by_groups: Option<GroupSearch>,
     /// Where the cut file ends, if one was taken.

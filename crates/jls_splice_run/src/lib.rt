@@ -15,21 +15,21 @@
 //! - `printed_lines`, `noting`: the lines that are printed; those on the fault output, where OUT is standard output
 //! - `handing`: the events that hand out all
 //! - `options`, `searching`: how a search is made; a search that goes on 64 tries at a time, and tells how far it is
-//! - `limits`: all searches of a run: the one that is asked for; where it is cut off, others under limits of samples in turn; and groups
-//! - `shallow`: the limit under which a cut file is sought, where the searches had none and found nothing
+//! - `stages`: all searches of a run: the one that is asked for; where it is cut off, others under ceilings in turn; and groups
+//! - `shallow`: the ceiling under which a cut file is sought, where the searches had none and found nothing
 //! - `differences`: where copies differ: the offset in the first copy, and how many bytes that one has there
 //! - `found`, `lines`: what is reported of a search, as one value; its lines, and the line that says how far a search is
 //! - `hosted`: the program as `run_program` of jls_host runs it
 //! - `printing`: the lines on the fault output that this program alone has
 //!
 //! Definitions: `Tasks`, `Copies`, `BadLists`, `Inputs`, `Making`, `Carrying`, `ReadsAs`, `Completing`, `Single`, `Files`, `Listing`,
-//! `Handing`, `Runs`; `Limits`, `Telling`; `Differences`, `Lines`, `CodingLines`; `FaultLines`. `PrintedLineExamples` of `proofs/` has
+//! `Handing`, `Runs`; `Ceilings`, `Telling`; `Differences`, `Lines`, `CodingLines`; `FaultLines`. `PrintedLineExamples` of `proofs/` has
 //! each line, and all lines of three runs, worked by hand. What came of a run, why it stopped, its exit status and its fault line are in
 //! jls_cli.
 //!
 //! Not proved:
 //!
-//! - How searches are made: how many there are, in which order, under which limits, with how many tries, and when they tell of it. No
+//! - How searches are made: how many there are, in which order, under which ceilings, with how many tries, and when they tell of it. No
 //!   contract on files, lines, statuses or promises rests on it.
 //! - That a search which is said to be cut off was, and that groups find splices that they pass by (`IsPassedBy` of jls_search).
 //! - That a cut file is as long as it could be.
@@ -48,7 +48,6 @@ mod found;
 mod handing;
 mod hosted;
 mod inputs;
-mod limits;
 mod lines;
 mod listing;
 mod made;
@@ -63,6 +62,7 @@ mod settling;
 mod shallow;
 mod single;
 mod splicing;
+mod stages;
 mod task;
 mod telling_apart;
 
@@ -70,7 +70,6 @@ pub use coding_lines::put_carried;
 pub use differences::{Difference, differences_of};
 pub use found::{CutFileEnd, GroupSearch, Promise, SearchReport};
 pub use hosted::Splice;
-pub use limits::{FoundInTurn, search_and_tell};
 pub use lines::{put_found, put_progress};
 pub use listing::NumberedFile;
 pub use made::Made;
@@ -81,4 +80,5 @@ pub use printing::{
 };
 pub use program::run;
 pub use splicing::splice;
+pub use stages::{FoundInTurn, search_and_tell};
 pub use task::Task;

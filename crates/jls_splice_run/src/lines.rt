@@ -92,15 +92,15 @@ fn put_used_up(out: &mut Vec<u8>, is_used_up: bool) -> Result<(), AllocError>
     Ok(())
 }
 
-/// Appends the limit of samples of the search that counts, where none was given and it has one.
-fn put_limit(out: &mut Vec<u8>, limit: Option<u16>) -> Result<(), AllocError>
-    ensures { OnOk result (out.new.items ≡ out.old.items ++ limit_line limit) }
+/// Appends the ceiling of the search that counts, where none was given and it has one.
+fn put_limit(out: &mut Vec<u8>, ceiling: Option<u16>) -> Result<(), AllocError>
+    ensures { OnOk result (out.new.items ≡ out.old.items ++ limit_line ceiling) }
 {
-    let Some(limit) = limit else {
+    let Some(ceiling) = ceiling else {
         return Ok(());
     };
     out.extend_from_slice(b"limit ")?;
-    put_number(out, u64::from(limit))?;
+    put_number(out, u64::from(ceiling))?;
     out.extend_from_slice(b"\n")?;
     Ok(())
 }
@@ -129,13 +129,13 @@ fn put_groups(out: &mut Vec<u8>, by_groups: Option<GroupSearch>) -> Result<(), A
     Ok(())
 }
 
-/// Appends how a line ends: with the limit of samples, if there is one, after these words.
-fn put_samples(out: &mut Vec<u8>, words: &[u8], limit: Option<u16>) -> Result<(), AllocError>
-    ensures { OnOk result (out.new.items ≡ out.old.items ++ samples_end words.now limit) }
+/// Appends how a line ends: with the ceiling, if there is one, after these words.
+fn put_samples(out: &mut Vec<u8>, words: &[u8], ceiling: Option<u16>) -> Result<(), AllocError>
+    ensures { OnOk result (out.new.items ≡ out.old.items ++ samples_end words.now ceiling) }
 {
-    if let Some(limit) = limit {
+    if let Some(ceiling) = ceiling {
         out.extend_from_slice(words)?;
-        put_number(out, u64::from(limit))?;
+        put_number(out, u64::from(ceiling))?;
     }
     out.extend_from_slice(b"\n")?;
     Ok(())
@@ -150,7 +150,7 @@ fn put_before(out: &mut Vec<u8>, before: Option<CutFileEnd>) -> Result<(), Alloc
     };
     out.extend_from_slice(b"before ")?;
     put_number(out, end.offset)?;
-    put_samples(out, b", samples up to ", end.limit)
+    put_samples(out, b", samples up to ", end.ceiling)
 }
 
 /// Appends that a promise is of copies without bad places, if lists name these.
@@ -163,15 +163,15 @@ fn put_lists(out: &mut Vec<u8>, has_lists: bool) -> Result<(), AllocError>
     Ok(())
 }
 
-/// Appends that the picture is promised, within the limit of samples if there is one.
-fn put_picture(out: &mut Vec<u8>, has_lists: bool, limit: Option<u16>) -> Result<(), AllocError>
-    ensures { OnOk result (out.new.items ≡ out.old.items ++ promise_line has_lists (Promise.Picture limit)) }
+/// Appends that the picture is promised, within the ceiling if there is one.
+fn put_picture(out: &mut Vec<u8>, has_lists: bool, ceiling: Option<u16>) -> Result<(), AllocError>
+    ensures { OnOk result (out.new.items ≡ out.old.items ++ promise_line has_lists (Promise.Picture ceiling)) }
 {
     out.extend_from_slice(
         b"promise picture if the true file has what one copy has at each differ, and what all have elsewhere",
     )?;
     put_lists(out, has_lists)?;
-    put_samples(out, b" and samples are up to ", limit)
+    put_samples(out, b" and samples are up to ", ceiling)
 }
 
 /// Appends that the picture is promised by what copies hold.
@@ -192,7 +192,7 @@ fn put_promise(out: &mut Vec<u8>, has_lists: bool, promise: Promise) -> Result<(
     ensures { OnOk result (out.new.items ≡ out.old.items ++ promise_line has_lists promise) }
 {
     match promise {
-        Promise::Picture(limit) => put_picture(out, has_lists, limit),
+        Promise::Picture(ceiling) => put_picture(out, has_lists, ceiling),
         Promise::Held => put_held(out, has_lists),
         Promise::Lines => {
             out.extend_from_slice(b"promise lines\n")?;
@@ -240,7 +240,7 @@ pub(crate) fn put_searches(out: &mut Vec<u8>, report: &SearchReport) -> Result<(
 {
     put_splices(out, report.splices)?;
     put_used_up(out, report.is_used_up)?;
-    put_limit(out, report.limit)?;
+    put_limit(out, report.ceiling)?;
     put_groups(out, report.by_groups)
 }
 

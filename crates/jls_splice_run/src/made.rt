@@ -27,7 +27,7 @@ use crate::copies::slices_of;
 use crate::differences::offset_at;
 use crate::files::{count_new, is_eoi_added};
 use crate::found::{CutFileEnd, GroupSearch, Promise, SearchReport};
-use crate::limits::{FoundInTurn, search_and_tell};
+use crate::stages::{FoundInTurn, search_and_tell};
 use crate::listing::{MOST_NAMED, Naming, NumberedFile, name_files};
 use crate::options::SearchOptions;
 use crate::printed_lines::{lines_of, notes_of};
@@ -69,7 +69,7 @@ fn find_cut(
     requires some_way { AllByRecursion HasSomeWay found.now.splices.parts }
     requires short { IsShort found.now.splices.parts }
     requires whole { found.now.splices.whole ≤ length found.now.splices.splices.items }
-    ensures lone { IfOk result (λ cut. IfSome cut (λ path. IsCutFile found.now.cut_limit (found_of found.now.splices) path.items)) }
+    ensures lone { IfOk result (λ cut. IfSome cut (λ path. IsCutFile found.now.cut_ceiling (found_of found.now.splices) path.items)) }
 {
     if found.splices.whole != 0 || !found.seeks_cut {
         return Ok(None);
@@ -78,7 +78,7 @@ fn find_cut(
     if are_of_other_codings(alloc, copies, &witnesses)? {
         return Ok(None);
     }
-    trusted_path(alloc, &found.splices.parts, found.cut_limit, most_tries)
+    trusted_path(alloc, &found.splices.parts, found.cut_ceiling, most_tries)
 }
 
 /// The single file, if a name is given for it.
@@ -152,13 +152,13 @@ pub(crate) fn groups_reported(by_groups: Option<GroupsReported>) -> Option<Group
     }
 }
 
-/// The limit of the search that counts, where none was given.
-pub(crate) fn limit_reported(given: Option<u16>, limit: Option<u16>) -> Option<u16>
-    ensures { result ≡ spec.limit_reported given limit }
+/// The ceiling of the search that counts, where none was given.
+pub(crate) fn ceiling_reported(given: Option<u16>, ceiling: Option<u16>) -> Option<u16>
+    ensures { result ≡ spec.ceiling_reported given ceiling }
 {
     match given {
         Some(_) => None,
-        None => limit,
+        None => ceiling,
     }
 }
 
@@ -179,12 +179,12 @@ fn cut_end(found: &FoundInTurn<'_>, cut: &Option<Vec<usize>>) -> Option<CutFileE
     requires path { IfSome cut.now (λ path. IsPath found.now.splices.parts path.items) }
     requires small { length (made 0 found.now.splices.parts) < 2 ^ 64 }
     ensures { result
-        ≡ option_map (λ path. spec.cut_end found.now.splices.parts found.now.cut_limit path.items) cut.now }
+        ≡ option_map (λ path. spec.cut_end found.now.splices.parts found.now.cut_ceiling path.items) cut.now }
 {
     match cut {
         Some(path) => Some(CutFileEnd {
             offset: offset_at(&found.splices.parts, path.len()),
-            limit: found.cut_limit,
+            ceiling: found.cut_ceiling,
         }),
         None => None,
     }
@@ -224,7 +224,7 @@ fn texts_of(
     let report = SearchReport {
         splices,
         is_used_up: found.is_used_up,
-        limit: limit_reported(task.options.ceiling, found.ceiling),
+        ceiling: ceiling_reported(task.options.ceiling, found.ceiling),
         by_groups: groups_reported(found.by_groups),
         before: cut_end(all, &held.cut),
         files: files_reported(task.options.files, &numbered),

@@ -1,4 +1,4 @@
-//! The limit of samples of a shallow picture, under which a cut file is sought.
+//! The ceiling of a shallow picture, under which a cut file is sought.
 
 ghost use Rattle.std.specs.Prelude.{◌≡◌, true, None, Some, IfOk, IfSome};
 ghost use Rattle.std.specs.List.{AllByRecursion};
@@ -7,16 +7,16 @@ ghost use Rattle.jls_search.specs.Choices.{HasSomeWay};
 ghost use Rattle.jls_search.specs.Faultless.{IsSought};
 ghost use Rattle.jls_search.specs.Levels.{IsLone};
 ghost use Rattle.jls_search.specs.Search.{IsShort};
-ghost use Rattle.jls_splice_run.specs.Limits.{IsShallowLimit};
+ghost use Rattle.jls_splice_run.specs.Ceilings.{IsShallowCeiling};
 
 use jls_diff::Parts;
 use jls_search::lone_path;
 use std::alloc::{AllocError, Global};
 
-/// The limit of a shallow picture: one of the limits in turn.
+/// The ceiling of a shallow picture: one of the ceilings in turn.
 const SHALLOW: u16 = 16383;
 
-/// The last of these limits.
+/// The last of these ceilings.
 const LAST: u16 = 46340;
 
 /// Whether two paths are one.
@@ -36,8 +36,8 @@ fn has_choice(parts: &Parts<'_>, path: &[usize]) -> bool {
     false
 }
 
-/// The limit of a shallow picture, if this path, which is lone under it, is also the one under the last limit.
-fn limit_if_same(
+/// The ceiling of a shallow picture, if this path, which is lone under it, is also the one under the last ceiling.
+fn ceiling_if_same(
     alloc: Global,
     parts: &Parts<'_>,
     path: &[usize],
@@ -46,7 +46,7 @@ fn limit_if_same(
     requires some_way { AllByRecursion HasSomeWay parts.now }
     requires short { IsShort parts.now }
     requires lone { IsLone (IsSought (Some 16383)) parts.now path.now }
-    ensures { IfOk result (λ limit. IfSome limit (IsShallowLimit parts.now)) }
+    ensures { IfOk result (λ ceiling. IfSome ceiling (IsShallowCeiling parts.now)) }
 {
     let Some(last) = lone_path(alloc, parts, Some(LAST), tries)? else {
         return Ok(None);
@@ -65,18 +65,18 @@ fn is_other(path: &[usize], other: &Option<Vec<usize>>) -> bool {
     }
 }
 
-/// The limit of a shallow picture, if it is one: 16383. It is one if the path that `lone_path` finds under this limit goes past a place
-/// where the copies differ, is not the one that it finds without a limit, and is the path that it finds under 46340. Then wrong ways soon
-/// have samples above both limits, and a cut file without a limit has fewer lines, or wrong ones. A picture with larger samples before the
+/// The ceiling of a shallow picture, if it is one: 16383. It is one if the path that `lone_path` finds under this ceiling goes past a place
+/// where the copies differ, is not the one that it finds without a ceiling, and is the path that it finds under 46340. Then wrong ways soon
+/// have samples above both ceilings, and a cut file without a ceiling has fewer lines, or wrong ones. A picture with larger samples before the
 /// cut seldom has one path under both. Each of the three has so many tries. `Err` comes where memory is refused.
-pub(crate) fn shallow_limit(
+pub(crate) fn shallow_ceiling(
     alloc: Global,
     parts: &Parts<'_>,
     tries: u32,
 ) -> Result<Option<u16>, AllocError>
     requires some_way { AllByRecursion HasSomeWay parts.now }
     requires short { IsShort parts.now }
-    ensures { IfOk result (λ limit. IfSome limit (IsShallowLimit parts.now)) }
+    ensures { IfOk result (λ ceiling. IfSome ceiling (IsShallowCeiling parts.now)) }
 {
     let unlimited = lone_path(alloc, parts, None, tries)?;
     let Some(path) = lone_path(alloc, parts, Some(SHALLOW), tries)? else {
@@ -85,5 +85,5 @@ pub(crate) fn shallow_limit(
     if !has_choice(parts, &path) || !is_other(&path, &unlimited) {
         return Ok(None);
     }
-    limit_if_same(alloc, parts, &path, tries)
+    ceiling_if_same(alloc, parts, &path, tries)
 }

@@ -3,7 +3,7 @@
 ghost use Rattle.std.specs.Prelude.{◌≡◌, ◌<◌, ◌↔◌, length, IfOk, IsTrue, map, option_map};
 ghost use Rattle.jls_cli.specs.declared.outcome.Cause.TheVariants.{OutOfMemory};
 ghost use Rattle.jls_cli.specs.SpliceAsking.{asked_of};
-ghost use Rattle.jls_splice_run.specs.Limits.{has_some};
+ghost use Rattle.jls_splice_run.specs.Ceilings.{has_some};
 ghost use Rattle.jls_splice_run.specs.Listing.{prefix_in};
 ghost use Rattle.jls_splice_run.specs.Runs.{IsFileOut, IsNumberedOut, bad_value};
 ghost use Rattle.jls_splice_run.specs.Runs as spec;

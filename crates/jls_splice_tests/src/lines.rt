@@ -32,14 +32,14 @@ fn one_byte_differs(rt: HostRuntime) -> Result<(), Fail> {
         &SearchReport {
             splices: 2,
             is_used_up: false,
-            limit: Some(2896),
+            ceiling: Some(2896),
             by_groups: Some(GroupSearch {
                 groups: 1,
                 is_used_up: true,
             }),
             before: Some(CutFileEnd {
                 offset: 4321,
-                limit: Some(4095),
+                ceiling: Some(4095),
             }),
             files: Some(12),
             is_eoi_added: true,
@@ -81,7 +81,7 @@ fn many_places_differ(rt: HostRuntime) -> Result<(), Fail> {
         &SearchReport {
             splices: 0,
             is_used_up: true,
-            limit: None,
+            ceiling: None,
             by_groups: None,
             before: None,
             files: None,

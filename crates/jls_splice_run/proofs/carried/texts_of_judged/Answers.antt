@@ -21,7 +21,7 @@ use Rattle.jls_partial.specs.Partial.{PartialPicture}
 use Rattle.jls_partial.specs.Status.{IsSettled}
 use Rattle.jls_partial.specs.Text.{text}
 use Rattle.jls_splice_run.specs.Tasks.{texts_of}
-use Rattle.jls_splice_run.specs.Limits.{has_some}
+use Rattle.jls_splice_run.specs.Ceilings.{has_some}
 use Rattle.jls_splice_run.specs.Carrying.{carried_file, carried_files, carried_of, carried_promise, files_beside, handed_by, joined}
 use Rattle.jls_splice_run.specs.Carrying.{promise_for, verdicts_beside}
 use Rattle.jls_splice_run.specs.CodingLines.{carried_noted_text, carried_text}
@@ -29,7 +29,7 @@ use Rattle.jls_splice_run.specs.Differences.{differences}
 use Rattle.jls_splice_run.specs.Completing.{IsCompletedIn}
 use Rattle.jls_splice_run.specs.Files.{count_new, is_eoi_added}
 use Rattle.jls_splice_run.specs.Listing.{AreCompleted, AreNamedAsked, named_file, named_files}
-use Rattle.jls_splice_run.specs.Making.{files_held, files_reported, groups_reported, lacks_single, limit_reported}
+use Rattle.jls_splice_run.specs.Making.{files_held, files_reported, groups_reported, lacks_single, ceiling_reported}
 use Rattle.jls_splice_run.specs.ReadsAs.{EachReadsAs}
 use Rattle.jls_splice_run.specs.declared.found.Promise.TheVariants.{Held}
 use Rattle.jls_splice_run.specs.declared.found.SearchReport.{SearchReport}
@@ -151,7 +151,7 @@ returns c =
     let reported : SearchReport = record {
       splices = c.in_ok-splices.splices;
       is_used_up = found.is_used_up;
-      limit = c.limit_reported.result;
+      ceiling = c.ceiling_reported.result;
       by_groups = c.groups_reported.result;
       before = None;
       files = c.files_reported.result;
@@ -163,7 +163,7 @@ returns c =
     let report : reported ≡ record {
       splices = count_new copies (splices_in (found_of found));
       is_used_up = found.is_used_up;
-      limit = limit_reported options.ceiling found.ceiling;
+      ceiling = ceiling_reported options.ceiling found.ceiling;
       by_groups = groups_reported (found_of found).by_groups;
       before = None;
       files = files_reported prefix_asked (named_files numbered);
@@ -176,7 +176,7 @@ returns c =
     λ i. record {
       splices = new i;
       is_used_up = found.is_used_up;
-      limit = c.limit_reported.ensures i;
+      ceiling = c.ceiling_reported.ensures i;
       by_groups = groups i;
       before = None;
       files = files i;

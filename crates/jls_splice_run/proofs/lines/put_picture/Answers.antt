@@ -8,7 +8,7 @@ returns c =
     let old = c.args.out.now.items in
     let words = picture_words in
     let lists = lists_words c.args.has_lists in
-    let rest = samples_end (codes " and samples are up to ") c.args.limit in
+    let rest = samples_end (codes " and samples are up to ") c.args.ceiling in
     let extended : c.extend_from_slice.new.self.items ≡ old ++ words = c.in_ok-extend_from_slice.ensures.items in
     let listed : c.put_lists.new.out.items ≡ (old ++ words) ++ lists =
     c.in_ok-put_lists.ensures ∙ ap (λ xs. xs ++ lists) extended in

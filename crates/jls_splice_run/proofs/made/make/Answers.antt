@@ -10,7 +10,7 @@ use Rattle.jls_diff.proofs.Slices.{count_of_slices}
 use Rattle.jls_diff.specs.PartsOf.{bytes_of}
 use Rattle.jls_search.specs.Search.{files_of, lists_of}
 use Rattle.jls_search.specs.Found.{IsFound, IsGroupSearch, found_of, splices_in}
-use Rattle.jls_splice_run.specs.Limits.{KeepsLimit}
+use Rattle.jls_splice_run.specs.Ceilings.{KeepsCeiling}
 use Rattle.jls_splice_run.specs.Telling.{IsTold}
 use Rattle.jls_splice_run.specs.Copies.{bytes_read}
 use Rattle.jls_splice_run.specs.Making.{AreTextsOf, IsCutFile, IsCutTaken, IsFoundFor, IsPictureOf, IsUnsettled}
@@ -20,7 +20,7 @@ use Rattle.jls_splice_run.specs.Carrying.{IsCarried, carried_of}
 use Rattle.jls_splice_run.specs.Listing.{AreNamedAsked, named_files}
 use Rattle.jls_splice_run.specs.Single.{IsSingleAsked}
 use Rattle.jls_splice_run.specs.Tasks.{task_of}
-use Rattle.jls_splice_run.specs.declared.limits.FoundInTurn.{FoundInTurn}
+use Rattle.jls_splice_run.specs.declared.stages.FoundInTurn.{FoundInTurn}
 use Rattle.jls_splice_run.specs.declared.options.SearchOptions.{SearchOptions}
 use Rattle.jls_splice_run.proofs.MakingLemmas.{cut_mapped, found_mapped, mapped_twice}
 use Rattle.jls_splice_run.proofs.Told.{tells_none}
@@ -37,14 +37,14 @@ told_as a o same {old} {new} h = subst (λ (o : SearchOptions). GrewBy (IsTold o
 
 -- what was found, so
 found_for : (a : Asked) (found : FoundInTurn) (o : SearchOptions) (slices copies : List (List ℕ)) → o ≡ options_of a → slices ≡ copies
-    → KeepsLimit o.ceiling found.splices.ceiling
+    → KeepsCeiling o.ceiling found.splices.ceiling
     → IsFound found.splices.ceiling slices (found_of found.splices)
     → IfSome (found_of found.splices).by_groups (IsGroupSearch o.tries (length slices) found.splices.parts)
     → IsFoundFor a copies found.splices.ceiling (found_of found.splices)
-found_for a found o slices copies same read limit is groups =
+found_for a found o slices copies same read ceiling is groups =
     let f = found_of found.splices in
     record {
-      limit_is = subst (λ (o : SearchOptions). KeepsLimit o.ceiling found.splices.ceiling) same limit;
+      ceiling_is = subst (λ (o : SearchOptions). KeepsCeiling o.ceiling found.splices.ceiling) same ceiling;
       is_found = subst (λ (xs : List (List ℕ)). IsFound found.splices.ceiling xs f) read is;
       of_groups = subst (λ (xs : List (List ℕ)). IfSome f.by_groups (IsGroupSearch a.options.tries (length xs) f.parts)) read
           (subst (λ (o : SearchOptions). IfSome f.by_groups (IsGroupSearch o.tries (length slices) f.parts)) same groups);
@@ -52,7 +52,7 @@ found_for a found o slices copies same read limit is groups =
 
 -- the choices of the cut file are a path
 path_of_cut : (found : FoundInTurn) (cut : Option (Vec ℕ Global))
-    → IfSome cut (λ path. IsCutFile found.cut_limit (found_of found.splices) path.items)
+    → IfSome cut (λ path. IsCutFile found.cut_ceiling (found_of found.splices) path.items)
     → IfSome cut (λ path. IsPath found.splices.parts path.items)
 path_of_cut found None h = tt
 path_of_cut found (Some path) h = h.1.is_path
@@ -120,7 +120,7 @@ returns-in_err-held-clause-stopped g c =
     rw (p.1, p.2) (inr (
       found.ceiling,
       found_of found,
-      found_for a all c.search_options.result (bytes_of c.deref.result.now) (bytes_read copies) c.search_options.ensures searched e.limit
+      found_for a all c.search_options.result (bytes_of c.deref.result.now) (bytes_read copies) c.search_options.ensures searched e.ceiling
           e.found groups,
       unsettled,
     ))
@@ -147,10 +147,10 @@ returns-in-Ok-texts_of-clause-made g c =
     (sym (count_of_slices c.deref.result.now)) e.of_groups in (
       made_of all c.in-Ok-find_cut.cut held.cut held.station settled v,
       record {
-        is_found_for = found_for a all c.search_options.result (bytes_of c.deref.result.now) copies c.search_options.ensures searched e.limit
+        is_found_for = found_for a all c.search_options.result (bytes_of c.deref.result.now) copies c.search_options.ensures searched e.ceiling
             e.found groups;
-        cut_ceiling_is = subst (λ (o : SearchOptions). KeepsLimit o.ceiling all.cut_limit) c.search_options.ensures e.cut;
-        is_lone = found_mapped (IsCutFile all.cut_limit (found_of found)) c.in-Ok-find_cut.cut c.in-Ok-find_cut.ensures.lone;
+        cut_ceiling_is = subst (λ (o : SearchOptions). KeepsCeiling o.ceiling all.cut_ceiling) c.search_options.ensures e.cut;
+        is_lone = found_mapped (IsCutFile all.cut_ceiling (found_of found)) c.in-Ok-find_cut.cut c.in-Ok-find_cut.ensures.lone;
         is_cut = cut_mapped (λ path. TakesNoCut copies (splices_in (found_of found)) (prefix_of parts path)) held.cut c.in-Ok-find_cut.cut
             (subst (λ (xs : List (List ℕ)). (held.cut ≡ c.in-Ok-find_cut.cut)
             ⊎ ((held.cut ≡ None) × IfSome c.in-Ok-find_cut.cut (λ path. TakesNoCut copies xs (prefix_of parts path.items)))) splices
@@ -200,10 +200,10 @@ returns-in-Ok-Some-clause-made g c =
     let lone_path = option_map (λ (path : Vec ℕ Global). path.items) lone in (
       carried_made a.options.source all lone held.station carried texts.is_settled v,
       record {
-        is_found_for = found_for a all c.search_options.result (bytes_of c.deref.result.now) copies c.search_options.ensures searched e.limit
+        is_found_for = found_for a all c.search_options.result (bytes_of c.deref.result.now) copies c.search_options.ensures searched e.ceiling
             e.found groups;
-        cut_ceiling_is = subst (λ (o : SearchOptions). KeepsLimit o.ceiling all.cut_limit) c.search_options.ensures e.cut;
-        is_lone = found_mapped (IsCutFile all.cut_limit f) lone c.in-Ok-find_cut.ensures.lone;
+        cut_ceiling_is = subst (λ (o : SearchOptions). KeepsCeiling o.ceiling all.cut_ceiling) c.search_options.ensures e.cut;
+        is_lone = found_mapped (IsCutFile all.cut_ceiling f) lone c.in-Ok-find_cut.ensures.lone;
         is_cut = subst (λ (o : Option (Vec ℕ Global)). IsCutTaken copies f lone_path (option_map (λ (path : Vec ℕ Global). path.items) o))
             cut_is (cut_mapped (λ path. TakesNoCut copies (splices_in f) (prefix_of parts path)) held.cut lone
             (subst (λ (xs : List (List ℕ)). (held.cut ≡ lone)

@@ -9,14 +9,14 @@ use Rattle.jls_search.specs.Files as given
 use Rattle.jls_search.specs.Search.{lists_of}
 use Rattle.jls_search.specs.Found.{found_of, splices_in}
 use Rattle.jls_splice_run.specs.Tasks.{texts_of}
-use Rattle.jls_splice_run.specs.Limits.{has_some}
+use Rattle.jls_splice_run.specs.Ceilings.{has_some}
 use Rattle.jls_splice_run.specs.Files.{count_new, is_eoi_added}
 use Rattle.jls_partial.specs.Partial.{PartialPicture}
 use Rattle.jls_partial.specs.Status.{IsSettled}
 use Rattle.jls_partial.specs.Text.{text}
 use Rattle.jls_splice_run.specs.Differences.{differences}
 use Rattle.jls_splice_run.specs.Lines.{found_text, noted_text}
-use Rattle.jls_splice_run.specs.Making.{cut_end, files_reported, groups_reported, lacks_single, limit_reported, promise_of}
+use Rattle.jls_splice_run.specs.Making.{cut_end, files_reported, groups_reported, lacks_single, ceiling_reported, promise_of}
 use Rattle.jls_splice_run.specs.declared.found.SearchReport.{SearchReport}
 use Rattle.jls_splice_run.specs.Listing.{AreNamedAsked, named_file, named_files}
 use Rattle.jls_splice_run.specs.Single.{IsSingleAsked}
@@ -29,7 +29,7 @@ returns-clause-texts c = (
   subst (λ (p : PartialPicture). IsTrue c.is_settled-settled.result ↔ IsSettled p) c.partial-partial.ensures c.is_settled-settled.ensures,
   λ lone.
       let found = c.args.all.now.splices in
-      let limit = c.args.all.now.cut_limit in
+      let ceiling = c.args.all.now.cut_ceiling in
       let parts = found.parts in
       let lists = lists_of found.splices.items in
       let copies = bytes_of c.args.files.now.copies.now in
@@ -42,8 +42,8 @@ returns-clause-texts c = (
       c.in_ok-splices.ensures ∙ ap (count_new copies) c.requires.splices in
       let groups : c.groups_reported.result ≡ groups_reported (found_of found).by_groups =
       c.groups_reported.ensures (drop found.whole lists) in
-      let before : c.cut_end.result ≡ option_map (cut_end parts limit) (option_map (λ (v : Vec ℕ Global). v.items) cut) =
-      c.cut_end.ensures ∙ sym (mapped_twice (cut_end parts limit) (λ (v : Vec ℕ Global). v.items) cut) in
+      let before : c.cut_end.result ≡ option_map (cut_end parts ceiling) (option_map (λ (v : Vec ℕ Global). v.items) cut) =
+      c.cut_end.ensures ∙ sym (mapped_twice (cut_end parts ceiling) (λ (v : Vec ℕ Global). v.items) cut) in
       let lacks : c.lacks_file.result ≡ lacks_single name_asked single =
       c.lacks_file.ensures ∙ sym (lacks_maps (λ (s : Bor (List ℕ)). s.now) (λ (f : Vec ℕ Global). f.items) options.file file) in
       let numbered = c.in_ok-numbered.numbered.items in
@@ -57,7 +57,7 @@ returns-clause-texts c = (
       let reported : SearchReport = record {
         splices = c.in_ok-splices.splices;
         is_used_up = found.is_used_up;
-        limit = c.limit_reported.result;
+        ceiling = c.ceiling_reported.result;
         by_groups = c.groups_reported.result;
         before = c.cut_end.result;
         files = c.files_reported.result;
@@ -69,9 +69,9 @@ returns-clause-texts c = (
       let report : reported ≡ record {
         splices = count_new copies (splices_in (found_of found));
         is_used_up = found.is_used_up;
-        limit = limit_reported options.ceiling found.ceiling;
+        ceiling = ceiling_reported options.ceiling found.ceiling;
         by_groups = groups_reported (found_of found).by_groups;
-        before = option_map (cut_end parts limit) (option_map (λ (v : Vec ℕ Global). v.items) cut);
+        before = option_map (cut_end parts ceiling) (option_map (λ (v : Vec ℕ Global). v.items) cut);
         files = files_reported (option_map (λ (s : Bor (List ℕ)). s.now) options.files) (named_files numbered);
         is_eoi_added = is_eoi_added (copies ++ splices_in (found_of found)) single (named_files numbered);
         lacks_single_file = lacks_single name_asked single;
@@ -81,7 +81,7 @@ returns-clause-texts c = (
       λ i. record {
         splices = new i;
         is_used_up = found.is_used_up;
-        limit = c.limit_reported.ensures i;
+        ceiling = c.ceiling_reported.ensures i;
         by_groups = groups i;
         before = before i;
         files = files i;

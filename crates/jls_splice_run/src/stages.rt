@@ -1,5 +1,5 @@
-//! All searches of a run over some parts, in stages: levels that are given up where too many paths live; the same under each limit of
-//! `LIMITS` in turn, where the first was given up and no limit is asked for; and, where none of these found a file, levels that let paths
+//! All searches of a run over some parts, in stages: levels that are given up where too many paths live; the same under each ceiling of
+//! `CEILINGS` in turn, where the first was given up and no ceiling is asked for; and, where none of these found a file, levels that let paths
 //! go.
 
 ghost use Rattle.std.specs.Prelude.{◌≡◌, ◌<◌, ◌≤◌, ◌^◌, ◌⊎◌, List, None, length, IfOk, IfSome};
@@ -11,12 +11,12 @@ ghost use Rattle.jls_search.specs.Choices.{HasSomeWay, IsWhole};
 ghost use Rattle.jls_search.specs.Search.{IsKeptReader, IsShort, files_of, lists_of};
 ghost use Rattle.jls_search.specs.SearchLaws.{AreShort};
 ghost use Rattle.jls_search.specs.Found.{IsFound, IsGroupSearch, found_of, splices_in};
-ghost use Rattle.jls_splice_run.specs.Limits.{IsCounting, IsSearchOf, KeepsLimit};
+ghost use Rattle.jls_splice_run.specs.Ceilings.{IsCounting, IsSearchOf, KeepsCeiling};
 ghost use Rattle.jls_splice_run.specs.Telling.{IsTold};
 
 use crate::options::SearchOptions;
 use crate::searching::search_once;
-use crate::shallow::shallow_limit;
+use crate::shallow::shallow_ceiling;
 use jls_cuts::find_cuts;
 use jls_diff::{Parts, find_cut_parts, find_finer_parts, find_parts, one_part};
 use jls_io::Sink;
@@ -26,8 +26,8 @@ use jls_search::{
 };
 use std::alloc::{AllocError, Global};
 
-/// The limits: for each k from 16 to 31 the greatest whole number that is less than the square root of 2^k.
-const LIMITS: [u16; 16] = [
+/// The ceilings: for each k from 16 to 31 the greatest whole number that is less than the square root of 2^k.
+const CEILINGS: [u16; 16] = [
     255, 362, 511, 724, 1023, 1448, 2047, 2896, 4095, 5792, 8191, 11585, 16383, 23170, 32767, 46340,
 ];
 
@@ -37,12 +37,12 @@ const TRIES_AFTER: u64 = 16;
 /// How many tries it has at least, if that many are allowed.
 const FEWEST_AFTER: u64 = 256;
 
-/// What searches under limits in turn came to.
+/// What searches under ceilings in turn came to.
 #[derive(Drop)]
 pub(crate) struct Turned {
     /// How many tries the next one has.
     tries: u32,
-    /// The limit of the last one that was not cut off.
+    /// The ceiling of the last one that was not cut off.
     whole: Option<u16>,
     /// The last one that was not cut off and found a file.
     found: Option<Searched>,
@@ -53,8 +53,8 @@ pub(crate) struct Turned {
 pub struct FoundInTurn<'a> {
     /// What the search that counts found, and what groups gave.
     pub splices: FoundSplices<'a>,
-    /// The limit under which a cut file is sought, if there is one.
-    pub cut_limit: Option<u16>,
+    /// The ceiling under which a cut file is sought, if there is one.
+    pub cut_ceiling: Option<u16>,
     /// Whether a cut file is sought.
     pub seeks_cut: bool,
 }
@@ -104,12 +104,12 @@ fn with_one_more(turned: Turned, searched: Searched, most: u32) -> Turned
     }
 }
 
-/// Searches under these limits in turn, until a search is cut off.
+/// Searches under these ceilings in turn, until a search is cut off.
 fn search_in_turn<E: Sink>(
     alloc: Global,
     parts: &Parts<'_>,
     options: SearchOptions,
-    limits: &[u16],
+    ceilings: &[u16],
     faults: &mut E,
 ) -> Result<Turned, AllocError>
     requires some_way { AllByRecursion HasSomeWay parts.now }
@@ -122,9 +122,9 @@ fn search_in_turn<E: Sink>(
         whole: None,
         found: None,
     };
-    for limit in limits {
+    for ceiling in ceilings {
         let under = LevelRules {
-            ceiling: Some(*limit),
+            ceiling: Some(*ceiling),
             tries: turned.tries,
             lets_go: false,
         };
@@ -137,28 +137,28 @@ fn search_in_turn<E: Sink>(
     Ok(turned)
 }
 
-/// The search that counts, and the limit of the last one that was not cut off.
+/// The search that counts, and the ceiling of the last one that was not cut off.
 #[derive(Drop)]
 struct CountingSearch {
-    /// The limit of the last search that was not cut off, and else that of the first, if it has one.
-    cut_limit: Option<u16>,
+    /// The ceiling of the last search that was not cut off, and else that of the first, if it has one.
+    cut_ceiling: Option<u16>,
     /// What the search that counts came to.
     searched: Searched,
 }
 
-/// What counts of a search without a limit, and of others under limits in turn.
+/// What counts of a search without a ceiling, and of others under ceilings in turn.
 fn chosen(first: Searched, turned: Turned) -> CountingSearch
     ensures { (parts : List Part) → IfSome turned.found (IsSearchOf parts) → IsSearchOf parts first → IsSearchOf parts result.searched }
 {
     let Turned { whole, found, .. } = turned;
     CountingSearch {
-        cut_limit: whole,
+        cut_ceiling: whole,
         searched: found.unwrap_or(first),
     }
 }
 
-/// What counts of a search that was cut off, and of those under limits in turn. If a limit is given there are no others.
-fn count_within_limits<E: Sink>(
+/// What counts of a search that was cut off, and of those under ceilings in turn. If a ceiling is given there are no others.
+fn count_within_ceilings<E: Sink>(
     alloc: Global,
     parts: &Parts<'_>,
     options: SearchOptions,
@@ -168,17 +168,17 @@ fn count_within_limits<E: Sink>(
     requires some_way { AllByRecursion HasSomeWay parts.now }
     requires short { IsShort parts.now }
     requires first { IsSearchOf parts.now first }
-    requires limit { first.ceiling ≡ options.ceiling }
+    requires ceiling { first.ceiling ≡ options.ceiling }
     ensures counts { IfOk result (λ all. IsCounting options.ceiling parts.now all) }
     ensures told { GrewBy (IsTold options.tells) (E.history faults.old) (E.history faults.new) }
 {
     if options.ceiling.is_some() {
         return Ok(CountingSearch {
-            cut_limit: options.ceiling,
+            cut_ceiling: options.ceiling,
             searched: first,
         });
     }
-    let turned = search_in_turn(alloc, parts, options, &LIMITS, faults)?;
+    let turned = search_in_turn(alloc, parts, options, &CEILINGS, faults)?;
     Ok(chosen(first, turned))
 }
 
@@ -201,7 +201,7 @@ fn find_or_let_go<E: Sink>(
     }
     let searched = search_once(alloc, parts, rules_of(options, true), options.tells, faults)?;
     Ok(CountingSearch {
-        cut_limit: all.cut_limit,
+        cut_ceiling: all.cut_ceiling,
         searched,
     })
 }
@@ -227,11 +227,11 @@ fn search_all<E: Sink>(
     )?;
     if !first.is_used_up {
         return Ok(CountingSearch {
-            cut_limit: options.ceiling,
+            cut_ceiling: options.ceiling,
             searched: first,
         });
     }
-    let all = count_within_limits(alloc, parts, options, first, faults)?;
+    let all = count_within_ceilings(alloc, parts, options, first, faults)?;
     find_or_let_go(alloc, parts, options, all, faults)
 }
 
@@ -249,7 +249,7 @@ enum Cutting {
 pub(crate) struct SearchedParts<'a> {
     /// The parts.
     parts: Parts<'a>,
-    /// The search that counts, and the limit of the last one that was not cut off.
+    /// The search that counts, and the ceiling of the last one that was not cut off.
     all: CountingSearch,
 }
 
@@ -409,9 +409,9 @@ fn seeks_cut(
     are_of_one_coding(alloc, copies, parts)
 }
 
-/// The limit under which a cut file is sought: that of the searches. If they have none and found nothing, it may be that of a shallow
+/// The ceiling under which a cut file is sought: that of the searches. If they have none and found nothing, it may be that of a shallow
 /// picture. `Err` comes where memory is refused.
-fn limit_of_cut(
+fn ceiling_of_cut(
     alloc: Global,
     parts: &Parts<'_>,
     all: &CountingSearch,
@@ -420,16 +420,16 @@ fn limit_of_cut(
 ) -> Result<Option<u16>, AllocError>
     requires some_way { AllByRecursion HasSomeWay parts.now }
     requires short { IsShort parts.now }
-    ensures { IfOk result (λ limit. (limit ≡ all.now.cut_limit) ⊎ (all.now.cut_limit ≡ None)) }
+    ensures { IfOk result (λ ceiling. (ceiling ≡ all.now.cut_ceiling) ⊎ (all.now.cut_ceiling ≡ None)) }
 {
-    if !is_sought || all.cut_limit.is_some() || !all.searched.splices.is_empty() {
-        return Ok(all.cut_limit);
+    if !is_sought || all.cut_ceiling.is_some() || !all.searched.splices.is_empty() {
+        return Ok(all.cut_ceiling);
     }
-    shallow_limit(alloc, parts, tries)
+    shallow_ceiling(alloc, parts, tries)
 }
 
 /// Finds the parts of copies and searches their splices, under the ceiling if there is one, with so many tries at most. Where no ceiling is
-/// given and that search is cut off, it searches under limits in turn, until one of these searches is cut off. The search that counts is
+/// given and that search is cut off, it searches under ceilings in turn, until one of these searches is cut off. The search that counts is
 /// the last that was not cut off and found a file, and else the first. Where it was cut off or came to nothing, groups are searched. A cut
 /// file is to be sought where it found nothing, unless the copies are of several codings.
 ///
@@ -459,8 +459,8 @@ pub fn search_and_tell<'a, E: Sink>(
     ensures small { IfOk result (λ found. length (made 0 found.splices.parts) < 2 ^ 64) }
     ensures of_groups { IfOk result (λ found. IfSome (found_of found.splices).by_groups
         (IsGroupSearch options.tries (length copies.now) found.splices.parts)) }
-    ensures limit { IfOk result (λ found. KeepsLimit options.ceiling found.splices.ceiling) }
-    ensures cut { IfOk result (λ found. KeepsLimit options.ceiling found.cut_limit) }
+    ensures ceiling { IfOk result (λ found. KeepsCeiling options.ceiling found.splices.ceiling) }
+    ensures cut { IfOk result (λ found. KeepsCeiling options.ceiling found.cut_ceiling) }
     ensures reader { IfOk result (λ found. IfSome found.splices.reader (IsKeptReader found.splices.parts)) }
     ensures told { GrewBy (IsTold options.tells) (E.history faults.old) (E.history faults.new) }
 {
@@ -471,11 +471,11 @@ pub fn search_and_tell<'a, E: Sink>(
     let found = search_copies(alloc, copies, options, faults)?;
     let SearchedParts { parts, all } = found;
     let seeks_cut = seeks_cut(alloc, copies, &parts, &all)?;
-    let cut_limit = limit_of_cut(alloc, &parts, &all, seeks_cut, options.tries)?;
+    let cut_ceiling = ceiling_of_cut(alloc, &parts, &all, seeks_cut, options.tries)?;
     let splices = complete_by_groups(alloc, copies, parts, all.searched, options.tries)?;
     Ok(FoundInTurn {
         splices,
-        cut_limit,
+        cut_ceiling,
         seeks_cut,
     })
 }

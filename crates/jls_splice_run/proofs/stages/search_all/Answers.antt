@@ -1,8 +1,8 @@
 use Rattle.std.proofs.Common.{Option, ℕ, sym, ◌∙◌, subst}
-use Rattle.jls_splice_run.specs.Limits.{KeepsLimit}
-use Rattle.jls_splice_run.proofs.KeptLimits.{keeps_own}
+use Rattle.jls_splice_run.specs.Ceilings.{KeepsCeiling}
+use Rattle.jls_splice_run.proofs.KeptCeilings.{keeps_own}
 use Rattle.jls_splice_run.proofs.Told.{tells_on}
-use Rattle.jls_splice_run.proofs.limits.search_all.Goals as goal
+use Rattle.jls_splice_run.proofs.stages.search_all.Goals as goal
 
 pub returns-then-not-first-clause-counts : goal.returns-then-not-first-clause-counts
 returns-then-not-first-clause-counts g c =
@@ -10,16 +10,16 @@ returns-then-not-first-clause-counts g c =
     let e = c.in_ok-first.ensures in
     record {
       is_search = record { came_to = e.came_to; reader = e.reader };
-      limit_is = subst (λ (limit : Option ℕ). KeepsLimit given limit) (sym (e.ceiling ∙ c.rules_of.ensures)) (keeps_own given);
-      cut_limit_is = keeps_own given;
+      ceiling_is = subst (λ (ceiling : Option ℕ). KeepsCeiling given ceiling) (sym (e.ceiling ∙ c.rules_of.ensures)) (keeps_own given);
+      cut_ceiling_is = keeps_own given;
     }
 
-pub count_within_limits-requires-clause-first : goal.count_within_limits-requires-clause-first
-count_within_limits-requires-clause-first g c =
+pub count_within_ceilings-requires-clause-first : goal.count_within_ceilings-requires-clause-first
+count_within_ceilings-requires-clause-first g c =
     let e = c.in_ok-first.ensures in record { came_to = e.came_to; reader = e.reader }
 
-pub count_within_limits-requires-clause-limit : goal.count_within_limits-requires-clause-limit
-count_within_limits-requires-clause-limit g c = c.in_ok-first.ensures.ceiling ∙ c.rules_of.ensures
+pub count_within_ceilings-requires-clause-ceiling : goal.count_within_ceilings-requires-clause-ceiling
+count_within_ceilings-requires-clause-ceiling g c = c.in_ok-first.ensures.ceiling ∙ c.rules_of.ensures
 
 pub returns-in_err-all-clause-told : goal.returns-in_err-all-clause-told
 returns-in_err-all-clause-told g c = tells_on c.args.options.tells c.in_ok-first.ensures.told c.in_err-all.ensures.told

@@ -1,8 +1,8 @@
 use Rattle.std.proofs.Common.{Option, ℕ, sym, ◌∙◌, subst}
-use Rattle.jls_splice_run.specs.Limits.{KeepsLimit}
-use Rattle.jls_splice_run.proofs.KeptLimits.{keeps_own}
+use Rattle.jls_splice_run.specs.Ceilings.{KeepsCeiling}
+use Rattle.jls_splice_run.proofs.KeptCeilings.{keeps_own}
 use Rattle.jls_splice_run.proofs.Told.{tells_none}
-use Rattle.jls_splice_run.proofs.limits.find_or_let_go.Goals as goal
+use Rattle.jls_splice_run.proofs.stages.find_or_let_go.Goals as goal
 
 pub returns-clause-counts : goal.returns-clause-counts
 returns-clause-counts g c =
@@ -10,8 +10,8 @@ returns-clause-counts g c =
     let e = c.in_ok-searched.ensures in
     record {
       is_search = record { came_to = e.came_to; reader = e.reader };
-      limit_is = subst (λ (limit : Option ℕ). KeepsLimit given limit) (sym (e.ceiling ∙ c.rules_of.ensures)) (keeps_own given);
-      cut_limit_is = c.requires.counts.cut_limit_is;
+      ceiling_is = subst (λ (ceiling : Option ℕ). KeepsCeiling given ceiling) (sym (e.ceiling ∙ c.rules_of.ensures)) (keeps_own given);
+      cut_ceiling_is = c.requires.counts.cut_ceiling_is;
     }
 
 pub returns-then-not-is_empty-clause-told : goal.returns-then-not-is_empty-clause-told
