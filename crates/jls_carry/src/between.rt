@@ -108,8 +108,8 @@ fn is_said_elsewhere(
     false
 }
 
-/// Whether a copy reads on from a line in the same piece, so that each of the rows behind it is settled so, or said so by a copy of another
-/// coding.
+/// Whether a copy reads on from a line in the same piece. Each of the rows behind the line has to be settled so, or said so by a copy of
+/// another coding.
 fn reads_on(
     picture: &Picture,
     copies: &[CopyState<'_>],

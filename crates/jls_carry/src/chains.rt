@@ -51,7 +51,8 @@ impl Chain {
             .any(|run| run.begin <= begin && end <= run.end)
     }
 
-    /// How many bytes of the lines from one to another don't stand in runs, and how many more the copy has between two runs than the code.
+    /// How many bytes of the lines from one to another don't stand in runs. Those count too that the copy has between two runs and the code
+    /// has not.
     pub(crate) fn unmatched(&self, first: usize, last: usize) -> usize {
         let end = self.ends.end_of(last);
         let mut at = self.ends.begin_of(first);
@@ -88,7 +89,7 @@ struct Said {
     is_refuted: bool,
 }
 
-/// The one reading of a line in pieces that close that other copies have than this one, and those that have none of its bytes.
+/// The one reading of a line in pieces of other copies that close. Copies that share bytes with the taker don't count.
 fn only_closed(copies: &[CopyState<'_>], place: usize, taker: Speaker) -> Option<usize> {
     let mut only = None;
     for copy in copies {

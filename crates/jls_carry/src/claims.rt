@@ -8,8 +8,8 @@ use crate::pieces::{Layout, Piece};
 use crate::shifts::{NEAR, Shift, shifts_at_end};
 use std::alloc::{AllocError, Global};
 
-/// How many bytes before the end of a code a copy has to have, that no shift is sought.
-const AGREED: usize = 12;
+/// No shift is sought where a copy has so many bytes before the end of a code.
+const ALIKE_AT_END: usize = 12;
 
 /// What a copy says of a line.
 #[derive(Clone, Copy)]
@@ -61,7 +61,7 @@ pub(crate) struct Speaker {
     pub(crate) number: usize,
     /// The number of its coding.
     pub(crate) coding: usize,
-    /// Whether each of its bytes is one of other copies of its coding: it is a splice of these, or is one of them over again.
+    /// Whether each of its bytes is one of other copies of its coding. It is a splice of these, or is one of them over again.
     pub(crate) is_echo: bool,
 }
 
@@ -108,7 +108,8 @@ pub(crate) fn bytes_of<'a>(copy: &'a [u8], piece: &Piece) -> &'a [u8] {
     copy.get(piece.start..piece.end).unwrap_or(&[])
 }
 
-/// The readings with which a copy goes on at the first lines of an interval, up to the first that it lacks or that can't be coded there.
+/// The readings with which a copy goes on at the first lines of an interval. They end before the first that it lacks or that can't be
+/// coded there.
 pub(crate) fn own_readings(
     alloc: Global,
     picture: &Picture,
@@ -131,7 +132,7 @@ pub(crate) fn own_readings(
 
 /// Whether a copy has the last bytes of a code at their place.
 fn agrees_at_end(code: &[u8], copy: &[u8]) -> bool {
-    let begin = code.len().saturating_sub(AGREED);
+    let begin = code.len().saturating_sub(ALIKE_AT_END);
     match (code.get(begin..), copy.get(begin..code.len())) {
         (Some(last), Some(own)) => *last == *own,
         _ => false,

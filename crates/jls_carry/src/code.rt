@@ -10,11 +10,11 @@ use jls_copy::next_cut;
 use jls_interval::{CutEnd, FinishedLines, Front, IntervalDecoder, encode_front, fits};
 use std::alloc::{AllocError, Global};
 
-/// So many more lines fill the byte in which the last line ends, since each has one bit at least.
-pub(crate) const FILLING: usize = 8;
+/// How many more lines fill the byte in which the last line ends: each has one bit at least.
+pub(crate) const LINES_TO_FILL_BYTE: usize = 8;
 
-/// So many bytes before the last one of a copy have to be those of a code, that it ends as the code does.
-const ENDING: usize = 4;
+/// How many bytes before the last one of a copy have to be those of a code. Then it ends as the code does.
+const BYTES_AT_END: usize = 4;
 
 /// The first bits of a byte. The others stand in the low bits.
 #[derive(Clone, Copy)]
@@ -106,7 +106,7 @@ impl FirstCode {
     /// The last of a copy's bytes, if those before it end as the bytes do that the code fills. The end of the copy can be cut off.
     fn own_last_byte(&self, own: &[u8]) -> Option<u8> {
         let (last, before) = own.split_last()?;
-        let begin = self.bytes.len().saturating_sub(ENDING);
+        let begin = self.bytes.len().saturating_sub(BYTES_AT_END);
         let ending = self.bytes.get(begin..)?;
         if before.ends_with(ending) {
             Some(*last)

@@ -1,7 +1,7 @@
 //! The codes of first lines that were written last. Lines whose code begins one of these are not coded again.
 
 use crate::claims::CopyState;
-use crate::code::{FILLING, FirstCode, front_of};
+use crate::code::{FirstCode, LINES_TO_FILL_BYTE, front_of};
 use crate::interval::Interval;
 use crate::picture::Picture;
 use jls_interval::Front;
@@ -30,8 +30,8 @@ pub(crate) struct PieceIndex {
     pub(crate) piece: usize,
 }
 
-/// Writes these readings of the first lines of an interval, and blank lines behind them, so that these fill the last byte; `None` where
-/// they can't be coded there.
+/// Writes these readings of the first lines of an interval. Blank lines behind them fill the last byte. `None` comes where they can't be
+/// coded there.
 fn write(
     alloc: Global,
     picture: &Picture,
@@ -43,7 +43,7 @@ fn write(
     for (line, reading) in readings.iter().enumerate() {
         lines.push(picture.samples(interval.place(line), *reading))?;
     }
-    for _ in 0..interval.lines_to_fill(readings.len(), FILLING) {
+    for _ in 0..interval.lines_to_fill(readings.len(), LINES_TO_FILL_BYTE) {
         lines.push(&blank)?;
     }
     front_of(alloc, interval, &lines)

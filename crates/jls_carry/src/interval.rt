@@ -102,8 +102,8 @@ impl Interval {
         None
     }
 
-    /// Whether a line of this interval has the same code in the other one, as far as both go: they begin with the same row, and have the
-    /// same components and parameters. The precision has no part in the code.
+    /// Whether a line of this interval has the same code in the other one, as far as both go. They have to begin with the same row, and to
+    /// have the same components and parameters. The precision has no part in the code.
     pub(crate) fn is_coded_as(&self, other: &Interval) -> bool {
         self.first_row == other.first_row
             && self.components == other.components

@@ -4,7 +4,7 @@
 //! with the parameters of another, are the other's own bytes, also those that it lost. Behind them the other goes on with its own bytes,
 //! and gives lines that mend the first. So they carry each other over their damaged places.
 //!
-//! The crate proposes. No contract speaks of what it finds: what is promised of a mended file rests on the bytes that a copy has outside of
+//! The crate proposes. No contract speaks of what it finds. What is promised of a mended file rests on the bytes that a copy has outside of
 //! its edits.
 //!
 //! - `pieces`, `interval`: where the scan data of each restart interval stand in a copy. Which lines it has
@@ -29,23 +29,24 @@
 //!    behind one flipped bit is a run too, if the whole code and the copy end alike there.
 //! 2. One gap a round: lines are taken to the end of the first run behind a gap of the other copy. Then that copy is mended, and speaks
 //!    itself.
-//! 3. Where two readings of a line are confirmed, it is disputed. One is taken if it alone stands unbroken in two copies, or leaves under a
-//!    quarter of the other's unmatched bytes, or is confirmed for four times as many rows. Bytes that a copy has too many count too.
+//! 3. Where two readings of a line are confirmed, it is disputed. One is taken if it alone stands unbroken in two copies. It is also taken
+//!    if it leaves under a quarter of the other's unmatched bytes, or is confirmed for four times as many rows. Bytes that a copy has too
+//!    many count too.
 //! 4. Lines are taken in order. A chain ends at the first that is not.
 //! 5. Behind a dispute each copy goes on with its own reading, and a later line wants both.
 //! 6. A reading that another copy has, and nobody tested, holds the line back. A sample that a coding can't say refutes it there. A reading
 //!    is refuted too if another copy says otherwise, and its piece goes on for two rows as a copy of another coding says. The copy that
 //!    denies a line has tested those behind it only as far as they are of the same piece. Where that piece closes, the line in question is
 //!    the one in which both part again, if they part near it.
-//! 7. Where nothing else goes on, lines that a copy reads in one piece between settled ones are taken: all of them, or none if one is held
-//!    back. Two rows behind them have to be settled as it says.
-//! 8. Where nothing else goes on, 24 such bytes are a hint without a whole line in them: lines up to a hint are taken, four rows behind
+//! 7. Where nothing else goes on, lines that a copy reads in one piece between settled ones are taken. It is all of them, or none if one is
+//!    held back. Two rows behind them have to be settled as it says.
+//! 8. Where nothing else goes on, 24 such bytes are a hint without a whole line in them. Lines up to a hint are taken, four rows behind
 //!    the known ones at most.
 //! 9. Pieces that close by themselves count only where nothing else goes on, and in copies that agree with another somewhere. No such piece
 //!    may say otherwise. One that says otherwise of a settled line doesn't count, nor one with a disputed line.
 //!
 //! Where two copies have the same code, that code anew says nothing of its truth: garbage, coded anew, is the same garbage. There only what
-//! agrees from the start of an interval on is taken, where nothing else goes on, and no copy of another coding says otherwise. It gives way
+//! agrees from the start of an interval on is taken. Nothing else may go on, and no copy of another coding may say otherwise. It gives way
 //! to what copies of several codings have. The two can be copies of one damaged file, or of another picture. A copy that has the bytes of
 //! one before it confirms nothing.
 //!
@@ -225,8 +226,8 @@ pub struct Carried {
     pub strangers: Vec<usize>,
     /// The lines of the picture that are settled, row by row, and in a row by component.
     pub lines: Vec<Option<Vec<u16>>>,
-    /// Whether a line isn't settled because copies confirm several readings of it, or copies of different codings read to their ends and
-    /// say several things of it.
+    /// Whether a line isn't settled because copies confirm several readings of it. Or because copies of different codings read to their
+    /// ends and say several things of it.
     pub has_disputed: bool,
 }
 

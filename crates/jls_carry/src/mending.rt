@@ -61,8 +61,8 @@ fn has_all_from(picture: &Picture, copy: &CopyState<'_>, piece: &Piece, line: us
     })
 }
 
-/// The code of the first lines of a piece, and then what its copy has: from where the code has moved to in it, or else from an offset in
-/// its own bytes.
+/// The code of the first lines of a piece, and then what its copy has. That goes on from where the code has moved to in it, or else from an
+/// offset in its own bytes.
 fn with_own_bytes(
     alloc: Global,
     copy: &CopyState<'_>,
@@ -81,7 +81,7 @@ fn with_own_bytes(
 }
 
 /// Whether a piece reads to its end where its first lines have these readings, and its copy's own bytes stand behind them. A copy can have
-/// a reading of each line behind them, and the piece be faulty all the same: a line can come from another place of it.
+/// a reading of each line behind them, and the piece be faulty all the same. A line can come from another place of it.
 fn closes_behind(
     alloc: Global,
     picture: &Picture,
@@ -109,7 +109,7 @@ fn closes_behind(
     Ok(read_lines(alloc, &piece.interval, &bytes)?.closes)
 }
 
-/// The piece at whose last known line the mended file is best cut: where more lines stand whole in it than in all pieces that read.
+/// The piece at whose last known line the mended file is best cut. More lines stand whole in it than in all pieces that read.
 fn best_cut(
     alloc: Global,
     picture: &Picture,

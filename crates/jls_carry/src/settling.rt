@@ -7,10 +7,10 @@ use crate::picture::{OwnReading, Picture};
 use std::alloc::{AllocError, Global};
 
 /// A reading is taken over another where it leaves under a quarter of the other's bytes unmatched, and this many fewer.
-const CLEARLY: usize = 8;
+const FEWER_UNMATCHED: usize = 8;
 
-/// Or where it is confirmed for four times as many rows, and this many more.
-const ROWS_MORE: usize = 8;
+/// A reading is also taken over another where it is confirmed for four times as many rows, and this many more.
+const MORE_ROWS: usize = 8;
 
 /// How many rows behind those that are known hints can confirm.
 const ROWS_HINTED: usize = 4;
@@ -314,14 +314,14 @@ impl Settling<'_, '_> {
                 return None;
             }
         }
-        if second.saturating_mul(4).saturating_add(ROWS_MORE) <= most {
+        if second.saturating_mul(4).saturating_add(MORE_ROWS) <= most {
             Some(best.reading)
         } else {
             None
         }
     }
 
-    /// How many bytes don't match of a reading's code and the copy, over so many rows, in the copy where most do.
+    /// The fewest bytes that one of the chains of a reading leaves unmatched, over `rows` rows.
     fn unmatched(&self, confirmed: &Confirmed, rows: usize) -> usize {
         let mut least = usize::MAX;
         for reached in confirmed.chains.iter() {
@@ -337,8 +337,9 @@ impl Settling<'_, '_> {
         least
     }
 
-    /// Of several readings the only one that is firm, or the one that leaves far fewer bytes unmatched, or is confirmed for far more rows.
-    fn chosen(&self, readings: &[&Confirmed]) -> Result<Option<usize>, AllocError> {
+    /// Of several readings the only one that is firm. If none is, it is the one that leaves far fewer bytes unmatched, or is confirmed for
+    /// far more rows.
+    fn choose_reading(&self, readings: &[&Confirmed]) -> Result<Option<usize>, AllocError> {
         let is_any_across = readings
             .iter()
             .any(|confirmed| !self.is_of_one_coding(confirmed));
@@ -368,7 +369,7 @@ impl Settling<'_, '_> {
                 second = second.min(unmatched);
             }
         }
-        if least.saturating_mul(4).saturating_add(CLEARLY) <= second {
+        if least.saturating_mul(4).saturating_add(FEWER_UNMATCHED) <= second {
             return Ok(best);
         }
         Ok(self.outlasting(readings, rows))
@@ -435,7 +436,7 @@ impl Settling<'_, '_> {
     }
 
     /// The reading that is taken of those that are confirmed.
-    fn taken(
+    fn reading_to_settle(
         &self,
         picture: &Picture,
         place: usize,
@@ -443,7 +444,7 @@ impl Settling<'_, '_> {
     ) -> Result<Option<usize>, AllocError> {
         let heard = self.heard(readings)?;
         let [only] = heard.as_slice() else {
-            return self.chosen(&heard);
+            return self.choose_reading(&heard);
         };
         let reading = only.reading;
         if self.is_opposed(only) || self.is_denied(only, place) {
@@ -506,7 +507,7 @@ impl Settling<'_, '_> {
         {
             return Ok(Verdict::Open);
         }
-        match self.taken(picture, place, readings)? {
+        match self.reading_to_settle(picture, place, readings)? {
             None => {
                 if readings.len() > 1 {
                     return Ok(Verdict::Disputed(self.own_readings(readings)?));
@@ -592,7 +593,7 @@ impl Settling<'_, '_> {
     }
 
     /// Settles the lines of the picture that chains confirm. Answers whether one was settled or disputed. What copies of one coding alone
-    /// have counts where nothing else goes on: a copy of another coding can say otherwise once it is mended before that.
+    /// have counts where nothing else goes on. A copy of another coding can say otherwise once it is mended before that.
     pub(crate) fn settle(&mut self, picture: &mut Picture) -> Result<bool, AllocError> {
         self.link_across();
         self.oppose()?;

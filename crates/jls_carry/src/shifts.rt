@@ -179,8 +179,9 @@ impl SoughtTable {
     }
 }
 
-/// The shifts at which a code and a copy seem to agree somewhere: none first, and then those of bytes that stand once in the copy. First
-/// come those that are sought behind the known lines, whose code ends at `known`. The others are sought from the end of the code on.
+/// The shifts at which a code and a copy seem to agree somewhere. The first is none, and then come those of bytes that stand once in the
+/// copy. Of these come first those that are sought behind the known lines, whose code ends at `known`. The others are sought from the end
+/// of the code on.
 pub(crate) fn shifts_of(
     alloc: Global,
     code: &[u8],
@@ -267,7 +268,7 @@ fn add_ends(
     Ok(())
 }
 
-/// The shifts that a copy can have behind the end of a code: where the last bytes of the code stand in it, within this reach.
+/// The shifts that a copy can have behind the end of a code. There the last bytes of the code stand in it, within this reach.
 pub(crate) fn shifts_at_end(
     alloc: Global,
     code: &[u8],

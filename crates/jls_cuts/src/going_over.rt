@@ -141,14 +141,14 @@ impl Search {
         self.tries == 0
     }
 
-    /// Counts a try in which so many bytes were fed.
-    pub(crate) fn spend(&mut self, bytes: usize) {
+    /// Takes the tries off that so many bytes count for: one, and more for many bytes.
+    pub(crate) fn spend_bytes(&mut self, bytes: usize) {
         self.tries = less(self.tries, (bytes / BYTES_A_TRY).saturating_add(1));
     }
 
-    /// Counts a try whose reader lived so long.
-    fn count(&mut self, life: Life) {
-        self.spend(life.bytes);
+    /// Notes a try whose reader lived so long.
+    fn note_life(&mut self, life: Life) {
+        self.spend_bytes(life.bytes);
         self.after = match self.after {
             Some(after) => Some(after.saturating_sub(1)),
             None if !life.is_dead && life.bytes >= SURE => Some(TRIES_AFTER),
@@ -173,7 +173,7 @@ impl Search {
             }
             let mut reader = from.try_clone()?;
             let life = stretch.feed_rest(&mut reader, other, at)?;
-            self.count(life);
+            self.note_life(life);
             if !life.is_dead {
                 let cut = stretch.offset.saturating_add(at);
                 self.living.push(Through {
@@ -207,8 +207,9 @@ impl Search {
         Ok(())
     }
 
-    /// Goes over from this copy, of whose bytes a reader is fed more and more: at multiples of a block first, and then at each byte. The
-    /// last come first, since the copy's damage is seldom far before the byte at which its reader dies. The answer are those that live.
+    /// Goes over from this copy, of whose bytes a reader is fed more and more. It does at multiples of a block first, and then at each
+    /// byte. The last come first, since the copy's damage is seldom far before the byte at which its reader dies. The answer are those that
+    /// live.
     pub(crate) fn through(
         &mut self,
         stretch: Stretch<'_, '_>,

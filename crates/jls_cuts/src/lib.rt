@@ -10,7 +10,7 @@
 //! - `going_over`: searches all bytes of a stretch for that, up to where one copy's reader dies
 //! - `walk`: goes through all parts, and searches these where no copy has all of a part
 //!
-//! What is found here are proposals, so no contract speaks of them: parts that are cut there are tested (`find_cut_parts` of jls_diff), and
+//! What is found here are proposals, so no contract speaks of them. Parts that are cut there are tested (`find_cut_parts` of jls_diff), and
 //! searched as all others are.
 #![tactic(auto)]
 

@@ -22,7 +22,7 @@ pub(crate) struct Pace {
 }
 
 impl Pace {
-    /// That of a reader that was fed nothing.
+    /// The pace of a reader that was fed nothing.
     pub(crate) fn new() -> Pace {
         let mark = Mark { fed: 0, samples: 0 };
         Pace {

@@ -78,10 +78,10 @@ fn samples_at_once(piece: &PieceInHand) -> u64 {
     width
 }
 
-/// What of these bits, which so many samples have, so many of them have.
-fn part_of(bits: u64, samples: u64, of: u64) -> u64 {
-    let share = bits.saturating_mul(FINER).checked_div(samples).unwrap_or(0);
-    share.saturating_mul(of) / FINER
+/// What `samples` samples have of these bits, which `all` samples have.
+fn share_of(bits: u64, all: u64, samples: u64) -> u64 {
+    let share = bits.saturating_mul(FINER).checked_div(all).unwrap_or(0);
+    share.saturating_mul(samples) / FINER
 }
 
 impl Saved {
@@ -98,7 +98,7 @@ impl Saved {
             .saturating_sub(least.saturating_mul(self.samples))
     }
 
-    /// These lines and those.
+    /// What both these lines and those save.
     pub(crate) fn and(self, more: Saved) -> Saved {
         Saved {
             parts: self.parts.saturating_add(more.parts),
@@ -106,7 +106,7 @@ impl Saved {
         }
     }
 
-    /// No lines.
+    /// What no lines save.
     pub(crate) fn none() -> Saved {
         Saved {
             parts: 0,
@@ -143,7 +143,7 @@ impl Gauge {
             return None;
         }
         let cost = self.cost_from(piece, from, piece.lines.len());
-        let took = part_of(parts, read.saturating_sub(self.samples), counted);
+        let took = share_of(parts, read.saturating_sub(self.samples), counted);
         self.piece = piece.offset;
         self.lines = piece.lines.len();
         self.samples = self.samples.saturating_add(counted);
@@ -202,11 +202,11 @@ impl Measured {
         let (bytes, samples) = pace.since(from);
         let bits = bytes.saturating_mul(PARTS_OF_BYTE);
         let of = width.saturating_mul(last as u64);
-        let took = part_of(bits, samples, of);
+        let took = share_of(bits, samples, of);
         gauge.bits = from
             .fed()
             .saturating_mul(PARTS_OF_BYTE)
-            .saturating_sub(part_of(bits, samples, begun));
+            .saturating_sub(share_of(bits, samples, begun));
         Ok(Some(Measured {
             reader: from.try_clone()?,
             gauge,

@@ -176,7 +176,7 @@ impl Turn {
             read = place.saturating_add(1);
             lives = !run.is_dead() && top.saturating_sub(sum) <= self.loss;
         }
-        search.spend(read.saturating_sub(from.at));
+        search.spend_bytes(read.saturating_sub(from.at));
         if !lives {
             return Ok(());
         }
@@ -276,7 +276,7 @@ fn turns(
             continue;
         }
         let change = change_of(stretch, from, copy)?;
-        search.spend(change.bytes);
+        search.spend_bytes(change.bytes);
         let turn = Turn {
             copy,
             change,
@@ -347,7 +347,7 @@ fn proposed(
         } = best;
         let Measured { mut reader, .. } = run;
         let life = stretch.feed_after(&mut reader, other, read, pace)?;
-        search.spend(life.bytes);
+        search.spend_bytes(life.bytes);
         if !life.is_dead {
             found.push(Through {
                 reader,

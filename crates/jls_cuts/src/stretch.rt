@@ -68,7 +68,7 @@ impl<'p, 'a> Stretch<'p, 'a> {
         at.saturating_add(BLOCK - begun).min(self.length)
     }
 
-    /// The bytes that a copy has from this byte on, up to the next one: of the stretch, and then of what all copies have after it.
+    /// The bytes that a copy has from this byte on, up to the next one. They are of the stretch, and then of what all copies have after it.
     pub(crate) fn byte_at(self, copy: usize, at: usize) -> &'a [u8] {
         let end = at.saturating_add(1);
         if at < self.length {

@@ -42,7 +42,7 @@ fn common_length(ways: &[&[u8]]) -> Option<usize> {
     }
 }
 
-/// The part of this number as a stretch that may be gone over.
+/// The part of this number as a stretch that may be gone over. It begins at this offset in the first copy.
 fn stretch_at<'p, 'a>(
     parts: &'p Parts<'a>,
     place: usize,
