@@ -16,6 +16,7 @@ use Rattle.jls_carried.specs.declared.carrying.Between.{Between}
 use Rattle.jls_station.specs.Given.{marked}
 use Rattle.jls_splice_run.specs.Listing.{NamedFile, numbered}
 use Rattle.jls_splice_run.specs.ReadsAs.{EachReadsAs}
+use Rattle.jls_splice_run.specs.declared.carried.HandedOut.{HandedOut}
 use Rattle.jls_splice_run.specs.declared.found.Promise.{Promise}
 use Rattle.jls_splice_run.specs.declared.found.Promise.TheVariants.{Held, Lines, Picture}
 
@@ -103,6 +104,23 @@ carried_of b is_alone is_held are_read = record {
   is_held = is_held;
   are_read = are_read;
 }
+
+-- what is handed out of it, with the lines that are held, and whether each file taken has a fault
+abbrev pub carried_out : HandedOut → PartialPicture → Bool → Carried
+carried_out out held is_alone = record {
+  codings = codings_of out.codings.items;
+  files = map file_of out.mended.items;
+  strangers = out.strangers.items;
+  held = held;
+  is_alone = is_alone;
+  is_held = out.is_held;
+  are_read = out.are_read;
+}
+
+-- the promise and the picture are those of these held lines, where the files taken give that
+pub record IsHandedOut (source : Option ℕ) (held given : PartialPicture) (is_alone : Bool) (out : HandedOut) : Type 0 where
+  pub promise_is : out.promise ≡ carried_promise (carried_out out held is_alone)
+  pub picture_is : out.picture ≡ joined source (Some (carried_out out held is_alone)) given
 
 -- verdicts on the same files: no mended file of a promised picture has a fault
 abbrev pub verdicts_beside : Promise → List MendedFile → List Bool → List Bool

@@ -1,38 +1,41 @@
-//! What is made of copies in several codings that gave each other something.
+//! What is made of copies in several codings that gave each other something: whether something is handed out of it, and what.
 
-ghost use Rattle.std.specs.Prelude.{◌≡◌, true, false, ◌<◌, ◌≤◌, ◌^◌, IfOk, IfSome, IsTrue, None, OnOk, length, map, option_map};
-ghost use Rattle.std.specs.Prelude.{if◌then◌else◌};
+ghost use Rattle.std.specs.Prelude.{◌≡◌, ◌↔◌, ℕ, true, false, ◌<◌, ◌≤◌, ◌^◌, Option, IfOk, IfSome, IsTrue, None, OnOk, length, map};
+ghost use Rattle.std.specs.Prelude.{option_map};
+ghost use Rattle.std.specs.declared.alloc.Global.{Global};
+ghost use Rattle.std.specs.declared.vec.Vec.{Vec};
 ghost use Rattle.std.specs.List.{AllByRecursion, Contains};
 ghost use Rattle.jls_diff.specs.Parts.{made};
 ghost use Rattle.jls_diff.specs.PartsOf.{bytes_of, parts_of};
 ghost use Rattle.jls_held.specs.Judging.{AreMendedOf, coding_of, codings_of};
 ghost use Rattle.jls_held.specs.Mending.{file_of};
-ghost use Rattle.jls_partial.specs.Partial.{union};
+ghost use Rattle.jls_partial.specs.Partial.{PartialPicture, union};
+ghost use Rattle.jls_partial.specs.Status.{IsSettled};
 ghost use Rattle.jls_search.specs.Choices.{IsWhole};
+ghost use Rattle.jls_search.specs.Faultless.{IsFaultless};
 ghost use Rattle.jls_search.specs.Search.{lists_of};
 ghost use Rattle.jls_search.specs.Found.{found_of, splices_in};
 ghost use Rattle.jls_search.specs.Files.{AreVerdicts, files_taken, splices_found};
 ghost use Rattle.jls_splice_run.specs.Carrying as spec;
-ghost use Rattle.jls_splice_run.specs.Files.{is_eoi_added as added};
 ghost use Rattle.jls_splice_run.specs.Listing.{AreCompleted, AreNamedAsked, named_files};
-ghost use Rattle.jls_splice_run.specs.Making.{AreTextsOfJudged, IsCarriedMade};
+ghost use Rattle.jls_splice_run.specs.Making.{AreTextsOf, AreTextsOfJudged, IsCarriedMade, carried_made};
 ghost use Rattle.jls_splice_run.specs.Completing.{IsCompletedIn};
 ghost use Rattle.jls_splice_run.specs.ReadsAs.{EachReadsAs};
 ghost use Rattle.jls_splice_run.specs.Tasks.{task_of};
+ghost use Rattle.jls_splice_run.specs.declared.found.Promise.TheVariants.{Held as ForHeld};
 ghost use Rattle.jls_station.specs.Given.{marked};
 
-use crate::beside::{mended_slices, put_beside};
-use crate::completing::{completed, completed_in};
+use crate::beside::put_beside;
 use crate::copies::slices_of;
-use crate::files::{count_new, is_eoi_added};
+use crate::files::count_new;
 use crate::found::{Promise, SearchReport};
-use crate::stages::FoundInTurn;
-use crate::listing::{MOST_NAMED, NumberedFile, numbered_name};
-use crate::made::{Made, files_asked, files_reported, groups_reported, lacks_file, ceiling_reported};
+use crate::made::{Made, ceiling_reported, files_reported, groups_reported, lacks_file};
+use crate::mended_files::{is_eoi_added_to_handed, numbered_files, single_file};
+use crate::plain_edits::are_plain_edits;
 use crate::printed_lines::{lines_of_carried, notes_of_carried};
 use crate::reading_as::{are_one_picture, each_reads_as};
+use crate::stages::FoundInTurn;
 use crate::task::{Task, has_lists};
-use crate::telling_apart::is_told_apart;
 use jls_carried::{Between, SearchBounds, are_all_printed, carry_between};
 use jls_held::{EditedCopy, Judged, MendedCopy};
 use jls_partial::Partial;
@@ -67,135 +70,6 @@ fn carried_promise(
         Promise::Held
     } else {
         Promise::Lines
-    }
-}
-
-/// The mended file of the first coding, if the picture is promised and a name is given for it.
-fn carried_file(
-    alloc: Global,
-    name: Option<&str>,
-    promise: Promise,
-    files: &[MendedCopy],
-) -> Result<Option<Vec<u8>>, AllocError>
-    ensures { IfOk result (λ file. option_map (λ f. f.items) file ≡ spec.carried_file name.entry promise (map file_of files.now)) }
-{
-    if name.is_none() || promise != Promise::Held {
-        return Ok(None);
-    }
-    match files.first() {
-        Some(file) => {
-            let bytes = Vec::from_slice(alloc, &file.bytes)?;
-            Ok(Some(bytes))
-        }
-        None => Ok(None),
-    }
-}
-
-/// The single file, completed by EOI, if a name is given for it: the mended file of the first coding, if the picture is promised. There is
-/// none if a file taken may have no fault.
-fn single_file(
-    alloc: Global,
-    name: Option<&str>,
-    promise: Promise,
-    mended: &[MendedCopy],
-    is_alone: bool,
-) -> Result<Option<Vec<u8>>, AllocError>
-    ensures mended { is_alone ≡ true → IfOk result (λ file.
-        IsCompletedIn (spec.carried_file name.entry promise (map file_of mended.now)) (option_map (λ f. f.items) file)) }
-    ensures none { is_alone ≡ false → IfOk result (λ file. option_map (λ f. f.items) file ≡ None) }
-{
-    if !is_alone {
-        return Ok(None);
-    }
-    let file = carried_file(alloc, name, promise, mended)?;
-    completed_in(alloc, file)
-}
-
-/// The mended files with their names, completed by EOI, if what these begin with is given.
-fn carried_files(
-    alloc: Global,
-    prefix: Option<&str>,
-    files: &[MendedCopy],
-) -> Result<Vec<NumberedFile>, AllocError>
-    ensures { IfOk result (λ named.
-        AreCompleted (spec.carried_files (option_map (λ s. s.now) prefix.entry) (map file_of files.now)) (named_files named.items)) }
-{
-    let mut named = Vec::new(alloc);
-    let Some(prefix) = prefix else {
-        return Ok(named);
-    };
-    for place in 0..MOST_NAMED.min(files.len()) {
-        let name = numbered_name(alloc, prefix, place as u64 + 1)?;
-        let bytes = completed(alloc, &files[place].bytes)?;
-        named.push(NumberedFile { name, bytes })?;
-    }
-    Ok(named)
-}
-
-/// The files that have numbers, with their names: the mended files, or those of these files that have no fault if a file taken may have
-/// none.
-fn numbered_files(
-    alloc: Global,
-    prefix: Option<&str>,
-    files: &Files<'_, '_>,
-    verdicts: &[bool],
-    mended: &[MendedCopy],
-    is_alone: bool,
-) -> Result<Vec<NumberedFile>, AllocError>
-    requires whole { AllByRecursion (IsWhole files.now.parts.now) (lists_of files.now.splices.now) }
-    requires verdicts { AreVerdicts (files_taken files.now) verdicts.now }
-    ensures mended { is_alone ≡ true → IfOk result (λ named.
-        AreCompleted (spec.carried_files (option_map (λ s. s.now) prefix.entry) (map file_of mended.now)) (named_files named.items)) }
-    ensures taken { is_alone ≡ false → IfOk result (λ named.
-        AreNamedAsked (option_map (λ s. s.now) prefix.entry) (files_taken files.now) (named_files named.items)) }
-{
-    if is_alone {
-        carried_files(alloc, prefix, mended)
-    } else {
-        files_asked(alloc, prefix, files, verdicts)
-    }
-}
-
-/// Whether EOI was added to the single file or to one that has a number: no mended file has its bytes.
-fn is_eoi_added_to_mended(
-    alloc: Global,
-    files: &Files<'_, '_>,
-    mended: &[MendedCopy],
-    single: &Option<Vec<u8>>,
-    numbered: &[NumberedFile],
-) -> Result<bool, AllocError>
-    ensures { IfOk result (λ is. is ≡ added (map (λ f. f.bytes) (map file_of mended.now)) (option_map (λ f. f.items) single.now)
-        (named_files numbered.now)) }
-{
-    let slices = mended_slices(alloc, mended)?;
-    let alone = Files {
-        copies: &slices,
-        parts: files.parts,
-        splices: &[],
-        reader: files.reader,
-    };
-    is_eoi_added(alloc, &alone, single, numbered)
-}
-
-/// Whether EOI was added to the single file or to one that has a number: none of the files that they were made of has its bytes. These are
-/// the mended files, or these files if a file taken may have no fault.
-fn is_eoi_added_to_handed(
-    alloc: Global,
-    files: &Files<'_, '_>,
-    mended: &[MendedCopy],
-    is_alone: bool,
-    single: &Option<Vec<u8>>,
-    numbered: &[NumberedFile],
-) -> Result<bool, AllocError>
-    requires { AllByRecursion (IsWhole files.now.parts.now) (lists_of files.now.splices.now) }
-    ensures { IfOk result (λ is. is ≡ added
-        (if is_alone then map (λ f. f.bytes) (map file_of mended.now) else files_taken files.now)
-        (option_map (λ f. f.items) single.now) (named_files numbered.now)) }
-{
-    if is_alone {
-        is_eoi_added_to_mended(alloc, files, mended, single, numbered)
-    } else {
-        is_eoi_added(alloc, files, single, numbered)
     }
 }
 
@@ -258,9 +132,187 @@ fn are_read_as(
     each_reads_as(alloc, files, held)
 }
 
-/// What is handed out of what copies in several codings gave each other. If a file taken may be without a fault, `None` comes unless
-/// that speaks against it: a promised picture is another one, or a line has several readings, or was left open before one that is settled.
-/// If such files differ, it comes unless a picture is promised, and it is told which are wrong (`telling_apart`).
+/// What is handed out of what copies in several codings gave each other, and the files that it rests on.
+#[derive(Drop)]
+pub(crate) struct HandedOut {
+    /// Of each coding its copies, with the edits of each.
+    pub(crate) codings: Vec<Vec<EditedCopy>>,
+    /// The mended file of each coding.
+    pub(crate) mended: Vec<MendedCopy>,
+    /// The copies that agree with no other, by their indices.
+    pub(crate) strangers: Vec<usize>,
+    /// Whether the mended files hold each line.
+    pub(crate) is_held: bool,
+    /// Whether each mended file was found to read as the lines that are held.
+    pub(crate) are_read: bool,
+    /// The promise that holds.
+    pub(crate) promise: Promise,
+    /// The picture.
+    pub(crate) picture: Partial,
+    /// Whether each line of it is settled.
+    pub(crate) is_settled: bool,
+}
+
+/// What is handed out of what copies in several codings gave each other. If a file taken may be without a fault, `None` comes unless that
+/// speaks against it. It does if a promised picture is another one, or a line has several readings, or was left open before one that is
+/// settled. If such files differ, `None` comes unless a picture is promised, and its edits say plainly which are wrong (`plain_edits`).
+fn handed_out(
+    alloc: Global,
+    copies: &[&[u8]],
+    given: &Partial,
+    source: Option<u32>,
+    between: Between,
+    is_alone: bool,
+) -> Result<Option<HandedOut>, AllocError>
+    ensures codings { IfOk result (λ out. IfSome out (λ h. h.codings ≡ between.judged.codings)) }
+    ensures mended { IfOk result (λ out. IfSome out (λ h. h.mended ≡ between.judged.files)) }
+    ensures strangers { IfOk result (λ out. IfSome out (λ h. h.strangers ≡ between.strangers)) }
+    ensures held { IfOk result (λ out. IfSome out (λ h. IsTrue h.is_held ↔ IsSettled between.judged.held)) }
+    ensures read { IfOk result (λ out. IfSome out (λ h. IsTrue h.are_read
+        → EachReadsAs between.judged.held (map file_of between.judged.files.items))) }
+    ensures promise { IfOk result (λ out. IfSome out (λ h. h.promise
+        ≡ spec.promise_for (codings_of between.judged.codings.items) between.strangers.items h.is_held h.are_read)) }
+    ensures picture { IfOk result (λ out. IfSome out (λ h. h.picture ≡ spec.handed_by h.promise source between.judged.held given.now)) }
+    ensures settled { IfOk result (λ out. IfSome out (λ h. IsTrue h.is_settled ↔ IsSettled h.picture)) }
+{
+    let Between {
+        judged,
+        strangers,
+        is_doubtful,
+    } = between;
+    let Judged {
+        codings,
+        files: mended,
+        held,
+    } = judged;
+    let is_held = held.is_settled();
+    let are_read = are_read_as(alloc, &mended, &held, is_held)?;
+    let promise = carried_promise(&codings, &strangers, is_held, are_read);
+    if !is_alone && promise == Promise::Held && are_one_picture(&held, given) {
+        return Ok(None);
+    }
+    let is_told = promise == Promise::Held && are_plain_edits(copies, &codings);
+    if !is_alone && !given.is_settled() && !is_told {
+        return Ok(None);
+    }
+    let picture = handed(held, given, promise, source)?;
+    let is_settled = picture.is_settled();
+    let is_unopposed = is_settled && !is_doubtful;
+    if !is_alone && promise == Promise::Lines && is_unopposed {
+        return Ok(None);
+    }
+    Ok(Some(HandedOut {
+        codings,
+        mended,
+        strangers,
+        is_held,
+        are_read,
+        promise,
+        picture,
+        is_settled,
+    }))
+}
+
+/// The lines, the text and the files of what is handed out. `verdicts` are those on the files taken.
+fn texts_of_handed(
+    alloc: Global,
+    task: &Task<'_, '_>,
+    files: &Files<'_, '_>,
+    all: &FoundInTurn<'_>,
+    verdicts: &[bool],
+    out: &HandedOut,
+    is_alone: bool,
+) -> Result<Made, AllocError>
+    requires splices { splices_found files.now ≡ splices_in (found_of all.now.splices) }
+    requires each { AllByRecursion (IsWhole files.now.parts.now) (lists_of files.now.splices.now) }
+    requires small { length (made 0 all.now.splices.parts) < 2 ^ 64 }
+    requires verdicts { AreVerdicts (files_taken files.now) verdicts.now }
+    requires mended { AreMendedOf (bytes_of files.now.copies.now) (codings_of out.now.codings.items)
+        (map file_of out.now.mended.items) }
+    requires faultless { out.now.promise ≡ ForHeld
+        → AllByRecursion (λ f. IsFaultless f.bytes) (map file_of out.now.mended.items) }
+    ensures texts { IfOk result (λ made. (held given : PartialPicture)
+        → spec.IsHandedOut (task_of task.now).options.source held given is_alone out.now → (lone : Option (Vec ℕ Global))
+        → AreTextsOf (task_of task.now) (bytes_of files.now.copies.now) (carried_made (task_of task.now).options.source all.now lone given
+        (spec.carried_out out.now held is_alone) out.now.is_settled made) made) }
+    ensures single { is_alone ≡ true → IfOk result (λ made. IsCompletedIn
+        (spec.carried_file (task_of task.now).options.file out.now.promise (map file_of out.now.mended.items))
+        (option_map (λ f. f.items) made.file)) }
+    ensures no_single { is_alone ≡ false → IfOk result (λ made. option_map (λ f. f.items) made.file ≡ None) }
+    ensures named { is_alone ≡ true → IfOk result (λ made. AreCompleted
+        (spec.carried_files (task_of task.now).options.files (map file_of out.now.mended.items)) (named_files made.files.items)) }
+    ensures named_beside { is_alone ≡ false → IfOk result (λ made. AreNamedAsked (task_of task.now).options.files
+        (spec.files_beside out.now.promise (map file_of out.now.mended.items) (files_taken files.now)) (named_files made.files.items)) }
+{
+    let file = single_file(alloc, task.options.file, out.promise, &out.mended, is_alone)?;
+    let beside = put_beside(alloc, &out.mended, files.copies, verdicts, out.promise)?;
+    let handed_of = Files {
+        copies: &beside.copies,
+        parts: files.parts,
+        splices: files.splices,
+        reader: files.reader,
+    };
+    let numbered = numbered_files(
+        alloc,
+        task.options.files,
+        &handed_of,
+        &beside.verdicts,
+        &out.mended,
+        is_alone,
+    )?;
+    let found = &all.splices;
+    let splices = count_new(alloc, files.copies, files.parts, files.splices)?;
+    let is_added = is_eoi_added_to_handed(
+        alloc,
+        &handed_of,
+        &out.mended,
+        is_alone,
+        &file,
+        &numbered,
+    )?;
+    let report = SearchReport {
+        splices,
+        is_used_up: found.is_used_up,
+        ceiling: ceiling_reported(task.options.ceiling, found.ceiling),
+        by_groups: groups_reported(found.by_groups),
+        before: None,
+        files: files_reported(task.options.files, &numbered),
+        is_eoi_added: is_added,
+        lacks_single_file: lacks_file(task.options.file, &file),
+        has_lists: has_lists(task),
+        promise: out.promise,
+    };
+    let count = count_copies(files);
+    let lines = lines_of_carried(
+        alloc,
+        task.out,
+        &found.parts,
+        count,
+        &out.codings,
+        &out.strangers,
+        &report,
+        &out.picture,
+    )?;
+    let notes = notes_of_carried(
+        alloc,
+        task.out,
+        count,
+        &out.codings,
+        &out.strangers,
+        &report,
+    )?;
+    let text = out.picture.to_bytes(alloc)?;
+    Ok(Made {
+        lines,
+        notes,
+        text,
+        file,
+        files: numbered,
+        promise: out.promise,
+    })
+}
+
+/// What is handed out of what copies in several codings gave each other, as texts and files. `None` comes where nothing of it is.
 fn texts_of_judged(
     alloc: Global,
     task: &Task<'_, '_>,
@@ -279,89 +331,17 @@ fn texts_of_judged(
     ensures { IfOk result (λ made. IfSome made (AreTextsOfJudged (task_of task.now) (bytes_of files.now.copies.now)
         (files_taken files.now) all.now taken.now.station between is_alone)) }
 {
-    let Between {
-        judged,
-        strangers,
-        is_doubtful,
-    } = between;
-    let Judged {
-        codings,
-        files: mended,
-        held,
-    } = judged;
     let given = taken.station.partial();
-    let is_held = held.is_settled();
-    let are_read = are_read_as(alloc, &mended, &held, is_held)?;
-    let promise = carried_promise(&codings, &strangers, is_held, are_read);
-    if !is_alone && promise == Promise::Held && are_one_picture(&held, given) {
+    let source = task.options.source;
+    let Some(out) = handed_out(alloc, files.copies, given, source, between, is_alone)? else {
         return Ok(None);
-    }
-    let is_told = promise == Promise::Held && is_told_apart(files.copies, &codings);
-    if !is_alone && !given.is_settled() && !is_told {
-        return Ok(None);
-    }
-    let picture = handed(held, given, promise, task.options.source)?;
-    let is_settled = picture.is_settled();
-    let is_unopposed = is_settled && !is_doubtful;
-    if !is_alone && promise == Promise::Lines && is_unopposed {
-        return Ok(None);
-    }
-    let file = single_file(alloc, task.options.file, promise, &mended, is_alone)?;
-    let beside = put_beside(alloc, &mended, files.copies, &taken.faultless, promise)?;
-    let handed_of = Files {
-        copies: &beside.copies,
-        parts: files.parts,
-        splices: files.splices,
-        reader: files.reader,
     };
-    let numbered = numbered_files(
-        alloc,
-        task.options.files,
-        &handed_of,
-        &beside.verdicts,
-        &mended,
-        is_alone,
-    )?;
-    let found = &all.splices;
-    let splices = count_new(alloc, files.copies, files.parts, files.splices)?;
-    let is_added = is_eoi_added_to_handed(alloc, &handed_of, &mended, is_alone, &file, &numbered)?;
-    let report = SearchReport {
-        splices,
-        is_used_up: found.is_used_up,
-        ceiling: ceiling_reported(task.options.ceiling, found.ceiling),
-        by_groups: groups_reported(found.by_groups),
-        before: None,
-        files: files_reported(task.options.files, &numbered),
-        is_eoi_added: is_added,
-        lacks_single_file: lacks_file(task.options.file, &file),
-        has_lists: has_lists(task),
-        promise,
-    };
-    let count = count_copies(files);
-    let lines = lines_of_carried(
-        alloc,
-        task.out,
-        &found.parts,
-        count,
-        &codings,
-        &strangers,
-        &report,
-        &picture,
-    )?;
-    let notes = notes_of_carried(alloc, task.out, count, &codings, &strangers, &report)?;
-    let text = picture.to_bytes(alloc)?;
-    Ok(Some(Made {
-        lines,
-        notes,
-        text,
-        file,
-        files: numbered,
-        promise,
-    }))
+    let made = texts_of_handed(alloc, task, files, all, &taken.faultless, &out, is_alone)?;
+    Ok(Some(made))
 }
 
-/// What is handed out of copies in several codings, or beside witnesses, where no file taken is without a fault, or what the copies gave
-/// each other speaks against one that is. `None` comes where a cut file was taken, and where all are of one coding, as far as can be told.
+/// What is handed out of copies in several codings, or beside witnesses. No file taken is without a fault then, or what the copies gave
+/// each other speaks against it. `None` comes where a cut file was taken, and where all are of one coding, as far as can be told.
 pub(crate) fn carried_texts(
     alloc: Global,
     task: &Task<'_, '_>,

@@ -6,16 +6,17 @@
 //! - `inputs`: what it reads: copies, lists of their bad places, and witnesses
 //! - `copies`, `made`, `settling`: the copies that are read; what is made of them; their station
 //! - `bad_lists`: the lists of bad places that are read, and what is searched by them in place of the copies
-//! - `carried`, `coding_lines`: what is made of what copies in several codings give each other; its lines. `telling_apart`: whether it can
-//!   be told which copies are wrong, where files without a fault differ
+//! - `carried`, `coding_lines`: what is made of what copies in several codings give each other; its lines
+//! - `mended_files`: the mended files that are handed out
+//! - `plain_edits`: whether the edits of copies say plainly which of these are wrong
 //! - `beside`: mended files beside files of which one may have no fault
 //! - `reading_as`: whether mended files read as the lines that are held
-//! - `files`, `single`, `listing`: the files that were found, as bytes; the single one without a fault; all of these with their names
+//! - `files`, `single`, `listing`: which of the files found are no copies; the single one without a fault; all of these with their names
 //! - `completing`: files that are completed by EOI
 //! - `printed_lines`, `noting`: the lines that are printed; those on the fault output, where OUT is standard output
 //! - `handing`: the events that hand out all
 //! - `options`, `searching`: how a search is made; a search that goes on 64 tries at a time, and tells how far it is
-//! - `stages`: all searches of a run: the one that is asked for; where it is cut off, others under ceilings in turn; and groups
+//! - `stages`: all searches of a run: the one that is asked for, and where it is cut off, others under ceilings in turn; groups
 //! - `shallow`: the ceiling under which a cut file is sought, where the searches had none and found nothing
 //! - `differences`: where copies differ: the offset in the first copy, and how many bytes that one has there
 //! - `found`, `lines`: what is reported of a search, as one value; its lines, and the line that says how far a search is
@@ -51,8 +52,10 @@ mod inputs;
 mod lines;
 mod listing;
 mod made;
+mod mended_files;
 mod noting;
 mod options;
+mod plain_edits;
 mod printed_lines;
 mod printing;
 mod program;
@@ -64,7 +67,6 @@ mod single;
 mod splicing;
 mod stages;
 mod task;
-mod telling_apart;
 
 pub use coding_lines::put_carried;
 pub use differences::{Difference, differences_of};

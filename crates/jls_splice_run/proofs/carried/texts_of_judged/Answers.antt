@@ -1,214 +1,127 @@
-use Rattle.std.proofs.Common.{◌≡◌, ℕ, ◌<◌, Bool, true, List, [], ◌++◌, Vec, Global, Bor, Option, Some, None, drop, length, map, ap, refl, sym}
-use Rattle.std.proofs.Common.{◌∙◌, subst, arith}
-use Rattle.std.specs.Prelude.{◌↔◌, ◌^◌, IsTrue, codes, option_map, if◌then◌else◌}
+use Rattle.std.proofs.Common.{◌≡◌, ℕ, Bool, true, List, Vec, Global, Option, Some, map, ap, sym, ◌∙◌, subst}
+use Rattle.std.specs.Prelude.{◌↔◌, IsTrue, IfSome, option_map}
 use Rattle.std.specs.List.{AllByRecursion}
-use Rattle.std.specs.Str.{bytes_eq}
 use Rattle.jls_diff.specs.PartsOf.{bytes_of}
-use Rattle.jls_diff.proofs.Slices.{count_of_slices}
-use Rattle.jls_report.specs.Report.{report_of}
-use Rattle.jls_report.specs.ReportText.{report_text}
-use Rattle.jls_search.specs.Search.{lists_of}
-use Rattle.jls_search.specs.Faultless.{IsFaultless}
-use Rattle.jls_search.specs.Files.{AreVerdicts, files_taken, splices_found}
-use Rattle.jls_search.specs.Found.{found_of, splices_in}
-use Rattle.jls_held.specs.Judging.{codings_of}
-use Rattle.jls_held.specs.MendedFiles.{MendedFile}
-use Rattle.jls_held.specs.Mending.{file_of}
-use Rattle.jls_held.specs.declared.judging.EditedCopy.{EditedCopy}
-use Rattle.jls_held.specs.declared.mending.MendedCopy.{MendedCopy}
-use Rattle.jls_carried.specs.CodingLines.{HavePrintedNumbers}
 use Rattle.jls_partial.specs.Partial.{PartialPicture}
 use Rattle.jls_partial.specs.Status.{IsSettled}
-use Rattle.jls_partial.specs.Text.{text}
-use Rattle.jls_splice_run.specs.Tasks.{texts_of}
-use Rattle.jls_splice_run.specs.Ceilings.{has_some}
-use Rattle.jls_splice_run.specs.Carrying.{carried_file, carried_files, carried_of, carried_promise, files_beside, handed_by, joined}
-use Rattle.jls_splice_run.specs.Carrying.{promise_for, verdicts_beside}
-use Rattle.jls_splice_run.specs.CodingLines.{carried_noted_text, carried_text}
-use Rattle.jls_splice_run.specs.Differences.{differences}
+use Rattle.jls_search.specs.Faultless.{IsFaultless}
+use Rattle.jls_search.specs.Files.{AreVerdicts, files_taken}
+use Rattle.jls_held.specs.MendedFiles.{MendedFile}
+use Rattle.jls_held.specs.Judging.{AreMendedOf, EditedCopy, codings_of}
+use Rattle.jls_held.specs.Mending.{file_of}
+use Rattle.jls_held.specs.declared.judging.EditedCopy.{EditedCopy as EditedValue}
+use Rattle.jls_held.specs.declared.mending.MendedCopy.{MendedCopy}
+use Rattle.jls_splice_run.specs.Carrying.{Carried, IsHandedOut, carried_file, carried_files, carried_of, carried_out, carried_promise}
+use Rattle.jls_splice_run.specs.Carrying.{files_beside, handed_by, joined, promise_for}
 use Rattle.jls_splice_run.specs.Completing.{IsCompletedIn}
-use Rattle.jls_splice_run.specs.Files.{count_new, is_eoi_added}
-use Rattle.jls_splice_run.specs.Listing.{AreCompleted, AreNamedAsked, named_file, named_files}
-use Rattle.jls_splice_run.specs.Making.{files_held, files_reported, groups_reported, lacks_single, ceiling_reported}
+use Rattle.jls_splice_run.specs.Listing.{AreCompleted, AreNamedAsked, named_files}
+use Rattle.jls_splice_run.specs.Making.{AreTextsOf, carried_made}
 use Rattle.jls_splice_run.specs.ReadsAs.{EachReadsAs}
+use Rattle.jls_splice_run.specs.Tasks.{task_of}
+use Rattle.jls_splice_run.specs.declared.carried.HandedOut.{HandedOut}
 use Rattle.jls_splice_run.specs.declared.found.Promise.TheVariants.{Held}
-use Rattle.jls_splice_run.specs.declared.found.SearchReport.{SearchReport}
-use Rattle.jls_splice_run.proofs.BesideFiles.{are_verdicts_beside, more_beside, none_has_a_fault, promised_are_read}
-use Rattle.jls_splice_run.proofs.CarriedCopies.{are_printed, carried_file_maps}
-use Rattle.jls_splice_run.proofs.MakingLemmas.{lacks_maps, reported_maps}
+use Rattle.jls_splice_run.proofs.BesideFiles.{none_has_a_fault, promised_are_read}
 use Rattle.jls_splice_run.proofs.carried.texts_of_judged.Goals as goal
 
-pub numbered_files-requires-clause-verdicts : goal.numbered_files-requires-clause-verdicts
-numbered_files-requires-clause-verdicts c =
+pub texts_of_handed-requires-clause-verdicts : goal.texts_of_handed-requires-clause-verdicts
+texts_of_handed-requires-clause-verdicts c =
+    subst (AreVerdicts (files_taken c.args.files.now)) (sym c.deref.ensures.value) c.requires.verdicts
+
+pub texts_of_handed-requires-clause-mended : goal.texts_of_handed-requires-clause-mended
+texts_of_handed-requires-clause-mended c =
     let copies = bytes_of c.args.files.now.copies.now in
-    let found = splices_found c.args.files.now in
     let judged = c.args.between.judged in
-    let strangers = c.args.between.strangers.items in
+    let out = c.in-Some.out in
+    let codings = subst (λ (o : Option HandedOut). IfSome o (λ h. h.codings ≡ judged.codings)) c.in-Some.is c.in_ok-out.ensures.codings in
+    let mended = subst (λ (o : Option HandedOut). IfSome o (λ h. h.mended ≡ judged.files)) c.in-Some.is c.in_ok-out.ensures.mended in
+    subst (λ (v : Vec (Vec EditedValue Global) Global). AreMendedOf copies (codings_of v.items) (map file_of out.mended.items)) (sym codings)
+    (subst (λ (v : Vec MendedCopy Global). AreMendedOf copies (codings_of judged.codings.items) (map file_of v.items)) (sym mended)
+    c.requires.mended)
+
+pub texts_of_handed-requires-clause-faultless : goal.texts_of_handed-requires-clause-faultless
+texts_of_handed-requires-clause-faultless c = λ held.
+    let judged = c.args.between.judged in
     let codings = codings_of judged.codings.items in
-    let mended = map file_of judged.files.items in
-    let is_held = c.is_settled-is_held.result in
-    let are_read = c.in_ok-are_read.are_read in
-    let of_taken = c.args.taken.now.faultless.items in
-    let chosen = promise_for codings strangers is_held are_read in
-    let promise : c.carried_promise-promise.result ≡ chosen =
-    c.carried_promise-promise.ensures
-    ∙ (λ i. promise_for (codings_of (c.deref-2.ensures.value i)) (c.deref-3.ensures.value i) is_held are_read) in
-    let beside : bytes_of c.deref-7.result.now ++ found ≡ files_beside chosen mended (copies ++ found) =
-    (λ i. bytes_of (c.deref-7.ensures.value i) ++ found) ∙ ap (λ (xs : List (List ℕ)). xs ++ found) c.in_ok-beside.ensures.copies
-    ∙ (λ i. files_beside (promise i) (map file_of (c.deref-5.ensures.value i)) copies ++ found) ∙ more_beside chosen mended copies found in
-    let verdicts : c.deref-8.result.now ≡ verdicts_beside chosen mended of_taken =
-    c.deref-8.ensures.value ∙ c.in_ok-beside.ensures.verdicts
-    ∙ (λ i. verdicts_beside (promise i) (map file_of (c.deref-5.ensures.value i)) (c.deref-6.ensures.value i)) in
-    let none : chosen ≡ Held → AllByRecursion (λ (f : MendedFile). IsFaultless f.bytes) mended =
-    λ held. none_has_a_fault judged.held mended
-    (subst (λ (fs : List MendedCopy). EachReadsAs judged.held (map file_of fs)) c.deref.ensures.value
-    (c.in_ok-are_read.ensures (promised_are_read codings strangers is_held are_read held))) in
-    subst (λ (vs : List Bool). AreVerdicts (bytes_of c.deref-7.result.now ++ found) vs) (sym verdicts)
-    (subst (λ (fs : List (List ℕ)). AreVerdicts fs (verdicts_beside chosen mended of_taken)) (sym beside)
-    (are_verdicts_beside (copies ++ found) of_taken c.requires.verdicts chosen mended none))
-
-pub lines_of_carried-requires-clause-numbers : goal.lines_of_carried-requires-clause-numbers
-lines_of_carried-requires-clause-numbers c =
-    let slices = c.args.files.now.copies.now in
-    let judged = c.args.between.judged in
-    let counted = count_of_slices slices in
-    let few : length (bytes_of slices) < 2 ^ 64 = omega (arith, counted, c.count_copies-count.ensures, c.count_copies-count.type_inv) in
-    subst (λ (codings : List (Vec EditedCopy Global)). HavePrintedNumbers (codings_of codings)) (sym c.deref-13.ensures.value)
-    (are_printed (bytes_of slices) few (codings_of judged.codings.items) (map file_of judged.files.items) c.requires.mended)
-
-pub notes_of_carried-requires : goal.notes_of_carried-requires
-notes_of_carried-requires c =
-    let slices = c.args.files.now.copies.now in
-    let judged = c.args.between.judged in
-    let counted = count_of_slices slices in
-    let few : length (bytes_of slices) < 2 ^ 64 = omega (arith, counted, c.count_copies-count.ensures, c.count_copies-count.type_inv) in
-    subst (λ (codings : List (Vec EditedCopy Global)). HavePrintedNumbers (codings_of codings)) (sym c.deref-15.ensures.value)
-    (are_printed (bytes_of slices) few (codings_of judged.codings.items) (map file_of judged.files.items) c.requires.mended)
+    let strangers = c.args.between.strangers.items in
+    let out = c.in-Some.out in
+    let mended = subst (λ (o : Option HandedOut). IfSome o (λ h. h.mended ≡ judged.files)) c.in-Some.is c.in_ok-out.ensures.mended in
+    let read = subst (λ (o : Option HandedOut). IfSome o (λ h. IsTrue h.are_read → EachReadsAs judged.held (map file_of judged.files.items)))
+    c.in-Some.is c.in_ok-out.ensures.read in
+    let promise = subst (λ (o : Option HandedOut). IfSome o (λ h. h.promise ≡ promise_for codings strangers h.is_held h.are_read))
+    c.in-Some.is c.in_ok-out.ensures.promise in
+    subst (λ (v : Vec MendedCopy Global). AllByRecursion (λ (f : MendedFile). IsFaultless f.bytes) (map file_of v.items)) (sym mended)
+    (none_has_a_fault judged.held (map file_of judged.files.items)
+    (read (promised_are_read codings strangers out.is_held out.are_read (sym promise ∙ held))))
 
 pub returns : goal.returns
 returns c =
-    let found = c.args.all.now.splices in
-    let parts = found.parts in
-    let lists = lists_of found.splices.items in
-    let slices = c.args.files.now.copies.now in
-    let copies = bytes_of slices in
-    let options = c.args.task.now.options in
-    let name = c.args.task.now.out.now in
-    let judged = c.args.between.judged in
-    let strangers = c.args.between.strangers.items in
-    let codings = codings_of judged.codings.items in
-    let mended = map file_of judged.files.items in
-    let is_held = c.is_settled-is_held.result in
-    let are_read = c.in_ok-are_read.are_read in
-    let is_settled = c.is_settled-is_settled.result in
-    let given = c.args.taken.now.station in
-    let source = options.source in
-    let is_alone = c.args.is_alone in
-    let carried = carried_of c.args.between is_alone is_held are_read in
-    let promise : c.carried_promise-promise.result ≡ carried_promise carried =
-    c.carried_promise-promise.ensures
-    ∙ (λ i. promise_for (codings_of (c.deref-2.ensures.value i)) (c.deref-3.ensures.value i) is_held are_read) in
-    let picture : c.in_ok-picture.picture ≡ joined source (Some carried) given =
-    c.in_ok-picture.ensures ∙ (λ i. handed_by (promise i) source judged.held (c.partial-given.ensures i)) in
-    let file = c.in_ok-file.file in
-    let single = option_map (λ (f : Vec ℕ Global). f.items) file in
-    let name_asked = option_map (λ (s : Bor (List ℕ)). s.now) options.file in
-    let prefix_asked = option_map (λ (s : Bor (List ℕ)). s.now) options.files in
-    let numbered = c.in_ok-numbered.numbered.items in
-    let of_first : carried_file options.file c.carried_promise-promise.result (map file_of c.deref-4.result.now)
-    ≡ carried_file name_asked (carried_promise carried) mended =
-    (λ i. carried_file options.file (promise i) (map file_of (c.deref-4.ensures.value i)))
-    ∙ sym (carried_file_maps (λ (s : Bor (List ℕ)). s.now) options.file (carried_promise carried) mended) in
-    let is_single : is_alone ≡ true → IsCompletedIn (carried_file name_asked (carried_promise carried) mended) single =
-    λ alone. subst (λ (o : Option (List ℕ)). IsCompletedIn o single) of_first (c.in_ok-file.ensures.mended alone) in
+    let a = task_of c.args.task.now in
+    let source = c.args.task.now.options.source in
+    let copies = bytes_of c.args.files.now.copies.now in
     let taken = files_taken c.args.files.now in
-    let all_taken : taken ≡ copies ++ splices_in (found_of found) = ap (λ (xs : List (List ℕ)). copies ++ xs) c.requires.splices in
-    let beside : bytes_of c.deref-7.result.now ++ splices_found c.args.files.now ≡ files_beside (carried_promise carried) mended taken =
-    (λ i. bytes_of (c.deref-7.ensures.value i) ++ splices_found c.args.files.now)
-    ∙ ap (λ (xs : List (List ℕ)). xs ++ splices_found c.args.files.now) c.in_ok-beside.ensures.copies
-    ∙ (λ i. files_beside (promise i) (map file_of (c.deref-5.ensures.value i)) copies ++ splices_found c.args.files.now)
-    ∙ more_beside (carried_promise carried) mended copies (splices_found c.args.files.now) in
-    let are_mended : is_alone ≡ true → AreCompleted (carried_files prefix_asked mended) (named_files numbered) =
-    λ alone. subst (λ (fs : List MendedCopy). AreCompleted (carried_files prefix_asked (map file_of fs)) (named_files numbered))
-    c.deref-9.ensures.value (c.in_ok-numbered.ensures.mended alone) in
-    let added : c.in_ok-is_added.is_added
-    ≡ is_eoi_added (files_held is_alone (carried_promise carried) mended (copies ++ splices_in (found_of found))) single
-    (named_files numbered) =
-    c.in_ok-is_added.ensures
-    ∙ (λ i. is_eoi_added (if is_alone then map (λ (f : MendedFile). f.bytes) (map file_of (c.deref-10.ensures.value i)) else beside i) single
-    (named_files (c.deref-11.ensures.value i)))
-    ∙ (λ i. is_eoi_added (files_held is_alone (carried_promise carried) mended (all_taken i)) single (named_files numbered)) in
-    let count : c.count_copies-count.result ≡ length copies = c.count_copies-count.ensures ∙ sym (count_of_slices slices) in
-    let new : c.in_ok-splices.splices ≡ count_new copies (splices_in (found_of found)) =
-    c.in_ok-splices.ensures ∙ ap (count_new copies) c.requires.splices in
-    let groups : c.groups_reported.result ≡ groups_reported (found_of found).by_groups =
-    c.groups_reported.ensures (drop found.whole lists) in
-    let lacks : c.lacks_file.result ≡ lacks_single name_asked single =
-    c.lacks_file.ensures ∙ sym (lacks_maps (λ (s : Bor (List ℕ)). s.now) (λ (f : Vec ℕ Global). f.items) options.file file) in
-    let files : c.files_reported.result ≡ files_reported prefix_asked (named_files numbered) =
-    c.files_reported.ensures ∙ (λ i. files_reported options.files (c.deref-12.ensures.value i))
-    ∙ sym (reported_maps (λ (s : Bor (List ℕ)). s.now) named_file options.files numbered) in
-    let reported : SearchReport = record {
-      splices = c.in_ok-splices.splices;
-      is_used_up = found.is_used_up;
-      ceiling = c.ceiling_reported.result;
-      by_groups = c.groups_reported.result;
-      before = None;
-      files = c.files_reported.result;
-      is_eoi_added = c.in_ok-is_added.is_added;
-      lacks_single_file = c.lacks_file.result;
-      has_lists = c.has_lists.result;
-      promise = c.carried_promise-promise.result;
-    } in
-    let report : reported ≡ record {
-      splices = count_new copies (splices_in (found_of found));
-      is_used_up = found.is_used_up;
-      ceiling = ceiling_reported options.ceiling found.ceiling;
-      by_groups = groups_reported (found_of found).by_groups;
-      before = None;
-      files = files_reported prefix_asked (named_files numbered);
-      is_eoi_added = is_eoi_added (files_held is_alone (carried_promise carried) mended (copies ++ splices_in (found_of found))) single
-          (named_files numbered);
-      lacks_single_file = lacks_single name_asked single;
-      has_lists = has_some (texts_of c.args.task.now.bad.now);
-      promise = carried_promise carried;
-    } =
+    let all = c.args.all.now in
+    let station = c.args.taken.now.station in
+    let is_alone = c.args.is_alone in
+    let between = c.args.between in
+    let judged = between.judged in
+    let out = c.in-Some.out in
+    let made = c.in_ok-made.made in
+    let single = option_map (λ (f : Vec ℕ Global). f.items) made.file in
+    let named = named_files made.files.items in
+    let carried = carried_of between is_alone out.is_held out.are_read in
+    let codings = subst (λ (o : Option HandedOut). IfSome o (λ h. h.codings ≡ judged.codings)) c.in-Some.is c.in_ok-out.ensures.codings in
+    let mended = subst (λ (o : Option HandedOut). IfSome o (λ h. h.mended ≡ judged.files)) c.in-Some.is c.in_ok-out.ensures.mended in
+    let strangers = subst (λ (o : Option HandedOut). IfSome o (λ h. h.strangers ≡ between.strangers)) c.in-Some.is
+    c.in_ok-out.ensures.strangers in
+    let same : carried_out out judged.held is_alone ≡ carried =
     λ i. record {
-      splices = new i;
-      is_used_up = found.is_used_up;
-      ceiling = c.ceiling_reported.ensures i;
-      by_groups = groups i;
-      before = None;
-      files = files i;
-      is_eoi_added = added i;
-      lacks_single_file = lacks i;
-      has_lists = c.has_lists.ensures i;
-      promise = promise i;
+      codings = codings_of (codings i).items;
+      files = map file_of (mended i).items;
+      strangers = (strangers i).items;
+      held = judged.held;
+      is_alone = is_alone;
+      is_held = out.is_held;
+      are_read = out.are_read;
     } in
+    let promise : out.promise ≡ carried_promise carried =
+    subst (λ (o : Option HandedOut). IfSome o (λ h. h.promise
+    ≡ promise_for (codings_of judged.codings.items) between.strangers.items h.is_held h.are_read)) c.in-Some.is
+    c.in_ok-out.ensures.promise in
+    let shown : out.picture ≡ handed_by out.promise source judged.held c.partial-given.result.now =
+    subst (λ (o : Option HandedOut). IfSome o (λ h. h.picture ≡ handed_by h.promise source judged.held c.partial-given.result.now))
+    c.in-Some.is c.in_ok-out.ensures.picture in
+    let picture : out.picture ≡ joined source (Some carried) station =
+    shown ∙ (λ i. handed_by (promise i) source judged.held (c.partial-given.ensures i)) in
+    let is : IsHandedOut source judged.held station is_alone out = record {
+      promise_is = promise ∙ ap carried_promise (sym same);
+      picture_is = picture ∙ ap (λ (x : Carried). joined source (Some x) station) (sym same);
+    } in
+    let first : carried_file a.options.file out.promise (map file_of out.mended.items)
+    ≡ carried_file a.options.file (carried_promise carried) (map file_of judged.files.items) =
+    λ i. carried_file a.options.file (promise i) (map file_of (mended i).items) in
+    let beside : files_beside out.promise (map file_of out.mended.items) taken
+    ≡ files_beside (carried_promise carried) (map file_of judged.files.items) taken =
+    λ i. files_beside (promise i) (map file_of (mended i).items) taken in
     record {
-      is_held = is_held;
-      is_settled = is_settled;
-      are_read = are_read;
-      each_read = λ are. subst (λ (fs : List MendedCopy). EachReadsAs judged.held (map file_of fs)) c.deref.ensures.value
-          (c.in_ok-are_read.ensures are);
-      all_held = c.is_settled-is_held.ensures;
-      settled = subst (λ (p : PartialPicture). IsTrue is_settled ↔ IsSettled p) picture c.is_settled-is_settled.ensures;
-      texts = λ lone. record {
-        lines_are = c.in_ok-lines.ensures
-            ∙ (λ i. if bytes_eq name (codes "-") then []
-            else carried_text (differences parts) (count i) (codings_of (c.deref-13.ensures.value i)) (c.deref-14.ensures.value i) (report i)
-            ++ report_text (report_of (picture i)));
-        notes_are = c.in_ok-notes.ensures
-            ∙ (λ i. if bytes_eq name (codes "-")
-            then carried_noted_text (count i) (codings_of (c.deref-15.ensures.value i)) (c.deref-16.ensures.value i) (report i) else []);
-        text_is = c.in_ok-text.ensures ∙ ap text picture;
-        file_is = refl;
-        files_are = refl;
-        promise_is = promise;
-      };
-      single = (is_single, c.in_ok-file.ensures.none);
+      is_held = out.is_held;
+      is_settled = out.is_settled;
+      are_read = out.are_read;
+      each_read = subst (λ (o : Option HandedOut). IfSome o (λ h. IsTrue h.are_read
+          → EachReadsAs judged.held (map file_of judged.files.items))) c.in-Some.is c.in_ok-out.ensures.read;
+      all_held = subst (λ (o : Option HandedOut). IfSome o (λ h. IsTrue h.is_held ↔ IsSettled judged.held)) c.in-Some.is
+          c.in_ok-out.ensures.held;
+      settled = subst (λ (p : PartialPicture). IsTrue out.is_settled ↔ IsSettled p) picture
+          (subst (λ (o : Option HandedOut). IfSome o (λ h. IsTrue h.is_settled ↔ IsSettled h.picture)) c.in-Some.is
+          c.in_ok-out.ensures.settled);
+      texts = λ lone. subst (λ (x : Carried). AreTextsOf a copies (carried_made source all lone station x out.is_settled made) made) same
+          (c.in_ok-made.ensures.texts judged.held station is lone);
+      single = (
+        λ alone. subst (λ (o : Option (List ℕ)). IsCompletedIn o single) first (c.in_ok-made.ensures.single alone),
+        c.in_ok-made.ensures.no_single,
+      );
       named = (
-        are_mended,
-        λ no. subst (λ (fs : List (List ℕ)). AreNamedAsked prefix_asked fs (named_files numbered)) beside (c.in_ok-numbered.ensures.taken no),
+        λ alone. subst (λ (v : Vec MendedCopy Global). AreCompleted (carried_files a.options.files (map file_of v.items)) named) mended
+            (c.in_ok-made.ensures.named alone),
+        λ no. subst (λ (fs : List (List ℕ)). AreNamedAsked a.options.files fs named) beside (c.in_ok-made.ensures.named_beside no),
       );
     }

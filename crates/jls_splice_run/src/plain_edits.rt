@@ -1,4 +1,5 @@
-//! Whether it can be told which copies are wrong, where files without a fault differ. It only advises: no contract speaks of it.
+//! Whether the edits of copies say plainly which of these are wrong. It is asked where files without a fault differ. It only advises: no
+//! contract speaks of it.
 //!
 //! A bit that is flipped in one copy can change a line, and nothing else. In the code of another copy that line differs in few bytes, as if
 //! these were flipped instead. So little can be told where few bytes are wrong. But one bit that is all such would be several, if another
@@ -23,7 +24,7 @@ fn is_plain(edit: &CopyEdit) -> bool {
 }
 
 /// Whether all edits of these copies are plain, but for one that changes one bit.
-pub(crate) fn is_told_apart(copies: &[&[u8]], codings: &[Vec<EditedCopy>]) -> bool {
+pub(crate) fn are_plain_edits(copies: &[&[u8]], codings: &[Vec<EditedCopy>]) -> bool {
     let mut is_one = false;
     for coding in codings {
         for edited in coding {

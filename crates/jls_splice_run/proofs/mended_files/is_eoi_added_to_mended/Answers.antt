@@ -4,7 +4,7 @@ use Rattle.std.proofs.lemmas.List.{append-nil}
 use Rattle.jls_diff.specs.PartsOf.{bytes_of}
 use Rattle.jls_splice_run.specs.Files.{is_eoi_added}
 use Rattle.jls_splice_run.specs.Listing.{named_files}
-use Rattle.jls_splice_run.proofs.carried.is_eoi_added_to_mended.Goals as goal
+use Rattle.jls_splice_run.proofs.mended_files.is_eoi_added_to_mended.Goals as goal
 
 pub returns : goal.returns
 returns c =
