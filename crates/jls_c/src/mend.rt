@@ -46,14 +46,14 @@ fn mend_into(
 /// copies one behind the other, and `sizes` says how many bytes each has. `texts` holds lists of bad places so, as `--bad` takes them, and
 /// `lists` says of which copy each is, and how many bytes it has.
 ///
-/// At `DONE` `outputs` begins with what the program hands out, one behind the other: the partial picture as a text, the mended file, if
-/// there is one, and the files that have numbers. Behind them stand the lines that it prints. `output_sizes` begins with the bytes of each
-/// output, without the lines. At `SHORT_ROOM` `info` says how much room is needed: `bytes` bytes, and `outputs` sizes.
+/// At `DONE` `outputs` begins with what the program hands out, one behind the other. These are the partial picture as a text, the mended
+/// file, if there is one, and the files that have numbers. Behind them stand the lines that it prints. `output_sizes` begins with the bytes
+/// of each output, without the lines. At `SHORT_ROOM` `info` says how much room is needed: `bytes` bytes, and `outputs` sizes.
 ///
-/// `BAD_COPIES` comes if there are fewer than two copies, or with a list none, if their sizes don't add up to those of `bytes`, or if
-/// `tries` is 0. `BAD_LISTS` comes if a list is of no copy or of one behind 2^32 - 1 others, or if their sizes don't add up to those of
-/// `texts`. At `NOT_MENDED` `info` says what stops the program, and at which copy or list. At any answer but `DONE` nothing is written
-/// beside `info`, and at `OUT_OF_MEMORY`, `BAD_COPIES` and `BAD_LISTS` nothing at all.
+/// `BAD_COPIES` comes if there are fewer than two copies, or with a list none. It comes too if their sizes don't add up to those of
+/// `bytes`, or if `tries` is 0. `BAD_LISTS` comes if a list is of no copy, or of one behind 2^32 - 1 others. It comes too if their sizes
+/// don't add up to those of `texts`. At `NOT_MENDED` `info` says what stops the program, and at which copy or list. At any answer but
+/// `DONE` nothing is written beside `info`, and at `OUT_OF_MEMORY`, `BAD_COPIES` and `BAD_LISTS` nothing at all.
 #[unsafe(no_mangle)]
 pub extern "C" fn jls_mend(
     alloc: Global,

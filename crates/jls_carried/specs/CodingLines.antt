@@ -47,8 +47,8 @@ unlisted_line codings strangers number =
 abbrev pub unlisted_lines : ℕ → List (List EditedCopy) → List ℕ → List ℕ
 unlisted_lines count codings strangers = flat_map (unlisted_line codings strangers) (range_with_len 0 count)
 
--- the line of an edit of the copy of this number, from 0: its offset in the copy, how many bytes the copy has there, and how many the
--- mended file
+-- The line of an edit of the copy of this number, from 0. It has its offset in the copy, how many bytes the copy has there, and how many
+-- the mended file
 abbrev pub edit_line : ℕ → Edit → List ℕ
 edit_line number edit =
     codes "copy " ++ decimal (number + 1) ++ codes " differs " ++ decimal edit.offset ++ codes " " ++ decimal edit.count ++ codes " "
@@ -65,8 +65,8 @@ more_edits_line number count =
 abbrev pub copy_lines : EditedCopy → List ℕ
 copy_lines e = flat_map (edit_line e.number) (take 4096 e.edits) ++ more_edits_line e.number (length e.edits)
 
--- all lines of codings of so many copies, of which these agree with no other: which copies each coding has, which are in none, and then the
--- edits of the copies
+-- All lines of codings of so many copies, of which these agree with no other. They say which copies each coding has, which are in none, and
+-- then the edits of the copies
 abbrev pub coding_lines : ℕ → List (List EditedCopy) → List ℕ → List ℕ
 coding_lines count codings strangers =
     coding_lines_from 1 codings ++ unlisted_lines count codings strangers ++ flat_map (flat_map copy_lines) codings

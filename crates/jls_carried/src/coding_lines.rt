@@ -225,8 +225,8 @@ fn put_all_copies(out: &mut Vec<u8>, codings: &[Vec<EditedCopy>]) -> Result<(), 
     Ok(())
 }
 
-/// Appends all lines of codings of so many copies, in ASCII: which copies each has, which are in none, and then the edits of the
-/// copies. Each ends with a newline. Codings and copies count from 1. Strangers are copies that agree with no other, by their
+/// Appends all lines of codings of `count` copies, in ASCII. They say which copies each coding has, which are in none, and then the edits
+/// of the copies. Each ends with a newline. Codings and copies count from 1. Strangers are copies that agree with no other, by their
 /// indices. `Err` comes where memory is refused, and says nothing of what was appended.
 pub fn put_all_codings(
     out: &mut Vec<u8>,

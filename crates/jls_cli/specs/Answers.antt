@@ -17,7 +17,7 @@ is_help kind.DisplayHelp = true
 is_help kind.DisplayVersion = true
 is_help _ = false
 
--- a program of this name answers an error of this kind with this status; the events are those of the report output and of the fault output
+-- A program of this name answers an error of this kind with this status. The events are those of the report output and of the fault output
 pub data Answer (program : List ℕ) : ErrorKind → ℕ → List Event → List Event → Type 0 where
   ran_out : (k : ErrorKind) (faults : List Event) → Printed (out_of_memory_line program) faults → Answer program k 5 [] faults
   usage : (k : ErrorKind) (text : List ℕ) (faults : List Event)

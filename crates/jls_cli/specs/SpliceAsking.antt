@@ -7,9 +7,9 @@ use Rattle.jls_cli.specs.Words.{TakesWords, number_in}
 use Rattle.jls_cli.specs.declared.splice.asked.Asked.{Asked as AskedValue}
 use Rattle.jls_cli.specs.declared.splice.asked.Options.{Options as OptionsValue}
 
--- what the words ask for beside files: the source of the readings, if one is given; how much each search tries; the ceiling, if one is
--- given, above which no sample of a file that is searched for may be; whether each search tells how far it is; where the mended file goes,
--- if that is asked for; and what the names begin with under which each file without a fault goes, if that is asked for
+-- What the words ask for beside files: the source of the readings, and the ceiling above which no sample of a file may be that is searched
+-- for, each if one is given. Then how much each search tries, and whether it tells how far it is. Then where the mended file goes, and what
+-- the names of the files without a fault begin with, each if that is asked for
 pub record Options : Type 0 where
   pub source : Option ℕ
   pub tries : ℕ
@@ -18,8 +18,8 @@ pub record Options : Type 0 where
   pub file : Option Text
   pub files : Option Text
 
--- the output, the copies in their order, and the values of `--bad` in theirs: each is to name a copy by its number, and a file that lists
--- places of it that are bad; and the files of `--witness` in theirs, whose lines bear witness
+-- The output, the copies in their order, the values of `--bad` in theirs, and the files of `--witness` in theirs, whose lines bear witness.
+-- A value of `--bad` is to name a copy by its number, and a file that lists places of it that are bad
 pub record Asked : Type 0 where
   pub options : Options
   pub out : Text

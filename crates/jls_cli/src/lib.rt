@@ -1,5 +1,5 @@
-//! What both programs share: the words of their command lines, as clap reads them, answers to words that clap refuses, what comes of a
-//! command, and its output.
+//! What both programs share: the words of their command lines, as clap reads them, and answers to words that clap refuses. Besides they
+//! share what comes of a command, and its output.
 //!
 //! - `salvage`: the words of `jls-salvage`
 //! - `splice`: the words of `jls-splice`, which takes any number of copies from two on

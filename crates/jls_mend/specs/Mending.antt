@@ -38,7 +38,7 @@ pub record IsReadOf (copy : List ℕ) (read : CopyBytes) : Type 0 where
   pub if_whole : read.stop ≡ Whole → following ≡ []
   pub if_not : (read.stop ≡ Whole → ⊥) → 4294967295 ≤ length copy
 
--- The lists name these places of the copies. What is searched are known copies: each has its bytes that are not bad, and else those of the
+-- The lists name these places of the copies. What is searched are known copies. Each has its bytes that are not bad, and else those of the
 -- first copy of the same length that has one which is not
 pub record AreKnownOf (copies : List (List ℕ)) (bad : List BadPlaces) (searched : List (List ℕ)) : Type 0 where
   pub places : List (List Place)

@@ -21,7 +21,7 @@ const ALL: &str = "ALL";
 pub struct MendOptions {
     /// The number of the source under which readings are taken, if one is given.
     pub source: Option<u32>,
-    /// How many prefixes and files each search tries at most: at least 1.
+    /// How many prefixes and files each search tries at most. `--tries` takes 1 at least. With 0 no way is tried where copies differ.
     pub tries: u32,
     /// The ceiling, if one is given: only files whose samples are at most this are searched for.
     pub ceiling: Option<u16>,

@@ -20,8 +20,8 @@ pub struct Mended {
     pub is_promised: bool,
     /// Whether each copy was read to its end. Of copies in memory each is that has fewer than 4,294,967,295 bytes.
     pub is_whole: bool,
-    /// What was handed out: OUT with the partial picture as a text, then FILE with the mended file, if there is one, and then the files
-    /// that have numbers, ALL-1, ALL-2 and so on, if they are asked for.
+    /// What was handed out. First comes OUT with the partial picture as a text, and then FILE with the mended file, if there is one. The
+    /// files that have numbers come last, ALL-1, ALL-2 and so on, if they are asked for.
     pub outputs: Vec<Output>,
     /// The lines that the program prints.
     pub lines: Vec<u8>,

@@ -57,8 +57,8 @@ with_places _ _ = []
 abbrev pub copies_with : List BadList → List (List Place) → List (List ℕ) → List Copy
 copies_with lists places copies = with_places copies (places_from 1 lists places (length copies))
 
--- The lists of these values were read, and name places of the copies that were read. What is searched are known copies: each has its bytes
--- that are not bad, and else those of the first copy of the same length that has one which is not
+-- The lists of these values were read, and name places of the copies that were read. What is searched are known copies. Each has its bytes
+-- that are not bad. Where one is bad, it has that of the first copy of the same length whose byte is not
 pub record AreKnownBy (values : List Text) (read searched : List CopyBytes) (listing : List Event) : Type 0 where
   pub lists : List CopyBytes
   pub lists_read : AreCopiesRead (list_names values) lists listing
@@ -88,7 +88,7 @@ pub record IsStoppedBy (names : List Text) (lists : List CopyBytes) (r : Refusal
   pub refused : IsListRefused file r.cause
   pub name_is : r.name.now ≡ get_or names number []
 
--- why a run stops between reading its copies and searching them. Memory ran out before the lists were read; or a list can't be read; or
+-- Why a run stops between reading its copies and searching them. Memory ran out before the lists were read, or a list can't be read. Or
 -- all were read, and one isn't taken, or memory ran out then
 pub data StopsAtLists (a : Asked) (r : Refusal) : List Event → Type 0 where
   none_read : IsWantOfMemory a r → StopsAtLists a r []

@@ -20,9 +20,10 @@ use Rattle.jls_splice_run.specs.declared.carried.HandedOut.{HandedOut}
 use Rattle.jls_splice_run.specs.declared.found.Promise.{Promise}
 use Rattle.jls_splice_run.specs.declared.found.Promise.TheVariants.{Held, Lines, Picture}
 
--- of each coding its copies, with the edits of each, and their mended file; the copies that agree with no other, by their numbers from 0;
--- the lines that the mended files hold; whether each file taken has a fault; whether the held lines are all lines, each with one reading;
--- and whether each mended file was found to read as the lines that are held
+-- What copies gave each other: of each coding its copies, with the edits of each, and their mended file. Strangers are the copies that
+-- agree with no other, by their numbers from 0. The lines are those that the mended files hold. It is said whether each file taken has a
+-- fault, and whether the held lines are all lines, each with one reading. It is said too whether each mended file was found to read as
+-- these
 pub record Carried : Type 0 where
   pub codings : List (List EditedCopy)
   pub files : List MendedFile

@@ -24,7 +24,7 @@ IsShallowCeiling parts ceiling =
 
 -- As the code has it -----------------------------------------------------------------------------------------------
 
--- a search over these parts came to that: files that are sought under its ceiling, and each splice that is, if it was not cut off. The
+-- A search over these parts came to files that are sought under its ceiling. If it was not cut off, it came to each splice that is. The
 -- reader that it kept, if it kept one, was fed what its choices make
 pub record IsSearchOf (parts : List Part) (s : Searched) : Type 0 where
   pub came_to : CameTo (IsSought s.ceiling) parts (lists_of s.splices.items) s.is_used_up

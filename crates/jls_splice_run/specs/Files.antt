@@ -21,6 +21,6 @@ abbrev pub in_list : Option (List ℕ) → List (List ℕ)
 in_list None = []
 in_list (Some file) = file ∷ []
 
--- whether EOI was added to the single file or to one that has a number: none of the files that they were made of has its bytes
+-- Whether EOI was added to the single file or to one that has a number. Then no file of which they were made has its bytes
 abbrev pub is_eoi_added : List (List ℕ) → Option (List ℕ) → List NamedFile → Bool
 is_eoi_added others single files = has_new others (in_list single) || has_new others (map (λ f. f.bytes) files)

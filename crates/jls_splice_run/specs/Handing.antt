@@ -71,7 +71,7 @@ pub record HandsAll (t : Texts) (desk report : List Event) : Type 0 where
   pub file_handed : HandsFile t.file_name t.file more
   pub files_handed : HandsFiles t.files rest
 
--- the run stops before all of it is: at the report output, at its output, at the file, or at one of those that have numbers
+-- the run stops before all of it is: at the report output, at OUT, at the file, or at one of those that have numbers
 pub data StopsInHanding (t : Texts) (r : Refusal) : List Event → List Event → Type 0 where
   at_report : (report : List Event) → StopsAtReport t.lines r report → StopsInHanding t r [] report
   at_output : (desk report : List Event) → Wrote t.lines report → StopsAtOutput t.out t.text r desk → StopsInHanding t r desk report

@@ -19,7 +19,7 @@ pub record AreInputs (a : Asked) (read searched : List CopyBytes) (events : List
   pub are_searched : AreSearched a.bad read searched listing
   pub witnesses_read : AreCopiesRead a.witnesses witnesses witnessing
 
--- why a run stops at one of them: a copy can't be read; or a list stops it when the copies were read; or a witness can't be read when lists
+-- Why a run stops at one of them. A copy can't be read. Or a list stops it when the copies were read. Or a witness can't be read when lists
 -- were too
 pub data StopsAtInputs (a : Asked) (r : Refusal) : List Event → Type 0 where
   at_copies : (reading : List Event) → StopsAtCopies a.copies r reading → StopsAtInputs a r reading

@@ -106,7 +106,7 @@ in_prefix words begins [] = []
 in_prefix words true (b ∷ bs) = words ++ b ∷ in_prefix words (nat_eq b 10) bs
 in_prefix words false (b ∷ bs) = b ∷ in_prefix words (nat_eq b 10) bs
 
--- what standard error has where the output is standard output: the lines of what the searches came to and of what is made of it, each with
+-- What standard error has where the output is standard output: the lines of what the searches came to and of what is made of it. Each has
 -- the program's name first
 abbrev pub noted_text : SearchReport → List ℕ
 noted_text report = in_prefix (codes "jls-splice: ") true (search_lines report ++ outcome_lines report)

@@ -25,8 +25,8 @@ pub record NamedFile : Type 0 where
 abbrev pub is_named : List NamedFile → List ℕ → Bool
 is_named named file = list_any (λ n. bytes_eq n.bytes file) named
 
--- of some files these have a name: each file without a fault, completed by EOI, once, in the order of the files, until so many have one.
--- Files that are equal when they are completed are one. Their numbers begin at 1
+-- Of some files these have a name: each without a fault, completed by EOI, once, in their order, until so many have one. Files that are
+-- equal when they are completed are one. Their numbers begin at 1
 pub data AreNamed (most : ℕ) (prefix : List ℕ) : List (List ℕ) → List NamedFile → Type 0 where
   none_named : AreNamed most prefix [] []
   one_named : (files : List (List ℕ)) (named : List NamedFile) (file whole : List ℕ) → AreNamed most prefix files named

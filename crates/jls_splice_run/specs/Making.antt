@@ -62,7 +62,7 @@ pub record IsPictureOfFiles (source : Option ℕ) (copies splices : List (List �
   pub shape_is : IsShapeTaken copies splices p.shape
   pub union_is : TakesFiles source (copies ++ splices) (nothing_known p.shape) p
 
--- the picture is of the files taken; if a cut file was taken, it is the union of what they and the cut file give, and has its shape
+-- The picture is of the files taken. If a cut file was taken, it is the union of what they and the cut file give, and has its shape
 abbrev pub IsPictureOf : Option ℕ → List (List ℕ) → List (List ℕ) → Option (List ℕ) → PartialPicture → Type 0
 IsPictureOf source copies splices None p = IsPictureOfFiles source copies splices p
 IsPictureOf source copies splices (Some cut) p = TakesCut source copies splices cut p
@@ -71,20 +71,20 @@ IsPictureOf source copies splices (Some cut) p = TakesCut source copies splices 
 abbrev pub cut_file : Found → Option (List ℕ) → Option (List ℕ)
 cut_file f cut = option_map (prefix_of f.parts) cut
 
--- the cut file is what the first choices make, where the search of all splices found nothing: each other path of as many choices makes
+-- The cut file is what the first choices make, where the search of all splices found nothing. Each other path of as many choices makes
 -- bytes with which no file begins that is sought
 abbrev pub IsCutFile : Option ℕ → Found → List ℕ → Type 0
 IsCutFile ceiling f path = (f.choices ≡ []) × IsLone (IsSought ceiling) f.parts path
 
--- the cut file that was found is taken, if one was found; or none is, where a copy or splice has no fault or the cut file no frame
+-- The cut file that was found is taken, if one was found. Or none is, where a copy or splice has no fault or the cut file no frame
 abbrev pub IsCutTaken : List (List ℕ) → Found → Option (List ℕ) → Option (List ℕ) → Type 0
 IsCutTaken copies f lone cut =
     (cut ≡ lone) ⊎ ((cut ≡ None) × IfSome lone (λ path. TakesNoCut copies (splices_in f) (prefix_of f.parts path)))
 
--- what is made of copies: the ceiling of the search that counts, if it had one; what was found; the ceiling under which a cut file
--- was sought, if there was one; its choices, if one was found; and those of the one that was taken; what the files taken give; what copies
--- in several codings gave each other, if that was looked for; the picture, and whether each line of it is settled; the single file; and the
--- files that have numbers
+-- What is made of copies: the ceiling of the search that counts, if it had one, and what was found. Of a cut file come the ceiling under
+-- which it was sought, and the choices of the one found and of the one taken. Each may be missing. Then come what the files taken give,
+-- and what copies in several codings gave each other, if that was looked for. Then come the picture, and whether each line of it is
+-- settled. Last come the single file, and the files that have numbers
 pub record Made : Type 0 where
   pub ceiling : Option ℕ
   pub found : Found
@@ -98,7 +98,7 @@ pub record Made : Type 0 where
   pub single : Option (List ℕ)
   pub files : List NamedFile
 
--- what was found was sought in these copies as it was asked for: the search that counts keeps the ceiling that is given. If groups were
+-- What was found was sought in these copies as it was asked for. The search that counts keeps the ceiling that is given. If groups were
 -- searched, each was with each of the copies outside of it, and has tries of its own
 pub record IsFoundFor (a : Asked) (copies : List (List ℕ)) (ceiling : Option ℕ) (f : Found) : Type 0 where
   pub ceiling_is : KeepsCeiling a.options.ceiling ceiling
@@ -118,8 +118,8 @@ IsSingleOf a taken (Some c) single =
     (IsTrue c.is_alone → IsCompletedIn (carried_file a.options.file (carried_promise c) c.files) single)
     × (c.is_alone ≡ false → single ≡ None)
 
--- The files that have numbers, if they are asked for: the mended files where each file taken has a fault; else those of the files taken
--- that have none, and before them the mended files of a promised picture. Each is completed by EOI
+-- The files that have numbers, if they are asked for. They are the mended files where each file taken has a fault. Else they are those of
+-- the files taken that have none, and before them the mended files of a promised picture. Each is completed by EOI
 abbrev pub AreNamedOf : Asked → List (List ℕ) → Option Carried → List NamedFile → Type 0
 AreNamedOf a taken None named = AreNamedAsked a.options.files taken named
 AreNamedOf a taken (Some c) named =
@@ -166,7 +166,7 @@ abbrev pub ceiling_reported : Option ℕ → Option ℕ → Option ℕ
 ceiling_reported None ceiling = ceiling
 ceiling_reported (Some given) ceiling = None
 
--- the promise that holds: of the picture, if the search of all splices was not cut off and found a file, and each line is settled
+-- The promise that holds. It is of the picture if the search of all splices was not cut off and found a file, and each line is settled
 abbrev pub promise_of : Option ℕ → Found → Bool → Promise
 promise_of ceiling f is_settled =
     if f.is_used_up then Lines else (if has_some f.choices then (if is_settled then Picture ceiling else Lines) else Lines)
@@ -186,8 +186,8 @@ is_of_picture (Picture ceiling) = true
 is_of_picture Held = true
 is_of_picture Lines = false
 
--- the files of which those that are handed out were made: the mended files, or the files taken if one may have no fault, with the mended
--- files of a promised picture
+-- The files of which those that are handed out were made. They are the mended files. If a file taken may have no fault, they are the files
+-- taken, with the mended files of a promised picture
 abbrev pub files_held : Bool → Promise → List MendedFile → List (List ℕ) → List (List ℕ)
 files_held is_alone promise mended taken = if is_alone then map (λ f. f.bytes) mended else files_beside promise mended taken
 
@@ -264,8 +264,8 @@ CantMake a copies r =
 
 -- ---- as the code has it
 
--- what was made where copies gave each other nothing. It is told by what was found with the ceiling of a cut file, and by the choices of
--- the one found and of the one taken; by the picture, by whether each line of it is settled, and by what the code holds of it
+-- What was made where copies gave each other nothing. It is told by what was found, the ceiling of a cut file, and the choices of the one
+-- found and of the one taken. Besides it is told by the picture, by whether each line of it is settled, and by what the code holds
 abbrev pub made_of : FoundInTurn → Option (Vec ℕ Global) → Option (Vec ℕ Global) → PartialPicture → Bool → MadeValue → Made
 made_of all lone cut p is_settled v = record {
   ceiling = all.splices.ceiling;
@@ -281,9 +281,9 @@ made_of all lone cut p is_settled v = record {
   files = named_files v.files.items;
 }
 
--- and what was made of copies in several codings under a source. It is told by what was found, and by the choices of the cut file that was
--- found; by what the files taken give, and what the copies gave each other; by whether each line that is handed out is settled, and by what
--- the code holds of it
+-- And what was made of copies in several codings under a source. It is told by what was found, and by the choices of the cut file found. It
+-- is told by what the files taken give, and by what the copies gave each other. Besides it is told by whether each line that is handed out
+-- is settled, and by what the code holds
 abbrev pub carried_made : Option ℕ → FoundInTurn → Option (Vec ℕ Global) → PartialPicture → Carried → Bool → MadeValue → Made
 carried_made source all lone given c is_settled v = record {
   ceiling = all.splices.ceiling;
@@ -312,7 +312,7 @@ pub record AreTextsOf (a : Asked) (copies : List (List ℕ)) (m : Made) (v : Mad
 abbrev pub HoldsMade : Asked → List CopyBytes → MadeValue → Type 0
 HoldsMade a copies v = (m : Made) × IsMade a (bytes_read copies) m × AreTextsOf a (bytes_read copies) m v
 
--- the code holds what is handed out of what was judged, where these files are taken and each of them has a fault, or may have none
+-- the code holds what is handed out of what was judged, where these files are taken, each with a fault, or one maybe with none
 pub record AreTextsOfJudged (a : Asked) (copies taken : List (List ℕ)) (all : FoundInTurn) (given : PartialPicture) (b : Between)
     (is_alone : Bool) (v : MadeValue) : Type 0 where
   pub is_held : Bool

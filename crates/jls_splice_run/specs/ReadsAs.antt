@@ -23,7 +23,7 @@ pub record HaveSameSize (s t : PictureShape) : Type 0 where
   pub height_is : s.height ≡ t.height
   pub components_are : length s.ids ≡ length t.ids
 
--- The file has no fault, and its scans are by line: it is read under the strict profile, and no fault of the headers ends it. It gives each
+-- The file has no fault. Its scans are by line: it is read under the strict profile, and no fault of the headers ends it. It gives each
 -- line of the picture, and no other line. Its precision may be another
 pub record ReadsAs (p : PartialPicture) (file : List ℕ) : Type 0 where
   pub are_bytes : AllByRecursion (λ b. b < 256) file

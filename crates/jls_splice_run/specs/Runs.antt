@@ -63,8 +63,8 @@ texts_held a v = record {
 }
 
 -- What comes of what was asked, by the events of the desk, of the report output and of the fault output. A copy, a list of bad places or a
--- witness stops the run; or all were read, and nothing can be made of what is searched; or something is, and one of the outputs stops the
--- run; or all of it is handed out. Then it is said whether the promise is of the picture, and whether each copy was read to its end. So the
+-- witness stops the run. Or all were read, and nothing can be made of what is searched. Or something is, and one of the outputs stops the
+-- run. Or all of it is handed out. Then it is said whether the promise is of the picture, and whether each copy was read to its end. So the
 -- status is 0 exactly where both are so. The searches tell how far they are, if that is asked for.
 -- If the output is standard output, what was found is noted on the fault output
 pub data Splices (a : Asked) : Outcome → List Event → List Event → List Event → Type 0 where

@@ -12,9 +12,9 @@ use jls_carried::put_all_codings;
 use jls_held::EditedCopy;
 use std::alloc::AllocError;
 
-/// Appends the lines of what was found in so many copies of several codings, in ASCII: where copies differ, in order; what the search came
-/// to; the codings, and the edits of their copies; and what is made of it. Each ends with a newline. Strangers are copies that agree with
-/// no other, by their indices. `Err` comes where memory is refused, and says nothing of what was appended.
+/// Appends the lines of what was found in so many copies of several codings, in ASCII. First come where copies differ, in order, and what
+/// the search came to. Then come the codings with the edits of their copies, and what is made of it. Each ends with a newline. Strangers
+/// are copies that agree with no other, by their indices. `Err` comes where memory is refused, and says nothing of what was appended.
 pub fn put_carried(
     out: &mut Vec<u8>,
     differences: &[Difference],

@@ -24,8 +24,8 @@ pub struct CutFileEnd {
 /// Which promise holds of OUT.
 #[derive(Clone, Copy, Debug, PartialEq, Eq)]
 pub enum Promise {
-    /// Each line of OUT is settled. All are the picture's, if the true file is a splice of the copies, and if no sample of it is above the
-    /// ceiling, where there is one.
+    /// Each line of OUT is settled. All are the picture's, if the true file is a splice of the copies with no sample above the ceiling.
+    /// There may be no ceiling.
     Picture(Option<u16>),
     /// Each line of OUT is settled, and held. All are the picture's, if the copies of each coding are of one file of it. That file has the
     /// bytes that they have outside of their edits. At the edits it has as many bytes as the mended file, and the same marker segments.

@@ -27,12 +27,12 @@ use crate::copies::slices_of;
 use crate::differences::offset_at;
 use crate::files::{count_new, is_eoi_added};
 use crate::found::{CutFileEnd, GroupSearch, Promise, SearchReport};
-use crate::stages::{FoundInTurn, search_and_tell};
 use crate::listing::{MOST_NAMED, Naming, NumberedFile, name_files};
 use crate::options::SearchOptions;
 use crate::printed_lines::{lines_of, notes_of};
 use crate::settling::settle;
 use crate::single::single_file;
+use crate::stages::{FoundInTurn, search_and_tell};
 use crate::task::{Task, has_lists, want_of_memory};
 use jls_carried::are_of_other_codings;
 use jls_cli::Refusal;
@@ -50,7 +50,7 @@ pub struct Made {
     pub notes: Vec<u8>,
     /// The text of the partial picture.
     pub text: Vec<u8>,
-    /// The single file, completed by EOI, if one is asked for and there is one: that without a fault, or the mended file of a coding.
+    /// The single file, completed by EOI, if it is asked for: the one without a fault, or the mended file of a coding.
     pub file: Option<Vec<u8>>,
     /// The files that get numbers, completed by EOI, with their names, if they are asked for: those without a fault, and mended ones.
     pub files: Vec<NumberedFile>,

@@ -49,9 +49,9 @@ fn perform<D: Desk, W: Sink, E: Sink>(
 ///
 /// - 0: done, and the picture is promised (`promise picture ..`); or help or the version was asked for;
 /// - 1: done, and it is not: lines are missing or disputed, the search that counts was cut off, or only groups gave files;
-/// - 2: the words were not understood, or `--file` names OUT, or OUT is a name that `--files` can give, or `--bad` names no list of a COPY;
-/// - 3: a copy, list or witness is a partial picture, a list of bad places is none, no file taken has a picture, or files without a fault
-///   differ in shape;
+/// - 2: the words were not understood. Or `--bad` names no list of a COPY. Or `--file` names OUT, or `--files` can give that name;
+/// - 3: a copy, list or witness is a partial picture, or a list of bad places is none. Or no file taken has a picture, or files without a
+///   fault differ in shape;
 /// - 4: a copy, list or witness can't be opened, a list can't be read, an output can't be created, or a write failed. The run may be done
 ///   then, if a copy was not read to its end;
 /// - 5: out of memory.

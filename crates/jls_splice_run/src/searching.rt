@@ -72,8 +72,8 @@ fn tell_on_the_way<E: Sink>(
     Ok(tries)
 }
 
-/// Searches the splices of these parts once, level by level, by these rules. If that is asked for, it prints a line on how far it is after
-/// each level that comes to 64 tries more, and one when it is over.
+/// Searches the splices of these parts once, level by level, by these rules. If that is asked for, it prints lines on how far it is. One
+/// comes after each level that comes to 64 tries more, and one when it is over.
 pub(crate) fn search_once<E: Sink>(
     alloc: Global,
     parts: &Parts<'_>,

@@ -65,10 +65,10 @@ fn is_other(path: &[usize], other: &Option<Vec<usize>>) -> bool {
     }
 }
 
-/// The ceiling of a shallow picture, if it is one: 16383. It is one if the path that `lone_path` finds under this ceiling goes past a place
-/// where the copies differ, is not the one that it finds without a ceiling, and is the path that it finds under 46340. Then wrong ways soon
-/// have samples above both ceilings, and a cut file without a ceiling has fewer lines, or wrong ones. A picture with larger samples before the
-/// cut seldom has one path under both. Each of the three has so many tries. `Err` comes where memory is refused.
+/// The ceiling of a shallow picture, if it is one: 16383. It is one if `lone_path` finds a path under this ceiling that goes past a place
+/// where the copies differ. That path has to be the one that it finds under 46340, and not the one without a ceiling. Then wrong ways soon
+/// have samples above both ceilings, and a cut file without a ceiling has fewer lines, or wrong ones. A picture with larger samples before
+/// the cut seldom has one path under both. Each of the three has so many tries. `Err` comes where memory is refused.
 pub(crate) fn shallow_ceiling(
     alloc: Global,
     parts: &Parts<'_>,

@@ -60,9 +60,9 @@ fn hand_out<'a, D: Desk, W: Sink>(
 /// decode, and hands out what comes of it. If no file taken is without a fault, the cut file may be taken too.
 ///
 /// Copies with bad places are searched as known copies: bytes of other copies stand in these places. First come the lines, on the report
-/// output. Then comes the text of the union of what the files taken give, then the single file, and last the files that have numbers, if
-/// these are asked for. All are made before anything is handed out. While it searches, it tells on the fault output how far it is, if that
-/// is asked for. Where OUT is standard output, the fault output also gets the lines of the search.
+/// output. Then comes the text of the union of what the files taken give. Then comes the single file, and last the files that have numbers,
+/// if these are asked for. All are made before anything is handed out. While it searches, it tells on the fault output how far it is, if
+/// that is asked for. Where OUT is standard output, the fault output also gets the lines of the search.
 pub fn splice<'a, D: Desk, W: Sink, E: Sink>(
     alloc: Global,
     desk: &mut D,

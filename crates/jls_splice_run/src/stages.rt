@@ -1,6 +1,6 @@
-//! All searches of a run over some parts, in stages: levels that are given up where too many paths live; the same under each ceiling of
-//! `CEILINGS` in turn, where the first was given up and no ceiling is asked for; and, where none of these found a file, levels that let paths
-//! go.
+//! All searches of a run over some parts, in stages. First come levels that are given up where too many paths live. If these were given up,
+//! and no ceiling is asked for, the same follows under each of `CEILINGS` in turn. If none of these found a file, levels that let paths go
+//! come last.
 
 ghost use Rattle.std.specs.Prelude.{◌≡◌, ◌<◌, ◌≤◌, ◌^◌, ◌⊎◌, List, None, length, IfOk, IfSome};
 ghost use Rattle.std.specs.List.{AllByRecursion};
@@ -375,8 +375,8 @@ fn parts_to_search<'a>(alloc: Global, copies: &[&'a [u8]]) -> Result<Parts<'a>, 
     Ok(parts)
 }
 
-/// Finds the parts of copies and makes all searches over them. If these find no file, they are made over finer ones. If these find none
-/// either, or are cut off, they are made over parts that are cut where the copies go over from one to another.
+/// Finds the parts of copies and makes all searches over them. If these find no file, they are made over finer ones. If these are cut off,
+/// or find none either, they are made over parts that are cut where copies go over from one to another.
 fn search_copies<'a, E: Sink>(
     alloc: Global,
     copies: &[&'a [u8]],
@@ -396,7 +396,7 @@ fn search_copies<'a, E: Sink>(
     search_others(alloc, copies, finer, cutting, options, faults)
 }
 
-/// Whether a cut file is sought: where the search that counts found nothing, and the copies are of one coding, as far as can be told.
+/// Whether a cut file is sought. It is where the search that counts found nothing, and the copies are of one coding, as far as can be told.
 fn seeks_cut(
     alloc: Global,
     copies: &[&[u8]],
@@ -434,7 +434,7 @@ fn ceiling_of_cut(
 /// file is to be sought where it found nothing, unless the copies are of several codings.
 ///
 /// If no search found a file, all are made once more over finer parts. If none of these finds one either, all are made over parts that are
-/// cut where the copies go over from one to another, as far as such places are found. Parts over which a file is found stand in place of
+/// cut where the copies go over from one to another. Not all such places may be found. Parts over which a file is found stand in place of
 /// the first.
 ///
 /// Copies that surely are of several codings are tried as they are, in one part.
