@@ -56,9 +56,9 @@ pub fn take_unfailed<S: Source>(
     station.take_copy(source, device)
 }
 
-/// Reads an input of known bytes. It is refused only for the fault that these bytes have, or for want of memory, or if reads failed, or if
-/// all 4,294,967,295 reads were made, so that the bytes are at least as many. If no read failed, fewer bytes are read whole, and if they
-/// are a copy, the partial picture is what they give.
+/// Reads an input of known bytes. It is refused for the fault that these bytes have, for want of memory, or if reads failed. Else it is
+/// refused only if all 4,294,967,295 reads were made, so that the bytes are at least as many. If no read failed, fewer bytes are read
+/// whole. If they are a copy, the partial picture is what they give.
 pub fn read_unfailed<S: Source>(
     alloc: Global,
     source: Option<u32>,
