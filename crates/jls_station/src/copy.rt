@@ -37,7 +37,7 @@ pub struct CopyRefusal<'a> {
 }
 
 /// Opens a copy and reads it to its end. What was read is kept if a read fails, and if all reads that may be made are used up.
-pub fn open_and_read_copy<D: Desk>(
+pub(crate) fn open_and_read_copy<D: Desk>(
     alloc: Global,
     desk: &mut D,
     name: &str,

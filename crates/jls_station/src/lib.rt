@@ -26,9 +26,8 @@ mod take_report;
 mod whole_reading;
 
 pub use copies::read_copies;
-pub use copy::{CopyCause, CopyFile, CopyRefusal, open_and_read_copy};
+pub use copy::{CopyCause, CopyFile, CopyRefusal};
 pub use input::{InputFault, InputForm, InputRead, ReadStop, input_fault, read_form, read_input};
 pub use station::Station;
 pub use take_copy::TakeFault;
 pub use take_report::TakeReport;
-pub use whole_reading::read_to_end;

@@ -40,7 +40,10 @@ impl Intake for WholeIntake {
 /// Reads a copy to the end of the device, from its current position on. Bytes after the end of the picture are read too. They go into
 /// the room of `bytes`. Reads have room for at most 4,096 bytes, and there are at most 4,294,967,295 of them. None is made once the
 /// bytes begin as the text of a partial picture: that stops the reading as its end does.
-pub fn read_to_end<S: Source>(device: &mut S, bytes: &mut Vec<u8>) -> Result<ReadStop, AllocError>
+pub(crate) fn read_to_end<S: Source>(
+    device: &mut S,
+    bytes: &mut Vec<u8>,
+) -> Result<ReadStop, AllocError>
     ensures read { IfOk result (λ stop.
         GrewBy (λ reads. IsRead IsTextPrefix reads bytes.new.items stop) (S.history device.old) (S.history device.new)) }
     ensures refused { OnErr result (GrewBy (IsReadInPart IsTextPrefix) (S.history device.old) (S.history device.new)) }

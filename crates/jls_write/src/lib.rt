@@ -42,7 +42,7 @@ mod write;
 
 pub use file::{FileParts, jls_file};
 pub use options::Options;
-pub use output::{OutputFault, write_part};
+pub use output::OutputFault;
 pub use picture::{Picture, PictureFault, pictures_are_whole};
 pub use pnm::write_pnm;
 pub use write::write_jls;

@@ -18,7 +18,11 @@ pub enum OutputFault {
 }
 
 /// Hands these bytes to a sink after `before` others, and answers how many have gone out then. It takes no memory.
-pub fn write_part<W: Sink>(sink: &mut W, before: u64, bytes: &[u8]) -> Result<u64, OutputFault>
+pub(crate) fn write_part<W: Sink>(
+    sink: &mut W,
+    before: u64,
+    bytes: &[u8],
+) -> Result<u64, OutputFault>
     requires { before + length bytes.now < 2 ^ 64 }
     ensures count { IfOk result (λ count. count ≡ before + length bytes.now) }
     ensures all { OnOk result (HandedOut (W.history sink.old) (W.history sink.new)
