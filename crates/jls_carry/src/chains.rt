@@ -27,6 +27,8 @@ pub(crate) struct Chain {
     pub(crate) confirmed: usize,
     /// How many are if hints count as runs do.
     pub(crate) hinted: usize,
+    /// And if shorter ones do too.
+    pub(crate) hinted_shortly: usize,
     /// The first line that nothing is decided of.
     pub(crate) fresh: usize,
     /// Whether both copies have the same code here. Then the same bytes say nothing, except without a gap.
@@ -162,6 +164,16 @@ fn said_by(
     Ok(said)
 }
 
+/// How many lines are confirmed, if so many are by runs, and so many by the first hint or run. A hint ends a gap, if a line ends there of
+/// which nothing is decided: what the copy gives behind it is to be heard first.
+fn up_to_hint(confirmed: usize, hinted: usize, fresh: usize) -> usize {
+    if hinted > fresh {
+        confirmed.min(hinted)
+    } else {
+        confirmed
+    }
+}
+
 /// What came of lines that a copy says in the code of another.
 #[derive(Drop)]
 pub(crate) struct Compared {
@@ -216,10 +228,12 @@ pub(crate) fn compare(
     let Runs {
         runs,
         with_hints,
+        with_short,
         all,
     } = code.runs(alloc, bytes, components, begin, said.is_twin)?;
-    let confirmed = code.count_confirmed(&runs, bytes, begin);
     let hinted = code.count_confirmed(&with_hints, bytes, begin);
+    let confirmed = up_to_hint(code.count_confirmed(&runs, bytes, begin), hinted, fresh);
+    let hinted_shortly = code.count_confirmed(&with_short, bytes, begin);
     let tested = refuted.max(said.readings.len());
     let passed = confirmed.max(fresh);
     let closes = giver
@@ -239,6 +253,7 @@ pub(crate) fn compare(
         runs,
         confirmed,
         hinted,
+        hinted_shortly,
         fresh,
         is_twin: said.is_twin,
         is_forked: said.is_forked,

@@ -2,7 +2,7 @@
 
 use crate::code::{FirstBits, FirstCode};
 use crate::line_ends::LineEnds;
-use crate::runs::{Run, add_runs, is_hint};
+use crate::runs::{Run, add_runs, is_hint, is_short_hint};
 use crate::shifts::{Shift, shifts_of};
 use std::alloc::{AllocError, Global};
 
@@ -27,6 +27,8 @@ pub(crate) struct Runs {
     pub(crate) runs: Vec<Run>,
     /// These, and long stretches in which no whole line is.
     pub(crate) with_hints: Vec<Run>,
+    /// These, and shorter ones.
+    pub(crate) with_short: Vec<Run>,
     /// All stretches.
     pub(crate) all: Vec<Run>,
 }
@@ -144,6 +146,7 @@ impl Coded {
         }
         let mut runs: Vec<Run> = Vec::new(alloc);
         let mut with_hints: Vec<Run> = Vec::new(alloc);
+        let mut with_short: Vec<Run> = Vec::new(alloc);
         all.sort_by_key(|run| (run.begin, run.end))?;
         for run in all.iter().copied() {
             let has_lines = self.has_lines(&run, components) && (!is_twin || run.begin == 0);
@@ -153,16 +156,22 @@ impl Coded {
             if has_lines || (!is_twin && is_hint(&self.bytes, &run)) {
                 with_hints.push(run)?;
             }
+            if has_lines || (!is_twin && is_short_hint(&self.bytes, &run)) {
+                with_short.push(run)?;
+            }
         }
         if let (false, Some(ending)) = (is_twin, self.ending(bytes, &runs)) {
             runs.push(ending)?;
             with_hints.push(ending)?;
+            with_short.push(ending)?;
         }
         runs.sort_by_key(|run| (run.begin, run.end))?;
         with_hints.sort_by_key(|run| (run.begin, run.end))?;
+        with_short.sort_by_key(|run| (run.begin, run.end))?;
         Ok(Runs {
             runs,
             with_hints,
+            with_short,
             all,
         })
     }

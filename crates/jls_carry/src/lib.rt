@@ -40,8 +40,8 @@
 //!    the one in which both part again, if they part near it.
 //! 7. Where nothing else goes on, lines that a copy reads in one piece between settled ones are taken. It is all of them, or none if one is
 //!    held back. Two rows behind them have to be settled as it says.
-//! 8. Where nothing else goes on, 24 such bytes are a hint without a whole line in them. Lines up to a hint are taken, four rows behind
-//!    the known ones at most.
+//! 8. 24 such bytes without a whole line in them are a hint. It ends a gap too, if a line ends there. Where nothing else goes on, lines up
+//!    to a hint are taken, four rows behind the known ones at most. 12 bytes do where closed pieces settle nothing either.
 //! 9. Pieces that close by themselves count only where nothing else goes on, and in copies that agree with another somewhere. No such piece
 //!    may say otherwise. One that says otherwise of a settled line doesn't count, nor one with a disputed line.
 //!

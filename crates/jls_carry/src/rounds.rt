@@ -6,7 +6,7 @@ use crate::claims::CopyState;
 use crate::closing::settle_closed;
 use crate::codes::Codes;
 use crate::picture::Picture;
-use crate::settling::{Links, Settling, Tested};
+use crate::settling::{Hints, Links, Settling, Tested};
 use std::alloc::{AllocError, Global};
 
 /// How many rounds there are at most.
@@ -75,17 +75,12 @@ fn go_on(
     };
     let is_any = settling.settle(picture)?
         || settle_between(alloc, picture, copies, &tested)?
-        || settling.settle_hinted(picture)?;
-    let Settling {
-        chains,
-        links: now,
-        ..
-    } = settling;
+        || settling.settle_hinted(picture, Hints::Long)?
+        || settle_closed(alloc, picture, copies, &settling.chains, &settling.links)?
+        || settling.settle_hinted(picture, Hints::Short)?;
+    let Settling { links: now, .. } = settling;
     *links = now;
-    if is_any {
-        return Ok(true);
-    }
-    settle_closed(alloc, picture, copies, &chains, links)
+    Ok(is_any)
 }
 
 /// Lets copies carry each other, until nothing more is decided.

@@ -9,6 +9,9 @@ pub(crate) const FIRM: usize = 8;
 /// How many it has at least if no whole line is in it.
 const HINT: usize = 24;
 
+/// How many it has at least where nothing else goes on.
+const SHORT_HINT: usize = 12;
+
 /// Bytes that repeat what stands so many bytes before them, or fewer, say nothing: black lines have the same code in many codings.
 const LONGEST_PERIOD: usize = 16;
 
@@ -62,6 +65,11 @@ pub(crate) fn has_news(code: &[u8], begin: usize, end: usize) -> bool {
 /// Whether a stretch says something even if no whole line is in it.
 pub(crate) fn is_hint(code: &[u8], run: &Run) -> bool {
     has_so_much_news(code, run.begin, run.end, HINT)
+}
+
+/// Whether a stretch says a little even if no whole line is in it.
+pub(crate) fn is_short_hint(code: &[u8], run: &Run) -> bool {
+    has_so_much_news(code, run.begin, run.end, SHORT_HINT)
 }
 
 /// Adds a run, if it is one.

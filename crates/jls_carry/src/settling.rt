@@ -15,6 +15,14 @@ const MORE_ROWS: usize = 8;
 /// How many rows behind those that are known hints can confirm.
 const ROWS_HINTED: usize = 4;
 
+/// Which hints count.
+#[derive(Clone, Copy)]
+pub(crate) enum Hints {
+    Long,
+    /// Shorter ones too.
+    Short,
+}
+
 /// Which lines of which copies were compared with the bytes of another.
 #[derive(Drop)]
 pub(crate) struct Tested {
@@ -607,11 +615,19 @@ impl Settling<'_, '_> {
     }
 
     /// Settles lines up to the first hints behind what is known, if these are near. Answers whether one was settled or disputed.
-    pub(crate) fn settle_hinted(&mut self, picture: &mut Picture) -> Result<bool, AllocError> {
+    pub(crate) fn settle_hinted(
+        &mut self,
+        picture: &mut Picture,
+        hints: Hints,
+    ) -> Result<bool, AllocError> {
         for chain in self.chains.iter_mut() {
             let near = usize::from(chain.piece.interval.components).saturating_mul(ROWS_HINTED);
-            if chain.hinted <= chain.fresh.saturating_add(near) {
-                chain.confirmed = chain.confirmed.max(chain.hinted);
+            let hinted = match hints {
+                Hints::Long => chain.hinted,
+                Hints::Short => chain.hinted_shortly,
+            };
+            if hinted <= chain.fresh.saturating_add(near) {
+                chain.confirmed = chain.confirmed.max(hinted);
             }
             chain.is_alive = true;
         }
