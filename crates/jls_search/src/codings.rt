@@ -3,7 +3,8 @@
 //!
 //! Copies are of one coding if their headers say the same of the frame, the scans, the parameters and the restart intervals. A damaged
 //! header can say something else. So copies are also of one coding if their scan data are mostly alike, from the first place on where
-//! these differ. Files of one picture in two codings have stretches alike too, so single ones don't count.
+//! these differ. Files of one picture in two codings have stretches alike too, so single ones don't count. Of a copy that has lost its scan
+//! headers less has to be alike: it is of no use as one of another coding.
 
 use crate::first_lines::are_two_codings;
 use jls_diff::Parts;
@@ -211,7 +212,8 @@ fn news_from(copies: &[&[u8]], number: usize, from: usize) -> usize {
 }
 
 /// Whether the scan data of two copies, which begin at these offsets, are mostly alike where they could differ. That is three quarters of
-/// what the one has that has less. Where that is next to nothing, they aren't: it would be alike to any.
+/// what the one has that has less, or two fifths if one of them has lost its scan headers. Where that is next to nothing, they aren't: it
+/// would be alike to any.
 fn are_mostly_alike(copies: &[&[u8]], parts: &Parts<'_>, pair: Pair, data: Offsets) -> bool {
     let found = compare(copies, parts, pair, data);
     let Some(from) = found.from else {
@@ -220,7 +222,12 @@ fn are_mostly_alike(copies: &[&[u8]], parts: &Parts<'_>, pair: Pair, data: Offse
     let first = news_from(copies, pair.first, from.first.max(data.first));
     let second = news_from(copies, pair.second, from.second.max(data.second));
     let less = first.min(second);
-    less >= WINDOW && found.alike.saturating_mul(4) >= less.saturating_mul(3)
+    let (share, of) = if data.first == 0 || data.second == 0 {
+        (2, 5)
+    } else {
+        (3, 4)
+    };
+    less >= WINDOW && found.alike.saturating_mul(of) >= less.saturating_mul(share)
 }
 
 /// Whether a copy says nothing of its coding.
