@@ -31,7 +31,7 @@ use crate::files::count_new;
 use crate::found::{Promise, SearchReport};
 use crate::made::{Made, ceiling_reported, files_reported, groups_reported, lacks_file};
 use crate::mended_files::{is_eoi_added_to_handed, numbered_files, single_file};
-use crate::plain_edits::are_plain_edits;
+use crate::plain_edits::{are_flips_in_whole_copies, are_plain_edits};
 use crate::printed_lines::{lines_of_carried, notes_of_carried};
 use crate::reading_as::{are_one_picture, each_reads_as};
 use crate::stages::FoundInTurn;
@@ -132,6 +132,17 @@ fn are_read_as(
     each_reads_as(alloc, files, held)
 }
 
+/// Whether the edits are believed. If the files without a fault are one picture, these edits may flip bits of such copies, and no more.
+fn are_believed(
+    copies: &[&[u8]],
+    codings: &[Vec<EditedCopy>],
+    faultless: &[bool],
+    given: &Partial,
+    is_alone: bool,
+) -> bool {
+    is_alone || !given.is_settled() || are_flips_in_whole_copies(copies, codings, faultless)
+}
+
 /// What is handed out of what copies in several codings gave each other, and the files that it rests on.
 #[derive(Drop)]
 pub(crate) struct HandedOut {
@@ -155,10 +166,12 @@ pub(crate) struct HandedOut {
 
 /// What is handed out of what copies in several codings gave each other. If a file taken may be without a fault, `None` comes unless that
 /// speaks against it. It does if a promised picture is another one, or a line has several readings, or was left open before one that is
-/// settled. If such files differ, `None` comes unless a picture is promised, and its edits say plainly which are wrong (`plain_edits`).
+/// settled. If such files differ, `None` comes unless a picture is promised, and its edits say plainly which are wrong (`plain_edits`). If
+/// they are one picture, none is promised whose edits change more of such a copy than flipped bits.
 fn handed_out(
     alloc: Global,
     copies: &[&[u8]],
+    faultless: &[bool],
     given: &Partial,
     source: Option<u32>,
     between: Between,
@@ -186,7 +199,8 @@ fn handed_out(
         held,
     } = judged;
     let is_held = held.is_settled();
-    let are_read = are_read_as(alloc, &mended, &held, is_held)?;
+    let is_believed = are_believed(copies, &codings, faultless, given, is_alone);
+    let are_read = are_read_as(alloc, &mended, &held, is_held & is_believed)?;
     let promise = carried_promise(&codings, &strangers, is_held, are_read);
     if !is_alone && promise == Promise::Held && are_one_picture(&held, given) {
         return Ok(None);
@@ -333,7 +347,16 @@ fn texts_of_judged(
 {
     let given = taken.station.partial();
     let source = task.options.source;
-    let Some(out) = handed_out(alloc, files.copies, given, source, between, is_alone)? else {
+    let Some(out) = handed_out(
+        alloc,
+        files.copies,
+        &taken.faultless,
+        given,
+        source,
+        between,
+        is_alone,
+    )?
+    else {
         return Ok(None);
     };
     let made = texts_of_handed(alloc, task, files, all, &taken.faultless, &out, is_alone)?;

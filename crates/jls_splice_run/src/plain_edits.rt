@@ -41,3 +41,24 @@ pub(crate) fn are_plain_edits(copies: &[&[u8]], codings: &[Vec<EditedCopy>]) -> 
     }
     true
 }
+
+/// Whether the edits change no copy without a fault but by flipped bits. `faultless` has a verdict for each copy. Such a copy can have
+/// flipped bits that no decoder notices. If edits change more of it, it is rather another copy that is wrong.
+pub(crate) fn are_flips_in_whole_copies(
+    copies: &[&[u8]],
+    codings: &[Vec<EditedCopy>],
+    faultless: &[bool],
+) -> bool {
+    for coding in codings {
+        for edited in coding {
+            let Some(copy) = copies.get(edited.number) else {
+                continue;
+            };
+            let is_whole = faultless.get(edited.number) == Some(&true);
+            if is_whole && edited.edits.iter().any(|edit| !changes_one_bit(copy, edit)) {
+                return false;
+            }
+        }
+    }
+    true
+}

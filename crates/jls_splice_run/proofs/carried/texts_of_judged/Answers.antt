@@ -25,7 +25,7 @@ use Rattle.jls_splice_run.proofs.carried.texts_of_judged.Goals as goal
 
 pub texts_of_handed-requires-clause-verdicts : goal.texts_of_handed-requires-clause-verdicts
 texts_of_handed-requires-clause-verdicts c =
-    subst (AreVerdicts (files_taken c.args.files.now)) (sym c.deref.ensures.value) c.requires.verdicts
+    subst (AreVerdicts (files_taken c.args.files.now)) (sym c.deref-2.ensures.value) c.requires.verdicts
 
 pub texts_of_handed-requires-clause-mended : goal.texts_of_handed-requires-clause-mended
 texts_of_handed-requires-clause-mended c =
