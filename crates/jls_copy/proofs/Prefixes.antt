@@ -37,7 +37,7 @@ use Rattle.jls_copy.proofs.CourseFed.{course_fed}
 use Rattle.jls_copy.specs.IntervalOf.{interval_of}
 use Rattle.jls_marker.specs.declared.profile.Profile.{Profile}
 
--- of pieces that are alike, one of each
+-- to each of the first pieces one of the second is alike
 pub alike_of : (ps qs : List FoundPiece) (p : FoundPiece) → AlikePieces ps qs → Contains ps p → (q : FoundPiece) × Contains qs q
     × AlikePiece p q
 alike_of [] qs p h m = absurd (none_in p m)

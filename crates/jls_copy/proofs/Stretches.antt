@@ -68,6 +68,7 @@ module _ (scan : OpenScan) (h : HeaderState) (payload : List ℕ) where
       }
   data_step count held piece ps b is_data = rw (is_data, append-nil ps) refl
 
+  -- FF is held, since the byte after it says whether it is data
   fill_step : (count : ℕ) (piece : OpenPiece) (ps : List FoundPiece)
       → reading_with (at count Nothing piece ps) 0xFF ≡ at (count + 1) One piece ps
   fill_step count piece ps = rw (append-nil ps) refl

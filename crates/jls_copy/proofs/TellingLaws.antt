@@ -84,16 +84,17 @@ units_stand copy prefix h at bytes (segment fill code payload ∷ us) final e in
     final e (index + 0)
     (following copy prefix (segment_unit_bytes fill code payload) rest at parted) more
 units_stand copy prefix h at bytes (scan fill code payload plan closed last closing ∷ us) final e index b (after, rest, whole, unit, more) =
-    let head = segment_unit_bytes fill code payload in
+    let head = segment_unit_bytes fill code payload in let data_at = at + length head in
     let unit_is : List ℕ = head ++ scan_data_bytes closed last closing in
+    let after_pieces : List ℕ = dropped_bytes closing ++ rest in
     let parted = others copy prefix bytes (unit_is ++ rest) at whole b in
-    let in_data = others copy prefix _ (head ++ (flat_map closed_bytes closed ++ (last ++ (dropped_bytes closing ++ rest)))) at
+    let in_data = others copy prefix _ (head ++ (flat_map closed_bytes closed ++ (last ++ after_pieces))) at
     (regrouped head (flat_map closed_bytes closed) last (dropped_bytes closing) rest) parted in
-    both_stand copy (pieces_from (piece_begun index plan (Interval 0) (at + length head)) 0 closed last) _
-    (pieces_stand copy (prefix ++ head) index plan 0 (Interval 0) (at + length head) closed last (dropped_bytes closing ++ rest)
-    (following copy prefix head _ at in_data))
-    (units_stand copy (prefix ++ unit_is) after (at + length unit_is) rest us final e (index + 1)
-    (following copy prefix unit_is rest at parted) more)
+    let pieces_there = pieces_stand copy (prefix ++ head) index plan 0 (Interval 0) data_at closed last after_pieces
+    (following copy prefix head _ at in_data) in
+    let units_there = units_stand copy (prefix ++ unit_is) after (at + length unit_is) rest us final e (index + 1)
+    (following copy prefix unit_is rest at parted) more in
+    both_stand copy (pieces_from (piece_begun index plan (Interval 0) data_at) 0 closed last) _ pieces_there units_there
 
 -- SOI stands before the units
 soi : (n : ℕ) (bytes : List ℕ) → After (fill_bytes n ++ (0xFF ∷ 0xD8 ∷ bytes)) (fill_bytes n ++ (0xFF ∷ 0xD8 ∷ [])) bytes (n + 2)

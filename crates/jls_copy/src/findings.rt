@@ -240,6 +240,7 @@ impl Findings {
         requires held { HoldsShape self.old.partial shape.now }
         ensures { OnOk result (AddsCut (Some shape.now) (piece_found fed.scan plan.now fed.offset fed.piece ∷ []) self.old self.new) }
     {
+        // For the proof alone: the contract of `width` says that the plan is of a scan.
         let _width = plan.width();
         let FedPiece {
             scan,

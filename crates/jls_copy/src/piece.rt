@@ -74,6 +74,7 @@ impl OpenPiece {
         }
         let (_, rows) = plan.rows(number);
         let params = plan.params();
+        // For the proof alone: the contract of `maxval` says that the parameters are in their ranges.
         let _maxval = params.maxval();
         let planned = PlannedPiece {
             params,

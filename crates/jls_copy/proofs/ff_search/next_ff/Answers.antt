@@ -12,6 +12,7 @@ returns-then-before-lt-LANES-clause-passed c = λ k from below is_ff. elim (case
       eqb-false (get_or c.args.bytes.now k 0) 255 other is_ff)
 ]
 
+-- the search among 16 bytes stopped before their end, so that it stopped at FF
 pub returns-then-before-lt-LANES-clause-found : goal.returns-then-before-lt-LANES-clause-found
 returns-then-before-lt-LANES-clause-found c = λ within.
     eqb-true (get_or c.args.bytes.now (c.loop-at.at + c.count_before_ff-before.result) 0) 255

@@ -7,6 +7,7 @@ use Rattle.jls_held.specs.Mending.{file_of}
 use Rattle.jls_held.specs.Chains.{AreChains}
 use Rattle.jls_held.proofs.holding.held_lines.Goals as goal
 
+-- the readings of the files are added to none
 pub returns-clause-held : goal.returns-clause-held
 returns-clause-held c =
     let files = map file_of c.args.files.now in

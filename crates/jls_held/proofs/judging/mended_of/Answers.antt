@@ -27,12 +27,14 @@ bytes_differ : (xs ys : List ℕ) → not (pointwise eqb xs ys) ≡ true → xs 
 bytes_differ xs ys e same =
     not-true (pointwise eqb xs ys) e ((slice_eq-Decides Decides-eqb xs ys (pointwise eqb xs ys) refl).1 same)
 
+-- the first edited copy makes the file that the others are to make too
 pub loop-edited-init : goal.loop-edited-init
 loop-edited-init c =
     let made = rw c.in-Some-2.is at c.in_ok-file.ensures in
     first_made (bytes_of c.args.copies.now) (coding_of c.args.coding.now) (coding_of c.in-Some.others.now) (edited_copy_of c.in-Some.first.now)
     (file_of c.in-Some-2.file) (ap coding_of c.in-Some.ensures.cases.0) made.0 made.1
 
+-- another edited copy makes no file, so that the edited copies make none together
 pub returns-in_default-3 : goal.returns-in_default-3
 returns-in_default-3 c = λ f m.
     let l = c.loop-edited in let copies = bytes_of c.args.copies.now in let coding = coding_of c.args.coding.now in

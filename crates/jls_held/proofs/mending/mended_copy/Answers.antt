@@ -4,12 +4,14 @@ use Rattle.jls_held.specs.Mending.{edit_of, edits_of}
 use Rattle.jls_held.proofs.MendedCopies.{within, left_more, bytes_put, held_put}
 use Rattle.jls_held.proofs.mending.mended_copy.Goals as goal
 
+-- the edit begins at or after the place in hand, and ends within the copy
 pub slice_bounds-put-end : goal.slice_bounds-put-end
 slice_bounds-put-end c =
     let l = c.loop-edit in
     let edits = subst (AreEdits l.at (length c.args.copy.now)) (left_more edit_of c.args.edits.now l.edit-index c.edit-item.result c.loop-edit-test.true c.edit-item.is) l.invariant.edits in
     let low = edits.0 in let high = within _ _ _ edits.1 in omega (arith, low, high)
 
+-- the edit ends within the copy, so that the sum is small
 pub overflow_add-at : goal.overflow_add-at
 overflow_add-at c =
     let l = c.loop-edit in

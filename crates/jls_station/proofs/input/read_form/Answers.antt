@@ -62,6 +62,7 @@ returns-then-count-eq0-clause-refused g c =
     (omega arith) (omega arith) (omega arith))
     (fault.NoPicture marker.Ended 0) (no_picture [] marker.Ended 0 refl empty_gives_none)
 
+-- what the first read gave begins a text, and reads to its end give the rest
 pub returns-in_ok-read_text-clause-form : goal.returns-in_ok-read_text-clause-form
 returns-in_ok-read_text-clause-form g c =
     let all = c.in_ok-read_text.ensures.read _
@@ -69,6 +70,7 @@ returns-in_ok-read_text-clause-form g c =
     (λ e. empty_goes_on c.copies_have_one_course.ensures e.1)) in
     record { events = all.events; grew = all.grew; they_are = (all.they_are, c.in_ok-read_text.ensures.text) }
 
+-- the reads that refuse a text are those since the first one
 pub returns-in_err-read_text-clause-refused : goal.returns-in_err-read_text-clause-refused
 returns-in_err-read_text-clause-refused g c =
     let p = err_from_is_err_and c.from_residual-in_err-read_text.result c.from_residual-in_err-read_text.ensures.1 in
@@ -76,11 +78,13 @@ returns-in_err-read_text-clause-refused g c =
     (first_gave g (goal.at.returns-in_err-read_text-clause-refused g c).After-prefix-first IsEnough
     (λ e. empty_goes_on c.copies_have_one_course.ensures e.1)))
 
+-- what the first read gave begins a copy, and the reads since then give what it reads as
 pub returns-in_ok-read-clause-form : goal.returns-in_ok-read-clause-form
 returns-in_ok-read-clause-form g c =
     c.in_ok-read.ensures.given _ (first_gave g (goal.at.returns-in_ok-read-clause-form g c).After-prefix-first IsCopyDone
     (empty_goes_on c.copies_have_one_course.ensures))
 
+-- the reads that refuse a copy are those since the first one
 pub returns-in_err-read-clause-refused : goal.returns-in_err-read-clause-refused
 returns-in_err-read-clause-refused g c =
     let p = err_from_is_err_and c.from_residual-in_err-read.result c.from_residual-in_err-read.ensures.1 in
@@ -96,6 +100,7 @@ first_taken g c =
     subst (λ (t : List ℕ). Consumes (g.S.Source.remaining c.args.device.now) (g.S.Source.remaining c.read_some.new.self) t)
     (sym c.prefix-first.ensures.prefix) (MatchResult-at_ok _ _ _ was c.read_some.ensures.bytes).0
 
+-- the first read failed, so that no known byte was given
 pub returns-in_err-count-clause-known_refused : goal.returns-in_err-count-clause-known_refused
 returns-in_err-count-clause-known_refused g c =
     let made = error_at _ (λ _. fault.Read Failed 0) (λ e r made. search rules) c.read_some.result c.map_err.result c.in_err-count.field-0.0
@@ -103,6 +108,7 @@ returns-in_err-count-clause-known_refused g c =
     let p = err_from_is_err_and c.from_residual.result c.from_residual.ensures.1 in
     rw (p.1, p.2, made.1) (none_read (g.S.Source.remaining c.args.device.now))
 
+-- the known bytes are none, as the first read met their end
 pub returns-then-count-eq0-clause-known_refused : goal.returns-then-count-eq0-clause-known_refused
 returns-then-count-eq0-clause-known_refused g c =
     let old = g.S.Source.remaining c.args.device.now in
@@ -113,18 +119,21 @@ returns-then-count-eq0-clause-known_refused g c =
     let room : length c.read_some.new.into ≡ 4096 = search rules in
     empty_refused old new (subst (λ (t : List ℕ). Consumes old new t) none read.0) (read.1 c.if-count-eq0.true (omega (arith, room)))
 
+-- a text is refused for a fault that its known bytes can have
 pub returns-in_err-read_text-clause-known_refused : goal.returns-in_err-read_text-clause-known_refused
 returns-in_err-read_text-clause-known_refused g c =
     let p = err_from_is_err_and c.from_residual-in_err-read_text.result c.from_residual-in_err-read_text.ensures.1 in
     rw (p.1, p.2) (c.in_err-read_text.ensures.known_refused _
     (first_taken g (goal.at.returns-in_err-read_text-clause-known_refused g c).After-prefix-first))
 
+-- a copy is refused for a fault that its known bytes can have
 pub returns-in_err-read-clause-known_refused : goal.returns-in_err-read-clause-known_refused
 returns-in_err-read-clause-known_refused g c =
     let p = err_from_is_err_and c.from_residual-in_err-read.result c.from_residual-in_err-read.ensures.1 in
     rw (p.1, p.2) (c.in_err-read.ensures.known_refused _
     (first_taken g (goal.at.returns-in_err-read-clause-known_refused g c).After-prefix-first))
 
+-- no bytes of a text are counted
 pub returns-in_ok-read_text-clause-known_count : goal.returns-in_ok-read_text-clause-known_count
 returns-in_ok-read_text-clause-known_count g c = text_counted (g.S.Source.remaining c.args.device.now)
 

@@ -15,6 +15,7 @@ use Rattle.jls_station.proofs.input.read_text.Goals as goal
 first_held : {first cleared items : List ℕ} → cleared ≡ [] → items ≡ cleared ++ first → first ≡ items
 first_held {first} none is = sym (is ∙ ap (λ (t : List ℕ). t ++ first) none)
 
+-- there is no memory for the bytes of the first read
 pub returns-in_err-extend_from_slice-clause-refused : goal.returns-in_err-extend_from_slice-clause-refused
 returns-in_err-extend_from_slice-clause-refused g c before h =
     let now = g.S.Device.history c.args.device.now in
@@ -57,16 +58,19 @@ returns-in-Whole-clause-known g c before h =
     (c.in_ok-stop.ensures.known before (rw (first_held c.clear.ensures.items c.in_ok-extend_from_slice.ensures.items) at h))
     (c.in_ok-stop.ensures.end c.in-Whole.is)
 
+-- there is no memory for the first of the known bytes
 pub returns-in_err-extend_from_slice-clause-known_refused : goal.returns-in_err-extend_from_slice-clause-known_refused
 returns-in_err-extend_from_slice-clause-known_refused g c before h =
     let p = err_from_is_err_and c.from_residual.result c.from_residual.ensures.1 in
     rw (p.1, p.2) (input_ran_out before)
 
+-- there is no memory for the known bytes
 pub returns-in_err-stop-clause-known_refused : goal.returns-in_err-stop-clause-known_refused
 returns-in_err-stop-clause-known_refused g c before h =
     let p = err_from_is_err_and c.from_residual-in_err-stop.result c.from_residual-in_err-stop.ensures.1 in
     rw (p.1, p.2) (input_ran_out before)
 
+-- the device stopped before the end of the known bytes
 pub returns-in_default-clause-known_refused : goal.returns-in_default-clause-known_refused
 returns-in_default-clause-known_refused g c before h =
     let bytes = c.read_text_on.new.bytes.items in

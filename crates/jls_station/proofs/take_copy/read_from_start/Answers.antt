@@ -46,11 +46,13 @@ prefix_so g c =
     let was = value_at _ c.read_copy_on.result c.map_err.result c.in_ok-stop.stop c.map_err.ensures.cases c.in_ok-stop.was in
     IfOk-at_ok _ was (c.read_copy_on.ensures.known before [] c.new-reader.ensures (consumes_nothing before))
 
+-- a copy that gives no picture is refused for a fault of copies
 pub map_err-requires-2 : goal.map_err-requires-2
 map_err-requires-2 g c = λ fault is.
     is_taken _ c.read_copy_on.new.reader c.in_ok-stop.stop fault (read_so g (goal.at.map_err-requires-2 g c).After-read_of_copy)
     (IfErr-at_err _ is c.read_of_copy.ensures.refused)
 
+-- the reads give what the copy that was read gives
 pub returns-clause-given : goal.returns-clause-given
 returns-clause-given g c =
     value_so _ _ _ _ _ (λ given. whole_copy_gives c.args.source c.in_ok-stop.stop _ _ c.read_copy_on.new.reader given.partial given.report
@@ -65,6 +67,7 @@ returns-clause-refused g c =
     (read_so g (goal.at.returns-clause-refused g c).After-read_of_copy) h (search rules))
     c.map_err-2.ensures.cases c.read_of_copy.ensures.refused
 
+-- there is no memory while the known bytes are read
 pub returns-in_err-stop-clause-known_refused : goal.returns-in_err-stop-clause-known_refused
 returns-in_err-stop-clause-known_refused g c held =
     let made = error_at _ (λ _. take.OutOfMemory) (λ e r made. search rules) c.read_copy_on.result c.map_err.result c.in_err-stop.field-0.0
@@ -72,11 +75,13 @@ returns-in_err-stop-clause-known_refused g c held =
     let p = err_from_is_err_and c.from_residual.result c.from_residual.ensures.1 in
     rw (p.1, p.2, made.1) (ran_out c.args.source held (g.S.Source.remaining c.args.device.now))
 
+-- the known bytes give what the copy that was read gives
 pub returns-clause-known : goal.returns-clause-known
 returns-clause-known g c =
     value_so _ _ _ _ _ (λ given. known_copy_gives c.args.source c.in_ok-stop.stop _ c.read_copy_on.new.reader given.partial given.report
     (prefix_so g (goal.at.returns-clause-known g c).After-read_of_copy)) c.map_err-2.ensures.cases c.read_of_copy.ensures.given
 
+-- the known bytes give no picture
 pub returns-clause-known_refused : goal.returns-clause-known_refused
 returns-clause-known_refused g c held =
     error_as _ c.read_of_copy.result c.map_err-2.result _ _
@@ -84,6 +89,7 @@ returns-clause-known_refused g c held =
     c.read_copy_on.new.reader fault taken (prefix_so g (goal.at.returns-clause-known_refused g c).After-read_of_copy) h (search rules))
     c.map_err-2.ensures.cases c.read_of_copy.ensures.refused
 
+-- no more bytes are counted than are known
 pub returns-clause-known_count : goal.returns-clause-known_count
 returns-clause-known_count g c =
     value_so _ _ _ _ _ (λ given. known_copy_count c.args.source c.in_ok-stop.stop _ c.read_copy_on.new.reader given.partial given.report

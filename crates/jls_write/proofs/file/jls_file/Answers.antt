@@ -3,6 +3,7 @@ use Rattle.jls_write.specs.WrittenFile.{header_bytes, scans_bytes}
 use Rattle.jls_write.proofs.Joining.{end_joined}
 use Rattle.jls_write.proofs.file.jls_file.Goals as goal
 
+-- headers, scans and EOI, joined, are the file
 pub returns : goal.returns
 returns c =
     end_joined c.in_ok-front.field-0.front.items c.in_ok-front.field-0.back.items c.extend_from_slice.new.self.items c.new.result.items

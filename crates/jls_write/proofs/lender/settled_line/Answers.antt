@@ -5,12 +5,14 @@ use Rattle.jls_partial.proofs.Statuses.{one_reading}
 use Rattle.jls_write.proofs.Lending.{line_is, fits_shape}
 use Rattle.jls_write.proofs.lender.settled_line.Goals as goal
 
+-- a settled line has a reading
 pub reading-requires-clause-i_in : goal.reading-requires-clause-i_in
 reading-requires-clause-i_in c =
     let one = one_reading (readings_at c.args.partial.now c.args.component c.args.line)
     (c.requires.settled c.args.component c.requires.component_in c.args.line c.requires.line_in) in
     omega (arith, one)
 
+-- the first reading of a settled line is the line of the picture
 pub returns-clause-value : goal.returns-clause-value
 returns-clause-value c =
     let p = c.args.partial.now in

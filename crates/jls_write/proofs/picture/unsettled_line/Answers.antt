@@ -15,6 +15,7 @@ returns-then-count-ne1 c =
       lines_before = λ line before. settled_by (readings_at p c.args.component line) (c.loop-line.invariant line before);
     }
 
+-- no line below the height was found unsettled
 pub returns : goal.returns
 returns c = λ line below.
     let p = c.args.partial.now in

@@ -4,6 +4,7 @@ use Rattle.jls_write.proofs.OneMore.{put_from_more}
 use Rattle.jls_write.proofs.Columns.{lines_to_fewer, lent}
 use Rattle.jls_write.proofs.pixels.put_columns.Goals as goal
 
+-- the column is in each line, and the row has room for it
 pub put_column-requires : goal.put_column-requires
 put_column-requires c =
     record {

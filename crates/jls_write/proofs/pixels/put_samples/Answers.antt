@@ -8,6 +8,7 @@ bounds-line-column c =
     let far = c.requires.they_fit.reach 0 (omega arith) in
     omega (arith, far, c.loop-column-test.true)
 
+-- the row has room for the sample, which fits in its width
 pub put_sample-requires : goal.put_sample-requires
 put_sample-requires c =
     record {

@@ -33,6 +33,7 @@ returns-in_err-count-in-Ok-clause-stops g c =
     (written_file pic c.args.options.now) (sym (file_is pic c.args.options.now header (c.deref.ensures.value ∙ c.in-Ok.ensures.value)))
     (stops_by old new held holds fault 0 header c.in_err-count-in-Ok.ensures.prefix))
 
+-- the headers leave room for the scans in the count
 pub write_scans-requires-clause-early : goal.write_scans-requires-clause-early
 write_scans-requires-clause-early g c =
     let few = header_at_most c.args.picture.now c.args.options.now c.header_bytes.ensures.ranges in
@@ -52,6 +53,7 @@ returns-in_err-count-in-Ok-2-clause-stops g c =
     c.in_ok-count-in-Ok.ensures.count (parts pic o header (c.deref.ensures.value ∙ c.in-Ok.ensures.value))
     c.in_ok-count-in-Ok.ensures.all c.in_err-count-in-Ok-2.ensures.stops)
 
+-- the headers and the scans leave room for EOI in the count
 pub write_part-requires-in-Ok : goal.write_part-requires-in-Ok
 write_part-requires-in-Ok g c =
     let few = header_at_most c.args.picture.now c.args.options.now c.header_bytes.ensures.ranges in
@@ -82,6 +84,7 @@ returns-in_err-write_part-in-Ok-clause-stops g c =
     (stops_by (g.W.Device.history c.write_scans.new.sink) new (g.W.Sink.contents c.write_scans.new.sink) holds fault
     c.in_ok-count-in-Ok-2.count eoi c.in_err-write_part-in-Ok.ensures.prefix))
 
+-- headers, scans and EOI went out, which are the file
 pub returns-in_ok-write_part-in-Ok-clause-all : goal.returns-in_ok-write_part-in-Ok-clause-all
 returns-in_ok-write_part-in-Ok-clause-all g c =
     handed_as _ _ (file_is c.args.picture.now c.args.options.now c.deref.result.now (c.deref.ensures.value ∙ c.in-Ok.ensures.value))

@@ -20,6 +20,7 @@ pub write_scan-requires-clause-part : goal.write_scan-requires-clause-part
 write_scan-requires-clause-part g c = part_fits _ _ _ _ _ c.requires.fit c.scan_count-first-end.ensures.ranges c.requires.params
     c.scan_count-first-end.ensures.value c.loop-first-test.true c.components_of_scan-components.ensures
 
+-- the bytes so far leave room for one scan more
 pub write_scan-requires-clause-early : goal.write_scan-requires-clause-early
 write_scan-requires-clause-early g c =
     let so_far = scans_at_most c.args.picture.now c.args.options.now c.loop-first.first c.requires.fit c.scan_count-first-end.ensures.ranges
@@ -65,12 +66,14 @@ scans_to : (pic : WholePicture) (o : WriteOptions) (first : ℕ) → first ≡ s
     → flat_map (scan_at pic o) (range_with_len 0 first) ≡ scans_bytes pic o
 scans_to pic o first at_end = ap (λ n. flat_map (scan_at pic o) (range_with_len 0 n)) at_end ∙ sym (scans_are pic o)
 
+-- as many bytes are counted as the scans have
 pub returns-clause-count : goal.returns-clause-count
 returns-clause-count g c =
     let end = c.scan_count-first-end.ensures.value in
     c.loop-first.invariant.counted ∙ ap (λ (t : List ℕ). c.args.before + length t)
     (scans_to c.args.picture.now c.args.options.now c.loop-first.first (omega (arith, end, c.loop-first-test.false)))
 
+-- the scans that went out are all scans of the file
 pub returns-clause-all : goal.returns-clause-all
 returns-clause-all g c =
     let end = c.scan_count-first-end.ensures.value in

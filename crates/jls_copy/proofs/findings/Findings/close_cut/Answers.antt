@@ -3,12 +3,14 @@ use Rattle.jls_copy.proofs.Outcomes.{on_ok3}
 use Rattle.jls_copy.proofs.CutOutcomes.{CutFinishes, beyond_adds, whole_adds, head_adds, cut_lines}
 use Rattle.jls_copy.proofs.findings.Findings.close_cut.Goals as goal
 
+-- the complete lines are those of the interval of this piece
 pub take_head-requires-clause-lines : goal.take_head-requires-clause-lines
 take_head-requires-clause-lines c =
     let said = subst (CutFinishes c.in-Within.decoder) c.in-Head.is c.in_ok-lines-in-Within.ensures.cut_end in
     cut_lines c.args.plan.now c.in-Within.interval c.in-Within.decoder c.args.fed.piece c.in-Within.is c.requires.sound c.in-Head.head
     c.in-Head.fault said
 
+-- a piece beyond the last interval is noted, and gives no lines
 pub returns-in-Beyond : goal.returns-in-Beyond
 returns-in-Beyond c =
     on_ok3 c.note.result (beyond_adds c.args.shape.now c.args.fed.scan c.args.plan.now c.args.fed.offset c.in-Beyond.interval

@@ -4,6 +4,7 @@ use Rattle.jls_copy.proofs.PiecesInHand.{of_found}
 use Rattle.jls_copy.proofs.StrictReaders.{strictly}
 use Rattle.jls_copy.proofs.reader.CopyReader.piece_in_hand.Goals as goal
 
+-- what the machine finds in hand holds under the strict profile
 pub returns : goal.returns
 returns c =
     of_found c.piece_in_hand.result _ _

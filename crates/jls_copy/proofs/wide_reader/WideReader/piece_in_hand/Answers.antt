@@ -4,6 +4,7 @@ use Rattle.jls_copy.proofs.PiecesInHand.{of_found}
 use Rattle.jls_copy.proofs.WideReaders.{widely}
 use Rattle.jls_copy.proofs.wide_reader.WideReader.piece_in_hand.Goals as goal
 
+-- what the machine finds in hand holds under the wide profile
 pub returns : goal.returns
 returns c =
     of_found c.piece_in_hand.result _ _

@@ -4,6 +4,7 @@ use Rattle.jls_piece.specs.PieceBytes.{bytes_given}
 use Rattle.jls_piece.proofs.CutOutcomes.{CutFinishes, line_cut_finishes}
 use Rattle.jls_piece.proofs.piece_decoder.PieceDecoder.finish_cut.Goals as goal
 
+-- a piece that is not interleaved by sample ends as its decoder of lines does
 pub returns-in_ok-finish_cut-in-ByLine-clause-cut_end : goal.returns-in_ok-finish_cut-in-ByLine-clause-cut_end
 returns-in_ok-finish_cut-in-ByLine-clause-cut_end c =
     let view = subst (λ kind. bytes_given kind ≡ c.args.self) c.in-ByLine.is c.self.view_is in

@@ -5,6 +5,7 @@ use Rattle.jls_report.specs.Report.{report_entries, AreOfShape}
 use Rattle.jls_report.proofs.OfShape.{of_shape}
 use Rattle.jls_report.proofs.report.Report.of.Goals as goal
 
+-- the entries are of the shape of the partial picture
 pub invariant_of-result : goal.invariant_of-result
 invariant_of-result c =
     let p = c.args.partial.now in

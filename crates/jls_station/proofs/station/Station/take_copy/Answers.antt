@@ -64,11 +64,13 @@ returns-clause-taken g c =
     (λ reads h. record { given = given.partial; gives = h; one_shape = c.in-Ok.ensures.ok_same_shape; union_is = c.in-Ok.ensures.ok })
     c.in_ok-given.ensures.given
 
+-- the known bytes give no picture
 pub returns-in_err-given-clause-known_refused : goal.returns-in_err-given-clause-known_refused
 returns-in_err-given-clause-known_refused g c =
     let p = err_from_is_err_and c.from_residual.result c.from_residual.ensures.1 in
     rw (p.1, p.2) (c.in_err-given.ensures.known_refused c.args.self.now)
 
+-- the picture of the known bytes has another shape
 pub returns-in-Err-ShapeDiffers-clause-known_refused : goal.returns-in-Err-ShapeDiffers-clause-known_refused
 returns-in-Err-ShapeDiffers-clause-known_refused g c =
     let given = c.in_ok-given.given in
@@ -77,9 +79,11 @@ returns-in-Err-ShapeDiffers-clause-known_refused g c =
     (λ bytes. RefusesBytes c.args.source c.args.self.now bytes take.ShapeDiffers)
     (λ bytes b. (given.partial, given.report.stop, b, c.in-Err-ShapeDiffers.ensures.shape_differs.0 is)) c.in_ok-given.ensures.known
 
+-- memory ran out while the readings of the known bytes were merged
 pub returns-in-Err-OutOfMemory-clause-known_refused : goal.returns-in-Err-OutOfMemory-clause-known_refused
 returns-in-Err-OutOfMemory-clause-known_refused g c = ran_out c.args.source c.args.self.now (g.S.Source.remaining c.args.device.now)
 
+-- the readings of the known bytes are merged
 pub returns-clause-known : goal.returns-clause-known
 returns-clause-known g c =
     let given = c.in_ok-given.given in
