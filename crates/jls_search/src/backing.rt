@@ -84,14 +84,29 @@ fn weight(path: &LivingPath) -> i64 {
     }
 }
 
-/// The place of the path for which least speaks; the last of equal ones.
+/// The place of the path whose ways most copies have, summed over its parts; the first of equal ones.
+fn most_backed(living: &[LivingPath]) -> usize {
+    let mut most = 0;
+    let mut backing = 0;
+    for (place, path) in living.iter().enumerate() {
+        if path.backing > backing {
+            most = place;
+            backing = path.backing;
+        }
+    }
+    most
+}
+
+/// The place of the path for which least speaks; the last of equal ones. It is another than that which most copies have, if there is one.
 pub(crate) fn weakest(living: &[LivingPath]) -> usize
     requires { 0 < length living.now }
     ensures { result < length living.now }
 {
+    let backed = most_backed(living);
     let mut least = 0;
     for place in 0..living.len() {
-        if weight(&living[place]) <= weight(&living[least]) {
+        let is_weaker = least == backed || weight(&living[place]) <= weight(&living[least]);
+        if place != backed && is_weaker {
             least = place;
         }
     }
