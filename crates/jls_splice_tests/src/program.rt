@@ -78,6 +78,10 @@ two codings, and two places in each: narrow: 64+5=0 233+3=lost / reset 159+6=los
 coding 1, copies 1 | coding 2, copies 2
 two codings, and no whole line between their places: broad: 200+8=85 / broad_reset 294+8=85: OUT 1 2: 0 broad: \
 coding 1, copies 1 | coding 2, copies 2 | copy 1 differs 200 8 8 | copy 2 differs 294 8 8
+two codings, and a flipped bit in rows side by side: narrow: 363+1=3 411+4=0 / reset 351+1=172: OUT 1 2: 0 narrow: \
+coding 1, copies 1 | coding 2, copies 2 | copy 1 differs 363 1 1 | copy 1 differs 411 4 4 | copy 2 differs 351 1 1
+two codings, and few bytes between such rows: narrow: 209+1=184 400+4=0 / reset 207+1=136: OUT 1 2: 0 narrow: \
+coding 1, copies 1 | coding 2, copies 2 | copy 1 differs 209 1 1 | copy 1 differs 400 4 4 | copy 2 differs 207 1 1
 two codings, and no other way to a line: narrow: 60+8=0 / reset 40+8=0: OUT 1 2: 1 other: missing 1 0-19
 two codings, with intervals: fives: 445+8=0 / tens 355+8=0: OUT 1 2: 0 narrow: \
 coding 1, copies 1 | coding 2, copies 2 | copy 1 differs 446 7 7 | copy 2 differs 355 8 8
