@@ -5,9 +5,10 @@ import itertools
 from collections.abc import Sequence
 from typing import Optional
 
-from jls_tools.dicom.axis import inserted
-from jls_tools.dicom.axis.align import SHIFTED, Copy, differing, on_one_axis, size_of
-from jls_tools.dicom.axis.bad_places import Range
+from jls_tools.dicom.axis import in_filler, inserted
+from jls_tools.dicom.axis.align import SHIFTED, Copy, on_one_axis
+from jls_tools.dicom.axis.apart import differing, size_of
+from jls_tools.dicom.axis.bad_places import Range, clipped
 from jls_tools.dicom.axis.inserted import SMALLEST_ELEMENT
 from jls_tools.dicom.axis.placed import placed
 from jls_tools.dicom.axis.runs import FINEST, Runs
@@ -91,8 +92,10 @@ class Layout:
         return True
 
     def is_alike(self, begin: int, end: int) -> bool:
-        """Whether all copies have the same bytes in a range."""
-        return not self.runs.touching(begin, end) and not any(copy.lacks(begin, end) for copy in self.copies)
+        """Whether all copies have the same bytes in a range, but for those that lost the sector, where two others have it."""
+        well = [copy for copy in self.copies if not clipped(copy.seen, begin, end)]
+        own = well if len(well) > 1 else self.copies
+        return len({copy.data[begin:end] for copy in own}) == 1 and not any(copy.lacks(begin, end) for copy in own)
 
     def goes_on(self, place: int, size: int) -> bool:
         """Whether the value that holds a place goes on for so many bytes behind it: then no element begins there that copies lost."""
@@ -200,16 +203,21 @@ def told_of(copies: Sequence[Copy], part: Range) -> tuple[str, int, int]:
     return owner.path, inserted.place_in(owner, part[0]), part[1] - part[0]
 
 
+def side_by_side(copies: Sequence[Copy], named: Optional[str], are_shifted: bool) -> list[Copy]:
+    """The copies on one axis, without bad places and bits that are stuck."""
+    return unstuck(placed(in_filler.with_others(on_one_axis(copies, are_shifted))), named)
+
+
 def on_best_axis(copies: Sequence[Copy], named: Optional[str]) -> tuple[list[Copy], Layout, list[Copy]]:
     """The copies on one axis, their Layout, and the copies on the other axis.
 
     Where the Layout breaks, or far fewer bytes differ then, they lost bytes at different places.
     """
-    found = shifted = unstuck(placed(on_one_axis(copies)), named)
+    found = shifted = side_by_side(copies, named, False)
     layout = Layout(found)
     apart = size_of(layout.ranges)
     if not is_through(layout.structure) or apart >= SHIFTED:
-        shifted = unstuck(placed(on_one_axis(copies, True)), named)
+        shifted = side_by_side(copies, named, True)
         if is_through(layout.structure) and size_of(differing([copy.data for copy in shifted])) * FAR_MORE > apart:
             return found, layout, shifted
         if [copy.absent for copy in shifted] != [copy.absent for copy in found]:

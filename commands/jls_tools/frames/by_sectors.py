@@ -9,7 +9,7 @@ import itertools
 from collections.abc import Callable, Iterator, Sequence
 from typing import Optional
 
-from jls_tools.dicom.axis.align import differing, size_of
+from jls_tools.dicom.axis.apart import differing, size_of
 from jls_tools.dicom.axis.media import SECTOR, SHARE
 from jls_tools.frames.codestream import shape_of
 

@@ -4,7 +4,7 @@ from __future__ import annotations
 import itertools
 from collections.abc import Sequence
 
-from jls_tools.dicom.axis.align import differing
+from jls_tools.dicom.axis.apart import differing
 
 LEAST_EQUAL, MOST_EQUAL = 2, 64  # equal bytes between two places that jls-splice can take for one
 MOST_SECTORS = 5

@@ -8,9 +8,12 @@ from __future__ import annotations
 import re
 from collections.abc import Collection, Iterable, Iterator, Sequence
 from dataclasses import dataclass, field, replace
+from operator import ne
 from typing import Optional
 
+from jls_tools.dicom.axis.apart import differing, size_of
 from jls_tools.dicom.axis.media import MOST_LOST
+from jls_tools.dicom.axis.one_loss import cost_of, place_of
 from jls_tools.dicom.axis.sectors import is_noise
 
 ANCHOR = 32  # so many bytes that are equal, and not all alike, show how two copies lie to each other
@@ -28,6 +31,7 @@ MOST_SLID = 16  # losses of a copy
 LONG_WAY = 16  # a loss that can be moved so far is not clear
 PRINTABLE = re.compile(rb"[\x20-\x7e]+\Z")
 LEAST_FEWER = 2  # so many bytes fewer differ, at least, where a loss is moved: one can be a flipped bit
+Gaps = tuple[list[tuple[int, int, int]], list[tuple[int, int, int]]]  # what each of two lacks of the other, as insert_gaps takes it
 SHIFTED = 64  # so many bytes more are equal, at least, where copies of one length are taken to have lost bytes at different places
 
 
@@ -254,7 +258,7 @@ def merged(ranges: Iterable[tuple[int, int]]) -> list[tuple[int, int]]:
     return found
 
 
-def gaps_of(one: bytes, other: bytes, is_free: bool) -> tuple[list[tuple[int, int, int]], list[tuple[int, int, int]]]:
+def gaps_of(one: bytes, other: bytes, is_free: bool) -> Gaps:
     """What each of two lacks of the other: for each a list as insert_gaps takes it."""
     at = beside = 0
     in_one, in_other = [], []
@@ -267,23 +271,35 @@ def gaps_of(one: bytes, other: bytes, is_free: bool) -> tuple[list[tuple[int, in
     return in_one, in_other
 
 
-def size_of(ranges: Iterable[tuple[int, int]]) -> int:
-    return sum(end - begin for begin, end in ranges)
-
-
-def aligned(one: bytes, other: bytes, are_shifted: bool) -> tuple[list[tuple[int, int, int]], list[tuple[int, int, int]]]:
+def aligned(one: bytes, other: bytes, are_shifted: bool) -> Gaps:
     """(gaps in one, gaps in the other). Those of one length are taken by offset, unless they have far more in common when shifted."""
     if len(one) != len(other):
-        return gaps_of(one, other, False)
+        return cheaper(one, other, gaps_of(one, other, False))
     apart = size_of(differing([one, other]))
     if apart < SHIFTED or not are_shifted and apart * SHARE_APART < len(one):
         return [], []
     gaps = gaps_of(one, other, True)
-    left, right = (insert_gaps(Copy("", text), gap, source) for text, gap, source in ((one, gaps[0], other), (other, gaps[1], one)))
+    left, right = laid(one, other, gaps)
     absent, left_apart = size_of(left.absent) + size_of(right.absent), size_of(differing([left.data, right.data]))
     if are_shifted and len(gaps[0]) == len(gaps[1]) == 1:
         return gaps if len(left.data) - absent - left_apart - (len(one) - apart) >= SHIFTED else ([], [])
     return gaps if (left_apart + absent) * 2 < apart else ([], [])
+
+
+def laid(one: bytes, other: bytes, gaps: Gaps) -> tuple[Copy, Copy]:
+    """Two texts on one axis."""
+    return insert_gaps(Copy("", one), gaps[0], other), insert_gaps(Copy("", other), gaps[1], one)
+
+
+def cheaper(one: bytes, other: bytes, gaps: Gaps) -> Gaps:
+    """These gaps of two texts of different lengths, or the one gap of the shorter, if less damage explains them then."""
+    if len(gaps[0]) + len(gaps[1]) < 2:
+        return gaps
+    count = abs(len(one) - len(other))
+    at = place_of(*sorted((one, other), key=len))
+    one_gap: Gaps = ([], [(at, count, at)]) if len(one) > len(other) else ([(at, count, at)], [])
+    costs = (cost_of(left.data, right.data, left.absent + right.absent) for left, right in (laid(one, other, gaps), laid(one, other, one_gap)))
+    return one_gap if next(costs) > next(costs) else gaps
 
 
 def on_one_axis(copies: Sequence[Copy], are_shifted: bool = False) -> list[Copy]:
@@ -337,11 +353,20 @@ def in_one_place(copy: Copy, other: Copy, gaps: Sequence[tuple[int, int]]) -> Op
         return None
     own, whole = copy.has_only(first, last), other.data[first:last]
     count, at = fewest(own, whole)
-    if count + LEAST_FEWER > sum(one != two for one, two in zip(copy.data[first:last], whole)):
+    if count + LEAST_FEWER > apart_itself(copy, whole, first):
         return None
     gap = (first + at, first + at + len(whole) - len(own))
     data = copy.data[:first] + own[:at] + other.data[slice(*gap)] + own[at:] + copy.data[last:]
     return replace(copy, data=data, absent=merged([pair for pair in copy.absent if pair not in gaps] + [gap]))
+
+
+def apart_itself(copy: Copy, other: bytes, begin: int) -> int:
+    """How many of a copy's own bytes differ from others, which stand from a place on."""
+    end = begin + len(other)
+    absent = ((max(begin, first), min(end, last)) for first, last in copy.absent)
+    inside = [(first, last) for first, last in absent if first < last]
+    whole = sum(map(ne, copy.data[begin:end], other))
+    return whole - sum(sum(map(ne, copy.data[first:last], other[first - begin : last - begin])) for first, last in inside)
 
 
 def fewest(own: bytes, whole: bytes) -> tuple[int, int]:
@@ -383,26 +408,3 @@ def may_be_damage(own: bytes, other: bytes, size: int) -> bool:
         return is_noise(patch)
     is_bit = len(near) == 1 and bin(own[near[0]] ^ other[near[0]]).count("1") == 1
     return is_bit or not PRINTABLE.match(patch)
-
-
-NOT_ZERO = re.compile(rb"[^\0]+")
-
-
-def differing(texts: Sequence[bytes], begin: int = 0, end: Optional[int] = None) -> list[tuple[int, int]]:
-    """The ranges, of one byte or more, in which texts of one length differ. Each byte in them differs."""
-    end = len(texts[0]) if end is None else end
-    found: list[tuple[int, int]] = []
-    for at in range(begin, end, BLOCK):
-        blocks = [text[at : min(end, at + BLOCK)] for text in texts]
-        if all(block == blocks[0] for block in blocks[1:]):
-            continue
-        base = int.from_bytes(blocks[0], "big")
-        mask = 0
-        for block in blocks[1:]:
-            mask |= base ^ int.from_bytes(block, "big")
-        for run in NOT_ZERO.finditer(mask.to_bytes(len(blocks[0]), "big")):
-            if found and found[-1][1] == at + run.start():
-                found[-1] = (found[-1][0], at + run.end())
-            else:
-                found.append((at + run.start(), at + run.end()))
-    return found

@@ -6,7 +6,8 @@ from collections.abc import Iterator, Mapping, Sequence
 from dataclasses import dataclass
 from typing import TYPE_CHECKING, Optional
 
-from jls_tools.dicom.axis.align import Copy, differing
+from jls_tools.dicom.axis.align import Copy
+from jls_tools.dicom.axis.apart import differing
 from jls_tools.dicom.axis.media import SECTOR
 
 if TYPE_CHECKING:

@@ -8,7 +8,8 @@ from collections.abc import Iterator, Mapping, Sequence
 from dataclasses import dataclass
 from typing import Optional
 
-from jls_tools.dicom.axis.align import Copy, differing
+from jls_tools.dicom.axis.align import Copy
+from jls_tools.dicom.axis.apart import differing
 from jls_tools.dicom.axis.media import BEFORE_BORDER, SECTOR
 from jls_tools.dicom.axis.runs import Runs
 from jls_tools.dicom.copies.versions import pixels_of

@@ -10,7 +10,8 @@ from collections import Counter
 from collections.abc import Iterator, Mapping, Sequence
 from typing import TYPE_CHECKING, Optional
 
-from jls_tools.dicom.axis.align import Copy, differing
+from jls_tools.dicom.axis.align import Copy
+from jls_tools.dicom.axis.apart import differing
 from jls_tools.dicom.axis.media import SECTORS, SHARE
 from jls_tools.dicom.walk.frames import FramePlace
 from jls_tools.dicom.walk.structure import Structure
