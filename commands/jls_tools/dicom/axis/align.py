@@ -8,7 +8,6 @@ from __future__ import annotations
 import re
 from collections.abc import Collection, Iterable, Iterator, Sequence
 from dataclasses import dataclass, field, replace
-from operator import ne
 from typing import Optional
 
 from jls_tools.dicom.axis.apart import differing, size_of
@@ -298,8 +297,11 @@ def cheaper(one: bytes, other: bytes, gaps: Gaps) -> Gaps:
     count = abs(len(one) - len(other))
     at = place_of(*sorted((one, other), key=len))
     one_gap: Gaps = ([], [(at, count, at)]) if len(one) > len(other) else ([(at, count, at)], [])
-    costs = (cost_of(left.data, right.data, left.absent + right.absent) for left, right in (laid(one, other, gaps), laid(one, other, one_gap)))
-    return one_gap if next(costs) > next(costs) else gaps
+    several, single = (
+        cost_of(left.data, right.data, left.absent + right.absent)
+        for left, right in (laid(one, other, gaps), laid(one, other, one_gap))
+    )
+    return one_gap if single < several else gaps
 
 
 def on_one_axis(copies: Sequence[Copy], are_shifted: bool = False) -> list[Copy]:
@@ -365,8 +367,9 @@ def apart_itself(copy: Copy, other: bytes, begin: int) -> int:
     end = begin + len(other)
     absent = ((max(begin, first), min(end, last)) for first, last in copy.absent)
     inside = [(first, last) for first, last in absent if first < last]
-    whole = sum(map(ne, copy.data[begin:end], other))
-    return whole - sum(sum(map(ne, copy.data[first:last], other[first - begin : last - begin])) for first, last in inside)
+    parts = [(begin, end), *inside]
+    whole, *counts = (sum(one != two for one, two in zip(copy.data[first:last], other[first - begin :])) for first, last in parts)
+    return whole - sum(counts)
 
 
 def fewest(own: bytes, whole: bytes) -> tuple[int, int]:

@@ -10,7 +10,6 @@ BLOCK = 1 << 16
 NOT_ZERO = re.compile(rb"[^\0]+")
 
 
-
 def size_of(ranges: Iterable[tuple[int, int]]) -> int:
     return sum(end - begin for begin, end in ranges)
 

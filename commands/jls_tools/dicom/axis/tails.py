@@ -1,10 +1,10 @@
 """Bytes after the last element of a copy: the rest of a sector, of a block of a tape, or of an older file.
 
 A tail is cut where a copy that reads whole lacks it, where most copies lack it, or where another copy ends just where the elements do. One
-of both can have lost bytes ahead of its end, or have too many. If all copies read to one place, and go on to the end of a sector, two of
-them at least with bytes of their own that are no padding, these are cut from all. So are tails of one value that are not the same in all
-copies that have some: a file ends with its last element (PS3.10, 7), and none is so. A tail that all copies have stays. Another one is
-undecided: then a SHA-256 alone can say which file is true.
+of both can have lost bytes ahead of its end, or have too many. If all copies read to one place, and go on to the end of a sector or of
+another file, two of them at least with bytes of their own that are no padding, these are cut from all. So are tails of one value that are
+not the same in all copies that have some: a file ends with its last element (PS3.10, 7), and none is so. A tail that all copies have stays.
+Another one is undecided: then a SHA-256 alone can say which file is true.
 """
 from __future__ import annotations
 
@@ -76,14 +76,15 @@ def without_tails(texts: list[bytes]) -> Tails:
     # One that does not read whole can be longer and end as a file does: bytes were put into it, and it has no tail
     longer = [at for at, text in enumerate(texts) if len(text) > end]
     with_tails = [at for at in longer if ends[at] is not None or likely[at] != len(texts[at])]
-    tails = list(dict.fromkeys(texts[at][end:] for at in longer))
+    borders = [end if own is None else own for own in owns]
+    tails = list(dict.fromkeys(texts[at][borders[at] :] for at in longer))
     if len(tails) == 1:
         found.is_decided = len(texts) == 1 or len(with_tails) == len(longer) > 1
     elif any(own is None and len(text) > end for own, text in zip(ends, texts)) or are_of_one_element(tails):
         return found
     else:
         found.is_decided = False
-    found.texts = [text[:end] if at in with_tails else text for at, text in enumerate(texts)]
+    found.texts = [text[: borders[at]] if at in with_tails else text for at, text in enumerate(texts)]
     found.ways = [*tails, b""] if found.is_decided else [b"", *tails]
     return found
 
@@ -101,14 +102,14 @@ def are_padded(texts: list[bytes], owns: list[Optional[int]], end: int) -> bool:
 
 
 def are_strange(texts: list[bytes], end: int) -> bool:
-    """Whether all copies go on to the end of a sector, two of them at least with something of their own that is no padding.
+    """Whether all copies go on to the end of a sector, or end as another file does, and two at least have bytes of their own, no padding.
 
     Else it can be an element whose header is damaged in each copy.
     """
     tails = [text[end:] for text in texts if text[end:].strip(text[end : end + 1])]
     begins = {tail[:BEGIN] for tail in tails}
     are_own = len(tails) == len(begins) > 1 and not are_of_one_element(tails)
-    return are_own and all(len(text) % SECTOR == 0 for text in texts)
+    return are_own and all(len(text) % SECTOR == 0 or end_behind(text) == len(text) for text in texts)
 
 
 def are_of_one_element(tails: list[bytes]) -> bool:
