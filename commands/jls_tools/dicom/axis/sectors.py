@@ -109,7 +109,7 @@ class Pair:
         value = own[:1]
         if own.strip(value) or len(other) - other.count(value) < LEAST or is_noise(other):
             return False
-        if not self.agree_beside(begin, end) or self.is_of_another_kind(self.other, begin, end):
+        if not self.are_beside(begin, end) or self.is_of_another_kind(self.other, begin, end):
             return False
         before = run_length(self.own[max(0, begin - WINDOW) : begin][::-1], value)
         after = run_length(self.own[end : end + WINDOW], value)
@@ -125,7 +125,7 @@ class Pair:
         is_before = self.own[first:begin] == self.own[first + period : begin + period]
         goes_on = is_before or self.own[end:last] == self.own[end - period : last - period]
         others = [self.other[at : min(at + SECTOR, end)] for at in range(begin, end, SECTOR)]
-        if goes_on or any(period_of(part) or is_noise(part) for part in others) or not self.agree_beside(begin, end):
+        if goes_on or any(period_of(part) or is_noise(part) for part in others) or not self.are_beside(begin, end):
             return False
         return not self.is_of_another_kind(self.other, begin, end)
 
@@ -143,6 +143,11 @@ class Pair:
     def agree_beside(self, begin: int, end: int) -> bool:
         """Whether two copies are equal before and after a range: else damage of a copy can end there, and make a border."""
         return self.agree(begin - BESIDE, begin) and self.agree(end, end + BESIDE)
+
+    def are_beside(self, begin: int, end: int) -> bool:
+        """Whether two copies are equal before and after a range, but where the other one lost the sector there, as it shows by itself."""
+        sides = (begin - BESIDE, begin, begin - SECTOR), (end, end + BESIDE, end)
+        return all(self.agree(first, last) or period_of(self.other[max(0, at) : at + SECTOR]) > 0 for first, last, at in sides)
 
     def agree(self, begin: int, end: int) -> bool:
         return self.own[max(0, begin) : end] == self.other[max(0, begin) : end]
