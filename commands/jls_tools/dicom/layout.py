@@ -156,11 +156,11 @@ def laid_out(copies: Sequence[Copy], named: Optional[str] = None) -> tuple[list[
     if is_in_order(layout.structure):
         return found, layout
     ways = [found] if [copy.absent for copy in shifted] == [copy.absent for copy in found] else [found, shifted]
-    others = (without_inserted(way) for way in ways)
+    others = (without_inserted(way, named) for way in ways)
     return next((other for other in others if other is not None), (found, layout))
 
 
-def without_inserted(copies: Sequence[Copy]) -> Optional[tuple[list[Copy], Layout]]:
+def without_inserted(copies: Sequence[Copy], named: Optional[str]) -> Optional[tuple[list[Copy], Layout]]:
     """The copies without what was put into one of them, and their Layout, if one way to cut out so few ranges makes elements go on."""
     ranges = inserted.held_alone(copies)
     if not 0 < len(ranges) <= inserted.MOST_INSERTED or any(copy.foreign or copy.recoded for copy in copies):
@@ -170,7 +170,7 @@ def without_inserted(copies: Sequence[Copy]) -> Optional[tuple[list[Copy], Layou
     for parts in inserted.combinations(copies, ranges):
         if found and len(found[0][1].put_in) < len(parts) or steps > inserted.MOST_STEPS:
             break
-        rest = inserted.without(copies, parts)
+        rest = unstuck(inserted.without(copies, parts), named)
         walk = Walk(Runs(rest, 1), [copy.data for copy in rest])
         goes_on = walk.goes_on()
         steps += walk.looks + len(walk.steps)

@@ -30,39 +30,46 @@ def unstuck(copies: Sequence[Copy], named: Optional[str] = None) -> list[Copy]:
     found = list(copies)
     for number, copy in ((at, copy) for at, copy in enumerate(copies) if copy.path != named):
         others = [other for at, other in enumerate(copies) if at != number]
-        data, pages = bytearray(copy.data), []
+        pages: list[tuple[int, int]] = []
+        bits: dict[int, int] = {}
         for begin, (first, last) in pages_of(copy):
-            places = places_stuck(copy, others, first, last)
+            places = {place: bit for place, bit in places_stuck(copy, others, first, last) if place not in bits}
             if places:
                 pages.append((begin, len(places)))
-            for place, bit in places:
-                data[place] ^= bit
+                bits.update(places)
         if pages:
-            found[number] = replace(copy, data=bytes(data), stuck=pages)
+            data = bytearray(copy.data)
+            for place, bit in bits.items():
+                data[place] ^= bit
+            found[number] = replace(copy, data=bytes(data), stuck=[*copy.stuck, *sorted(pages)])
     return found
 
 
 def pages_of(copy: Copy) -> Iterator[tuple[int, Range]]:
-    """The pages of a copy by its own offsets, with where each stands on the axis, as far as no loss is in it."""
+    """The pages of a copy, where each begins in it, and where it stands on the axis, as far as no loss is in it.
+
+    They are counted from its own beginning, and from that of the file too: it can have lost bytes after a bit was stuck.
+    """
     own = len(copy.foreign)
     borders = [0, *(place for pair in copy.absent for place in pair), len(copy.data)]
     for first, last in zip(borders[::2], borders[1::2]):
-        for begin in range(-(-own // PAGE) * PAGE, own + last - first, PAGE):
-            at = first + begin - own
-            yield begin, (at, min(at + PAGE, last))
+        begins = [first + begin - own for begin in range(-(-own // PAGE) * PAGE, own + last - first, PAGE)]
+        for at in dict.fromkeys([*begins, *range(-(-first // PAGE) * PAGE, last, PAGE)]):
+            yield own + at - first, (at, min(at + PAGE, last))
         own += last - first
 
 
 def places_stuck(copy: Copy, others: Sequence[Copy], first: int, last: int) -> list[tuple[int, int]]:
     """[(place, bit)] of the bytes of a page that a stuck bit has changed, as another copy shows and no third one denies."""
     for other in others:
-        if other.data[first:last] == copy.data[first:last] or other.lacks(first, last):
+        until = min([last, *(begin for begin, end in other.absent if first < end and begin < last)])
+        if until <= first or other.data[first:until] == copy.data[first:until]:
             continue
-        bits = {lane: bit_of(copy.data[first:last], other.data[first:last], lane - first) for lane in range(first, min(first + LANE, last))}
+        bits = {lane: bit_of(copy.data[first:until], other.data[first:until], lane - first) for lane in range(first, min(first + LANE, until))}
         lanes = [(lane, bit) for lane, bit in bits.items() if bit is not None]
-        found = [(at, bit) for lane, bit in lanes for at in range(lane, last, LANE) if other.data[at] == copy.data[at] ^ bit]
+        found = [(at, bit) for lane, bit in lanes for at in range(lane, until, LANE) if other.data[at] == copy.data[at] ^ bit]
         is_denied = any(third.data[at] == copy.data[at] and not third.lacks(at, at + 1) for at, _ in found for third in others)
-        if 0 < len(lanes) <= MOST_LANES and not is_denied and not has_records(copy.data, other.data, (first, last), lanes):
+        if 0 < len(lanes) <= MOST_LANES and not is_denied and not has_records(copy.data, other.data, (first, until), lanes):
             return found
     return []
 

@@ -11,9 +11,11 @@ from jls_tools.dicom.axis.runs import Run, Runs
 from jls_tools.dicom.evidence.alone import Stranger, held_by_one, places_alone
 from jls_tools.dicom.evidence.csa import Chains
 from jls_tools.dicom.evidence.decider import Decider
+from jls_tools.dicom.evidence.elsewhere import by_elsewhere
 from jls_tools.dicom.evidence.meta import NO_MEANING, by_meta, by_preamble, by_prefix
 from jls_tools.dicom.evidence.most import BY_MOST
 from jls_tools.dicom.evidence.picture import by_frames
+from jls_tools.dicom.evidence.seven_bits import by_seven_bits
 from jls_tools.dicom.evidence.tables import Table, Tables
 from jls_tools.dicom.evidence.terms import by_terms
 from jls_tools.dicom.evidence.votes import by_frames_alone, by_most, by_neighbours
@@ -141,6 +143,8 @@ class Header:
         self.keep_values(PADDING, lambda value: not value.strip(b"\0"), IS_PADDING)
         Decider(self).decide()
         Chains(self).decide()  # with the sectors that were decided its items can go on
+        by_seven_bits(self)
+        by_elsewhere(self)
         by_most(self)
         by_frames_alone(self)
         by_preamble(self)
