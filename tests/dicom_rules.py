@@ -194,12 +194,16 @@ def checks_of_series(bench: Bench, made: File) -> Iterator[Check]:
     foreign = [changed(true, (in_data, other.encode()), hurt[0]), changed(true, (in_meta, other.encode()), (in_data, other.encode()))]
     one = changed(true, (in_data, other.encode()))
     before = changed(true, (in_data + 4, bytes([true[in_data + 4] ^ 1])))
-    assert UID[4].isdigit() and "." in UID[5:]
+    twice, number = [(at, other.encode()) for at in (in_meta, in_data)], (true.index(b"20200131") + 7, b"7")
+    assert UID[4].isdigit() and "." in UID[5:] and in_meta // 512 == in_data // 512
     for name, copies, is_back in (
         ("of three UIDs two are another file's", foreign, False),
         ("of four UIDs one differs in the last digit", [one, changed(true, hurt[0])], False),
         ("of six UIDs one does", [one, changed(true, hurt[0]), changed(true, hurt[1])], True),
         ("a flip in another number", [before, changed(true, hurt[0])], True),
+        ("of six UIDs one is the file's", [*[changed(true, *twice, number, hurt[0])] * 2, changed(true, twice[0])], False),
+        ("of six UIDs one differs, and a number beside it", [changed(one, number), changed(true, hurt[0]), true], False),
+        ("of eight UIDs one does", [changed(one, number), changed(true, hurt[0]), changed(true, hurt[1]), true], True),
     ):
         status, out, printed, faults, _ = bench.mend(copies)
         yield f"{name}: {is_back} ({status}, {printed}, {faults})", (status, out) == ((0, true) if is_back else (1, None))

@@ -64,7 +64,7 @@ def checks_of_chimeras(bench: Bench, made: File) -> Iterator[Check]:
     true, other = slice_of(made, UID, "a"), slice_of(made, NEIGHBOUR, "b")
     chimera, noise = other[:4096] + true[4096:], random.Random(3).randbytes(40)
     item_at = true.index(made.frames[1]) - 8
-    third, second = slice_of(made, "1.2.3.9.9", "c"), made.bytes.rindex(UID.encode(), 0, made.name_at) + len(UID) - 4
+    strange, second = slice_of(made, "1.2.3.9.9", "c"), made.bytes.rindex(UID.encode(), 0, made.name_at) + len(UID) - 4
     twice = made.bytes.replace(UID.encode(), NEIGHBOUR.encode())
     for name, copies in {
         "a chimera": [true, chimera],
@@ -72,14 +72,20 @@ def checks_of_chimeras(bench: Bench, made: File) -> Iterator[Check]:
         "a chimera, and noise behind its end": [changed(true, (4096, noise)), chimera],
         "a chimera, and noise before its end": [changed(true, (3000, noise)), chimera],
         "a chimera without a header of an item, and noise": [changed(true, (3000, noise)), changed(chimera, (item_at, bytes(8)))],
-        "a chimera, and a sector of a third file": [changed(true, (1024, third[1024:1536])), chimera],
+        "a chimera, and a sector of a third file": [changed(true, (1024, strange[1024:1536])), chimera],
         "a chimera, and noise that goes on far behind it": [changed(true, (4096, random.Random(3).randbytes(8192))), chimera],
         "another UID twice, and noise over one": [changed(made.bytes, (second, b"\x81\x02\x93 ")), twice],
     }.items():
         for order in (copies, copies[::-1]):
             got, out, printed, faults, _ = bench.mend(order)
             yield f"{name}: undecided ({got}, {printed[-300:]}, {faults})", got in (1, 3) and out is None
-    yield case(bench, "a chimera, and a third copy", [true, chimera, changed(true, (5000, noise))], 0, true)
+    third = [changed(true, (5000, noise)), true, chimera]
+    yield case(bench, "a chimera, and a third copy", third, 1, b"", "each of two instances can be the file")
+    for number in (0, 1):
+        yield case(bench, "the same, and --header", third, 0, true, "", ("--header", f"COPY{number}"))
+    yield case(bench, "a chimera, and three others", [*third, true], 0, true)
+    unlike = slice_of(made, "1.2.9.4.5.6.7", "b")[:4096] + true[4096:]
+    yield case(bench, "a chimera of a file of another series, and a third copy", [*third[:2], unlike], 0, true)
     yield from of_two_beginnings(bench, made)
 
 

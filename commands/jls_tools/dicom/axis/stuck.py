@@ -65,7 +65,8 @@ def places_stuck(copy: Copy, others: Sequence[Copy], first: int, last: int) -> l
         until = min([last, *(begin for begin, end in other.absent if first < end and begin < last)])
         if until <= first or other.data[first:until] == copy.data[first:until]:
             continue
-        bits = {lane: bit_of(copy.data[first:until], other.data[first:until], lane - first) for lane in range(first, min(first + LANE, until))}
+        own, model = copy.data[first:until], other.data[first:until]
+        bits = {lane: bit_of(own, model, lane - first) for lane in range(first, min(first + LANE, until))}
         lanes = [(lane, bit) for lane, bit in bits.items() if bit is not None]
         found = [(at, bit) for lane, bit in lanes for at in range(lane, until, LANE) if other.data[at] == copy.data[at] ^ bit]
         is_denied = any(third.data[at] == copy.data[at] and not third.lacks(at, at + 1) for at, _ in found for third in others)

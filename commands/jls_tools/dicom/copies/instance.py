@@ -13,6 +13,7 @@ from jls_tools.dicom.axis.apart import differing
 from jls_tools.dicom.axis.media import BEFORE_BORDER, SECTOR
 from jls_tools.dicom.axis.runs import Runs
 from jls_tools.dicom.copies.versions import pixels_of
+from jls_tools.dicom.evidence.uids import MOST_OF_ONE, are_of_series
 from jls_tools.dicom.read.elements import DELIMITER, HEAD, ITEM_TAG, UNDEFINED, instance_of, walk
 from jls_tools.dicom.read.tags import FIRST, INSTANCE, PIXEL_DATA
 from jls_tools.dicom.walk.structure import Structure
@@ -314,9 +315,22 @@ class Instances:
     def doubt(self, uid: str) -> None:
         """One copy alone has this UID twice, and another copy has another one twice: each can have the other file's beginning.
 
-        Its elements can lead on to the end all the same: the bytes before are of a third file then, and no copy has the true ones.
+        Its elements can lead on to the end all the same: the bytes before are of a third file then, and no copy has the true ones. Nor do
+        two copies say more that have this UID, where another one has the same picture and the UID of another file of the series: one of
+        them can have been copied from the other.
         """
         own = [at for at, each in enumerate(self.identities) if each.uid == uid]
         others = sorted({each.uid for each in self.identities if each.uid is not None} - {uid})
-        if len(own) == 1 and others:
-            self.doubts[own[0]] = f"each of two instances can be the file: {', '.join([uid, *others])}"
+        is_so = len(own) == 1 or len(own) < MOST_OF_ONE and any(self.is_of_series(at, own[0]) for at in range(len(self.texts)))
+        if others and is_so:
+            why = f"each of two instances can be the file: {', '.join([uid, *others])}"
+            self.doubts = dict.fromkeys(own, why)
+
+    def is_of_series(self, at: int, beside: int) -> bool:
+        """Whether a copy has the picture of another one, and the UID of another file of its series."""
+        own, other = self.identities[at].uid, self.identities[beside].uid
+        if own is None or other is None or not are_of_series(own, other):
+            return False
+        begin = pixels_of(self.texts[beside])[0]
+        is_moved = begin is not None and shares_pieces(self.texts[beside], self.texts[at], begin)
+        return is_moved or share_blocks(self.texts[at], self.texts[beside])

@@ -5,9 +5,12 @@ import os
 from collections.abc import Callable, Sequence
 
 from jls_tools.dicom.axis.align import Copy
+from jls_tools.dicom.axis.media import SECTOR
 from jls_tools.dicom.read.elements import Element, text_of
 from jls_tools.dicom.read.values import is_uid
 
+MOST_OF_ONE = 3  # so many copies are not of one damaged file
+DIGITS = frozenset(b"0123456789")
 COUNTED = 3  # last digits in which the UIDs of the files of one series differ
 
 
@@ -50,6 +53,32 @@ def of_series(copies: Sequence[Copy], uid: str, elements: Sequence[Element]) -> 
         if any(is_uid(text.encode()) and are_of_series(text, uid) for text in texts):
             found.add(number)
     return found
+
+
+def stands_against(copies: Sequence[Copy], uid: str, elements: Sequence[Element]) -> bool:
+    """Whether a copy has another instance's UID of this series, and not by a flipped bit that stands alone.
+
+    Then two other copies can be of that one, as where one damaged copy was copied. Three that have the UID in each place are not.
+    """
+    holders = [copy for copy in copies if all(has_uid(copy, each, uid) for each in elements)]
+    for copy in (copies[number] for number in of_series(copies, uid, elements) if len(holders) < MOST_OF_ONE):
+        for each in (each for each in elements if not copy.lacks(each.value, each.end)):
+            text = text_of(each.bytes_of(copy.data))
+            if text != uid and not (is_flip(text, uid) and any(has_same_numbers(copy, holder, each) for holder in holders)):
+                return True
+    return False
+
+
+def has_uid(copy: Copy, element: Element, uid: str) -> bool:
+    return text_of(element.bytes_of(copy.data)) == uid and not copy.lacks(element.value, element.end)
+
+
+def has_same_numbers(copy: Copy, other: Copy, element: Element) -> bool:
+    """Whether two copies have the same digits before and behind a value, in its sectors: another file has others there."""
+    first, last = element.start // SECTOR * SECTOR, -(-element.end // SECTOR) * SECTOR
+    parts = (first, element.value), (element.end, last)
+    pairs = (pair for begin, end in parts for pair in zip(copy.data[begin:end], other.data[begin:end]))
+    return all(one == two or not {one, two} <= DIGITS for one, two in pairs)
 
 
 def is_flip(one: str, other: str) -> bool:

@@ -8,8 +8,10 @@ from jls_tools.dicom.copies.given import Given
 from jls_tools.dicom.evidence.denials import contradiction, forbidden
 from jls_tools.dicom.evidence.doubtful import change_at, ends_before, hole_in_text, lost_in_each, lost_in_most, stands_twice
 from jls_tools.dicom.evidence.header import Header
+from jls_tools.dicom.evidence.uids import stands_against
 from jls_tools.dicom.evidence.witnessed import why_odd
 from jls_tools.dicom.mended_frames import MendedFrames
+from jls_tools.dicom.read.tags import INSTANCE, INSTANCE_IN_META
 from jls_tools.dicom.result import NOT_SUPPORTED
 from jls_tools.dicom.write.build import put_frames
 from jls_tools.dicom.write.finished import faults_of
@@ -29,8 +31,9 @@ class Verdict:
 
     def why_not(self) -> Optional[str]:
         """Why the header isn't decided or doesn't read; nothing if it is and does."""
-        for doubt in (why for at, why in self.given.instances.doubts.items() if self.given.options.header != self.given.paths[at]):
-            return doubt
+        doubts = {self.given.paths[at]: why for at, why in self.given.instances.doubts.items()}
+        if doubts and self.given.options.header not in doubts:
+            return next(iter(doubts.values()))
         fault = self.given.versions.fault()
         if fault is not None:
             return fault
@@ -40,6 +43,8 @@ class Verdict:
             return "no copy has a header that leads to Pixel Data"
         if self.header.is_open:
             return "a place is undecided"
+        if not self.is_named and self.is_of_series():
+            return "a copy has the UID of another file of the series, and most copies can be of that one"
         if any(not self.is_in_pixels(begin, end) for begin, end in self.layout.breaks):
             return "the header is broken where no copy has it"
         fault = self.doubtful() if self.given.options.header is None else None
@@ -55,6 +60,12 @@ class Verdict:
             return f"frame {odd.number} is {NOT_SUPPORTED}: {odd.note}"
         fault = contradiction(self.header, self.shape, len(self.frames.mended))
         return fault if fault or self.given.options.header is not None else forbidden(self.header)
+
+    def is_of_series(self) -> bool:
+        """Whether a copy has the UID of another file of the series."""
+        uid = self.header.text(INSTANCE)
+        elements = [self.header.elements[tag] for tag in (INSTANCE_IN_META, INSTANCE) if tag in self.header.elements]
+        return uid is not None and stands_against(self.frames.copies, uid, elements)
 
     def doubtful(self) -> Optional[str]:
         """Damage of the header that shows by itself, and that no copy contradicts."""
