@@ -55,23 +55,25 @@ def checks_of_elements_by_hand(small: File) -> Iterator[Check]:
 
 def checks_of_put_in_by_hand(rng: random.Random) -> Iterator[Check]:
     """What of the bytes that one copy alone has was put in: few bytes, or a block that stands twice, between bytes that all copies have."""
-    before, behind, block = rng.randbytes(100), rng.randbytes(100) + PIXELS, rng.randbytes(20)
-    end = 100 + len(block)
+    before, behind, block = rng.randbytes(200), rng.randbytes(100) + PIXELS, rng.randbytes(20)
+    end = 200 + len(block)
     for name, data, size, wanted in (
         ("seven bytes", before + block[:7] + behind, 7, True),
         ("as many as an element has", before + block[:8] + behind, 8, False),
         ("a block", before + block + behind, 20, False),
-        ("a block that stands twice", before[:80] + block + block + behind, 20, True),
+        ("a block that stands twice", before[:180] + block + block + behind, 20, True),
     ):
-        part = (100, 100 + size)
+        part = (200, 200 + size)
         copies = [Copy("a", data), Copy("b", data, [part])]
         yield f"{name}: {wanted}", inserted.is_no_element(copies, part) == wanted
         yield f"{name}, as what can be cut out", list(inserted.combinations(copies, [part])) == [(part,)]
-    twice, part = before[:80] + block + block + behind, (100, end)
-    for name, other in (("before", changed(twice, (70, b"?"))), ("behind", changed(twice, (end + 10, b"?")))):
+    twice, part = before[:180] + block + block + behind, (200, end)
+    for name, other in (("before", changed(twice, (170, b"?"))), ("behind", changed(twice, (end + 10, b"?")))):
         copies = [Copy("a", twice), Copy("b", other, [part])]
         yield f"a byte {name} it differs", not inserted.is_clear(copies, part) and not list(inserted.combinations(copies, [part]))
-    yield "one lacks bytes beside it", not inserted.is_clear([Copy("a", twice), Copy("b", twice, [(90, end)])], part)
+    yield "one lacks bytes beside it", not inserted.is_clear([Copy("a", twice), Copy("b", twice, [(190, end)])], part)
+    yield "and two have them", inserted.is_clear([Copy("a", twice), Copy("b", twice, [(190, end)]), Copy("c", twice, [part])], part)
+    yield "in the preamble", inserted.is_no_element([Copy("a", twice), Copy("b", twice, [(100, 140)])], (100, 140))
     copies = [Copy("a", before + block + behind), Copy("b", before + block + behind, [part])]
     for name, is_in_frame, goes_on, hides in (
         ("in a frame", True, False, False),

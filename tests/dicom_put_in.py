@@ -7,6 +7,7 @@ from collections.abc import Iterator, Sequence
 
 from dicom_files import Bench, File, changed, element, with_value
 from dicom_pairs import told
+from jls_tools.dicom.axis.align import Copy, on_one_axis
 
 Check = tuple[str, bool]
 PAGE, LANE = 4096, 64
@@ -100,6 +101,37 @@ def checks_of_elements_lost(bench: Bench, made: File, rng: random.Random) -> Ite
     yield told(bench, "bytes of a text lost, and one value over the next header in both", filled, text, False, 1)
 
 
+def checks_of_put_in_beside_losses(bench: Bench, made: File, rng: random.Random) -> Iterator[Check]:
+    """Bytes put into two of three copies, and what the third has there is lost, or its header is."""
+    true, first, second, third = made.bytes, *made.items[:3]
+    text, begin = with_value(made, b"".join(b"sSlice[%d].dTra = %d\n" % (at, at * 7) for at in range(200)))
+    inside = text.index(made.frames[1])
+    rest = changed(text, (inside, bytes(len(text) - inside)))
+    more = [put(text, begin + 300, b"\x91\x3c"), put(text, text.index(made.frames[2]) + 60, rng.randbytes(8))]
+    yield told(bench, "in two copies, and the rest of a third is zeros", [*more, rest], text)
+    head = (second // 512 * 512, b"\xff" * 512)
+    lost = [changed(true, head), put(true, second + 70, b"\x91\x3c"), changed(true, (first + 70, bytes(8)))]
+    yield told(bench, "in one, and another one lost the length of the frame", lost, true)
+    cut = [put(true, second + 70, b"\x91\x3c"), true[: second + 300], true[second + 80 :]]
+    yield told(bench, "in one of three, of which one is cut behind it and one before", cut, true)
+    zeros = changed(true, (first + 70, bytes(8)))
+    yield told(bench, "in the preamble", [put(true, 9, rng.randbytes(64)), zeros], true)
+    yield told(bench, "and one zero behind each copy", [twice(true, second + 60, 100) + b"\0", zeros + b"\0"], true + b"\0")
+
+
+def checks_of_least_damage(bench: Bench, made: File, rng: random.Random) -> Iterator[Check]:
+    """Where a value repeats, a loss or bytes put in are found in one place: several elsewhere would want more damage."""
+    record = b"".join(b"dFlow%d = %d.5\n" % (at, at % 4) for at in range(60))
+    text, begin = with_value(made, b"".join(record + b"nRecord = %04d\n" % (at * 7919 % 10007) for at in range(30)))
+    hurt, place = (text.index(made.frames[0]) + 70, bytes(8)), begin + 9 * len(record)
+    twice_and_lost = [twice(text, place, len(record) * 2 // 3), changed(text, hurt)]
+    yield told(bench, "a part of a record twice", twice_and_lost, text)
+    other = changed(text, (-(-place // 512) * 512, text[-(-begin // 512) * 512 :][:512]), hurt)
+    (first, *more), rest = (copy.absent for copy in on_one_axis([Copy("a", text[:-8]), Copy("b", other)]))
+    is_end = first[0] >= len(text) - 38 and first[1] - first[0] == 8 and more == rest == []
+    yield f"a sector of another place, and the other copy's end is lost ({first}, {more}, {rest})", is_end
+
+
 def stuck(data: bytes, begin: int, lane: int, mask: int, is_set: bool, until: int = PAGE) -> bytes:
     """A copy with a bit that is stuck in a page."""
     copy = bytearray(data)
@@ -125,6 +157,11 @@ def checks_of_stuck_bits(bench: Bench, made: File, rng: random.Random) -> Iterat
     last = frame // PAGE * PAGE
     noisy = [stuck(true, last, 5, 16, True), stuck(true, last, 9, 8, False)]
     yield told(bench, "a bit of frames of each copy", noisy, true)
+    lost = stuck(true, page, 17, 4, True)
+    yield told(bench, "a bit of a text, and bytes lost before it", [lost[: page - 900] + lost[page - 388 :], changed(true, zeros)], true)
+    more = put(changed(true, zeros), page - 900, rng.randbytes(2))
+    yield told(bench, "a bit of a text, and bytes put into the other copy before it", [lost, more], true)
+    yield told(bench, "a bit of frames, and the other copy's end is lost", [noisy[0], true[:-8]], true)
     part = stuck(true, page, 17, 0x80, True, 1024)
     yield told(bench, "the highest bit in a part of a page of text: it is not that of the other copy", [true, part], true, False)
     filled, at = with_value(made, b"\xff" * 9000)
@@ -168,4 +205,5 @@ def record(rng: random.Random, ways: Sequence[int], mask: int = 0xFF, first: int
     return bytes(byte & mask | bits.get(at, 0) for at, byte in enumerate(rng.randbytes(LANE)))
 
 
-PUT_IN = [checks_of_bytes_put_in, checks_of_zeros_behind, checks_of_stuck_bits, checks_of_records]
+PUT_IN = [checks_of_bytes_put_in, checks_of_zeros_behind, checks_of_put_in_beside_losses, checks_of_least_damage, checks_of_stuck_bits]
+PUT_IN += [checks_of_records]

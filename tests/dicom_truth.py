@@ -216,6 +216,9 @@ def checks_of_tails(bench: Bench, made: File, neighbour: File) -> Iterator[Check
         yield case(bench, "rests of other files up to a border", [true + order[0], damaged(made) + order[1]], 0, true, "they were cut from")
     both = [true + rests[0], damaged(made) + rests[1][:-2]]
     yield case(bench, "rests of other files, of which one ends at no border", both, 1, b"", "what stands after the last element")
+    ended = [true + rests[0], damaged(made) + neighbour.bytes[-300:]]
+    for order in (ended, ended[::-1]):
+        yield case(bench, "rests of other files, of which one ends there", order, 0, true, "they were cut from")
     both = [true + rests[0], damaged(made) + zeros]
     yield case(bench, "the rest of another file, and zeros", both, 1, b"", "what stands after the last element")
     yield case(bench, "rests of two other files, and zeros", [true + rests[0], damaged(made) + zeros, true + rests[1]], 0, true, "cut from")

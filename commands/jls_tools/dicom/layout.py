@@ -92,8 +92,8 @@ class Layout:
         return True
 
     def is_alike(self, begin: int, end: int) -> bool:
-        """Whether all copies have the same bytes in a range, but for those that lost the sector, where two others have it."""
-        well = [copy for copy in self.copies if not clipped(copy.seen, begin, end)]
+        """Whether all copies have the same bytes in a range, but for those that lost them, where two others have them."""
+        well = [copy for copy in self.copies if not clipped(copy.seen, begin, end) and not copy.lacks(begin, end)]
         own = well if len(well) > 1 else self.copies
         return len({copy.data[begin:end] for copy in own}) == 1 and not any(copy.lacks(begin, end) for copy in own)
 

@@ -13,6 +13,7 @@ from jls_tools.dicom.axis.apart import size_of
 from jls_tools.dicom.axis.bad_places import Range
 from jls_tools.dicom.axis.inserted import held_alone, owner_of
 from jls_tools.dicom.axis.media import SECTOR
+from jls_tools.dicom.axis.sectors import run_length
 
 
 def with_others(copies: Sequence[Copy]) -> list[Copy]:
@@ -38,6 +39,8 @@ def moved_to(copy: Copy, loss: Range, alone: Sequence[Range], others: Sequence[C
 
 
 def is_of_one_value(copy: Copy, loss: Range, part: Range) -> bool:
-    """Whether a copy has one value alone between a loss and a range, for a sector at least."""
-    own = copy.has_only(min(loss[0], part[0]), max(loss[1], part[1]))
-    return len(own) >= SECTOR and not own.strip(own[:1])
+    """Whether a copy has one value alone between a loss and a range, as a part of a sector at least."""
+    first, last = min(loss[0], part[0]), max(loss[1], part[1])
+    own = copy.has_only(first, last)
+    beside = run_length(copy.data[max(0, first - SECTOR) : first][::-1], own[:1]), run_length(copy.data[last : last + SECTOR], own[:1])
+    return len(own) + sum(beside) >= SECTOR and not own.strip(own[:1])

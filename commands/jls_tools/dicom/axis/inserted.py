@@ -13,6 +13,7 @@ from dataclasses import replace
 from jls_tools.dicom.axis.align import Copy, merged
 from jls_tools.dicom.axis.bad_places import END, Range, in_all
 from jls_tools.dicom.read.elements import PIXELS_BEGIN
+from jls_tools.dicom.read.tags import PREAMBLE
 
 MOST_INSERTED = 4  # ranges, of which each combination is tried
 MOST_STEPS = 50000  # of elements and items, which all of these may take: those of a large file are some thousands
@@ -74,17 +75,17 @@ def place_in(copy: Copy, place: int) -> int:
 
 
 def is_clear(copies: Sequence[Copy], part: Range) -> bool:
-    """Whether all copies have the same bytes before and behind a range."""
+    """Whether all copies that have what is before and behind a range have it alike: two at least."""
     begin, end = part
-    around = [copy.data[max(0, begin - BESIDE) : begin] + copy.data[end : end + BESIDE] for copy in copies]
-    are_there = not any(copy.lacks(begin - BESIDE, begin) or copy.lacks(end, end + BESIDE) for copy in copies)
-    return are_there and all(own == around[0] for own in around)
+    well = [copy for copy in copies if not copy.lacks(begin - BESIDE, begin) and not copy.lacks(end, end + BESIDE)]
+    around = {copy.data[max(0, begin - BESIDE) : begin] + copy.data[end : end + BESIDE] for copy in well}
+    return len(well) > 1 and len(around) == 1
 
 
 def is_no_element(copies: Sequence[Copy], part: Range) -> bool:
-    """Whether bytes of one copy can't be an element that the others lost: they are fewer, or stand twice."""
+    """Whether bytes of one copy can't be an element that the others lost: they are fewer, stand twice, or stand in the preamble."""
     begin, end = part
-    return end - begin < SMALLEST_ELEMENT or stands_beside(owner_of(copies, part).data, begin, end)
+    return begin < PREAMBLE or end - begin < SMALLEST_ELEMENT or stands_beside(owner_of(copies, part).data, begin, end)
 
 
 def stands_beside(data: bytes, begin: int, end: int) -> bool:

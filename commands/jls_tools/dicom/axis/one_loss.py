@@ -6,11 +6,13 @@ one loss to the next can find several for one. So the damage is counted of which
 from __future__ import annotations
 
 import math
+from collections import Counter
 from collections.abc import Sequence
 
 from jls_tools.dicom.axis.apart import Range, differing
+from jls_tools.dicom.axis.media import SECTOR
 
-PLACE, BYTE = 24, 8  # bits: where damage begins, and one byte of it
+PLACE, BYTE, LOST_SECTOR = 24, 8, 64  # bits: where damage begins, one byte of it, and all of a sector
 NEAR = 8  # bytes: damage nearer than that is one
 
 
@@ -29,11 +31,16 @@ def place_of(short: bytes, long: bytes) -> int:
 
 
 def cost_of(one: bytes, other: bytes, losses: Sequence[Range]) -> float:
-    """How many bits say in what two texts on one axis differ: `losses` are those of both."""
-    return sum(PLACE + 2 * math.log2(end - begin) for begin, end in losses) + sum(
-        PLACE + (BYTE if is_filled(one[begin:end]) or is_filled(other[begin:end]) else BYTE * (end - begin))
-        for begin, end in joined(differing([one, other]))
-    )
+    """How many bits say in what two texts on one axis differ: `losses` are those of both. No sector costs more than one that is lost."""
+    bits = sum(PLACE + 2 * math.log2(end - begin) for begin, end in losses)
+    sectors: Counter[int] = Counter()
+    for begin, end in joined(differing([one, other])):
+        if is_filled(one[begin:end]) or is_filled(other[begin:end]):
+            bits += PLACE + BYTE
+            continue
+        for border in range(begin // SECTOR, -(-end // SECTOR)):
+            sectors[border] += PLACE + BYTE * (min(end, (border + 1) * SECTOR) - max(begin, border * SECTOR))
+    return bits + sum(min(cost, LOST_SECTOR) for cost in sectors.values())
 
 
 def is_filled(part: bytes) -> bool:

@@ -119,13 +119,23 @@ def unclear_ranges(header: Header) -> list[tuple[int, int]]:
     """What a copy lacks, where the copies differ beside it, or damage of another may hide where it stood: then that is not clear."""
     found = []
     for copy in header.copies:
-        others = [pair for other in header.copies for pair in other.lost if other is not copy]
         for begin, end in copy.lost[1:] if copy.foreign else copy.lost:
-            beside = any(last <= begin <= last + CLEAR or end <= first <= end + CLEAR for first, last in others)
+            beside = any(meets(header.copies, copy, border, (begin, end)) for border in (begin, end))
             is_moved = any(may_stand_elsewhere(copy, other, (begin, end)) for other in header.copies if other is not copy)
             if beside or is_moved or differs_before(header, begin, end) or header.runs.touching(end, end + CLEAR):
                 found.append((begin, end))
     return found
+
+
+def meets(copies: Sequence[Copy], copy: Copy, border: int, loss: tuple[int, int]) -> bool:
+    """Whether a loss of another copy ends or begins where one of a copy does, on the other side, and no third one has both sides."""
+    others = [other for other in copies if other is not copy]
+    near = border - CLEAR, border + CLEAR
+    if border == loss[0]:
+        are_beside = any(last <= border <= last + CLEAR for other in others for _, last in other.lost)
+    else:
+        are_beside = any(border <= first <= border + CLEAR for other in others for first, _ in other.lost)
+    return are_beside and all(other.lacks(*near) for other in others)
 
 
 def differs_before(header: Header, begin: int, end: int) -> bool:

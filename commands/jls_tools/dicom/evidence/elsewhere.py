@@ -52,7 +52,8 @@ def way_elsewhere(header: Header, leaf: Element, number: int) -> Optional[int]:
         if run.begin - before < leaf.value or run.end + behind > leaf.end or len(set(left + right)) < KINDS:
             continue
         for way in counts:
-            counts[way] += data.count(left + run.ways[way] + right) - (data[run.begin : run.end] == run.ways[way])
+            own = data.count(left + run.ways[way] + right) - (data[run.begin : run.end] == run.ways[way])
+            counts[way] = max(counts[way], own)
     found = [way for way, count in counts.items() if count]
     return found[0] if len(found) == 1 and counts[found[0]] >= least_of(header, number, found[0], data) else None
 

@@ -1,0 +1,76 @@
+"""Checks of one byte that stands elsewhere in the file with the bytes around it, and of bytes that were sent with seven bits."""
+from __future__ import annotations
+
+import random
+from collections.abc import Iterator
+
+from dicom_files import Bench, File, changed, element, with_value
+from dicom_pairs import told
+from dicom_rules import put_before
+
+Check = tuple[str, bool]
+
+
+def lines_of(count: int, more: bytes = b"") -> bytes:
+    return b"".join(b"asSlice[%03d].sNormal.dTra = 0.99986%s ;\n" % (at * 37 % 1000, more) for at in range(count))
+
+
+def checks_of_bytes_elsewhere(bench: Bench, made: File) -> Iterator[Check]:
+    """A byte is decided where another one never stands with the bytes around it; digits, and what fills a gap, stand so more often."""
+    for name, count, old, new, is_back in (
+        ("a letter", 20, b"Normal", b"Nosmal", True),
+        ("a letter that stands so twice more", 3, b"Normal", b"Nosmal", False),
+        ("a digit", 40, b"0.99986", b"0.99987", True),
+        ("a digit that stands so fourteen times more", 15, b"0.99986", b"0.99987", False),
+        ("a number of each line", 40, b"[555]", b"[557]", False),
+    ):
+        true, begin = with_value(made, lines_of(count))
+        at = true.index(old, begin + min(500, count * 20))
+        hurt = changed(true, (true.index(made.frames[0]) + 70, bytes(8)))
+        other = changed(true, (at, new))
+        for copies in ([other, hurt], [hurt, other]):
+            yield told(bench, f"{name} of {count} lines (elsewhere)", copies, true, is_back, None if is_back else 1)
+    true, begin = with_value(made, lines_of(40))
+    at = true.index(b"Normal", begin + 700)
+    near = [changed(true, (at + 2, b"s")), changed(true, (at + 70, b"?"))]
+    yield told(bench, "another byte of the sector differs too (elsewhere)", near, true, False, 1)
+    values = [element(0x200011 + at, "LO", "sNormal.dTra") for at in range(8)]
+    data = put_before(made.bytes, 0x280002, *[element(0x190010, "LO", "MINE"), element(0x191010, "UT", "")][:1], *values)
+    hurt = changed(data, (data.index(made.frames[0]) + 70, bytes(8)))
+    place = data.index(b"sNormal", data.index(b"sNormal") + 40)
+    yield told(bench, "the value of an element (elsewhere)", [changed(data, (place + 3, b"s")), hurt], data, False)
+    filled, begin = with_value(made, lines_of(40, b" " * 60))
+    gap = changed(filled, (filled.index(b" " * 60, begin + 1000) + 3, b"7"))
+    yield told(bench, "a digit in blanks, where the other copy has blanks (elsewhere)", [gap, filled], filled, True)
+    fewer, begin = with_value(made, lines_of(12, b" " * 60))
+    gap = changed(fewer, (fewer.index(b" " * 60, begin + 200) + 3, b"7"))
+    yield told(bench, "the same, and not often (elsewhere)", [gap, fewer], fewer, False, 1)
+
+
+def sent(data: bytes, begin: int, size: int) -> bytes:
+    """A copy of which some bytes were sent with seven bits."""
+    return changed(data, (begin, bytes(byte & 0x7F for byte in data[begin : begin + size])))
+
+
+def checks_of_seven_bits(bench: Bench, made: File, rng: random.Random) -> Iterator[Check]:
+    """Several bytes that lack their highest bit alone, and none that has it between them."""
+    words = b"".join(bytes([rng.randrange(0x20, 0x7F) for _ in range(rng.randrange(3, 9))]) + b"\xcd" for _ in range(300))
+    true, begin = with_value(made, words)
+    hurt = changed(true, (true.index(made.frames[0]) + 70, bytes(8)))
+    lost = sent(true, begin + 700, 256)
+    for copies in ([lost, hurt], [hurt, lost]):
+        yield told(bench, "sent with seven bits", copies, true)
+    yield f"it is told ({bench.mend([lost, hurt])[2]})", "others were sent with seven bits" in bench.mend([lost, hurt])[2]
+    high = [at for at in range(begin + 700, begin + 956) if true[at] > 0x7F]
+    between = changed(lost, (high[2], b"\xcd"))
+    parts = changed(true, *((at, b"\x4d") for at in high[:3]))
+    yield told(bench, "three bytes with seven bits", [parts, hurt], true, False, 1)
+    yield told(bench, "another place of both", [between, changed(hurt, (high[2] + 300, b"\x11"))], true, False, 1)
+    plain, at = with_value(made, lines_of(60))
+    for step in (8, 64):
+        places = [(at + 300 + step * number, plain[at + 300 + step * number]) for number in range(9)]
+        raised = changed(plain, *((place, bytes([byte | 0x80])) for place, byte in places))
+        yield told(bench, f"the highest bit of each byte of {step} is set", [plain, raised], plain, False)
+
+
+ELSEWHERE = [checks_of_bytes_elsewhere, checks_of_seven_bits]
