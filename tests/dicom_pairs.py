@@ -131,6 +131,10 @@ def checks_of_one_copy_alone(bench: Bench, made: File) -> Iterator[Check]:
         latin = latin.replace(element(0x80008, "CS", "ORIGINAL\\PRIMARY"), b"".join(parts) + element(0x80008, "CS", "ORIGINAL\\PRIMARY"))
         cut = latin[: latin.index(b"Doe^Jane") + 4]
         yield told(bench, f"letters beyond ASCII in one copy alone, {name}", [latin, cut], latin, is_back, None if is_back else 1)
+    begin, middle, end = made.items[0] + 40, made.items[1] + 60, made.items[1] + 61
+    parts_of_three = [true[:middle], true[middle:], true[begin:]]
+    yield told(bench, "the header of a cut copy, and a third one goes across where both others end", parts_of_three, true)
+    yield told(bench, "the same, and the third does not", [true[:middle], true[middle:], true[end:]], true, False, 1)
     text = put_before(true, 0x280002, element(0x190010, "LO", "MINE"), element(0x191010, "LT", "of a slice " * 80))
     at = place_of(text, 0x280102)
     zeros = changed(text, (at // 512 * 512, bytes(512)))
