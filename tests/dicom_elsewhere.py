@@ -73,4 +73,23 @@ def checks_of_seven_bits(bench: Bench, made: File, rng: random.Random) -> Iterat
         yield told(bench, f"the highest bit of each byte of {step} is set", [plain, raised], plain, False)
 
 
-ELSEWHERE = [checks_of_bytes_elsewhere, checks_of_seven_bits]
+def checks_of_misplaced_sectors(bench: Bench, made: File, rng: random.Random) -> Iterator[Check]:
+    """A sector that stands elsewhere in the file, where all copies have it, is at a wrong place, if the other copy looks well there."""
+    lines = b"".join(b"<Step.%d> sSlice[%d].dTra = -%d.%03d\n" % (at % 7, at % 40, at % 91, at * 7 % 1000) for at in range(200))
+    true, begin = with_value(made, lines)
+    at, place = -(-begin // 512) * 512 + 1024, -(-begin // 512) * 512 + 3072
+    hurt = changed(true, (true.index(made.frames[0]) + 70, bytes(8)))
+    moved = changed(true, (at, true[place : place + 512]))
+    others = {
+        "": (hurt, True),
+        ", and noise in the other copy": (changed(hurt, (at, rng.randbytes(512))), False),
+        ", and zeros in the other copy": (changed(hurt, (at, bytes(512))), False),
+        ", and another one in the other copy": (changed(hurt, (at, true[place - 1024 : place - 512])), False),
+        ", and damage where it stands": (changed(hurt, (place + 100, b"Zz")), False),
+    }
+    for name, (other, is_back) in others.items():
+        for copies in ([moved, other], [other, moved]):
+            yield told(bench, f"a sector of another place{name} (misplaced)", copies, true, is_back, None if is_back else 1)
+
+
+ELSEWHERE = [checks_of_bytes_elsewhere, checks_of_seven_bits, checks_of_misplaced_sectors]

@@ -13,6 +13,7 @@ from jls_tools.dicom.evidence.csa import Chains
 from jls_tools.dicom.evidence.decider import Decider
 from jls_tools.dicom.evidence.elsewhere import by_elsewhere
 from jls_tools.dicom.evidence.meta import NO_MEANING, by_meta, by_preamble, by_prefix
+from jls_tools.dicom.evidence.misplaced import by_place
 from jls_tools.dicom.evidence.most import BY_MOST
 from jls_tools.dicom.evidence.picture import by_frames
 from jls_tools.dicom.evidence.seven_bits import by_seven_bits
@@ -143,6 +144,7 @@ class Header:
         self.keep_values(PADDING, lambda value: not value.strip(b"\0"), IS_PADDING)
         Decider(self).decide()
         Chains(self).decide()  # with the sectors that were decided its items can go on
+        by_place(self)
         by_seven_bits(self)
         by_elsewhere(self)
         by_most(self)
