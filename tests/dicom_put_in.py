@@ -103,7 +103,7 @@ def checks_of_elements_lost(bench: Bench, made: File, rng: random.Random) -> Ite
 
 def checks_of_put_in_beside_losses(bench: Bench, made: File, rng: random.Random) -> Iterator[Check]:
     """Bytes put into two of three copies, and what the third has there is lost, or its header is."""
-    true, first, second, third = made.bytes, *made.items[:3]
+    true, first, second = made.bytes, *made.items[:2]
     text, begin = with_value(made, b"".join(b"sSlice[%d].dTra = %d\n" % (at, at * 7) for at in range(200)))
     inside = text.index(made.frames[1])
     rest = changed(text, (inside, bytes(len(text) - inside)))
