@@ -92,4 +92,25 @@ def checks_of_misplaced_sectors(bench: Bench, made: File, rng: random.Random) ->
             yield told(bench, f"a sector of another place{name} (misplaced)", copies, true, is_back, None if is_back else 1)
 
 
-ELSEWHERE = [checks_of_bytes_elsewhere, checks_of_seven_bits, checks_of_misplaced_sectors]
+def checks_of_bits_in_zeros(bench: Bench, made: File, rng: random.Random) -> Iterator[Check]:
+    """A bit alone in a long run of zeros is a flip, unless the other copy has zeros that were written somewhere."""
+    for name, size, value, is_back in (
+        ("a bit", 3000, b"\x10", True),
+        ("a bit in fewer zeros", 900, b"\x10", False),
+        ("several bits", 3000, b"\x8c", False),
+    ):
+        true, begin = with_value(made, rng.randbytes(64) + bytes(size) + rng.randbytes(64))
+        hurt = changed(true, (true.index(made.frames[0]) + 70, b"\x5a" * 8))
+        odd = changed(true, (begin + 400, value))
+        for copies in ([odd, hurt], [hurt, odd]):
+            yield told(bench, f"{name} (in zeros)", copies, true, is_back, None if is_back else 1)
+    true, begin = with_value(made, rng.randbytes(64) + bytes(3000) + rng.randbytes(64))
+    odd, hurt = changed(true, (begin + 400, b"\x10")), changed(true, (true.index(made.frames[0]) + 70, bytes(8)))
+    yield told(bench, "a bit, and zeros in a frame of the other copy (in zeros)", [odd, hurt], true, False, 1)
+    near = changed(odd, (begin + 420, b"\x01"))
+    yield told(bench, "two bits in a sector (in zeros)", [near, changed(hurt, (hurt.index(made.frames[1]) + 60, b"ab"))], true, False, 1)
+    edge = changed(true, (begin + 80, b"\x10"))
+    yield told(bench, "a bit where the zeros begin (in zeros)", [edge, changed(true, (true.index(made.frames[0]) + 70, b"\x5a"))], true, False, 1)
+
+
+ELSEWHERE = [checks_of_bits_in_zeros, checks_of_bytes_elsewhere, checks_of_seven_bits, checks_of_misplaced_sectors]

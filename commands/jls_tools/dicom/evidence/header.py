@@ -12,6 +12,7 @@ from jls_tools.dicom.evidence.alone import Stranger, held_by_one, places_alone
 from jls_tools.dicom.evidence.csa import Chains
 from jls_tools.dicom.evidence.decider import Decider
 from jls_tools.dicom.evidence.elsewhere import by_elsewhere
+from jls_tools.dicom.evidence.in_zeros import by_zeros_around
 from jls_tools.dicom.evidence.meta import NO_MEANING, by_meta, by_preamble, by_prefix
 from jls_tools.dicom.evidence.misplaced import by_place
 from jls_tools.dicom.evidence.most import BY_MOST
@@ -147,6 +148,7 @@ class Header:
         by_place(self)
         by_seven_bits(self)
         by_elsewhere(self)
+        by_zeros_around(self)
         by_most(self)
         by_frames_alone(self)
         by_preamble(self)

@@ -62,10 +62,11 @@ class Verdict:
         return fault if fault or self.given.options.header is not None else forbidden(self.header)
 
     def is_of_series(self) -> bool:
-        """Whether a copy has the UID of another file of the series."""
+        """Whether a copy has the UID of another file of the series, where the header says one in both places."""
         uid = self.header.text(INSTANCE)
         elements = [self.header.elements[tag] for tag in (INSTANCE_IN_META, INSTANCE) if tag in self.header.elements]
-        return uid is not None and stands_against(self.frames.copies, uid, elements)
+        is_said = uid is not None and uid == self.header.text(INSTANCE_IN_META)
+        return is_said and stands_against(self.frames.copies, uid or "", elements)
 
     def doubtful(self) -> Optional[str]:
         """Damage of the header that shows by itself, and that no copy contradicts."""
