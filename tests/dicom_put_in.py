@@ -126,6 +126,11 @@ def checks_of_least_damage(bench: Bench, made: File, rng: random.Random) -> Iter
     hurt, place = (text.index(made.frames[0]) + 70, bytes(8)), begin + 9 * len(record)
     twice_and_lost = [twice(text, place, len(record) * 2 // 3), changed(text, hurt)]
     yield told(bench, "a part of a record twice", twice_and_lost, text)
+    size, lone = len(record) * 2 // 3, (begin + 30, bytes([text[begin + 30] ^ 0x80]))
+    both = [twice(changed(text, lone), place, size), twice(text, place + 9 * len(record) + 50, size)]
+    found = [copy.absent for copy in on_one_axis([Copy(name, data) for name, data in zip("ab", both)], True)]
+    sizes = [[last - first for first, last in absent] for absent in found]
+    yield f"a part of a record twice in each copy ({found})", sizes == [[size], [size]]
     other = changed(text, (-(-place // 512) * 512, text[-(-begin // 512) * 512 :][:512]), hurt)
     (first, *more), rest = (copy.absent for copy in on_one_axis([Copy("a", text[:-8]), Copy("b", other)]))
     is_end = first[0] >= len(text) - 38 and first[1] - first[0] == 8 and more == rest == []

@@ -12,7 +12,7 @@ from typing import Optional
 
 from jls_tools.dicom.axis.apart import differing, size_of
 from jls_tools.dicom.axis.media import MOST_LOST
-from jls_tools.dicom.axis.one_loss import cost_of, place_of
+from jls_tools.dicom.axis.one_loss import both_places_of, cost_of, place_of
 from jls_tools.dicom.axis.sectors import is_noise
 
 ANCHOR = 32  # so many bytes that are equal, and not all alike, show how two copies lie to each other
@@ -277,7 +277,7 @@ def aligned(one: bytes, other: bytes, are_shifted: bool) -> Gaps:
     apart = size_of(differing([one, other]))
     if apart < SHIFTED or not are_shifted and apart * SHARE_APART < len(one):
         return [], []
-    gaps = gaps_of(one, other, True)
+    gaps = cheapest(one, other, gaps_of(one, other, True), gap_of_each(one, other))
     left, right = laid(one, other, gaps)
     absent, left_apart = size_of(left.absent) + size_of(right.absent), size_of(differing([left.data, right.data]))
     if are_shifted and len(gaps[0]) == len(gaps[1]) == 1:
@@ -296,12 +296,25 @@ def cheaper(one: bytes, other: bytes, gaps: Gaps) -> Gaps:
         return gaps
     count = abs(len(one) - len(other))
     at = place_of(*sorted((one, other), key=len))
-    one_gap: Gaps = ([], [(at, count, at)]) if len(one) > len(other) else ([(at, count, at)], [])
-    several, single = (
-        cost_of(left.data, right.data, left.absent + right.absent)
-        for left, right in (laid(one, other, gaps), laid(one, other, one_gap))
-    )
-    return one_gap if single < several else gaps
+    return cheapest(one, other, gaps, ([], [(at, count, at)]) if len(one) > len(other) else ([(at, count, at)], []))
+
+
+def gap_of_each(one: bytes, other: bytes) -> Optional[Gaps]:
+    """One gap of each of two texts of one length, as where one has bytes more in one place, and the other as many in another."""
+    found = both_places_of(one, other)
+    if found is None:
+        return None
+    first, last, count = found
+    if count > 0:
+        return [(last, count, last - count)], [(first, count, first)]
+    return [(first, -count, first)], [(last, -count, last + count)]
+
+
+def cheapest(one: bytes, other: bytes, *ways: Optional[Gaps]) -> Gaps:
+    """The gaps of two texts with which least damage explains them."""
+    sides = ((laid(one, other, gaps), gaps) for gaps in ways if gaps is not None)
+    costs = [(cost_of(left.data, right.data, left.absent + right.absent), gaps) for (left, right), gaps in sides]
+    return min(costs, key=lambda pair: pair[0])[1]
 
 
 def on_one_axis(copies: Sequence[Copy], are_shifted: bool = False) -> list[Copy]:
