@@ -109,8 +109,8 @@ def checks_of_bits_in_zeros(bench: Bench, made: File, rng: random.Random) -> Ite
     yield told(bench, "a bit, and zeros in a frame of the other copy (in zeros)", [odd, hurt], true, False, 1)
     near = changed(odd, (begin + 420, b"\x01"))
     yield told(bench, "two bits in a sector (in zeros)", [near, changed(hurt, (hurt.index(made.frames[1]) + 60, b"ab"))], true, False, 1)
-    edge = changed(true, (begin + 80, b"\x10"))
-    yield told(bench, "a bit where the zeros begin (in zeros)", [edge, changed(true, (true.index(made.frames[0]) + 70, b"\x5a"))], true, False, 1)
+    edge = [changed(true, (begin + 80, b"\x10")), changed(true, (true.index(made.frames[0]) + 70, b"\x5a"))]
+    yield told(bench, "a bit where the zeros begin (in zeros)", edge, true, False, 1)
 
 
 ELSEWHERE = [checks_of_bits_in_zeros, checks_of_bytes_elsewhere, checks_of_seven_bits, checks_of_misplaced_sectors]

@@ -35,9 +35,9 @@ def place_of(short: bytes, long: bytes) -> int:
 
 
 def both_places_of(one: bytes, other: bytes) -> Optional[tuple[int, int, int]]:
-    """(where, where behind that, how many) if one of two texts of one length can have bytes more in the first place, the other in the second.
+    """(where, where behind that, how many) if one of two texts of one length can have bytes more here, and the other one there.
 
-    The count is below zero where it is the other one that has more in the first. What is between then stands so far on in one of both.
+    The count is below zero where it is the other one that has more here. What is between then stands so far on in one of both.
     """
     apart = without_lone(differing([one, other]))
     if not apart:
