@@ -61,6 +61,12 @@ def checks_of_seven_bits(bench: Bench, made: File, rng: random.Random) -> Iterat
     for copies in ([lost, hurt], [hurt, lost]):
         yield told(bench, "sent with seven bits", copies, true)
     yield f"it is told ({bench.mend([lost, hurt])[2]})", "others were sent with seven bits" in bench.mend([lost, hurt])[2]
+    inside = true.index(made.frames[1]) + 60
+    both = [sent(true, inside, 200), changed(true, (inside + 240, bytes(8)))]
+    yield told(bench, "a part of a frame sent with seven bits, and zeros behind it", both, true)
+    lost = [sent(true, inside, 200), changed(sent(true, inside, 200), (inside + 240, bytes(8)))]
+    yield told(bench, "a part of a frame of both", lost, true, False, 1)
+    lost = sent(true, begin + 700, 256)
     high = [at for at in range(begin + 700, begin + 956) if true[at] > 0x7F]
     between = changed(lost, (high[2], b"\xcd"))
     parts = changed(true, *((at, b"\x4d") for at in high[:3]))

@@ -17,7 +17,7 @@ from jls_tools.dicom.evidence.meta import NO_MEANING, by_meta, by_preamble, by_p
 from jls_tools.dicom.evidence.misplaced import by_place
 from jls_tools.dicom.evidence.most import BY_MOST
 from jls_tools.dicom.evidence.picture import by_frames
-from jls_tools.dicom.evidence.seven_bits import by_seven_bits
+from jls_tools.dicom.evidence.sent import by_seven_bits
 from jls_tools.dicom.evidence.tables import Table, Tables
 from jls_tools.dicom.evidence.terms import by_terms
 from jls_tools.dicom.evidence.votes import by_frames_alone, by_most, by_neighbours

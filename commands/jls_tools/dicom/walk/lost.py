@@ -13,6 +13,7 @@ from typing import TYPE_CHECKING, Optional
 from jls_tools.dicom.axis.align import Copy
 from jls_tools.dicom.axis.apart import differing
 from jls_tools.dicom.axis.media import SECTORS, SHARE
+from jls_tools.dicom.axis.seven_bits import sent_in
 from jls_tools.dicom.walk.frames import FramePlace
 from jls_tools.dicom.walk.structure import Structure
 from jls_tools.dicom.walk.ways import PIXELS, Step
@@ -20,6 +21,8 @@ from jls_tools.frames.likeness import shares_little
 
 if TYPE_CHECKING:
     from jls_tools.dicom.layout import Layout
+
+LONG = 32  # so many bytes of code that all lack the highest bit, at least, are so by no chance
 
 
 def headers_of_items(structure: Structure) -> list[int]:
@@ -99,9 +102,19 @@ class Lost:
         """The bytes of each copy, with those of another one in sectors that it lost."""
         found = [bytearray(copy.data) for copy in self.copies]
         for own, other in itertools.permutations(range(len(self.copies)), 2):
-            for begin, end in self.ranges(own, other):
+            for begin, end in [*self.ranges(own, other), *self.sent(own, other)]:
                 found[own][begin:end] = self.copies[other].data[begin:end]
         return [bytes(data) for data in found]
+
+    def sent(self, own: int, other: int) -> Iterator[tuple[int, int]]:
+        """What a copy has of Pixel Data that was sent with seven bits, as another one shows, and no third one denies."""
+        data, copies = self.copies[own].data, self.copies
+        for begin, end in sent_in(data[self.begin :], copies[other].data[self.begin :]):
+            first, last = begin + self.begin, end + self.begin
+            others = [copy.data[first:last] for at, copy in enumerate(copies) if at != own and not copy.lacks(first, last)]
+            is_there = not copies[own].lacks(first, last) and not copies[other].lacks(first, last)
+            if is_there and last - first >= LONG and all(data[first:last] != text for text in others):
+                yield first, last
 
     def of_this_file(self, place: FramePlace, own: Mapping[int, bytes]) -> list[bytes]:
         """Of {copy: its stream of a frame} those that differ, without one of another length that has little in common with the others."""

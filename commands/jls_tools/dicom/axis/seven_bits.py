@@ -4,40 +4,15 @@ If the bytes are all as far apart as the lanes of a bus, that bit can be stuck i
 """
 from __future__ import annotations
 
-import itertools
 import math
 from collections.abc import Iterator
-from typing import TYPE_CHECKING
 
 from jls_tools.dicom.axis.apart import Range, differing, size_of
-
-if TYPE_CHECKING:
-    from jls_tools.dicom.evidence.header import Header
 
 HIGHEST = 0x80
 LEAST = 4  # bytes that differ, at least: fewer cost no more as flipped bits, each for itself
 NEAR = 256  # so near they are to each other
 BUS = 8  # bytes, at least, of which a bit can be stuck in each
-SENT = "others were sent with seven bits"
-
-
-def by_seven_bits(header: Header) -> None:
-    """Drops what such a copy alone has of open places, unless one of the places together was decided for it."""
-    for own, other in itertools.permutations(range(len(header.copies)), 2):
-        if not header.open_runs():
-            return
-        for begin, end in sent_in(header.copies[own].data, header.copies[other].data):
-            numbers = [number for number in header.runs.touching(begin, end) if number in header.left]
-            if any(header.copies[copy].lacks(begin, end) for copy in (own, other)) or any(is_for(header, each, own) for each in numbers):
-                continue
-            for number in numbers:
-                run = header.runs.runs[number]
-                header.keep(number, {way for way in header.left[number] if set(run.holders[way]) - {own}}, SENT)
-
-
-def is_for(header: Header, number: int, own: int) -> bool:
-    """Whether a run was decided for a copy."""
-    return len(header.left[number]) == 1 and own in header.holders(number)
 
 
 def sent_in(own: bytes, other: bytes) -> Iterator[Range]:
