@@ -32,7 +32,7 @@ def checks_of_bytes_elsewhere(bench: Bench, made: File) -> Iterator[Check]:
             yield told(bench, f"{name} of {count} lines (elsewhere)", copies, true, is_back, None if is_back else 1)
     true, begin = with_value(made, lines_of(40))
     at = true.index(b"Normal", begin + 700)
-    near = [changed(true, (at + 2, b"s")), changed(true, (at + 70, b"?"))]
+    near = [changed(true, (at + 2, b"s")), changed(true, (true.index(b"Normal", at + 6) + 2, b"s"))]
     yield told(bench, "another byte of the sector differs too (elsewhere)", near, true, False, 1)
     values = [element(0x200011 + at, "LO", "sNormal.dTra") for at in range(8)]
     data = put_before(made.bytes, 0x280002, *[element(0x190010, "LO", "MINE"), element(0x191010, "UT", "")][:1], *values)
