@@ -2,6 +2,7 @@
 from __future__ import annotations
 
 import random
+import struct
 from collections.abc import Iterator
 
 from dicom_files import Bench, File, changed, element, with_value
@@ -119,4 +120,18 @@ def checks_of_bits_in_zeros(bench: Bench, made: File, rng: random.Random) -> Ite
     yield told(bench, "a bit where the zeros begin (in zeros)", edge, true, False, 1)
 
 
-ELSEWHERE = [checks_of_bits_in_zeros, checks_of_bytes_elsewhere, checks_of_seven_bits, checks_of_misplaced_sectors]
+def checks_of_version_names(bench: Bench, made: File) -> Iterator[Check]:
+    """The Implementation Class UID of DCMTK ends with the version that its name has."""
+    for name, version, is_back in (("DCMTK", "OFFIS_DCMTK_367", True), ("another version", "OFFIS_DCMTK_368", False)):
+        uid = "1.2.276.0.7230010.3.0.3.6.7"
+        meta = element(0x20012, "UI", uid) + element(0x20013, "SH", version)
+        begin = made.bytes.index(element(0x80008, "CS", "ORIGINAL\\PRIMARY"))
+        size = struct.pack("<I", struct.unpack_from("<I", made.bytes, 140)[0] + len(meta))
+        true = changed(made.bytes[:begin] + meta + made.bytes[begin:], (140, size))
+        at = true.index(uid.encode()) + len(uid) - 1
+        copies = [changed(true, (at, b"3")), changed(true, (true.index(made.frames[0]) + 70, bytes(8)))]
+        for order in (copies, copies[::-1]):
+            yield told(bench, f"a flip in the UID of {name}", order, true, is_back, None if is_back else 1)
+
+
+ELSEWHERE = [checks_of_version_names, checks_of_bits_in_zeros, checks_of_bytes_elsewhere, checks_of_seven_bits, checks_of_misplaced_sectors]

@@ -115,6 +115,9 @@ def checks_of_put_in_beside_losses(bench: Bench, made: File, rng: random.Random)
     cut = [put(true, second + 70, b"\x91\x3c"), true[: second + 300], true[second + 80 :]]
     yield told(bench, "in one of three, of which one is cut behind it and one before", cut, true)
     zeros = changed(true, (first + 70, bytes(8)))
+    begin = true.index(b"Doe^Jane")
+    header = [put(true, begin + 3, b"anna^maria"), changed(true, (first + 70, bytes(8))), changed(true, (second + 70, bytes(8)))]
+    yield told(bench, "a text of ten letters more, and two copies lack them", header, true)
     yield told(bench, "in the preamble", [put(true, 9, rng.randbytes(64)), zeros], true)
     yield told(bench, "and one zero behind each copy", [twice(true, second + 60, 100) + b"\0", zeros + b"\0"], true + b"\0")
 

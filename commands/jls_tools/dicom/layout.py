@@ -194,8 +194,8 @@ def is_put_in(copies: Sequence[Copy], layout: Layout, part: Range, parts: Sequen
     if layout.is_in_frame(place):
         return True
     is_no_element = inserted.is_no_element(copies, part) or layout.goes_on(place, part[1] - part[0])
-    is_lacked_twice = sum(part in copy.absent for copy in copies) > 1  # no two copies lost the same bytes, and have the same damage
-    return inserted.is_clear(copies, part) and is_no_element and (is_lacked_twice or not layout.can_hide_element(place, sizes))
+    is_lacked_twice = sum(part in copy.absent for copy in copies) > 1  # no two copies lost the same bytes of which the other has damage
+    return inserted.is_clear(copies, part) and (is_lacked_twice or is_no_element and not layout.can_hide_element(place, sizes))
 
 
 def told_of(copies: Sequence[Copy], part: Range) -> tuple[str, int, int]:

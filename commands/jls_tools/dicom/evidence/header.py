@@ -13,7 +13,7 @@ from jls_tools.dicom.evidence.csa import Chains
 from jls_tools.dicom.evidence.decider import Decider
 from jls_tools.dicom.evidence.elsewhere import by_elsewhere
 from jls_tools.dicom.evidence.in_zeros import by_zeros_around
-from jls_tools.dicom.evidence.meta import NO_MEANING, by_meta, by_preamble, by_prefix
+from jls_tools.dicom.evidence.meta import NO_MEANING, by_meta, by_preamble, by_prefix, by_version_name
 from jls_tools.dicom.evidence.misplaced import by_place
 from jls_tools.dicom.evidence.most import BY_MOST
 from jls_tools.dicom.evidence.picture import by_frames
@@ -141,6 +141,7 @@ class Header:
         self.tables = tables.places
         Chains(self).decide()
         by_terms(self)
+        by_version_name(self)
         by_neighbours(self)
         self.keep_values(PADDING, lambda value: not value.strip(b"\0"), IS_PADDING)
         Decider(self).decide()

@@ -1,6 +1,7 @@
 """What PS3.10 says of a file's beginning, its preamble, DICM and meta information, where copies differ in it."""
 from __future__ import annotations
 
+import re
 import struct
 from functools import partial
 from typing import TYPE_CHECKING
@@ -8,7 +9,7 @@ from typing import TYPE_CHECKING
 from jls_tools.dicom.evidence.alone import ONLY_VERSION
 from jls_tools.dicom.evidence.uids import are_denied, may_be_of_series
 from jls_tools.dicom.read.elements import JPEG_LS, Element, tag_name, text_of
-from jls_tools.dicom.read.tags import GROUP_LENGTH, INSTANCE, META, PREAMBLE, PREFIX, SYNTAX, TWINS, VERSION
+from jls_tools.dicom.read.tags import GROUP_LENGTH, INSTANCE, META, PREAMBLE, PREFIX, SYNTAX, TWINS, VERSION, VERSION_NAME, WRITER
 from jls_tools.dicom.read.values import allows
 
 if TYPE_CHECKING:
@@ -16,6 +17,7 @@ if TYPE_CHECKING:
 
 IS_PREFIX = "each DICOM file has it there"
 NO_MEANING = "the preamble has no meaning"
+DCMTK, OF_DCMTK = re.compile(r"OFFIS_DCMTK_(\d)(\d)(\d)\Z"), "1.2.276.0.7230010.3.0."
 
 
 def by_prefix(header: Header) -> None:
@@ -37,6 +39,14 @@ def by_meta(header: Header) -> None:
     header.keep_values(SYNTAX, lambda value: text_of(value) == JPEG_LS, "the frames are JPEG-LS")
     for first, second in TWINS:
         by_twins(header, first, second)
+
+
+def by_version_name(header: Header) -> None:
+    """Leaves the Implementation Class UID that the version name of DCMTK goes with: it ends with the same version."""
+    name = DCMTK.match(header.text(VERSION_NAME) or "")
+    if name is not None:
+        uid = OF_DCMTK + ".".join(name.groups())
+        header.keep_values(WRITER, lambda value: text_of(value) == uid, "the version name says so")
 
 
 def by_twins(header: Header, first: int, second: int) -> None:
