@@ -26,13 +26,20 @@ STANDS_ELSEWHERE = "the bytes around it stand elsewhere with this one alone"
 
 def by_elsewhere(header: Header) -> None:
     """Leaves the way of such a byte that stands elsewhere."""
-    for leaf in header.leaves if header.open_runs() else ():
-        if leaf.vr in VALUES_OF_FILES:
-            continue
-        for number in header.open_runs(leaf.value, leaf.end):
-            if is_single(header, number):
-                way = way_elsewhere(header, leaf, number)
-                header.keep(number, set() if way is None else {way}, STANDS_ELSEWHERE)
+    singles = [(leaf, number) for leaf in header.leaves for number in singles_of(header, leaf)] if header.open_runs() else []
+    if not singles:
+        return
+    data = bytes(header.merged())
+    known = b"".join(data[begin:end] for begin, end in header.outside(0, len(data)))
+    for leaf, number in singles:
+        way = way_elsewhere(header, leaf, number, data, known)
+        header.keep(number, set() if way is None else {way}, STANDS_ELSEWHERE)
+
+
+def singles_of(header: Header, leaf: Element) -> list[int]:
+    """The open runs of a value that are one byte, and the only one in its sector in which copies differ."""
+    runs = [] if leaf.vr in VALUES_OF_FILES else header.open_runs(leaf.value, leaf.end)
+    return [number for number in runs if is_single(header, number)]
 
 
 def is_single(header: Header, number: int) -> bool:
@@ -43,16 +50,16 @@ def is_single(header: Header, number: int) -> bool:
     return run.end - run.begin == 1 and len(header.runs.touching(sector, sector + SECTOR)) == 1 and is_there
 
 
-def way_elsewhere(header: Header, leaf: Element, number: int) -> Optional[int]:
-    """The one way of a byte that stands elsewhere with the bytes around it, often enough."""
-    run, data = header.runs.runs[number], bytes(header.merged())
+def way_elsewhere(header: Header, leaf: Element, number: int, data: bytes, known: bytes) -> Optional[int]:
+    """The one way of a byte that stands elsewhere outside of frames with the bytes around it, often enough."""
+    run = header.runs.runs[number]
     counts = {way: 0 for way in header.left[number]}
     for before, behind in AROUND:
         left, right = data[run.begin - before : run.begin], data[run.end : run.end + behind]
         if run.begin - before < leaf.value or run.end + behind > leaf.end or len(set(left + right)) < KINDS:
             continue
         for way in counts:
-            own = data.count(left + run.ways[way] + right) - (data[run.begin : run.end] == run.ways[way])
+            own = known.count(left + run.ways[way] + right) - (data[run.begin : run.end] == run.ways[way])
             counts[way] = max(counts[way], own)
     found = [way for way, count in counts.items() if count]
     return found[0] if len(found) == 1 and counts[found[0]] >= least_of(header, number, found[0], data) else None

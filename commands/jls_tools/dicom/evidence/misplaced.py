@@ -16,6 +16,7 @@ if TYPE_CHECKING:
     from jls_tools.dicom.evidence.header import Header
 
 KINDS = 16  # so many different bytes has a sector, at least, that stands twice by no chance
+MOST_LOOKS = 256  # sectors that are sought in the file
 MISPLACED = "others have a sector of another place here"
 
 
@@ -23,7 +24,7 @@ def by_place(header: Header) -> None:
     """Drops what a copy alone has in such a sector, unless a place in it was decided for it, or the other copy's stands twice too."""
     for own, other in itertools.permutations(range(len(header.copies)), 2):
         data = bytes(header.merged())
-        for border in sorted({header.runs.runs[number].begin // SECTOR * SECTOR for number in header.open_runs()}):
+        for border in sorted({header.runs.runs[number].begin // SECTOR * SECTOR for number in header.open_runs()})[:MOST_LOOKS]:
             if stands_elsewhere(header, own, border, data) and looks_well(header, other, border, data):
                 drop(header, own, border)
 
