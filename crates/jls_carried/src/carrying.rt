@@ -108,10 +108,10 @@ fn proposed_of(
         codings,
         strangers,
         lines,
-        has_disputed,
+        is_doubtful,
     } = carried;
     let count = size.copies;
-    let is_doubtful = has_disputed || has_gap(&lines, size.components);
+    let is_doubtful = is_doubtful || has_gap(&lines, size.components);
     let mut proposals = Vec::new(alloc);
     if lines.iter().all(|line| is_within(line, ceiling)) {
         for coding in codings {
@@ -260,8 +260,8 @@ pub struct Between {
     pub judged: Judged,
     /// The copies that agree with no other, by their indices.
     pub strangers: Vec<usize>,
-    /// Whether copies confirm several readings of a line, or none of one before another of its component that is settled. No contract
-    /// speaks of it.
+    /// Whether copies confirm several readings of a line, or none of one before another of its component that is settled. Or one that reads
+    /// to its end has another picture, by which no more bytes are wrong in all. No contract speaks of it.
     pub is_doubtful: bool,
 }
 

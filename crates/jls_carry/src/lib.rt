@@ -16,7 +16,8 @@
 //! - `chains`: lines of one copy in the code of another, and how many of them its bytes confirm
 //! - `settling`, `between`, `closing`: which lines are settled. Lines between settled ones, and pieces that close by themselves
 //! - `rounds`: all of that, until nothing more is decided
-//! - `mending`, `edits`: the mended file of a coding, and the edits that make it of each copy
+//! - `mending`, `codings`, `edits`: the mended file of each coding, and the edits that make it of each copy
+//! - `rivals`: copies that read to their ends, and say otherwise
 //! - `strangers`: copies that agree with no other
 //! - `layouts`: the headers that are believed of each copy
 //!
@@ -50,6 +51,9 @@
 //! to what copies of several codings have. The two can be copies of one damaged file, or of another picture. A copy that has the bytes of
 //! one before it confirms nothing.
 //!
+//! Flipped bits can change lines of a copy that reads to its end all the same. If it has another picture than what is settled, bytes that are
+//! wrong are counted in all copies, by either picture. What is settled is doubtful if it has no fewer.
+//!
 //! A copy agrees with no other if no line is settled, or if it has scan data and no run of its mended file. It is left out of that file.
 #![tactic(auto)]
 
@@ -60,6 +64,7 @@ mod closing;
 mod code;
 mod coded;
 mod codes;
+mod codings;
 mod edits;
 mod interval;
 mod layouts;
@@ -67,6 +72,7 @@ mod line_ends;
 mod mending;
 mod picture;
 mod pieces;
+mod rivals;
 mod rounds;
 mod runs;
 mod settling;
@@ -76,67 +82,15 @@ mod strangers;
 use crate::claims::{CopyState, Speaker};
 use crate::closing::has_contradiction;
 use crate::codes::Codes;
-use crate::edits::edits_between;
+use crate::codings::{MendedCodings, mend_codings};
 use crate::layouts::{Layouts, layouts_of};
-use crate::mending::mended_file;
 use crate::picture::Picture;
 use crate::pieces::Layout;
+use crate::rivals::{has_rival, reads_whole};
 use crate::rounds::carry_on;
-use crate::strangers::{agrees, speaks};
+pub use codings::MendedCoding;
 pub use edits::Edit;
 use std::alloc::{AllocError, Global};
-
-/// The mended file of a coding.
-#[derive(Drop)]
-pub struct MendedCoding {
-    /// The copies that are of this coding, by their indices.
-    pub copies: Vec<usize>,
-    /// The file. It has the headers of the first of them whose headers read.
-    pub bytes: Vec<u8>,
-    /// For each of these copies the edits that make the file of it, in order.
-    pub edits: Vec<Vec<Edit>>,
-}
-
-/// The mended file of a coding of which these are the copies. Those that don't agree with it are left out. They are strangers, if they have
-/// scan data.
-fn mended_coding(
-    alloc: Global,
-    states: &[CopyState<'_>],
-    numbers: &[usize],
-    bytes: Vec<u8>,
-    strangers: &mut Vec<usize>,
-) -> Result<MendedCoding, AllocError> {
-    let mut copies = Vec::new(alloc);
-    let mut edits = Vec::new(alloc);
-    for number in numbers {
-        let Some(state) = states.get(*number) else {
-            continue;
-        };
-        let made = edits_between(alloc, state.bytes, &bytes)?;
-        if agrees(state, &made) {
-            copies.push(*number)?;
-            edits.push(made)?;
-        } else if speaks(state) {
-            strangers.push(*number)?;
-        }
-    }
-    Ok(MendedCoding {
-        copies,
-        bytes,
-        edits,
-    })
-}
-
-/// The copies of a coding.
-fn copies_of(alloc: Global, codings: &[usize], coding: usize) -> Result<Vec<usize>, AllocError> {
-    let mut numbers = Vec::new(alloc);
-    for (number, other) in codings.iter().enumerate() {
-        if *other == coding {
-            numbers.push(number)?;
-        }
-    }
-    Ok(numbers)
-}
 
 /// The copies of which headers are believed, by their indices.
 fn with_headers(alloc: Global, states: &[CopyState<'_>]) -> Result<Vec<usize>, AllocError> {
@@ -178,45 +132,6 @@ fn states_of<'a>(
     Ok(states)
 }
 
-/// The mended files of all codings that have one, and the copies that agree with none.
-#[derive(Drop)]
-struct MendedCodings {
-    codings: Vec<MendedCoding>,
-    strangers: Vec<usize>,
-}
-
-/// Mends the first copy of each coding whose own headers say what those of its coding do.
-fn mend_codings(
-    alloc: Global,
-    picture: &Picture,
-    codes: &mut Codes,
-    states: &[CopyState<'_>],
-    codings: &[usize],
-    are_own: &[bool],
-) -> Result<MendedCodings, AllocError> {
-    let mut mended = MendedCodings {
-        codings: Vec::new(alloc),
-        strangers: Vec::new(alloc),
-    };
-    let mut done: Vec<usize> = Vec::new(alloc);
-    for (state, (coding, is_own)) in states.iter().zip(codings.iter().zip(are_own)) {
-        let (Some(has_eoi), true) = (state.has_eoi, is_own) else {
-            continue;
-        };
-        if done.contains(coding) {
-            continue;
-        }
-        done.push(*coding)?;
-        let bytes = mended_file(alloc, picture, codes, state, has_eoi)?;
-        let numbers = copies_of(alloc, codings, *coding)?;
-        let made = mended_coding(alloc, states, &numbers, bytes, &mut mended.strangers)?;
-        if !made.copies.is_empty() {
-            mended.codings.push(made)?;
-        }
-    }
-    Ok(mended)
-}
-
 /// What copies bring back of each other.
 #[derive(Drop)]
 pub struct Carried {
@@ -227,8 +142,23 @@ pub struct Carried {
     /// The lines of the picture that are settled, row by row, and in a row by component.
     pub lines: Vec<Option<Vec<u16>>>,
     /// Whether a line isn't settled because copies confirm several readings of it. Or because copies of different codings read to their
-    /// ends and say several things of it.
-    pub has_disputed: bool,
+    /// ends and say several things of it. Or a copy that reads to its end has another picture, by which no more bytes are wrong in all.
+    pub is_doubtful: bool,
+}
+
+/// Lets each copy say what it does by itself. Answers for each whether it reads to its end.
+fn read_alone(
+    alloc: Global,
+    picture: &mut Picture,
+    codes: &mut Codes,
+    states: &mut [CopyState<'_>],
+) -> Result<Vec<bool>, AllocError> {
+    let mut whole = Vec::new(alloc);
+    for state in states.iter_mut() {
+        state.read_on(alloc, picture, codes)?;
+        whole.push(reads_whole(state))?;
+    }
+    Ok(whole)
 }
 
 /// What copies in different codings bring back of each other: the lines that are settled, and a mended file of each coding. `codings` has a
@@ -252,8 +182,9 @@ pub fn carry(
     let mut picture = Picture::new(alloc, lines)?;
     let mut states = states_of(alloc, copies, codings, own, layouts, lines)?;
     let mut codes = Codes::new(alloc, &states)?;
+    let whole = read_alone(alloc, &mut picture, &mut codes, &mut states)?;
     carry_on(alloc, &mut picture, &mut codes, &mut states)?;
-    let has_disputed = picture.has_disputed() || has_contradiction(&picture, &states);
+    let is_disputed = picture.has_disputed() || has_contradiction(&picture, &states);
     let mended = if picture.has_settled() {
         mend_codings(alloc, &picture, &mut codes, &states, codings, &are_own)?
     } else {
@@ -262,10 +193,11 @@ pub fn carry(
             strangers: with_headers(alloc, &states)?,
         }
     };
+    let has_rival = has_rival(alloc, &picture, &mended, &states, &whole, codings, &are_own)?;
     Ok(Carried {
         codings: mended.codings,
         strangers: mended.strangers,
-        has_disputed,
+        is_doubtful: is_disputed || has_rival,
         lines: picture.into_lines()?,
     })
 }

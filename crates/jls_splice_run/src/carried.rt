@@ -132,7 +132,8 @@ fn are_read_as(
     each_reads_as(alloc, files, held)
 }
 
-/// Whether the edits are believed. If the files without a fault are one picture, these edits may flip bits of such copies, and no more.
+/// Whether the edits of what is not doubtful are believed. If the files without a fault are one picture, these edits may flip bits of such
+/// copies, and no more.
 fn are_believed(
     copies: &[&[u8]],
     codings: &[Vec<EditedCopy>],
@@ -167,7 +168,7 @@ pub(crate) struct HandedOut {
 /// What is handed out of what copies in several codings gave each other. If a file taken may be without a fault, `None` comes unless that
 /// speaks against it. It does if a promised picture is another one, or a line has several readings, or was left open before one that is
 /// settled. If such files differ, `None` comes unless a picture is promised, and its edits say plainly which are wrong (`plain_edits`). If
-/// they are one picture, none is promised whose edits change more of such a copy than flipped bits.
+/// they are one picture, none is promised whose edits change more of such a copy than flipped bits. Nor is one promised that is doubtful.
 fn handed_out(
     alloc: Global,
     copies: &[&[u8]],
@@ -200,7 +201,8 @@ fn handed_out(
     } = judged;
     let is_held = held.is_settled();
     let is_believed = are_believed(copies, &codings, faultless, given, is_alone);
-    let are_read = are_read_as(alloc, &mended, &held, is_held & is_believed)?;
+    let is_asked = is_held & is_believed & !is_doubtful;
+    let are_read = are_read_as(alloc, &mended, &held, is_asked)?;
     let promise = carried_promise(&codings, &strangers, is_held, are_read);
     if !is_alone && promise == Promise::Held && are_one_picture(&held, given) {
         return Ok(None);

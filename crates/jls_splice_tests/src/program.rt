@@ -18,8 +18,9 @@ use std::test::Fail;
 /// Where a copy differs from its mended file was counted in the files, and in the damage: a byte that is 0 by itself doesn't differ. In
 /// *damage of one line in both* 12 lines stand before it. Their code fills 274 and 289 bytes of the files, by `interop/plain_coder.py`. The
 /// last bits of the twelfth stand in the next byte, which isn't known. By the same coder the third line of `broad` ends at byte 263, and
-/// the fourth of `broad_reset` begins at 278. In *by sample, one place in all* four rows stand before it, whose code CharLS ends in 166
-/// bytes.
+/// the fourth of `broad_reset` begins at 278. In *two of them, and one is as well the other copy's* it codes the picture that has the second
+/// flip alone with RESET 3: at byte 271 it has another one than `reset`, and nowhere else. In *by sample, one place in all* four rows stand
+/// before it, whose code CharLS ends in 166 bytes.
 ///
 /// How often a search of levels tries is counted by hand: at each place, each path that lives goes on by both ways. In *three intervals*
 /// each wrong way ends with its interval, so there are 2 tries at each of 3 places. In the rows of `deep` nothing dies without a limit, so
@@ -148,6 +149,8 @@ a flipped bit in a copy that decodes whole: narrow: 373+1=233 / reset 300+8=0: O
 coding 2, copies 2 | copy 1 differs 373 1 1 | copy 2 differs 300 8 8 | splices 0
 one in the copy of the other coding: narrow: reset 327+1=123 / 200+8=0: OUT 1 2: 0 narrow: copy 1 differs 327 1 1 | \
 copy 2 differs 200 8 8
+two of them, and one is as well the other copy's: narrow: 220+1=28 255+1=134 / reset: OUT 1 2: 1 other: copy 1 differs 220 1 1 | \
+copy 2 differs 271 1 1 | promise lines
 one in its last line: narrow: 411+1=169 / reset 200+8=0: OUT 1 2: 0 narrow: coding 1, copies 1 | coding 2, copies 2 | \
 copy 1 differs 411 1 1 | copy 2 differs 200 8 8
 one behind early damage of the other copy: narrow: 373+1=233 / reset 100+8=0: OUT 1 2: 0 narrow: copy 1 differs 373 1 1 | \
