@@ -27,8 +27,8 @@ pub(crate) struct Chain {
     pub(crate) confirmed: usize,
     /// How many are if hints count as runs do.
     pub(crate) hinted: usize,
-    /// And if shorter ones do too.
-    pub(crate) hinted_shortly: usize,
+    /// And if shorter hints do too.
+    pub(crate) hinted_by_short: usize,
     /// The first line that nothing is decided of.
     pub(crate) fresh: usize,
     /// Whether both copies have the same code here. Then the same bytes say nothing, except without a gap.
@@ -228,12 +228,12 @@ pub(crate) fn compare(
     let Runs {
         runs,
         with_hints,
-        with_short,
+        with_short_hints,
         all,
     } = code.runs(alloc, bytes, components, begin, said.is_twin)?;
     let hinted = code.count_confirmed(&with_hints, bytes, begin);
     let confirmed = up_to_hint(code.count_confirmed(&runs, bytes, begin), hinted, fresh);
-    let hinted_shortly = code.count_confirmed(&with_short, bytes, begin);
+    let hinted_by_short = code.count_confirmed(&with_short_hints, bytes, begin);
     let tested = refuted.max(said.readings.len());
     let passed = confirmed.max(fresh);
     let closes = giver
@@ -253,7 +253,7 @@ pub(crate) fn compare(
         runs,
         confirmed,
         hinted,
-        hinted_shortly,
+        hinted_by_short,
         fresh,
         is_twin: said.is_twin,
         is_forked: said.is_forked,

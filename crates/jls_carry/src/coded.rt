@@ -28,7 +28,7 @@ pub(crate) struct Runs {
     /// These, and long stretches in which no whole line is.
     pub(crate) with_hints: Vec<Run>,
     /// These, and shorter ones.
-    pub(crate) with_short: Vec<Run>,
+    pub(crate) with_short_hints: Vec<Run>,
     /// All stretches.
     pub(crate) all: Vec<Run>,
 }
@@ -146,7 +146,7 @@ impl Coded {
         }
         let mut runs: Vec<Run> = Vec::new(alloc);
         let mut with_hints: Vec<Run> = Vec::new(alloc);
-        let mut with_short: Vec<Run> = Vec::new(alloc);
+        let mut with_short_hints: Vec<Run> = Vec::new(alloc);
         all.sort_by_key(|run| (run.begin, run.end))?;
         for run in all.iter().copied() {
             let has_lines = self.has_lines(&run, components) && (!is_twin || run.begin == 0);
@@ -157,21 +157,21 @@ impl Coded {
                 with_hints.push(run)?;
             }
             if has_lines || (!is_twin && is_short_hint(&self.bytes, &run)) {
-                with_short.push(run)?;
+                with_short_hints.push(run)?;
             }
         }
         if let (false, Some(ending)) = (is_twin, self.ending(bytes, &runs)) {
             runs.push(ending)?;
             with_hints.push(ending)?;
-            with_short.push(ending)?;
+            with_short_hints.push(ending)?;
         }
         runs.sort_by_key(|run| (run.begin, run.end))?;
         with_hints.sort_by_key(|run| (run.begin, run.end))?;
-        with_short.sort_by_key(|run| (run.begin, run.end))?;
+        with_short_hints.sort_by_key(|run| (run.begin, run.end))?;
         Ok(Runs {
             runs,
             with_hints,
-            with_short,
+            with_short_hints,
             all,
         })
     }

@@ -42,7 +42,7 @@
 //! 7. Where nothing else goes on, lines that a copy reads in one piece between settled ones are taken. It is all of them, or none if one is
 //!    held back. Two rows behind them have to be settled as it says.
 //! 8. 24 such bytes without a whole line in them are a hint. It ends a gap too, if a line ends there. Where nothing else goes on, lines up
-//!    to a hint are taken, four rows behind the known ones at most. 12 bytes do where closed pieces settle nothing either.
+//!    to a hint are taken, four rows behind the known ones at most. 12 bytes do for one row, where closed pieces settle nothing either.
 //! 9. Pieces that close by themselves count only where nothing else goes on, and in copies that agree with another somewhere. No such piece
 //!    may say otherwise. One that says otherwise of a settled line doesn't count, nor one with a disputed line.
 //!
@@ -51,8 +51,8 @@
 //! to what copies of several codings have. The two can be copies of one damaged file, or of another picture. A copy that has the bytes of
 //! one before it confirms nothing.
 //!
-//! Flipped bits can change lines of a copy that reads to its end all the same. If it has another picture than what is settled, bytes that are
-//! wrong are counted in all copies, by either picture. What is settled is doubtful if it has no fewer.
+//! Flipped bits can change lines of a copy that reads to its end all the same. If it has another picture than what is settled, the wrong
+//! bytes of all copies are counted by either picture. What is settled is doubtful if it leaves no fewer.
 //!
 //! A copy agrees with no other if no line is settled, or if it has scan data and no run of its mended file. It is left out of that file.
 #![tactic(auto)]

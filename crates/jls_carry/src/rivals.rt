@@ -1,7 +1,7 @@
 //! Rivals: copies that read to their ends, and say otherwise than what is settled.
 //!
-//! A flipped bit can change one line of a copy, and nothing behind it. In the code of another copy that line differs in one byte, as if that
-//! byte were wrong. Which of the two copies is damaged shows only by how many bytes are wrong in all, if one of them is true.
+//! A flipped bit can change one line of a copy, and nothing behind it. In the code of another copy that line can differ in one byte, as if
+//! it were wrong there. Which of the two is damaged shows only by how many bytes of all copies are wrong, if one of them is true.
 
 use crate::claims::{CopyState, bytes_of};
 use crate::code::read_lines;
@@ -130,7 +130,7 @@ fn is_rival(
     Ok(other.strangers.is_empty() && count_wrong(&other, states) <= count_wrong(mended, states))
 }
 
-/// Whether a copy has a rival's say. `whole` tells which copies read to their ends before anything was known.
+/// Whether some copy is a rival of the mended files. `whole` tells which copies read to their ends before anything was known.
 pub(crate) fn has_rival(
     alloc: Global,
     picture: &Picture,

@@ -15,6 +15,9 @@ const MORE_ROWS: usize = 8;
 /// How many rows behind those that are known hints can confirm.
 const ROWS_HINTED: usize = 4;
 
+/// And how many if shorter hints count too.
+const ROWS_HINTED_BY_SHORT: usize = 1;
+
 /// Which hints count.
 #[derive(Clone, Copy)]
 pub(crate) enum Hints {
@@ -621,11 +624,11 @@ impl Settling<'_, '_> {
         hints: Hints,
     ) -> Result<bool, AllocError> {
         for chain in self.chains.iter_mut() {
-            let near = usize::from(chain.piece.interval.components).saturating_mul(ROWS_HINTED);
-            let hinted = match hints {
-                Hints::Long => chain.hinted,
-                Hints::Short => chain.hinted_shortly,
+            let (hinted, rows) = match hints {
+                Hints::Long => (chain.hinted, ROWS_HINTED),
+                Hints::Short => (chain.hinted_by_short, ROWS_HINTED_BY_SHORT),
             };
+            let near = usize::from(chain.piece.interval.components).saturating_mul(rows);
             if hinted <= chain.fresh.saturating_add(near) {
                 chain.confirmed = chain.confirmed.max(hinted);
             }
