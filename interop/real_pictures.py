@@ -12,6 +12,7 @@ import array
 import gzip
 import hashlib
 import os
+import random
 import shutil
 import subprocess
 import sys
@@ -80,7 +81,7 @@ def with_pixels(path, folder):
         return None
 
 
-def frames_in(path):
+def frames_in(path: str) -> list[bytes]:
     data = pydicom.dcmread(path, force=True)
     return list(generate_pixel_data_frame(data.PixelData, int(data.get("NumberOfFrames", 1) or 1)))
 
@@ -166,7 +167,7 @@ def real_in(path):
         return found + [Real(f"{name}, as it stands", stored, coded(picture, allocated), frame) for picture, frame in paired]
 
 
-def all_real():
+def all_real() -> list[Real]:
     """The pictures at both depths, equal ones once, and the frames that stand in a file."""
     if pydicom is None:
         sys.exit("the Debian packages python3-pydicom, python3-nibabel and python3-numpy are not there")
@@ -178,7 +179,7 @@ def all_real():
     return list(found.values())
 
 
-def part_of(chance, picture, width, rows):
+def part_of(chance: random.Random, picture: Picture, width: int, rows: int) -> Picture:
     """A part of a picture, of at most so many columns and rows."""
     width, rows = min(width, picture.width), min(rows, picture.rows)
     x, y = chance.randint(0, picture.width - width), chance.randint(0, picture.rows - rows)
