@@ -181,6 +181,21 @@ def checks_of_stuck_bits(bench: Bench, made: File, rng: random.Random) -> Iterat
     yield told(bench, "ones that are true in a table", [table, some], table, False)
 
 
+def checks_of_runs(bench: Bench, made: File, rng: random.Random) -> Iterator[Check]:
+    """Losses and bytes put in beside each other, or near the end, show where they are by the runs that all copies share."""
+    true, begin = with_value(made, rng.randbytes(9000))
+    at = begin + 1000
+    cut, lost = true[:at] + true[at + 512 :], true[: at + 800] + true[at + 2260 :]
+    last = made.items[-1] + 8 + len(made.frames[-1]) - 30
+    more = (made.items[0] + 60, rng.randbytes(64)), (made.items[1] + 60, b"\x91"), (last, b"\x77")
+    cases = {
+        "a block lost in each of two copies, near each other": (true, [cut, lost]),
+        "bytes put into each of three copies": (made.bytes, [put(made.bytes, *each) for each in more]),
+    }
+    for name, (wanted, copies) in cases.items():
+        yield told(bench, name, copies, wanted)
+
+
 def checks_of_records(bench: Bench, made: File, rng: random.Random) -> Iterator[Check]:
     """Records of 64 bytes, of which one or two have one value of a bit: another copy is damaged there."""
     begin = with_value(made, b"")[1]
@@ -214,4 +229,4 @@ def record(rng: random.Random, ways: Sequence[int], mask: int = 0xFF, first: int
 
 
 PUT_IN = [checks_of_bytes_put_in, checks_of_zeros_behind, checks_of_put_in_beside_losses, checks_of_least_damage, checks_of_stuck_bits]
-PUT_IN += [checks_of_records]
+PUT_IN += [checks_of_runs, checks_of_records]

@@ -6,7 +6,7 @@ from collections.abc import Sequence
 from typing import Optional
 
 from jls_tools.dicom.axis import in_filler, inserted
-from jls_tools.dicom.axis.align import SHIFTED, Copy, on_one_axis
+from jls_tools.dicom.axis.align import SHIFTED, Copy, by_chains, on_one_axis
 from jls_tools.dicom.axis.apart import differing, size_of
 from jls_tools.dicom.axis.bad_places import Range, clipped
 from jls_tools.dicom.axis.inserted import SMALLEST_ELEMENT
@@ -150,14 +150,33 @@ def rank(structure: Structure) -> tuple[bool, bool, bool, int]:
 def laid_out(copies: Sequence[Copy], named: Optional[str] = None) -> tuple[list[Copy], Layout]:
     """The copies on one axis, and their Layout. Where it breaks, one copy can have bytes that are no part of the file.
 
-    A copy that is `named` for its header keeps its bits.
+    Or they are laid by runs that they share, if elements and items go on then. A copy that is `named` for its header keeps its bits.
     """
     found, layout, shifted = on_best_axis(copies, named)
     if is_in_order(layout.structure):
         return found, layout
-    ways = [found] if [copy.absent for copy in shifted] == [copy.absent for copy in found] else [found, shifted]
-    others = (without_inserted(way, named) for way in ways)
-    return next((other for other in others if other is not None), (found, layout))
+    ways = [found] if are_laid_alike(shifted, found) else [found, shifted]
+    for way in ways:
+        other = without_inserted(way, named)
+        if other is not None:
+            return other
+    return by_runs(copies, named, ways) or (found, layout)
+
+
+def by_runs(copies: Sequence[Copy], named: Optional[str], others: Sequence[Sequence[Copy]]) -> Optional[tuple[list[Copy], Layout]]:
+    """The copies on the axis of the runs that they share, and their Layout, if it is in order and this axis is none of the others."""
+    if len(copies) < 2:
+        return None
+    found = unstuck(placed(by_chains(copies)), named)
+    if any(are_laid_alike(found, other) for other in others):
+        return None
+    layout = Layout(found)
+    return (found, layout) if is_in_order(layout.structure) else without_inserted(found, named)
+
+
+def are_laid_alike(copies: Sequence[Copy], others: Sequence[Copy]) -> bool:
+    """Whether copies lack the same ranges on two axes."""
+    return [copy.absent for copy in copies] == [copy.absent for copy in others]
 
 
 def without_inserted(copies: Sequence[Copy], named: Optional[str]) -> Optional[tuple[list[Copy], Layout]]:

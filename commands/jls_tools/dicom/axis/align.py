@@ -11,6 +11,7 @@ from dataclasses import dataclass, field, replace
 from typing import Optional
 
 from jls_tools.dicom.axis.apart import differing, size_of
+from jls_tools.dicom.axis.chains import Chain
 from jls_tools.dicom.axis.media import MOST_LOST
 from jls_tools.dicom.axis.one_loss import both_places_of, cost_of, place_of
 from jls_tools.dicom.axis.sectors import is_noise
@@ -257,11 +258,11 @@ def merged(ranges: Iterable[tuple[int, int]]) -> list[tuple[int, int]]:
     return found
 
 
-def gaps_of(one: bytes, other: bytes, is_free: bool) -> Gaps:
-    """What each of two lacks of the other: for each a list as insert_gaps takes it."""
+def gaps_of(parts: Iterable[tuple[int, int]]) -> Gaps:
+    """What each of two lacks of the other: for each a list as insert_gaps takes it. `parts` are as `pieces` gives them."""
     at = beside = 0
     in_one, in_other = [], []
-    for count, counts in pieces(one, other, is_free):
+    for count, counts in parts:
         if count > counts:
             in_other.append((beside, count, at))
         elif counts > count:
@@ -273,15 +274,15 @@ def gaps_of(one: bytes, other: bytes, is_free: bool) -> Gaps:
 def aligned(one: bytes, other: bytes, are_shifted: bool) -> Gaps:
     """(gaps in one, gaps in the other). Those of one length are taken by offset, unless they have far more in common when shifted."""
     if len(one) != len(other):
-        return cheaper(one, other, gaps_of(one, other, False))
+        return cheaper(one, other, gaps_of(pieces(one, other)))
     apart = size_of(differing([one, other]))
     if apart < SHIFTED or not are_shifted and apart * SHARE_APART < len(one):
         return [], []
-    gaps = cheapest(one, other, gaps_of(one, other, True), gap_of_each(one, other))
+    gaps = cheapest(one, other, gaps_of(pieces(one, other, True)), gap_of_each(one, other))
     left, right = laid(one, other, gaps)
     absent, left_apart = size_of(left.absent) + size_of(right.absent), size_of(differing([left.data, right.data]))
     if are_shifted and len(gaps[0]) == len(gaps[1]) == 1:
-        return gaps if len(left.data) - absent - left_apart - (len(one) - apart) >= SHIFTED else ([], [])
+        return gaps if in_common(one, other, gaps) - (len(one) - apart) >= SHIFTED else ([], [])
     return gaps if (left_apart + absent) * 2 < apart else ([], [])
 
 
@@ -312,9 +313,65 @@ def gap_of_each(one: bytes, other: bytes) -> Optional[Gaps]:
 
 def cheapest(one: bytes, other: bytes, *ways: Optional[Gaps]) -> Gaps:
     """The gaps of two texts with which least damage explains them."""
-    sides = ((laid(one, other, gaps), gaps) for gaps in ways if gaps is not None)
-    costs = [(cost_of(left.data, right.data, left.absent + right.absent), gaps) for (left, right), gaps in sides]
-    return min(costs, key=lambda pair: pair[0])[1]
+    return min((gaps for gaps in ways if gaps is not None), key=lambda gaps: cost_of_gaps(one, other, gaps))
+
+
+def cost_of_gaps(one: bytes, other: bytes, gaps: Gaps) -> float:
+    """How many bits say in what two texts with these gaps differ."""
+    left, right = laid(one, other, gaps)
+    return cost_of(left.data, right.data, left.absent + right.absent)
+
+
+def gaps_of_chain(one: bytes, other: bytes) -> Gaps:
+    """The gaps of two texts by the runs of bytes that stand in both; as `aligned` lays them if there are none."""
+    parts = list(Chain(one, other).parts())
+    return gaps_of(parts) if parts else aligned(one, other, True)
+
+
+def by_chains(copies: Sequence[Copy]) -> list[Copy]:
+    """All copies on one axis by the runs of bytes that they share. Each is laid beside the one with which it has most in common."""
+    order = sorted(range(len(copies)), key=lambda index: -len(copies[index].data))
+    placed = {order[0]: copies[order[0]]}
+    for index in order[1:]:
+        text = copies[index].data
+        ways = [(each.data, gaps_of_chain(each.data, text)) for each in placed.values()]
+        base, (in_base, in_copy) = max(ways, key=lambda way: in_common(way[0], text, way[1]))
+        placed = {key: insert_gaps(copy, in_base, text) for key, copy in placed.items()}
+        placed[index] = insert_gaps(copies[index], in_copy, base)
+    return in_same_places([placed[index] for index in range(len(copies))])
+
+
+def in_common(one: bytes, other: bytes, gaps: Gaps) -> int:
+    """How many bytes of two texts with these gaps are equal."""
+    left, right = laid(one, other, gaps)
+    return len(left.data) - size_of(left.absent) - size_of(right.absent) - size_of(differing([left.data, right.data]))
+
+
+def in_same_places(copies: Sequence[Copy]) -> list[Copy]:
+    """The copies with a loss where another copy lost as many bytes, if no more bytes differ then: there one more event says nothing."""
+    found = list(copies)
+    for number in range(len(copies)):
+        others = found[:number] + found[number + 1 :]
+        for loss in found[number].lost:
+            parts = {part for other in others for part in other.lost if part[1] - part[0] == loss[1] - loss[0]}
+            ways = [with_loss_at(found[number], loss, part, others) for part in sorted(parts - set(found[number].absent))]
+            best = min([found[number], *ways], key=lambda way: (apart_from(way, others), way is found[number]))
+            found[number] = best
+    return found
+
+
+def with_loss_at(copy: Copy, loss: tuple[int, int], part: tuple[int, int], others: Sequence[Copy]) -> Copy:
+    """A copy that lacks another range in place of a loss of as many bytes; what it lacks is taken from a copy that has it."""
+    owner = next((other for other in others if not other.lacks(*part)), others[0])
+    rest = copy.data[: loss[0]] + copy.data[loss[1] :]
+    data = rest[: part[0]] + owner.data[slice(*part)] + rest[part[0] :]
+    kept = [each for each in copy.absent if each != loss]
+    return replace(copy, data=data, absent=merged([*kept, part]))
+
+
+def apart_from(copy: Copy, others: Sequence[Copy]) -> int:
+    """How many bytes of a copy and each of others differ."""
+    return sum(size_of(differing([copy.data, other.data])) for other in others)
 
 
 def on_one_axis(copies: Sequence[Copy], are_shifted: bool = False) -> list[Copy]:
