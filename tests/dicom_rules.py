@@ -210,15 +210,19 @@ def checks_of_series(bench: Bench, made: File) -> Iterator[Check]:
 
 
 def checks_of_votes_of_series(bench: Bench, made: File) -> Iterator[Check]:
-    """A copy with the UID of another file of the series has no vote on numbers, which that file has otherwise."""
-    true = put_before(made.bytes, 0x280002, element(0x180050, "DS", "1.5 "))
+    """A copy with the UID of another file of the series, or with a number of it, has no vote on numbers, which that file has otherwise."""
+    true = put_before(made.bytes, 0x280002, element(0x180050, "DS", "1.5 "), element(0x181150, "IS", "7425"))
     number, name = true.index(b"1.5 "), true.index(b"Doe^Jane")
+    near = (true.index(b"7425") + 2, b"8")
     hurt = [(true.index(stream) + 70, bytes(8)) for stream in made.frames]
     other = (true.rindex(UID.encode(), 0, name), (UID[:-1] + chr(ord(UID[-1]) ^ 1)).encode())
     for what, change, uid, is_back in (
         ("a number, and another UID", (number + 2, b"6"), other, False),
         ("a number", (number + 2, b"6"), hurt[2], True),
         ("a letter, and another UID", (name, b"E"), other, True),
+        ("a number, and one near by", (number + 2, b"6"), near, False),
+        ("a bit of a number, and one near by", (number + 2, b"4"), near, True),
+        ("a letter, and a number near by", (name, b"E"), near, True),
     ):
         copies = [changed(true, uid, hurt[0]), changed(true, hurt[1]), changed(true, change)]
         status, out, printed, faults, _ = bench.mend(copies)

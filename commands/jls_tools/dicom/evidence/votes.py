@@ -2,15 +2,17 @@
 from __future__ import annotations
 
 import bisect
+import itertools
 import re
-from collections.abc import Collection
-from typing import TYPE_CHECKING
+from collections.abc import Collection, Mapping
+from typing import TYPE_CHECKING, Optional
 
-from jls_tools.dicom.axis.media import SECTOR
+from jls_tools.dicom.axis.media import SECTOR, SECTORS
 from jls_tools.dicom.axis.sectors import is_noise_alone
 from jls_tools.dicom.evidence.decider import DECIDED, IS_SECTOR
 from jls_tools.dicom.evidence.most import BY_MOST, are_lost_alike
-from jls_tools.dicom.evidence.uids import of_series
+from jls_tools.dicom.evidence.uids import is_flip, of_series
+from jls_tools.dicom.read.elements import text_of
 from jls_tools.dicom.read.tags import INSTANCE, INSTANCE_IN_META
 
 if TYPE_CHECKING:
@@ -53,15 +55,17 @@ def looks_lost(header: Header, number: int, ways: set[int]) -> bool:
 def by_most(header: Header) -> None:
     """Three copies or more: what most of them have, unless these lost the sector together.
 
-    A copy with another file's UID says nothing of numbers, which files of a series have otherwise.
+    A copy with another file's UID says nothing of numbers, which files of a series have otherwise. Nor does one that has another number
+    near by, where no flipped bit explains what differs: two copies can have sectors of one other file.
     """
-    strange = with_other_uid(header)
+    strange, others = with_other_uid(header), with_other_numbers(header)
     for number in header.open_runs():
         run = header.runs.runs[number]
-        present = sum(len(each) for each in run.holders)
-        are_numbers = all(NUMBER.match(run.ways[way]) for way in header.left[number])
-        holders = {way: header.holders_of(number, way) - (strange if are_numbers else set()) for way in header.left[number]}
-        most = next((way for way in header.left[number] if present >= 3 and len(holders[way]) * 2 > present), None)
+        silent = strange if are_numbers(header, number) else set()
+        if has_other_number(header, number):
+            silent = silent | others.get(run.begin // SECTORS[0], set())
+        holders = {way: header.holders_of(number, way) - silent for way in header.left[number]}
+        most = of_most(header, number, holders)
         if most is None:
             continue
         count, is_filled = decided_against(header, number, holders[most]), looks_filled(header, number, holders[most])
@@ -69,6 +73,34 @@ def by_most(header: Header) -> None:
             header.keep(number, set(header.left[number]) - set(header.alike(number, most)), IS_SECTOR)
         elif count == 0 and not is_filled:
             header.keep(number, {most}, BY_MOST)
+
+
+def of_most(header: Header, number: int, holders: Mapping[int, Collection[int]]) -> Optional[int]:
+    """The way that most of three copies or more have, {a way that is left: the copies that count for it}."""
+    present = sum(len(each) for each in header.runs.runs[number].holders)
+    return next((way for way in header.left[number] if present >= 3 and len(holders[way]) * 2 > present), None)
+
+
+def are_numbers(header: Header, number: int) -> bool:
+    """Whether all ways that are left for a run are parts of numbers."""
+    return all(NUMBER.match(header.runs.runs[number].ways[way]) for way in header.left[number])
+
+
+def has_other_number(header: Header, number: int) -> bool:
+    """Whether copies have other numbers in a run, and it takes more than one bit to make one of the other."""
+    texts = [text_of(header.runs.runs[number].ways[way]) for way in header.left[number]]
+    return are_numbers(header, number) and not any(is_flip(one, two) for one, two in itertools.combinations(texts, 2))
+
+
+def with_other_numbers(header: Header) -> dict[int, set[int]]:
+    """{a block of the largest size: the copies that have another number in it than most have}."""
+    found: dict[int, set[int]] = {}
+    for number in header.open_runs():
+        most = of_most(header, number, {way: header.holders_of(number, way) for way in header.left[number]})
+        if most is not None and has_other_number(header, number):
+            others = (header.holders_of(number, way) for way in header.left[number] if way != most)
+            found.setdefault(header.runs.runs[number].begin // SECTORS[0], set()).update(*others)
+    return found
 
 
 def with_other_uid(header: Header) -> set[int]:
