@@ -229,6 +229,16 @@ def checks_of_votes_of_series(bench: Bench, made: File) -> Iterator[Check]:
         yield f"{what}: {is_back} ({status}, {printed}, {faults})", (status, out) == ((0, true) if is_back else (1, None))
 
 
+def checks_of_lost_votes(bench: Bench, made: File) -> Iterator[Check]:
+    """Sectors of zeros that a copy lost, and a few zeros of another copy, don't outvote what a third one has."""
+    true, begin = with_value(made, b"of a slice " * 300)
+    first, hurt = (begin // 512 + 2) * 512, (true.index(made.frames[0]) + 70, bytes(8))
+    for size in (2, 9):
+        copies = [changed(true, (first + 1100, bytes(size))), changed(true, (first, bytes(1536))), changed(true, hurt)]
+        status, out, printed, faults, _ = bench.mend(copies)
+        yield f"{size} zeros, and sectors of them: nothing false ({status}, {printed}, {faults})", out == (None if status else true)
+
+
 def put_before(data: bytes, tag: int, *elements: bytes) -> bytes:
     """A file with these elements before one of the top level that has the VR US or LO."""
     at = next(at for vr in (b"US", b"LO") if (at := data.find(struct.pack("<HH", tag >> 16, tag & 0xFFFF) + vr, 132)) >= 0)
@@ -323,5 +333,6 @@ def checks_of_two_damages(bench: Bench, made: File, rng: random.Random) -> Itera
 
 
 RULES = [checks_of_csa_headers, checks_of_terms, checks_of_lost_sectors, checks_of_tables, checks_of_one_uid, checks_of_halves]
-RULES += [checks_of_one_picture, checks_of_false_readings, checks_of_true_zeros, checks_of_series, checks_of_votes_of_series]
+RULES += [checks_of_one_picture, checks_of_false_readings, checks_of_true_zeros, checks_of_series, checks_of_votes_of_series,
+          checks_of_lost_votes]
 RULES += [checks_of_exchanged_bytes]

@@ -7,10 +7,11 @@ import re
 from collections.abc import Collection, Mapping
 from typing import TYPE_CHECKING, Optional
 
+from jls_tools.dicom.axis.bad_places import clipped
 from jls_tools.dicom.axis.media import SECTOR, SECTORS
 from jls_tools.dicom.axis.sectors import is_noise_alone
 from jls_tools.dicom.evidence.decider import DECIDED, IS_SECTOR
-from jls_tools.dicom.evidence.most import BY_MOST, are_lost_alike
+from jls_tools.dicom.evidence.most import BY_MOST, are_lost_alike, has_other
 from jls_tools.dicom.evidence.uids import is_flip, of_series
 from jls_tools.dicom.read.elements import text_of
 from jls_tools.dicom.read.tags import INSTANCE, INSTANCE_IN_META
@@ -56,7 +57,7 @@ def by_most(header: Header) -> None:
     """Three copies or more: what most of them have, unless these lost the sector together.
 
     A copy with another file's UID says nothing of numbers, which files of a series have otherwise. Nor does one that has another number
-    near by, where no flipped bit explains what differs: two copies can have sectors of one other file.
+    near by, where no flipped bit explains what differs: two copies can have sectors of one other file. What looks lost says nothing either.
     """
     strange, others = with_other_uid(header), with_other_numbers(header)
     for number in header.open_runs():
@@ -72,13 +73,23 @@ def by_most(header: Header) -> None:
         if count >= DECIDED and is_filled:
             header.keep(number, set(header.left[number]) - set(header.alike(number, most)), IS_SECTOR)
         elif count == 0 and not is_filled:
-            header.keep(number, {most}, BY_MOST)
+            lost = lost_in(header, number)
+            if of_most(header, number, {way: each - lost for way, each in holders.items()}) == most:
+                header.keep(number, {most}, BY_MOST)
 
 
 def of_most(header: Header, number: int, holders: Mapping[int, Collection[int]]) -> Optional[int]:
     """The way that most of three copies or more have, {a way that is left: the copies that count for it}."""
     present = sum(len(each) for each in header.runs.runs[number].holders)
     return next((way for way in header.left[number] if present >= 3 and len(holders[way]) * 2 > present), None)
+
+
+def lost_in(header: Header, number: int) -> set[int]:
+    """The copies that look lost in a run, where another copy has far other bytes in the sector."""
+    run = header.runs.runs[number]
+    place = run.begin, run.end
+    lost = {at for at, copy in enumerate(header.copies) if clipped(copy.seen, *place)}
+    return {at for at in lost if any(has_other(copy, header.copies[at].data, place) for copy in header.copies)}
 
 
 def are_numbers(header: Header, number: int) -> bool:
