@@ -69,10 +69,10 @@ def by_most(header: Header) -> None:
         most = of_most(header, number, holders)
         if most is None:
             continue
-        count, is_filled = decided_against(header, number, holders[most]), looks_filled(header, number, holders[most])
-        if count >= DECIDED and is_filled:
+        count = decided_against(header, number, holders[most])
+        if count >= DECIDED and looks_filled(header, number, holders[most]):
             header.keep(number, set(header.left[number]) - set(header.alike(number, most)), IS_SECTOR)
-        elif count == 0 and not is_filled:
+        elif count == 0:
             lost = lost_in(header, number)
             if of_most(header, number, {way: each - lost for way, each in holders.items()}) == most:
                 header.keep(number, {most}, BY_MOST)
