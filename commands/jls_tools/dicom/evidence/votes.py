@@ -57,7 +57,7 @@ def by_most(header: Header) -> None:
     """Three copies or more: what most of them have, unless these lost the sector together.
 
     A copy with another file's UID says nothing of numbers, which files of a series have otherwise. Nor does one that has another number
-    near by, where no flipped bit explains what differs: two copies can have sectors of one other file. What looks lost says nothing either.
+    near by, where no flipped bit explains what differs: two copies can have sectors of one other file. What looks lost makes no majority.
     """
     strange, others = with_other_uid(header), with_other_numbers(header)
     for number in header.open_runs():
