@@ -40,20 +40,27 @@ def presets(bits: int) -> tuple[tuple[int, ...], tuple[int, ...]]:
     return (most, 2 * scale + 3, 5 * scale + 9, 13 * scale + 30, 64), (most, scale + 2, 4 * scale + 3, 17 * scale + 4, 31)
 
 
+def recoded(chance: random.Random, kind: str) -> list[Picture]:
+    """A picture of one component, and with it the same in one or two other codings. The order of the codings behind it is free."""
+    bits = 12 if kind == "precision" else chance.choice([8, 8, 12, 16])
+    width, rows, samples = some_samples(chance, bits, 1)
+    plain = Picture((bits, 0, 0, 0, 0, 0), width, rows, 1, samples)
+    if kind == "precision":
+        return [plain, plain._replace(params=(16, 0, 0, 0, 0, 0))]
+    thresholds, reset = (plain._replace(params=(bits, *preset)) for preset in presets(bits))
+    return [plain, *{"thresholds": [thresholds], "RESET": [reset], "three copies": [thresholds, reset]}[kind]]
+
+
 def codings(chance: random.Random, charls: Charls, kind: str) -> tuple[Picture, list[bytes]]:
     """A picture, and its file in two or three codings. The order of the codings is free."""
-    bits = 12 if kind == "precision" else chance.choice([8, 8, 12, 16])
-    components = 3 if kind == "interleave" else 1
-    width, rows, samples = some_samples(chance, bits, components)
-    plain = Picture((bits, 0, 0, 0, 0, 0), width, rows, components, samples)
-    thresholds, reset = (plain._replace(params=(bits, *preset)) for preset in presets(bits))
     if kind == "interleave":
+        bits = chance.choice([8, 8, 12, 16])
+        width, rows, samples = some_samples(chance, bits, 3)
+        plain = Picture((bits, 0, 0, 0, 0, 0), width, rows, 3, samples)
         files = [charls.write(plain), charls.write_planes(plain)]
-    elif kind == "precision":
-        files = [charls.write(plain), charls.write(plain._replace(params=(16, 0, 0, 0, 0, 0)))]
     else:
-        others = {"thresholds": [thresholds], "RESET": [reset], "three copies": [thresholds, reset]}[kind]
-        files = [charls.write(picture) for picture in (plain, *others)]
+        pictures = recoded(chance, kind)
+        plain, files = pictures[0], [charls.write(picture) for picture in pictures]
     chance.shuffle(files)
     return plain, files
 
@@ -107,3 +114,35 @@ def damaged(
     if damage == "flip":
         return file[:begin] + bytes([file[begin] ^ 1 << chance.randrange(8)]) + file[begin + 1 :]
     return file[: max(begin, 2 * len(file) // 3)]
+
+
+def damaged_at(chance: random.Random, file: bytes, begin: int, damage: str, length: int) -> bytes:
+    """A copy of a file with up to so many damaged bytes from a place on."""
+    if damage == "flip":
+        return file[:begin] + bytes([file[begin] ^ 1 << chance.randrange(8)]) + file[begin + 1 :]
+    if damage == "inserted":
+        return file[:begin] + chance.randbytes(min(length, 40)) + file[begin:]
+    if damage == "lost":
+        return file[:begin] + file[begin + min(length, 40) :]
+    return file[:begin] + (bytes(length) if damage == "zeros" else chance.randbytes(length)) + file[begin + length :]
+
+
+def end_of_rows(charls: Charls, picture: Picture, rows: int) -> int:
+    """How many bytes of the file of a picture of one component stand before the end of so many rows."""
+    whole = charls.write(picture)
+    head = charls.write(picture._replace(rows=rows, samples=picture.samples[: rows * picture.width]))
+    return len(whole) - 2 - len(scan_bytes(whole)) + len(scan_bytes(head))
+
+
+def on_rows_that_touch(chance: random.Random, charls: Charls, kind: str) -> tuple[Picture, list[bytes]]:
+    """A picture, and a damaged copy in each of two codings. Each has one place of up to 64 bytes, in rows side by side."""
+    pictures = recoded(chance, kind)
+    plain, row, copies = pictures[0], chance.randint(pictures[0].rows // 6, 5 * pictures[0].rows // 6), []
+    chance.shuffle(pictures)
+    for place, picture in enumerate(pictures):
+        file = charls.write(picture)
+        begin, end = (end_of_rows(charls, picture, row + place + behind) for behind in (0, 1))
+        length = chance.randint(1, max(1, min(64, end - begin - 4)))
+        at = chance.randint(begin, max(begin, end - 2 - length))
+        copies.append(damaged_at(chance, file, at, chance.choice(DAMAGES[:-1]), length))
+    return plain, copies
