@@ -7,7 +7,7 @@ import struct
 from collections.abc import Iterator
 from typing import Protocol
 
-from dicom_files import UID, Bench, File, changed, element, frame, with_value
+from dicom_files import CLASS, UID, Bench, File, changed, element, frame, with_value
 
 Check = tuple[str, bool]
 
@@ -153,6 +153,11 @@ def checks_of_one_uid(bench: Bench, made: File) -> Iterator[Check]:
     lost = changed(true, (true.index(UID.encode()), bytes(10)), *zeros)
     status, out, printed, _, _ = bench.mend([lost, changed(true, (name - 8, bytes(12)))])
     yield f"a copy with one UID: the same file ({status}, {printed})", (status, out == true) == (0, True)
+    last = len(CLASS) - 1
+    in_meta, in_data = true.index(CLASS.encode()) + last, true.rindex(CLASS.encode(), 0, name) + last
+    other = [changed(true, (in_data, b"4")), changed(true, (in_meta, b"4"), (in_data, b"2"))]
+    status, out, printed, faults, _ = bench.mend(other)
+    yield f"of four SOP Class UIDs two are equal, and not the file's: undecided ({status}, {printed}, {faults})", (status, out) == (1, None)
 
 
 def exchanged(data: bytes, begin: int) -> bytes:
