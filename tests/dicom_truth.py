@@ -219,6 +219,10 @@ def checks_of_tails(bench: Bench, made: File, neighbour: File) -> Iterator[Check
     ended = [true + rests[0], damaged(made) + neighbour.bytes[-300:]]
     for order in (ended, ended[::-1]):
         yield case(bench, "rests of other files, of which one ends there", order, 0, true, "they were cut from")
+    lost = true[: made.items[0] + 70] + true[made.items[0] + 72 :]
+    for name, rest, wanted in (("", rests[1], (0, true, "they were cut from")), (", which end at no border", rests[1][:-1], (1, b"", ""))):
+        both = [true + rests[0], lost + rest]
+        yield case(bench, f"rests of other files{name}, and bytes lost before one", both, *wanted)
     both = [true + rests[0], damaged(made) + zeros]
     yield case(bench, "the rest of another file, and zeros", both, 1, b"", "what stands after the last element")
     yield case(bench, "rests of two other files, and zeros", [true + rests[0], damaged(made) + zeros, true + rests[1]], 0, true, "cut from")
@@ -238,12 +242,14 @@ def checks_of_tails(bench: Bench, made: File, neighbour: File) -> Iterator[Check
 
 def of_padded_copies(bench: Bench, made: File, rest: bytes) -> Iterator[Check]:
     """Bytes of one value behind the elements are no part of the file, where not all copies have the same."""
-    true = made.bytes
+    true, inside = made.bytes, made.items[2] + 60
+    lost = true[:inside] + true[inside + 2 :]
     for name, copies in (
         ("two zeros, and a hundred", [true + bytes(2), damaged(made) + bytes(100)]),
         ("zeros, and ones", [true + bytes(64), damaged(made) + b"\xff" * 64]),
         ("zeros, and the other copy is cut", [true + bytes(300), true[:-60]]),
         ("zeros behind a copy with bytes too many, and behind another one", [more_in_frame(made) + bytes(512), damaged(made) + bytes(2)]),
+        ("zeros behind a copy with bytes too many, and behind one that lost some", [more_in_frame(made) + bytes(2), lost + bytes(100)]),
     ):
         for order in (copies, copies[::-1]):
             yield case(bench, name, order, 0, true, "they were cut from")

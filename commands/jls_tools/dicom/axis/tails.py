@@ -13,7 +13,7 @@ from dataclasses import dataclass, field
 from typing import Optional
 
 from jls_tools.dicom.axis.media import SECTOR
-from jls_tools.dicom.read.elements import DELIMITER, UNDEFINED, has_prefix, walk
+from jls_tools.dicom.read.elements import DELIMITER, PIXELS_BEGIN, UNDEFINED, has_prefix, walk
 from jls_tools.dicom.read.reading import Reading
 from jls_tools.dicom.read.tags import PIXEL_DATA
 
@@ -61,18 +61,14 @@ def without_tails(texts: list[bytes]) -> Tails:
     if found.cut:
         found.ways += dict.fromkeys(texts[at][border:] for at, border in enumerate(borders) if border is not None)
         return found
+    owns = [own if own is not None else may_be for own, may_be in zip(ends, likely)]
     end = next((end for text, end in zip(texts, ends) if end is not None and end < len(text)), None)
+    if end is None and not any(ends) and all(map(PIXELS_BEGIN.search, texts)) and are_padded(texts, owns, 0):
+        return without_these(texts, owns)
     if end is None or any(other not in (None, end) for other in ends):
         return found
-    if None not in ends and are_strange(texts, end):
-        return Tails([text[:end] for text in texts], list(range(len(texts))), [b"", *(text[end:] for text in texts)])
-    owns = [own if own is not None else may_be for own, may_be in zip(ends, likely)]
-    if are_padded(texts, owns, end):
-        tails = [text[own:] for text, own in zip(texts, owns)]
-        found.texts = [text[:own] for text, own in zip(texts, owns)]
-        found.cut = [at for at, tail in enumerate(tails) if tail]
-        found.ways += dict.fromkeys(filter(None, tails))
-        return found
+    if are_strange(texts, owns, end) or are_padded(texts, owns, end):
+        return without_these(texts, owns)
     # One that does not read whole can be longer and end as a file does: bytes were put into it, and it has no tail
     longer = [at for at, text in enumerate(texts) if len(text) > end]
     with_tails = [at for at in longer if ends[at] is not None or likely[at] != len(texts[at])]
@@ -89,6 +85,14 @@ def without_tails(texts: list[bytes]) -> Tails:
     return found
 
 
+def without_these(texts: list[bytes], owns: list[Optional[int]]) -> Tails:
+    """The copies without what stands behind where the elements of each end, as far as that is known."""
+    tails = [text[own:] if own is not None else b"" for text, own in zip(texts, owns)]
+    found = Tails([text[:own] for text, own in zip(texts, owns)], [at for at, tail in enumerate(tails) if tail])
+    found.ways += dict.fromkeys(filter(None, tails))
+    return found
+
+
 def are_padded(texts: list[bytes], owns: list[Optional[int]], end: int) -> bool:
     """Whether bytes of one value stand behind the elements, and not the same in all copies that have some: no element is so.
 
@@ -101,15 +105,17 @@ def are_padded(texts: list[bytes], owns: list[Optional[int]], end: int) -> bool:
     return not is_one and len(texts) > 1 and all(not tail.strip(tail[:1]) for tail in tails)
 
 
-def are_strange(texts: list[bytes], end: int) -> bool:
+def are_strange(texts: list[bytes], owns: list[Optional[int]], end: int) -> bool:
     """Whether all copies go on to the end of a sector, or end as another file does, and two at least have bytes of their own, no padding.
 
-    Else it can be an element whose header is damaged in each copy.
+    Else it can be an element whose header is damaged in each copy. `owns` are where the elements of each may end: a sector of one that
+    lost bytes before, or has too many, ends so much earlier or later.
     """
-    tails = [text[end:] for text in texts if text[end:].strip(text[end : end + 1])]
+    tails = [text[own:] for text, own in zip(texts, owns) if own is not None and text[own:].strip(text[own : own + 1])]
     begins = {tail[:BEGIN] for tail in tails}
-    are_own = len(tails) == len(begins) > 1 and not are_of_one_element(tails)
-    return are_own and all(len(text) % SECTOR == 0 or end_behind(text) == len(text) for text in texts)
+    are_own = None not in owns and len(tails) == len(begins) > 1 and not are_of_one_element(tails)
+    sizes = [len(text) - (own or 0) + end for text, own in zip(texts, owns)]
+    return are_own and all(size % SECTOR == 0 or end_behind(text) == len(text) for size, text in zip(sizes, texts))
 
 
 def are_of_one_element(tails: list[bytes]) -> bool:
