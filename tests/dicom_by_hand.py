@@ -75,15 +75,15 @@ def checks_of_put_in_by_hand(rng: random.Random) -> Iterator[Check]:
     yield "and two have them", inserted.is_clear([Copy("a", twice), Copy("b", twice, [(190, end)]), Copy("c", twice, [part])], part)
     yield "in the preamble", inserted.is_no_element([Copy("a", twice), Copy("b", twice, [(100, 140)])], (100, 140))
     copies = [Copy("a", before + block + behind), Copy("b", before + block + behind, [part])]
-    for name, is_in_frame, goes_on, hides in (
+    for name, is_in_item, goes_on, hides in (
         ("in a frame", True, False, False),
         ("in a header", False, False, False),
         ("in a value that goes on", False, True, False),
         ("in a value that goes on, and ends with an element", False, True, True),
     ):
-        answers = {"is_in_frame": is_in_frame, "goes_on": goes_on, "can_hide_element": hides, "is_held_alike": True}
+        answers = {"is_in_item": is_in_item, "goes_on": goes_on, "can_hide_element": hides, "is_held_alike": True}
         stub: Any = types.SimpleNamespace(**{key: lambda *_, own=own: own for key, own in answers.items()})
-        wanted = is_in_frame or goes_on and not hides
+        wanted = is_in_item or goes_on and not hides
         yield f"a block {name}: {wanted}", layout.is_put_in(copies, stub, part, [part]) == wanted
 
 

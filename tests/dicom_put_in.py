@@ -35,6 +35,7 @@ def checks_of_bytes_put_in(bench: Bench, made: File, rng: random.Random) -> Iter
         "as many in a frame of each": (true, [put(true, first + 70, b"\x91\x3c"), put(true, third + 60, b"\x17\x21")]),
         "in three copies": (true, [put(true, at + 60, rng.randbytes(5 + size)) for size, at in enumerate((first, second, third))]),
         "a loss and more bytes": (true, [more, changed(true, zeros)]),
+        "in the offset table": (true, [put(true, made.table_at + 4, rng.randbytes(64)), changed(true, zeros)]),
         "two bytes in a header": (true, [put(true, made.name_at + 3, b"\x91\x3c"), changed(true, zeros)]),
         "elements twice": (true, [twice(true, true.index(b"\x08\0\x08\0CS"), 80), changed(true, zeros)]),
         "a block of a private text twice": (text, [twice(text, begin + 300, 512), changed(text, hurt)]),

@@ -77,9 +77,12 @@ class Layout:
         """Whether each header reads, so that frames can be put where they were."""
         return not self.breaks and not self.structure.is_cut and all(place.is_exact for place in self.places)
 
-    def is_in_frame(self, place: int) -> bool:
-        """Whether a place stands within a fragment of a frame."""
-        return any(begin < place < end for each in self.places for begin, end in each.fragments)
+    def is_in_item(self, place: int) -> bool:
+        """Whether a place stands within an item of Pixel Data: a fragment of a frame, or the offset table."""
+        items = [fragment for each in self.places for fragment in each.fragments]
+        if self.fragments is not None and self.fragments.table is not None:
+            items.append((self.fragments.table.value, self.fragments.table.end))
+        return any(begin < place < end for begin, end in items)
 
     def is_held_alike(self, place: int) -> bool:
         """Whether all copies have the same headers of the elements and items that hold a place."""
@@ -210,7 +213,7 @@ def is_put_in(copies: Sequence[Copy], layout: Layout, part: Range, parts: Sequen
     for begin, end in parts:
         at = inserted.place_without(begin, parts)
         sizes[at] = sizes.get(at, 0) + end - begin
-    if layout.is_in_frame(place):
+    if layout.is_in_item(place):
         return True
     is_no_element = inserted.is_no_element(copies, part) or layout.goes_on(place, part[1] - part[0])
     is_lacked_twice = sum(part in copy.absent for copy in copies) > 1  # no two copies lost the same bytes of which the other has damage
