@@ -14,6 +14,7 @@ SECTOR = 512
 INTERVALS = ((0, 8), (0, 16), (0, 32), (8, 16), (5, 32), (16, 30))
 KINDS = ("thresholds", "RESET", "interleave", "precision", "three copies")
 DAMAGES = ("zeros", "lost", "inserted", "noise", "flip", "cut")
+LONGEST = {"zeros": 64, "lost": 40, "inserted": 40, "noise": 64, "flip": 1}  # bytes of a place within a row
 
 
 def some_samples(
@@ -41,7 +42,7 @@ def presets(bits: int) -> tuple[tuple[int, ...], tuple[int, ...]]:
 
 
 def recoded(chance: random.Random, kind: str) -> list[Picture]:
-    """A picture of one component, and with it the same in one or two other codings. The order of the codings behind it is free."""
+    """A picture of one component in the plain coding, and then in one or two others."""
     bits = 12 if kind == "precision" else chance.choice([8, 8, 12, 16])
     width, rows, samples = some_samples(chance, bits, 1)
     plain = Picture((bits, 0, 0, 0, 0, 0), width, rows, 1, samples)
@@ -92,6 +93,17 @@ def in_intervals(chance: random.Random, charls: Charls) -> tuple[Picture, list[b
     return picture, files
 
 
+def damaged_at(chance: random.Random, file: bytes, begin: int, damage: str, length: int) -> bytes:
+    """A copy of a file in which so many bytes from a place on are zeros, noise, lost or inserted, or a bit of the first is flipped."""
+    if damage == "flip":
+        return file[:begin] + bytes([file[begin] ^ 1 << chance.randrange(8)]) + file[begin + 1 :]
+    if damage == "inserted":
+        return file[:begin] + chance.randbytes(length) + file[begin:]
+    if damage == "lost":
+        return file[:begin] + file[begin + length :]
+    return file[:begin] + (bytes(length) if damage == "zeros" else chance.randbytes(length)) + file[begin + length :]
+
+
 def damaged(
     chance: random.Random, file: bytes, first: float, last: float, damages: Sequence[str] = DAMAGES, sector: int = SECTOR
 ) -> bytes:
@@ -99,32 +111,12 @@ def damaged(
     begin = chance.randint(int(len(file) * first), max(int(len(file) * first), int(len(file) * last) - sector))
     begin = max(60, min(begin, len(file) - 20))
     damage = chance.choice(damages)
+    if damage == "cut":
+        return file[: max(begin, 2 * len(file) // 3)]
     if damage == "zeros":
-        begin -= begin % sector
-        begin = max(begin, 60)
-        end = min(len(file), begin - begin % sector + sector)
-        return file[:begin] + bytes(end - begin) + file[end:]
-    if damage == "lost":
-        return file[:begin] + file[begin + chance.randint(1, 40) :]
-    if damage == "inserted":
-        return file[:begin] + chance.randbytes(chance.randint(1, 40)) + file[begin:]
-    if damage == "noise":
-        length = chance.randint(1, 64)
-        return file[:begin] + chance.randbytes(length) + file[begin + length :]
-    if damage == "flip":
-        return file[:begin] + bytes([file[begin] ^ 1 << chance.randrange(8)]) + file[begin + 1 :]
-    return file[: max(begin, 2 * len(file) // 3)]
-
-
-def damaged_at(chance: random.Random, file: bytes, begin: int, damage: str, length: int) -> bytes:
-    """A copy of a file with up to so many damaged bytes from a place on."""
-    if damage == "flip":
-        return file[:begin] + bytes([file[begin] ^ 1 << chance.randrange(8)]) + file[begin + 1 :]
-    if damage == "inserted":
-        return file[:begin] + chance.randbytes(min(length, 40)) + file[begin:]
-    if damage == "lost":
-        return file[:begin] + file[begin + min(length, 40) :]
-    return file[:begin] + (bytes(length) if damage == "zeros" else chance.randbytes(length)) + file[begin + length :]
+        begin = max(begin - begin % sector, 60)
+        return damaged_at(chance, file, begin, damage, min(len(file), begin - begin % sector + sector) - begin)
+    return damaged_at(chance, file, begin, damage, 1 if damage == "flip" else chance.randint(1, LONGEST[damage]))
 
 
 def end_of_rows(charls: Charls, picture: Picture, rows: int) -> int:
@@ -144,5 +136,6 @@ def on_rows_that_touch(chance: random.Random, charls: Charls, kind: str) -> tupl
         begin, end = (end_of_rows(charls, picture, row + place + behind) for behind in (0, 1))
         length = chance.randint(1, max(1, min(64, end - begin - 4)))
         at = chance.randint(begin, max(begin, end - 2 - length))
-        copies.append(damaged_at(chance, file, at, chance.choice(DAMAGES[:-1]), length))
+        damage = chance.choice(DAMAGES[:-1])
+        copies.append(damaged_at(chance, file, at, damage, min(length, LONGEST[damage])))
     return plain, copies
