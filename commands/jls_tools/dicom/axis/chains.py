@@ -1,8 +1,8 @@
 """Two texts laid beside each other by the runs of bytes that stand in both: of all orders of runs the one that costs least.
 
 A search that goes from one loss to the next takes the first place where both go on. Where losses lie near each other, or damage lies
-beside one, that can be a wrong one. Here each run that stands in both is known before, and what lies between two of them has its cost:
-bytes that one alone has make the file longer, and bytes that differ are damage of one of both, but for those that are filled.
+beside one, that can be a wrong one. Here each run that stands in both is known first, and what lies between two of them has a cost. Bytes
+that one alone has make the file longer. Bytes that differ are damage of one of the two, unless they are filled.
 """
 from __future__ import annotations
 

@@ -1,4 +1,4 @@
-"""A loss of a copy that stands in what is of one value, as behind where it was cut and filled with zeros: there nothing shows its place.
+"""A loss of a copy inside bytes of one value, as after the place where it was cut and filled with zeros: there nothing shows its place.
 
 So it is put where other copies lack as many bytes. There one copy has bytes too many, and then this copy lost none.
 """

@@ -1,6 +1,6 @@
 """One byte of a text or of a binary record in which copies differ, where the file has the bytes around it elsewhere too.
 
-There one of the ways stands with the same bytes before and behind, several times, and no other way does. No other byte of the sector may
+There one of the ways stands with the same bytes before and after it, several times, and no other way does. No other byte of the sector may
 differ: a sector of another place, or of another file of the series, differs in more. Digits are what files of a series have otherwise, and
 a few bytes of one value can be written over true ones: these want to stand elsewhere more often. Numbers, dates and UIDs of the data set
 say nothing.
