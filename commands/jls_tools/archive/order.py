@@ -14,7 +14,7 @@ Record = Tuple[Any, ...]  # the first entries say the order
 
 
 def key_of(path: str, is_folder: bool = False) -> bytes:
-    """Where a path stands in the order. What is below a folder stands behind it, and so does the folder's own row if it can't be read."""
+    """Where a path stands in the order. What is below a folder stands after it, and so does the folder's own row if it can't be read."""
     return os.fsencode(path) + (b"/" if is_folder and path else b"")
 
 

@@ -69,7 +69,7 @@ def behind_items(data: bytes, at: int) -> Optional[int]:
 
 
 def fragments_of(data: bytes, at: int, end: int) -> List[bytes]:
-    """What the items of Pixel Data have, behind the table that the first item is."""
+    """What the items of Pixel Data have, after the table that the first item is."""
     found = []
     while at < end - 8:
         (length,) = struct.unpack_from("<I", data, at + 4)

@@ -23,7 +23,7 @@ class BadManifest(Exception):
 
 
 def unescaped(name: str) -> str:
-    """The name behind the backslash that begins a line of sha256sum."""
+    """The name after the backslash that begins a line of sha256sum."""
     return re.sub(r"\\([\\nr])", lambda found: {"\\": "\\", "n": "\n", "r": "\r"}[found.group(1)], name)
 
 

@@ -62,7 +62,7 @@ def kind_of(entry: os.DirEntry[str]) -> str:
 
 
 def entries_of(folder: str) -> List[bytes]:
-    """What is in a folder, in the order of paths: each name, of a folder with a slash behind it, then a zero byte and the kind."""
+    """What is in a folder, in the order of paths: each name, of a folder with a slash after it, then a zero byte and the kind."""
     with os.scandir(folder) as entries:
         kinds = ((entry.name, kind_of(entry)) for entry in entries)
         return sorted(os.fsencode(name) + (b"/\0" if kind == FOLDER else b"\0") + kind.encode() for name, kind in kinds)

@@ -101,7 +101,7 @@ class Layout:
         return len({copy.data[begin:end] for copy in own}) == 1 and not any(copy.lacks(begin, end) for copy in own)
 
     def goes_on(self, place: int, size: int) -> bool:
-        """Whether the value that holds a place goes on for so many bytes behind it: then no element begins there that copies lost."""
+        """Whether the value that holds a place goes on for so many bytes after it: then no element begins there that copies lost."""
         leaves = (step.element for step in self.structure.steps if step.kind == "leaf" and step.element)
         return any(element.value < place <= element.end - size for element in leaves)
 

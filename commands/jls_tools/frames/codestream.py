@@ -51,7 +51,7 @@ EOI_AND_PADDING = EOI + b"\0"
 
 
 def codestream_end(stream: bytes) -> Optional[int]:
-    """Where a codestream ends, behind its EOI; nothing if its marker segments don't lead there. No scan has a marker in it (T.87, A.1)."""
+    """Where a codestream ends, after its EOI; nothing if its marker segments don't lead there. No scan has a marker in it (T.87, A.1)."""
     at = 2 if stream[:2] == b"\xff\xd8" else len(stream)
     while found := MARKER.search(stream, at):
         code, at = found.group(1)[0], found.end()

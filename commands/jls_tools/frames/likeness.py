@@ -40,7 +40,7 @@ def shares_little(stream: bytes, other: bytes) -> bool:
 
 
 def equal_stretches(one: bytes, other: bytes) -> Iterator[tuple[int, bytes]]:
-    """(begin, bytes) of what two streams have in common behind their headers, eight bytes or more each."""
+    """(begin, bytes) of what two streams have in common after their headers, eight bytes or more each."""
     begin, end = max(behind_headers(one) or FEWEST_HEADERS, behind_headers(other)), min(len(one), len(other))
     apart = int.from_bytes(one[begin:end], "big") ^ int.from_bytes(other[begin:end], "big")
     for run in SAME_RUN.finditer(apart.to_bytes(max(0, end - begin), "big")):
@@ -48,12 +48,12 @@ def equal_stretches(one: bytes, other: bytes) -> Iterator[tuple[int, bytes]]:
 
 
 def shares_stretch(one: bytes, other: bytes) -> bool:
-    """Whether two streams have a stretch in common behind their headers that codes no even area."""
+    """Whether two streams have a stretch in common after their headers that codes no even area."""
     return any(len(set(stretch)) >= SAME_KINDS for _, stretch in equal_stretches(one, other))
 
 
 def shares_rest(one: bytes, other: bytes) -> bool:
-    """Whether two streams of one length have a long stretch in common behind a place where they differ: of two pictures none have."""
+    """Whether two streams of one length have a long stretch in common after a place where they differ: of two pictures none have."""
     if len(one) != len(other):
         return False
     differ = next((at for at, (left, right) in enumerate(zip(one, other)) if left != right), len(one))

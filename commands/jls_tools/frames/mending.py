@@ -116,7 +116,7 @@ class FrameMender:
     def mend_padded(self, number: int, streams: Sequence[bytes], begin: int = 0, is_exact: bool = True) -> Mended:
         """As `mend`, of streams from items: a last byte that can be their padding counts where all lines come with it.
 
-        Such a 00 behind a frame that is cut off is no code of it. With it no line of an interval can come, or one that is false. `is_exact`
+        Such a 00 after a frame that is cut off is no code of it. With it no line of an interval can come, or one that is false. `is_exact`
         says that the items end where they say.
         """
         mended, unpadded = self.mend(number, streams, begin), without_padding(streams)

@@ -114,7 +114,7 @@ def meet_again(one: bytes, other: bytes, at: int, beside: int) -> Optional[tuple
     """The next offsets (in both) from which they are equal again, with bytes lost between or not; nothing if there are none.
 
     Of several from which both go on alike the nearest is taken, as what is lost may stand a second time further on. A nearer one counts
-    where more is lost or damaged behind it, if fewer bytes are lost and differ on the way through it.
+    where more is lost or damaged after it, if fewer bytes are lost and differ on the way through it.
     """
     alike: Optional[tuple[int, tuple[int, int]]] = None
     near: Optional[tuple[int, tuple[int, int]]] = None

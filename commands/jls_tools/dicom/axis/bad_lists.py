@@ -62,6 +62,6 @@ def read(path: str) -> list[Range]:
 
 
 def of_copy(path: str, size: int) -> tuple[list[Range], int]:
-    """(the places of a list in a file of so many bytes, how many of it begin behind its end)."""
+    """(the places of a list in a file of so many bytes, how many of it begin after its end)."""
     found = read(path)
     return [(begin, min(end, size)) for begin, end in found if begin < size], sum(begin >= size for begin, _ in found)

@@ -29,7 +29,7 @@ def is_filled(sector: bytes) -> bool:
 
 
 def seen(data: bytes) -> list[Range]:
-    """The sectors of a file, by its own offsets, that are filled. What is left behind the last border counts with the sector before it."""
+    """The sectors of a file, by its own offsets, that are filled. What is left after the last border counts with the sector before it."""
     found: list[Range] = []
     for at in range(0, len(data), SECTOR):
         sector = data[at : at + SECTOR]

@@ -62,7 +62,7 @@ class Chain:
         return math.inf if sizes is None else min(self.cost_apart(run, *sizes), cost_alone(*sizes))
 
     def cost_apart(self, run: Run, own: int, other: int) -> float:
-        """What bytes behind a run cost, of which as many of both differ, and the rest was lost."""
+        """What bytes after a run cost, of which as many of both differ, and the rest was lost."""
         apart, begins = min(own, other), (run.at + run.size, run.beside + run.size)
         ends = (begin + apart for begin in begins)
         left = (apart - filled[end] + filled[begin] for filled, begin, end in zip(self.filled, begins, ends))

@@ -75,7 +75,7 @@ def place_in(copy: Copy, place: int) -> int:
 
 
 def is_clear(copies: Sequence[Copy], part: Range) -> bool:
-    """Whether all copies that have what is before and behind a range have it alike: two at least."""
+    """Whether all copies that have what is before and after a range have it alike: two at least."""
     begin, end = part
     well = [copy for copy in copies if not copy.lacks(begin - BESIDE, begin) and not copy.lacks(end, end + BESIDE)]
     around = {copy.data[max(0, begin - BESIDE) : begin] + copy.data[end : end + BESIDE] for copy in well}
@@ -89,6 +89,6 @@ def is_no_element(copies: Sequence[Copy], part: Range) -> bool:
 
 
 def stands_beside(data: bytes, begin: int, end: int) -> bool:
-    """Whether what stands in a range stands a second time just before it or behind it."""
+    """Whether what stands in a range stands a second time just before it or after it."""
     own, size = data[begin:end], end - begin
     return size >= LEAST_TWICE and own.strip(own[:1]) != b"" and own in (data[max(0, begin - size) : begin], data[end : end + size])

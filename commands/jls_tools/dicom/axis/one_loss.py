@@ -35,7 +35,7 @@ def place_of(short: bytes, long: bytes) -> int:
 
 
 def both_places_of(one: bytes, other: bytes) -> Optional[tuple[int, int, int]]:
-    """(where, where behind that, how many) if one of two texts of one length can have bytes more here, and the other one there.
+    """(where, where after that, how many) if one of two texts of one length can have bytes more here, and the other one there.
 
     The count is below zero where it is the other one that has more here. What is between then stands so far on in one of both.
     """

@@ -224,7 +224,7 @@ class Pair:
         return begin >= 0 and own != other and len(own) % 2 == 0 and own[::2] == other[1::2] and own[1::2] == other[::2]
 
     def fits_less(self, begin: int, end: int) -> bool:
-        """Whether what a copy has in a range follows the bytes before and behind it less than what the other one has there."""
+        """Whether what a copy has in a range follows the bytes before and after it less than what the other one has there."""
         context = b"".join(self.beside(begin, end))
         kind = Kind(context)
         return len(context) >= CONTEXT and kind.bits(self.own[begin:end]) >= kind.bits(self.other[begin:end]) + FITS

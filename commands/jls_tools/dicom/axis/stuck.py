@@ -112,7 +112,7 @@ def is_stretch(own: bytes, beside: bytes, bit: int) -> bool:
 
 
 def has_records(data: bytes, model: bytes, page: Range, lanes: Sequence[tuple[int, int]]) -> bool:
-    """Whether a bit has one value in lanes of the file itself: in another lane of the page, or in these in the page before or behind."""
+    """Whether a bit has one value in lanes of the file itself: in another lane of the page, or in these in the page before or after."""
     first, last = page
     others = (lane for lane in range(first, min(first + LANE, last)) if data[lane:last:LANE] == model[lane:last:LANE])
     if any(oddness(data[first:last], lane - first, 1 << bit) >= MARGIN for lane in others for bit in range(8)):

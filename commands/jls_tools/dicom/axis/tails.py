@@ -23,7 +23,7 @@ BESIDE = 64  # so many bytes before the end of a whole copy are equal in one tha
 
 @dataclass
 class Tails:
-    """The copies without what stands behind their last elements. `ways` are the tails that the file can have, the one taken first."""
+    """The copies without what stands after their last elements. `ways` are the tails that the file can have, the one taken first."""
 
     texts: list[bytes]
     cut: list[int] = field(default_factory=list)  # the copies of which a tail was cut
@@ -45,7 +45,7 @@ def ends_of(texts: list[bytes]) -> list[Optional[int]]:
 
 
 def descends_at(text: bytes) -> Optional[int]:
-    """Where an element of the top level begins behind Pixel Data whose tag is lower: the rest of another file can begin so."""
+    """Where an element of the top level begins after Pixel Data whose tag is lower: the rest of another file can begin so."""
     tops = Reading(text).top if has_prefix(text) else []
     pixels = next((at for at, element in enumerate(tops) if element.tag == PIXEL_DATA), len(tops))
     return next((element.start for element in tops[pixels:] if element.tag < PIXEL_DATA), None)
@@ -86,7 +86,7 @@ def without_tails(texts: list[bytes]) -> Tails:
 
 
 def without_these(texts: list[bytes], owns: list[Optional[int]]) -> Tails:
-    """The copies without what stands behind where the elements of each end, as far as that is known."""
+    """The copies, each cut where its elements end, as far as that is known."""
     tails = [text[own:] if own is not None else b"" for text, own in zip(texts, owns)]
     found = Tails([text[:own] for text, own in zip(texts, owns)], [at for at, tail in enumerate(tails) if tail])
     found.ways += dict.fromkeys(filter(None, tails))
@@ -94,9 +94,9 @@ def without_these(texts: list[bytes], owns: list[Optional[int]]) -> Tails:
 
 
 def are_padded(texts: list[bytes], owns: list[Optional[int]], end: int) -> bool:
-    """Whether bytes of one value stand behind the elements, and not the same in all copies that have some: no element is so.
+    """Whether bytes of one value stand after the elements, and not the same in all copies that have some: no element is so.
 
-    `owns` are where the elements of each may end. One that is longer, and in which this is not known, can have anything behind them.
+    `owns` are where the elements of each may end. One that is longer, and in which this is not known, can have anything after them.
     """
     if any(own is None and len(text) > end for text, own in zip(texts, owns)):
         return False
@@ -126,7 +126,7 @@ def are_of_one_element(tails: list[bytes]) -> bool:
 
 
 def end_behind(text: bytes) -> Optional[int]:
-    """Where the elements end that follow the last delimiter of a sequence, as those behind Pixel Data do."""
+    """Where the elements end that follow the last delimiter of a sequence, as those after Pixel Data do."""
     at = text.rfind(DELIMITER)
     elements = list(walk(text, at + len(DELIMITER))) if at >= 0 else []
     if elements and elements[-1].length != UNDEFINED:
@@ -149,9 +149,9 @@ def border_of(texts: list[bytes], ends: list[Optional[int]], at: int, own: Optio
 
 
 def end_in_both(texts: list[bytes], at: int, end: Optional[int], likely: Optional[int]) -> Optional[int]:
-    """Where a copy goes on behind its last element, if another one, which can have lost bytes or have more, ends just there.
+    """Where a copy goes on after its last element, if another one, which can have lost bytes or have more, ends just there.
 
-    One that does not read whole ends behind its last delimiter, unless the other copy has what follows there.
+    One that does not read whole ends after its last delimiter, unless the other copy has what follows there.
     """
     text, border = texts[at], likely if end is None else end
     if border is None or border == len(text):
@@ -169,7 +169,7 @@ def stands_in(tail: bytes, other: bytes) -> bool:
 
 
 def is_one_end(text: bytes, other: bytes) -> bool:
-    """Whether a copy that lost bytes ends with those of another one, the last ones of Pixel Data among them: other files end alike behind.
+    """Whether a copy that lost bytes ends with those of another one, the last ones of Pixel Data among them: other files end alike after it.
 
     It can't be told where a sector ends in one of both: there a disk can have cut it.
     """
@@ -179,6 +179,6 @@ def is_one_end(text: bytes, other: bytes) -> bool:
 
 
 def ends_alike(text: bytes, other: bytes) -> bool:
-    """Whether a copy goes on behind the end of another one, which ends with the same bytes or where zeros begin."""
+    """Whether a copy goes on after the end of another one, which ends with the same bytes or where zeros begin."""
     size = len(other)
     return text[max(0, size - BESIDE) : size] == other[-BESIDE:] or not text[size:].strip(b"\0")

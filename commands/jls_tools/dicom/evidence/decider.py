@@ -136,7 +136,7 @@ class Decider:
         return before, behind
 
     def by_runs_of_one_value(self, pair: Pair, own: int, other: int) -> None:
-        """Open places in a run of one value that was written over places near them, before and behind: true zeros can follow lost ones."""
+        """Open places in a run of one value that was written over places near them, before and after: true zeros can follow lost ones."""
         waiting = self.header.open_runs()
         for number in waiting + waiting[::-1]:
             run = self.runs.runs[number]
@@ -149,7 +149,7 @@ class Decider:
                 self.drop(own, other, run.begin, run.end, IS_ONE_RUN)
 
     def is_between(self, number: int, around: tuple[int, int], own: int, other: int) -> bool:
-        """Whether places of a range near a run, before and behind it, were decided against a copy."""
+        """Whether places of a range near a run, before and after it, were decided against a copy."""
         inside = self.runs.touching(*around)
         sides = range(number - 1, inside.start - 1, -1), range(number + 1, inside.stop)
         return all(any(self.is_for(each, other, own) for each in self.near(number, side)) for side in sides)

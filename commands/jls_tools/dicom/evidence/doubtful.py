@@ -52,7 +52,7 @@ def lost_in_each(copies: Sequence[Copy], frames: Sequence[Range], data: bytes) -
 
 
 def ends_at_borders(data: bytes, begin: int, end: int) -> bool:
-    """Whether what fills a range goes on neither before nor behind it."""
+    """Whether what fills a range goes on neither before nor after it."""
     if begin == 0 or end == len(data):
         return False
     first, last = period_of(data[begin : begin + SECTOR]), period_of(data[end - SECTOR : end])
@@ -74,7 +74,7 @@ def hole_in_text(places: Iterable[Place], data: bytes) -> Optional[int]:
 
 
 def lost_in_most(copies: Sequence[Copy]) -> Optional[int]:
-    """Where most copies lost the same bytes, and go on behind them: a foreign file that stands over another copy can have moved it.
+    """Where most copies lost the same bytes, and go on after them: a foreign file that stands over another copy can have moved it.
 
     Those that lost carriage returns to a transfer as text lack the same ones, and the others have them all.
     """

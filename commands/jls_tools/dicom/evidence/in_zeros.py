@@ -34,7 +34,7 @@ def by_zeros_around(header: Header) -> None:
 
 
 def is_among_zeros(header: Header, leaf: Element, number: int) -> bool:
-    """Whether zeros of a value stand before and behind a byte, where no copies differ."""
+    """Whether zeros of a value stand before and after a byte, where no copies differ."""
     run, data = header.runs.runs[number], header.runs.data
     before = run_length(data[max(leaf.value, run.begin - ZEROS) : run.begin][::-1], b"\0")
     behind = run_length(data[run.end : min(leaf.end, run.end + ZEROS)], b"\0")

@@ -21,7 +21,7 @@ DCMTK, OF_DCMTK = re.compile(r"OFFIS_DCMTK_(\d)(\d)(\d)\Z"), "1.2.276.0.7230010.
 
 
 def by_prefix(header: Header) -> None:
-    """Leaves DICM behind the preamble, where any copy has it (PS3.10, 7.1)."""
+    """Leaves DICM after the preamble, where any copy has it (PS3.10, 7.1)."""
     for number in header.open_runs(PREAMBLE, PREAMBLE + len(PREFIX)):
         run = header.runs.runs[number]
         wanted = PREFIX[max(0, run.begin - PREAMBLE) : run.end - PREAMBLE]

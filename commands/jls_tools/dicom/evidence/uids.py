@@ -74,7 +74,7 @@ def has_uid(copy: Copy, element: Element, uid: str) -> bool:
 
 
 def has_same_numbers(copy: Copy, other: Copy, element: Element) -> bool:
-    """Whether two copies have the same digits before and behind a value, in its sectors: another file has others there."""
+    """Whether two copies have the same digits before and after a value, in its sectors: another file has others there."""
     first, last = element.start // SECTOR * SECTOR, -(-element.end // SECTOR) * SECTOR
     parts = (first, element.value), (element.end, last)
     pairs = (pair for begin, end in parts for pair in zip(copy.data[begin:end], other.data[begin:end]))

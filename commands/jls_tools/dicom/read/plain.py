@@ -137,7 +137,7 @@ def text_of_uid(meta: Sequence[Plain]) -> str:
 
 
 def inflated(data: bytes) -> bytes:
-    """A deflated data set (PS3.5, A.5): one byte 0 may stand behind it."""
+    """A deflated data set (PS3.5, A.5): one byte 0 may stand after it."""
     inflater = zlib.decompressobj(-zlib.MAX_WBITS)
     try:
         found = inflater.decompress(data, LARGEST)
