@@ -169,7 +169,7 @@ def stands_in(tail: bytes, other: bytes) -> bool:
 
 
 def is_one_end(text: bytes, other: bytes) -> bool:
-    """Whether a copy that lost bytes ends with those of another one, the last ones of Pixel Data among them: other files end alike after it.
+    """Whether a copy that lost bytes ends with those of another one, the last of Pixel Data among them: other files end alike after it.
 
     It can't be told where a sector ends in one of both: there a disk can have cut it.
     """
